@@ -14,15 +14,19 @@ zigrunk = $(built)/zigrunk
 archive = $(built)/libzigrunk.a
 programs_from = $(MAKE) rust
 library_from = $(MAKE) rust
+driver_from = :
 else
 cudaplan = crates/cudaplan/out/cudaplan
 zigrunk = crates/zigrunk/out/zigrunk
 archive = crates/zigrunk_c/out/libzigrunk_c.a
 programs_from = .ci/built check programs || $(MAKE) build
 library_from = .ci/built check library || $(MAKE) lib
+# zigrunk-nvcc is plain Rust over the proved sources.
+driver_from = if command -v cargo > /dev/null; then $(MAKE) rust-sources && cd $(workspace) && cargo build --quiet --release -p zigrunk-driver; else echo 'no cargo, so no zigrunk-nvcc'; fi
 endif
+driver = $(workspace)/target/release/zigrunk-driver
 
-.PHONY: help demo build lib rust rust-sources rust-install check install install-programs install-library install-rust uninstall dist bench drivers fuzz-library must-fail refused-memory end-to-end odd-calls random-calls versions cache cache-example peer cluster field mutants platforms test-install dist-test check-docs lint test
+.PHONY: help demo build lib rust rust-sources rust-install check install install-programs install-library install-rust uninstall dist bench drivers fuzz-library fuzz-plain erased-kit must-fail refused-memory end-to-end odd-calls random-calls mutants-by-lot versions cache cache-example peer cluster field platforms test-install dist-test check-docs lint test
 
 help:
 	@echo 'make demo             run cudaplan, unproved, on two calls; a minute from a fresh clone'
@@ -40,10 +44,14 @@ help:
 	@echo 'make drivers          compile the test drivers, unproved, and run their cases, or those of NAMES="test_lines"'
 	@echo 'make must-fail        check that the prover rejects the wrong bodies of all crates, or of CRATES="texts dry_runs"'
 	@echo 'make fuzz-library     fuzz libzigrunk for an hour, guided by coverage; needs clang with libFuzzer; FUZZ_SECONDS=3600'
+	@echo 'make fuzz-plain       compare the proved libzigrunk with that of plain Rust on calls drawn by lot, for an hour; FUZZ_SECONDS=3600, SEED=1'
+	@echo 'make erased-kit       compile the sources with and without contracts by the kit, and compare each function'\''s instructions; ten minutes'
 	@echo 'make refused-memory   run the test cases again and again, each time with another allocation failing'
-	@echo 'make end-to-end       compare zigrunk-nvcc with nvcc; needs nvcc and ninja on the path'
+	@echo 'make end-to-end       compare zigrunk-nvcc with nvcc; needs nvcc, ninja and cargo on the path'
 	@echo 'make odd-calls        the same for 149 calls with odd words, and for 100 random calls'
 	@echo 'make random-calls     the same for calls whose words are drawn from nvcc'\''s options; SEED=1 COUNT=1000'
+	@echo 'make mutants-by-lot   edit the driver by lot, one line at a time, and say which edits no test finds; SEED=1 COUNT=100, ONLY=17 makes one'
+	@echo '                      of them again; KIND=examples edits the examples. Needs root. No part of the gate'
 	@echo 'make versions         the same with nvcc 11.2, 11.8 and 12.4, which it downloads from Debian, up to 3 GB; or CUDA_VERSIONS=FOLDER'
 	@echo 'make cache            compare builds and rebuilds with and without ccache and sccache; needs both, sccache 0.9 or later'
 	@echo 'make cache-example    test the small cache that is an example in Rust; needs nvcc, ninja, cargo, and make build and make lib before'
@@ -52,7 +60,6 @@ help:
 	@echo 'make field            build the CUDA code of real projects by nvcc and by zigrunk-nvcc, and compare; needs nvcc and CMake;'
 	@echo '                      downloads 80 MB from Debian; PROJECTS="bart ceres" builds only these. No part of the gate'
 	@echo 'make cluster          build on a Slurm that it starts on this machine, and let nodes vanish; needs nvcc, slurm-wlm, munge, iproute2; root'
-	@echo 'make mutants          check that the tests catch wrong edits of zigrunk-nvcc, zigrunk-slot, zigrunk-plan and zigrunk-batch'
 	@echo 'make platforms        build the plain Rust for other platforms in a root of Debian 13, and run the cases there; needs root'
 	@echo 'make check-docs       check links, quoted code and names in the pages, and the version number'
 	@echo 'make lint             check shell, Python and Rust: shellcheck, mypy, flake8, clippy and rustfmt, as far as they are installed'
@@ -91,9 +98,10 @@ lib:
 # The proved sources as crates of plain Rust (docs/PLAIN_RUST.md), and programs and library of them: no kit, no network.
 rust: rust-sources
 	cd out/rust && cargo build --release
+	for name in nvcc plan batch report; do ln -sf zigrunk-driver out/rust/target/release/zigrunk-$$name; done
 
 rust-sources:
-	cargo run --quiet --release --manifest-path rust/Cargo.toml -p eraser -- . out/rust
+	cargo run --quiet --manifest-path rust/Cargo.toml -p eraser -- . out/rust
 
 include packaging/install.mk
 
@@ -109,6 +117,17 @@ FUZZ_SECONDS ?= 3600
 fuzz-library:
 	tests/fuzz/library.sh out/fuzz $(FUZZ_SECONDS)
 
+# It takes the proved archive if out/ has it, otherwise one that the kit compiled without proof.
+fuzz-plain: rust
+	@archive=crates/zigrunk_c/out/libzigrunk_c.a && \
+	if ! .ci/built check library; then echo 'the library of the kit is not proved here'; \
+		archive=out/fuzz/unproved.a && tests/peer/unproved_archive.py "$$archive"; fi && \
+	tests/plain_fuzz.sh "$$archive" $(workspace)/target/release/libzigrunk.a $(FUZZ_SECONDS) 1000000000
+
+# Once a release: contracts have no say in what the kit's compiler makes.
+erased-kit:
+	@tests/erased_kit.py
+
 # The programs that run cases, the tests of what no case can say, and cudabench, none of them proved.
 drivers:
 	@tests/drivers.sh $(NAMES)
@@ -123,32 +142,35 @@ refused-memory: build
 	tests/refused_memory.sh
 
 # Calls of nvcc and of zigrunk-nvcc side by side: exit statuses, the files they make, and what is in them. The gate makes fewer.
-end-to-end:
+end-to-end: rust
 	@tests/end_to_end.sh --all
 
 # More such calls, with words that few people write.
-odd-calls:
-	@.ci/built check programs || $(MAKE) build
-	@ZIGRUNK_PROGRAM="$(CURDIR)/crates/zigrunk/out/zigrunk" tests/compare_calls.py --jobs "$$(nproc)" tests/calls_odd.txt
-	@ZIGRUNK_PROGRAM="$(CURDIR)/crates/zigrunk/out/zigrunk" tests/random_calls.py --jobs "$$(nproc)"
+odd-calls: rust
+	@tests/compare_calls.py --jobs "$$(nproc)" tests/calls_odd.txt
+	@tests/random_calls.py --jobs "$$(nproc)"
 
 # The same for calls that nobody wrote.
 SEED ?= 1
 COUNT ?= 1000
 JOBS ?= $(shell nproc)
-random-calls:
-	@.ci/built check programs || $(MAKE) build
-	@ZIGRUNK_PROGRAM="$(CURDIR)/crates/zigrunk/out/zigrunk" tests/random_calls.py --jobs "$(JOBS)" --seed "$(SEED)" --count "$(COUNT)"
+random-calls: rust
+	@tests/random_calls.py --jobs "$(JOBS)" --seed "$(SEED)" --count "$(COUNT)"
+
+# What no contract sees: each edit has to make a test fail.
+KIND ?= driver
+mutants-by-lot: rust-sources
+	@tests/mutants_by_lot.py --kind "$(KIND)" --seed "$(SEED)" --count "$(if $(filter command line environment,$(origin COUNT)),$(COUNT),100)" $(if $(ONLY),--only "$(ONLY)")
 
 # Other versions of nvcc, with host compilers that suit. docs/VERSIONS.md says what differs.
-versions:
+versions: rust
 	@.ci/built check programs || $(MAKE) build
 	@tests/versions.sh
 
-cache:
+cache: rust
 	@tests/cache.sh
 
-cache-example:
+cache-example: rust
 	@tests/cache_example.sh
 
 # Outside the gate. It takes the proved libzigrunk if out/ has it. Otherwise it compiles one without proof, and says so.
@@ -156,17 +178,13 @@ peer:
 	@tests/peer.sh
 
 # Packages are in docs/CLUSTER.md.
-cluster:
+cluster: rust
 	@tests/cluster/attempts.sh
 	@tests/cluster.sh
 
 # Outside the gate. It downloads the projects of tests/field from Debian. docs/FIELD.md has what came out.
-field:
-	@.ci/built check programs || $(MAKE) build
+field: rust
 	@tests/field.sh
-
-mutants:
-	@tests/mutants.sh
 
 # The pages name files, definitions and calls; this finds names that aren't there.
 check-docs:

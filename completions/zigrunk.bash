@@ -53,16 +53,6 @@ _zigrunk() {
         if [ "${words[0]}" = --whole ] && [ "$place" -gt 1 ]; then
             words=("${words[@]:1}") place=$((place - 1)) options=''
         fi
-        if [ "$form" = ninja ]; then
-            options="$options --slot"
-            if [ "${words[0]}" = --slot ] && [ "$place" -gt 1 ]; then
-                [ "$place" -gt 2 ] || return
-                words=("${words[@]:2}") place=$((place - 2)) options=--dependencies
-                if [ "${words[0]}" = --dependencies ] && [ "$place" -gt 1 ]; then
-                    place=$((place - 1)) options=''
-                fi
-            fi
-        fi
         if [ "$place" -eq 1 ] && [[ $current == -* ]]; then
             _zigrunk_words "$options"
         else

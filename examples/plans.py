@@ -1,6 +1,6 @@
 """Reads a list of calls of nvcc and plans them, for makeflow/build.py and ssh/remote.py.
 
-ZIGRUNK_PROGRAM is zigrunk's path or name; zigrunk-plan is beside it or on PATH.
+ZIGRUNK_PROGRAM is zigrunk's path or name; zigrunk-plan is on PATH.
 """
 import json
 import os
@@ -13,8 +13,7 @@ from typing import Any, NoReturn
 # nvcc's own files that somebody wants to keep are in the plan's directory.
 SETTINGS = 'eval "$("$0" calls "$@")" && printf "%s\\0%s" "$keep_dir" "$dependencies"'
 PROGRAM = os.environ.get("ZIGRUNK_PROGRAM", "zigrunk")
-BESIDE = os.path.join(os.path.dirname(os.path.abspath(__file__)), "../bin/zigrunk-plan")
-PLANNER = BESIDE if os.path.exists(BESIDE) else "zigrunk-plan"
+PLANNER = "zigrunk-plan"
 
 
 class Call:

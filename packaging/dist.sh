@@ -36,8 +36,8 @@ pack() {
 # write_sources: the tree of the source tarball, which is the workspace of plain Rust and what is installed with it.
 write_sources() {
     local file
-    cargo run --quiet --release --manifest-path rust/Cargo.toml -p eraser -- . "$sources"
-    git ls-files README.md CHANGELOG.md LICENSE NOTICE VERSION bin bindings/c bindings/python completions demo docs examples man | while read -r file; do
+    cargo run --quiet --manifest-path rust/Cargo.toml -p eraser -- . "$sources"
+    git ls-files README.md CHANGELOG.md LICENSE NOTICE VERSION bindings/c bindings/python completions demo docs examples man | while read -r file; do
         mkdir -p "$sources/$(dirname "$file")"
         cp "$file" "$sources/$file"
     done
@@ -86,7 +86,7 @@ Version: $version
 Architecture: $1
 Maintainer: Zigrunk maintainers <maintainers@users.noreply.zigrunk.example>
 Installed-Size: $(find "$2/usr" -type f -printf '%s\n' | awk '{ size += $1 } END { print int(size / 1024) + 1 }')
-Depends: libc6 (>= $(newest_glibc "$2/usr/lib/libzigrunk.so.1")), ninja-build, python3:any
+Depends: libc6 (>= $(newest_glibc "$2/usr/lib/libzigrunk.so.1"))
 Suggests: sccache, slurm-client
 Section: devel
 Priority: optional
@@ -96,8 +96,8 @@ Description: split nvcc calls into their commands
  dry runs and splits the call into those commands, so that independent ones run
  in parallel and cacheable ones go through a compiler cache.
  .
- zigrunk-nvcc does so in place of nvcc; zigrunk writes Ninja files, shell
- scripts and JSON. libzigrunk is for programs in C, Rust
+ zigrunk-nvcc does so in place of nvcc, in one program; zigrunk writes Ninja
+ files, shell scripts and JSON. libzigrunk is for programs in C, Rust
  and Python.
 END
 }
@@ -112,7 +112,7 @@ needs_libc_alone() {
 debianize() {
     local root=$1 page program
     mkdir -p "$root/usr/share/zsh/vendor-completions" "$root/usr/share/lintian/overrides"
-    for program in cudaplan zigrunk; do
+    for program in cudaplan zigrunk zigrunk-nvcc; do
         echo "zigrunk: statically-linked-binary [usr/bin/$program]"
     done > "$root/usr/share/lintian/overrides/zigrunk"
     mv "$root/usr/share/zsh/site-functions/_zigrunk" "$root/usr/share/zsh/vendor-completions"
@@ -160,6 +160,7 @@ pack_proved() {
     for program in cudaplan zigrunk; do
         cc -static -s -o "$folder/bin/$program" "crates/$program/out/$program.o" "$kit/c/libos_c.a" "$kit/c/liblibc_c.a"
     done
+    install -m 755 out/dist/static/x86_64-unknown-linux-gnu/release/zigrunk-driver "$folder/bin/zigrunk-nvcc"
     install -m 644 packaging/README LICENSE NOTICE CHANGELOG.md "$folder"
     pack "$folder"
 }

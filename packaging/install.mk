@@ -1,6 +1,6 @@
 # The rules that install and uninstall. The Makefile of the repository and that of the source tarball say where the programs and the
-# archive of the library are (cudaplan, zigrunk, archive), where the workspace of plain Rust is (workspace), and what makes them
-# (programs_from, library_from, crates_from). Nothing is proved again if out/ holds what these sources make. Otherwise each part builds what
+# archive of the library are (cudaplan, zigrunk, driver, archive), where the workspace of plain Rust is (workspace), and what makes them
+# (programs_from, driver_from, library_from, crates_from). The driver has several names; each but the first is a link. Nothing is proved again if out/ holds what these sources make. Otherwise each part builds what
 # it installs, so that those who want one part don't wait for the other.
 install: install-programs install-library install-rust
 
@@ -8,16 +8,13 @@ install-programs:
 	@$(programs_from)
 	install -D -m 755 $(cudaplan) "$(target)/bin/cudaplan"
 	install -D -m 755 $(zigrunk) "$(target)/bin/zigrunk"
-	install -D -m 755 bin/zigrunk-nvcc "$(target)/bin/zigrunk-nvcc"
-	install -D -m 755 bin/zigrunk-batch "$(target)/bin/zigrunk-batch"
-	install -D -m 755 bin/zigrunk-slot "$(target)/bin/zigrunk-slot"
-	install -D -m 755 bin/zigrunk-report "$(target)/bin/zigrunk-report"
-	install -D -m 755 bin/zigrunk-plan "$(target)/bin/zigrunk-plan"
+	@$(driver_from)
+	if [ -x $(driver) ]; then install -D -m 755 $(driver) "$(target)/bin/zigrunk-nvcc"; \
+		for name in plan batch report; do ln -sf zigrunk-nvcc "$(target)/bin/zigrunk-$$name"; done; fi
 	install -D -m 644 man/zigrunk.1 "$(target)/share/man/man1/zigrunk.1"
 	install -D -m 644 man/zigrunk-nvcc.1 "$(target)/share/man/man1/zigrunk-nvcc.1"
 	install -D -m 644 man/zigrunk-batch.1 "$(target)/share/man/man1/zigrunk-batch.1"
 	ln -sf zigrunk.1 "$(target)/share/man/man1/cudaplan.1"
-	ln -sf zigrunk-nvcc.1 "$(target)/share/man/man1/zigrunk-slot.1"
 	ln -sf zigrunk-nvcc.1 "$(target)/share/man/man1/zigrunk-report.1"
 	ln -sf zigrunk-nvcc.1 "$(target)/share/man/man1/zigrunk-plan.1"
 	install -D -m 644 completions/zigrunk.bash "$(target)/share/bash-completion/completions/zigrunk"

@@ -42,9 +42,10 @@ inside() {
     chroot "$root" env -C /root DEBIAN_FRONTEND=noninteractive LC_ALL=C "$@"
 }
 
-# offline COMMAND..: the same without a network.
+# offline COMMAND..: the same without a network. It has /proc, as a machine does: rustfmt 1.85 stops without it.
 offline() {
-    unshare --net chroot "$root" env -C /root LC_ALL=C CARGO_HOME=/root/cargo "$@"
+    # shellcheck disable=SC2016 # for sh
+    unshare --net --mount sh -c 'mount -t proc proc "$0/proc" && exec chroot "$0" "$@"' "$root" env -C /root LC_ALL=C CARGO_HOME=/root/cargo "$@"
 }
 
 # pages: the text of the installed pages.

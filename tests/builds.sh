@@ -4,19 +4,18 @@
 # to be nvcc's, and there may never be more compilers than processors and one. One build without that limit shows that the test
 # would see more. The last line is 'N passed, M failed'.
 #
-#   tests/builds.sh [PROGRAM]     PROGRAM is the zigrunk that `make build` leaves, unless given
+#   DRIVER_BIN=FOLDER   where zigrunk-nvcc is, else where `make rust` leaves it
 cd "$(dirname "$0")/.." || exit 1
 . tests/lib.sh
-require 'builds of twelve sources' cmake nvcc "${ZIGRUNK_NINJA:-ninja}" make objcopy python3 perl taskset
+require 'builds of twelve sources' cmake nvcc ninja make objcopy python3 taskset
 trap 'kill $(jobs -p) 2> /dev/null; rm -rf "$scratch"' EXIT
-wrapper=$PWD/bin/zigrunk-nvcc
+wrapper=${DRIVER_BIN:-$PWD/out/rust/target/release}/zigrunk-nvcc
 tests=$PWD/tests
-program=$(realpath "${1:-${ZIGRUNK_PROGRAM:-crates/zigrunk/out/zigrunk}}")
 unset NVCC_PREPEND_FLAGS NVCC_APPEND_FLAGS MAKEFLAGS CUDAFLAGS CUDACXX CUDAARCHS "${!ZIGRUNK_@}"
 # tools that name other launchers, generators or flags
 unset "${!CMAKE_@}" "${!CCACHE_@}"
 mkdir "$scratch/run" "$scratch/tmp"
-export ZIGRUNK_PROGRAM=$program XDG_RUNTIME_DIR=$scratch/run TMPDIR=$scratch/tmp
+export XDG_RUNTIME_DIR=$scratch/run TMPDIR=$scratch/tmp
 # At most four processors: eight calls have to be able to start more compilers than that.
 four=$(taskset -cp $$ | sed 's/.*: //' | tr , '\n' | awk -F - '{ for (at = $1; at <= ($2 ? $2 : $1); at++) print at }' | head -n 4)
 taskset -cp "$(paste -sd , <<< "$four")" $$ > /dev/null

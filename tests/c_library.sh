@@ -104,6 +104,9 @@ calls() {
     check "keys.c" compiled gcc tests/c/keys.c "$programs/keys" "$library"
     check 'the keys' "$programs/keys" 1000
     cat "$scratch/said" >> "$programs/answers"
+    check "schedules.c" compiled gcc tests/c/schedules.c "$programs/schedules" "$library"
+    check 'the schedules' "$programs/schedules" 20000
+    cat "$scratch/said" >> "$programs/answers"
     check 'failing_memory.c' compiled gcc tests/c/failing_memory.c "$programs/failing_memory" "$library" "${memory_functions[@]}"
     check 'allocations failing in turn, and by lot' "$programs/failing_memory" 2000 "$data" "${real_calls[@]}"
     check 'threads.c' compiled gcc tests/c/threads.c "$programs/threads" "$library" -pthread
@@ -122,6 +125,7 @@ memchecked() {
         check 'the lines under memcheck' valgrind -q --error-exitcode=9 --leak-check=full "$programs/lines"
         check 'the records of lines under memcheck' valgrind -q --error-exitcode=9 --leak-check=full "$programs/line_records" 50
         check 'the keys under memcheck' valgrind -q --error-exitcode=9 --leak-check=full "$programs/keys" 50
+        check 'the schedules under memcheck' valgrind -q --error-exitcode=9 --leak-check=full "$programs/schedules" 500
         check 'the threads under helgrind' valgrind -q --tool=helgrind --error-exitcode=9 "$programs/threads" 20
     fi
 }
@@ -146,6 +150,8 @@ sanitized() {
         check 'the records of lines under ASan and UBSan' "$programs/sanitized_line_records" 1000
         check 'keys.c with sanitizers' compiled clang tests/c/keys.c "$programs/sanitized_keys" "$library" -fsanitize=address,undefined -fno-sanitize-recover=all
         check 'the keys under ASan and UBSan' "$programs/sanitized_keys" 1000
+        check 'schedules.c with sanitizers' compiled clang tests/c/schedules.c "$programs/sanitized_schedules" "$library" -fsanitize=address,undefined -fno-sanitize-recover=all
+        check 'the schedules under ASan and UBSan' "$programs/sanitized_schedules" 20000
     fi
 }
 
@@ -193,12 +199,15 @@ made() {
     echo "status $?"
 }
 
-# scheduled LIBRARY: the example that runs plans makes what nvcc makes, SCHEDULES times (once, if that isn't set).
+# scheduled LIBRARY: the examples in C and Python that run plans make what nvcc makes, SCHEDULES times (once, if that isn't set).
 scheduled() {
-    local library=$1 folder=$1/scheduled words round said number gencode=()
+    local library=$1 folder=$1/scheduled words round said number program gencode=()
     has nvcc gcc objcopy || return
     for number in 75 80 86 89 90 100; do gencode+=("-gencode=arch=compute_$number,code=sm_$number"); done
     check 'schedule.c' compiled gcc bindings/c/schedule.c "$library/programs/schedule" "$library"
+    printf '#!/bin/sh\nZIGRUNK_LIBRARY=%s PYTHONPATH=%s PYTHONDONTWRITEBYTECODE=1 exec python3 %s "$@"\n' "$library/lib/libzigrunk.so.1" "$PWD/bindings/python" \
+        "$PWD/bindings/python/examples/schedule.py" > "$library/programs/schedule.py"
+    chmod +x "$library/programs/schedule.py"
     mkdir -p "$folder/tmp"
     printf '#include "k.h"\n__global__ void k(float *x) { x[threadIdx.x] *= FACTOR; }\nvoid call() { k<<<1, 1>>>(nullptr); }\n' > "$folder/k.cu"
     echo '#define FACTOR 2' > "$folder/k.h"
@@ -207,10 +216,12 @@ scheduled() {
         said=$(made "$folder" nvcc $words) && mv "$folder/out" "$folder/wanted"
         [ ! -f "$folder/k.d" ] || mv "$folder/k.d" "$folder/wanted.d"
         for ((round = 1; round <= ${SCHEDULES:-1}; round++)); do
-            # shellcheck disable=SC2086 # words
-            check "what schedule $words says" prints "$said" made "$folder" "$library/programs/schedule" $words
-            check "what schedule $words makes" is_alike "$folder/wanted" "$folder/out"
-            [ ! -f "$folder/wanted.d" ] || check 'its dependency file' cmp "$folder/wanted.d" "$folder/k.d"
+            for program in schedule schedule.py; do
+                # shellcheck disable=SC2086 # words
+                check "what $program $words says" prints "$said" made "$folder" "$library/programs/$program" $words
+                check "what $program $words makes" is_alike "$folder/wanted" "$folder/out"
+                [ ! -f "$folder/wanted.d" ] || check 'its dependency file' cmp "$folder/wanted.d" "$folder/k.d"
+            done
         done
         rm -f "$folder/wanted.d"
     done

@@ -5,8 +5,7 @@
 # kernel of one source, and for a third target. The objects have to be those of nvcc each time, and the unchanged build with sccache inside
 # may run no command that sccache can answer. Prints seconds, and seconds of processor. The last line is 'N passed, M failed'.
 #
-#   tests/cache.sh [PROGRAM]     PROGRAM is the zigrunk that `make build` leaves, unless given
-#
+#   DRIVER_BIN=FOLDER   where zigrunk-nvcc is, else where `make rust` leaves it
 #   RUNS=N              so many runs, of which it prints medians; 1 unless set
 #   TOOLS='nvcc ..'     only these of nvcc, ccache, sccache, zigrunk, zigrunk+sccache, ccache+zigrunk, ccache+zigrunk+sccache
 #   STAGES='cold ..'    only these of cold, unchanged, comment, host, kernel, target
@@ -15,20 +14,19 @@
 #   SCCACHE=PATH        sccache, if it isn't the one on the path. Versions before 0.9 don't know cicc, ptxas and cudafe++
 cd "$(dirname "$0")/.." || exit 1
 . tests/lib.sh
-require 'builds through caches' cmake make nvcc "${ZIGRUNK_NINJA:-ninja}" objcopy python3 perl ccache "${SCCACHE:-sccache}"
+require 'builds through caches' cmake make nvcc ninja objcopy python3 ccache "${SCCACHE:-sccache}"
 sccache=$(realpath "$(command -v "${SCCACHE:-sccache}")")
 version=$("$sccache" --version) || skip_all 'builds through caches' "$sccache doesn't run"
 [[ ! $version =~ ^sccache\ 0\.[0-8]\. ]] || skip_all 'builds through caches' "$version doesn't know nvcc's commands; 0.9 or later does"
-wrapper=$PWD/bin/zigrunk-nvcc
+wrapper=${DRIVER_BIN:-$PWD/out/rust/target/release}/zigrunk-nvcc
 tests=$PWD/tests
-program=$(realpath "${1:-${ZIGRUNK_PROGRAM:-crates/zigrunk/out/zigrunk}}")
 example=${EXAMPLE:+$(realpath "$EXAMPLE")}
 read -ra tools <<< "${TOOLS:-nvcc ccache sccache zigrunk zigrunk+sccache ${EXAMPLE:+zigrunk+example} ccache+zigrunk ccache+zigrunk+sccache}"
 read -ra stages <<< "${STAGES:-cold unchanged comment host kernel target}"
 unset NVCC_PREPEND_FLAGS NVCC_APPEND_FLAGS MAKEFLAGS CUDAFLAGS CUDACXX CUDAARCHS "${!CMAKE_@}" "${!ZIGRUNK_@}" "${!SCCACHE_@}" "${!CCACHE_@}"
 trap 'kill ${servers[@]} 2> /dev/null; rm -rf "$scratch"' EXIT
 mkdir "$scratch/run" "$scratch/tmp"
-export ZIGRUNK_PROGRAM=$program XDG_RUNTIME_DIR=$scratch/run TMPDIR=$scratch/tmp
+export XDG_RUNTIME_DIR=$scratch/run TMPDIR=$scratch/tmp
 export SCCACHE_IDLE_TIMEOUT=0 SCCACHE_CONF=/dev/null CCACHE_COMPILERCHECK='%compiler% --version'
 port=$((20000 + RANDOM / 2))
 declare -A servers=() ports=()

@@ -3,19 +3,18 @@
 # cache, in another temporary directory too, and which not, after changes of a header, an option and a tool. The last line is
 # 'N passed, M failed'.
 #
-#   tests/cache_example.sh [PROGRAM]     PROGRAM is the zigrunk that `make build` leaves, unless given
+#   DRIVER_BIN=FOLDER   where zigrunk-nvcc is, else where `make rust` leaves it
 cd "$(dirname "$0")/.." || exit 1
 . tests/lib.sh
-require 'the cache in Rust' cargo cc nvcc "${ZIGRUNK_NINJA:-ninja}"
-ZIGRUNK_PROGRAM=$(realpath "${1:-${ZIGRUNK_PROGRAM:-crates/zigrunk/out/zigrunk}}")
+require 'the cache in Rust' cargo cc nvcc
 unset NVCC_PREPEND_FLAGS NVCC_APPEND_FLAGS MAKEFLAGS "${!CACHE_@}"
-export ZIGRUNK_PROGRAM CARGO_TARGET_DIR=${CARGO_TARGET_DIR:-$scratch/cargo} CACHE_FOLDER=$scratch/entries CACHE_LOG=$scratch/log
-check 'the workspace of plain Rust' cargo run --quiet --release --offline --manifest-path rust/Cargo.toml -p eraser -- . "$scratch/rust"
+export CARGO_TARGET_DIR=${CARGO_TARGET_DIR:-$scratch/cargo} CACHE_FOLDER=$scratch/entries CACHE_LOG=$scratch/log
+check 'the workspace of plain Rust' cargo run --quiet --offline --manifest-path rust/Cargo.toml -p eraser -- . "$scratch/rust"
 manifest=(--offline --manifest-path "$scratch/rust/zigrunk/Cargo.toml")
 check 'the digests of the example' cargo test -q "${manifest[@]}" --example cache
 check 'the example' cargo build -q --release "${manifest[@]}" --example cache
 cache=$CARGO_TARGET_DIR/release/examples/cache
-wrapper=$PWD/bin/zigrunk-nvcc
+wrapper=${DRIVER_BIN:-$PWD/out/rust/target/release}/zigrunk-nvcc
 mkdir "$scratch/work" "$scratch/tools"
 cd "$scratch/work" || exit 1
 printf '#include "k.h"\n__global__ void k(float *x) { x[threadIdx.x] *= FACTOR; }\nvoid call() { k<<<1, 1>>>(nullptr); }\n' > k.cu

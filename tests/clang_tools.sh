@@ -2,13 +2,11 @@
 # Has clangd and clang-tidy read the compilation databases that `zigrunk-plan compdb` prints, with a CUDA toolkit that they know: clang 14
 # knows those before 12.0, clang 19 those before 13.0. The last line is 'N passed, M failed'.
 #
-#   tests/clang_tools.sh [PROGRAM]     PROGRAM is the zigrunk that `make build` leaves, unless given. tests/versions.sh runs it.
+#   DRIVER_BIN=FOLDER   where zigrunk-plan is, else where `make rust` leaves it. tests/versions.sh runs this.
 cd "$(dirname "$0")/.." || exit 1
 . tests/lib.sh
 require 'clang'\''s tools' nvcc clangd clang-tidy python3
-ZIGRUNK_PROGRAM=$(realpath "${1:-${ZIGRUNK_PROGRAM:-crates/zigrunk/out/zigrunk}}")
-export ZIGRUNK_PROGRAM
-plan=$PWD/bin/zigrunk-plan
+plan=${DRIVER_BIN:-$PWD/out/rust/target/release}/zigrunk-plan
 unset NVCC_PREPEND_FLAGS NVCC_APPEND_FLAGS
 mkdir "$scratch/project" "$scratch/project/a folder"
 cd "$scratch/project" || exit 1

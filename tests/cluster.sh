@@ -3,7 +3,8 @@
 # Prints a line for each check that fails, the times of builds, and last 'N passed, M failed'; the status is 1 if one failed.
 # docs/CLUSTER.md names the packages.
 #
-#   tests/cluster.sh [PROGRAM]    PROGRAM is the zigrunk that `make build` leaves, unless given
+#   tests/cluster.sh [PROGRAM]    PROGRAM is the zigrunk that `make build` leaves, unless given. zigrunk-nvcc is that of DRIVER_BIN, or what
+#                                 `make rust` leaves
 #
 # First come the parts whose times count, one after the other. Then come the deaths, side by side, in lanes that have nodes of their own.
 #
@@ -26,8 +27,9 @@ chmod 755 "$scratch"
 # Slurm has the first 21 of 31 nodes.
 top=$scratch run=$scratch/run partitions='1-3 4-6 7-9 10-21' compiled=${CALLS:-8} sleeping=${NAPS:-10}
 mkdir "$run" "$scratch/work" "$scratch/tmp"
+bindings/c/library.sh "${DRIVER_BIN:-out/rust/target/release}/libzigrunk.a" "$scratch/library" > /dev/null || skip_all cluster 'make rust makes the library first'
 # a python3 that starts at once stands first
-export ZIGRUNK_PROGRAM ZIGRUNK_TMP=$scratch/tmp PATH=$PWD/bin:/usr/bin:$PATH
+export ZIGRUNK_PROGRAM ZIGRUNK_LIBRARY=$scratch/library/lib/libzigrunk.so.1 ZIGRUNK_TMP=$scratch/tmp PATH=${DRIVER_BIN:-$PWD/out/rust/target/release}:/usr/bin:$PATH
 . tests/cluster/nodes.bash
 . tests/cluster/slurm.bash
 . tests/cluster/ssh.bash

@@ -1,7 +1,7 @@
 #!/usr/bin/env bash
-# Runs examples/slurm/step.sh and examples/ssh/parallel.sh with stand-ins for srun, ssh and GNU parallel, by each of dash, bash and busybox
-# sh that is installed, and examples/ssh/remote.py with stand-ins for ssh and zigrunk. Prints a line for each case that fails, and last
-# 'N passed, M failed'; the status is 1 if one failed.
+# Runs examples/slurm/step.sh, examples/slurm/array.sh and examples/ssh/parallel.sh with stand-ins for Slurm, ssh and GNU parallel, by each of dash, bash and busybox
+# sh that is installed, and examples/ssh/remote.py with stand-ins for ssh and zigrunk, and the library that `make rust` leaves. Prints a line for
+# each case that fails, and last 'N passed, M failed'; the status is 1 if one failed.
 #
 #   tests/cluster_scripts.sh [FOLDER]    FOLDER is examples, unless given
 #
@@ -188,7 +188,28 @@ machines() {
     end_case
 }
 
+# arrays: the stand-in for sbatch runs an array's tasks one after the other.
+arrays() {
+    mkdir -p "${room%/*}/slurm"
+    printf '%s\n' '#!/bin/sh' 'printf "%s\n" "$*" >> "$LOG"' 'while [ "$1" != "${1#-}" ]; do' '    case $1 in --array=*) last=${1#--array=1-} ;; esac' '    shift' 'done' \
+        'worst=0' 'for SLURM_ARRAY_TASK_ID in $(seq "$last"); do' '    export SLURM_ARRAY_TASK_ID' '    sh "$@" || { code=$?; [ "$code" -le "$worst" ] || worst=$code; }' \
+        'done' 'exit "$worst"' > "${room%/*}/slurm/sbatch"
+    printf '%s\n' '#!/bin/sh' 'echo "MaxArraySize            = ${ARRAY-1001}"' 'echo "MaxJobCount             = ${JOBS-10000}"' > "${room%/*}/slurm/scontrol"
+    chmod +x "${room%/*}"/slurm/*
+    for limits in 'ARRAY=1001 7' 'ARRAY=4 3,3,1' 'JOBS=5 4,3' 'ARRAY=8 7' 'ARRAY=7 6,1'; do
+        begin "an array job, ${limits% *}"
+        printf '%s\n' 'echo 1' 'echo 2; exit 4' '' 'echo "4 $ZIGRUNK_JOBS"' 'echo 5' 'exit 3' > list
+        printf 'echo 7' >> list
+        : > "$room/log"
+        env LOG="$room/log" "${limits% *}" PATH="${room%/*}/slurm:$PATH" "${shell[@]}" "$examples/slurm/array.sh" list --comment=x > "$room/out" 2>&1
+        same 'status and output' "$? $(tr '\n' , < "$room/out")" '4 1,2,4 1,5,7,'
+        same arrays "$(sed -n 's/.*--array=1-\([0-9]*\) --comment=x .*array.sh list$/\1/p' "$room/log" | paste -sd ,)" "${limits#* }"
+        end_case
+    done
+}
+
 cases() {
+    arrays
     steps_that_end
     lost_and_bad_nodes
     batches
@@ -196,8 +217,10 @@ cases() {
     machines
 }
 
-# What examples/ssh/remote.py needs: machines, which are directories of this one, and a plan of four commands, of which two may run there.
+# What examples/ssh/remote.py needs: libzigrunk, machines, which are directories of this one, and a plan of four commands, of which two may run there.
 machines_without_disk() {
+    bindings/c/library.sh "${DRIVER_BIN:-out/rust/target/release}/libzigrunk.a" "$scratch/library" > /dev/null || exit 1
+    export ZIGRUNK_LIBRARY=$scratch/library/lib/libzigrunk.so.1
     mkdir "$scratch/far"
     cat > "$scratch/far/ssh" << 'END'
 #!/bin/sh
@@ -210,13 +233,10 @@ export TMPDIR
 . "$PLACES/$name.does"
 exec sh -c "$*"
 END
-    cat > "$scratch/far/zigrunk" << 'END'
+    printf '%s\n' '#!/bin/sh' "echo 'first_dry_run=: second_dry_run=: flag=-c keep_dir= dependencies='" > "$scratch/far/zigrunk"
+    cat > "$scratch/far/zigrunk-plan" << 'END'
 #!/bin/sh
-case $1 in
-directory) echo "call.$$" ;;
-calls) echo 'first_dry_run=: second_dry_run=: flag=-c keep_dir= dependencies=' ;;
---limit) sed "s,@TMP,$5,g; s,@CWD,$4,g; s,@TOOLS,${0%/*},g" "${0%/*}/plan" ;;
-esac
+sed "s,@TMP,${ZIGRUNK_TMP:-$TMPDIR}/zigrunk-$(id -u)/call.$$,g; s,@CWD,$PWD,g; s,@TOOLS,${0%/*},g" "${0%/*}/plan"
 END
     cat > "$scratch/far/plan" << 'END'
 {"tmp":"@TMP","cwd":"@CWD","commands":[

@@ -4,16 +4,13 @@
 # CMake writes the include directories to options files. The objects have to be those of nvcc, every call that compiles has to be split,
 # and touching a header has to rebuild the same files. The last line is 'N passed, M failed'.
 #
-#   tests/cmake.sh [PROGRAM]     PROGRAM is the zigrunk that `make build` leaves, unless given
-#
-#   BY_SYMBOLS=yes   only the objects' symbols have to be those of nvcc: nvcc 11.2 names some after a process, so each of its objects differs
+#   DRIVER_BIN=FOLDER   where zigrunk-nvcc is, else where `make rust` leaves it
+#   BY_SYMBOLS=yes      only the objects' symbols have to be those of nvcc: nvcc 11.2 names some after a process, so each of its objects differs
 cd "$(dirname "$0")/.." || exit 1
 . tests/lib.sh
-require 'CMake projects' cmake nvcc "${ZIGRUNK_NINJA:-ninja}" make objcopy
-wrapper=$PWD/bin/zigrunk-nvcc
+require 'CMake projects' cmake nvcc ninja make objcopy
+wrapper=${DRIVER_BIN:-$PWD/out/rust/target/release}/zigrunk-nvcc
 headers=$PWD/tests/small
-ZIGRUNK_PROGRAM=$(realpath "${1:-${ZIGRUNK_PROGRAM:-crates/zigrunk/out/zigrunk}}")
-export ZIGRUNK_PROGRAM
 unset NVCC_PREPEND_FLAGS NVCC_APPEND_FLAGS MAKEFLAGS CUDAFLAGS CUDACXX
 mkdir "$scratch/launchers"
 

@@ -3,9 +3,7 @@
 
     tests/compare_calls.py [OPTIONS] FILE..
 
-    --nvcc PATH --ours PATH     the two tools, if not nvcc and bin/zigrunk-nvcc
-    --driver PATH               our tool is the compiled driver. It needs neither Ninja nor zigrunk, so a line that takes one away is left out, and
-                                the user's folder stays in TMPDIR, empty
+    --nvcc PATH --ours PATH     the two tools, if not nvcc and the zigrunk-nvcc that `make rust` leaves, or that is in DRIVER_BIN
     --only TEXT                 only the calls whose lines contain TEXT
     --keep FOLDER               keep each call's files below FOLDER
     --scratch FOLDER            make the calls below FOLDER
@@ -36,7 +34,7 @@ A line of FILE is the words of a call, quoted as for bash; nothing is globbed. W
 
 Both tools work in the same path, one after the other, since paths get into what is made. These are compared: the status, the
 names of files that are made or changed, their bytes (of objects without the symbols that `strip` removes, since one of them
-names a temporary file), what is printed (without nvcc's names for temporary files), and what is left in TMPDIR. If
+names a temporary file), what is printed (without nvcc's names for temporary files), and what is left in TMPDIR but for the user's folder. If
 something differs that the line doesn't name, nvcc makes the call once more: what differs between nvcc and nvcc doesn't count.
 
 nvcc includes cuda_runtime.h in every source, and gcc looks for it first where it runs. So a small one in the work folder takes the
@@ -70,7 +68,7 @@ from collections.abc import Iterable, Iterator
 from pathlib import Path
 from typing import Literal, TypedDict
 
-from runner import Counts
+from runner import TOOLS, Counts
 
 SMALL_HEADER = (Path(__file__).resolve().parent / "small/cuda_runtime.h").read_text()
 SOURCES = {
@@ -460,10 +458,9 @@ def compare(call: Call, args: argparse.Namespace) -> Compared:
     try:
         want = run(args.nvcc, "nvcc", call, base, keep)
         got = run(args.ours, "ours", call, base, keep)
-        if args.driver:
-            folder = f"zigrunk-{os.getuid()}"
-            got["left"] = [name for name in got["left"] if name != folder]
-            got["made"] = {name: what for name, what in got["made"].items() if Path(name).name != folder or what != b"folder"}
+        folder = f"zigrunk-{os.getuid()}"
+        got["left"] = [name for name in got["left"] if name != folder]
+        got["made"] = {name: what for name, what in got["made"].items() if Path(name).name != folder or what != b"folder"}
         found = differences(want, got, base)
         noise: list[Difference] = []
         if not loud(found) <= explained(call, args.version):
@@ -497,8 +494,7 @@ def options() -> argparse.Namespace:
     parser = argparse.ArgumentParser(usage=__doc__)
     parser.add_argument("files", nargs="+")
     parser.add_argument("--nvcc", type=path_of, default="nvcc")
-    parser.add_argument("--ours", type=path_of, default=str(Path(__file__).resolve().parent.parent / "bin/zigrunk-nvcc"))
-    parser.add_argument("--driver", type=path_of)
+    parser.add_argument("--ours", type=path_of, default=str(TOOLS / "zigrunk-nvcc"))
     parser.add_argument("--only", default="")
     parser.add_argument("--keep")
     parser.add_argument("--scratch", type=lambda name: os.path.abspath(name))
@@ -507,9 +503,7 @@ def options() -> argparse.Namespace:
     parser.add_argument("--reasons", action="store_true")
     parser.add_argument("--least-split", type=int, default=0)
     parser.add_argument("--all", action="store_true")
-    args = parser.parse_args()
-    args.ours = args.driver or args.ours
-    return args
+    return parser.parse_args()
 
 
 def read_calls(args: argparse.Namespace) -> list[Call]:
@@ -518,8 +512,7 @@ def read_calls(args: argparse.Namespace) -> list[Call]:
     values = values_in(said)
     lines = [line for line in lines if line and line[0] != "#"]
     calls = [earlier(Call(suited(line, values), number), said) for number, line in enumerate(lines, 1)]
-    needless = {"ZIGRUNK_NINJA", "ZIGRUNK_PROGRAM"} if args.driver else set()
-    return [call for call in calls if args.only in call.line and not needless & call.env.keys()]
+    return [call for call in calls if args.only in call.line]
 
 
 def longest_first(calls: list[Call]) -> list[Call]:

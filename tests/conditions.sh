@@ -6,22 +6,23 @@
 #
 #   tests/conditions.sh [ZIGRUNK [CUDAPLAN]]    the programs are those that `make build` and the gate leave, unless given
 #
-# ZIGRUNK_DRIVER, if set, is the compiled driver, which takes the place of bin/zigrunk-nvcc. The user's folder then stays in TMPDIR, empty.
+# zigrunk-nvcc is that of DRIVER_BIN, or what `make rust` leaves. It leaves the user's folder in TMPDIR, empty.
 set -u
 cd "$(dirname "$0")/.." || exit 1
 built=$(realpath "${1:-crates/zigrunk/out/zigrunk}") other=$(realpath "${2:-crates/cudaplan/out/cudaplan}")
 runs=$PWD/tests/drivers/test_plans/data/dry_runs/one_kernel header=$PWD/tests/small/cuda_runtime.h
 . tests/lib.sh
 trap 'umount "$scratch"/disk.* 2> /dev/null; rm -rf "$scratch"' EXIT
-require 'the conditions of a machine' nvcc ninja objcopy
-driver=${ZIGRUNK_DRIVER-}
+require 'the conditions of a machine' nvcc objcopy
+driver=${DRIVER_BIN:-$PWD/out/rust/target/release}/zigrunk-nvcc
 unset NVCC_PREPEND_FLAGS NVCC_APPEND_FLAGS MAKEFLAGS "${!ZIGRUNK@}"
 
 # Another user reads all of this.
 chmod 755 "$scratch"
 mkdir "$scratch/bin"
-cp bin/zigrunk-* "$built" "$other" "$scratch/bin"
-[ -z "$driver" ] || cp "$driver" "$scratch/bin/zigrunk-nvcc"
+cp "$built" "$other" "$scratch/bin"
+cp "$driver" "$scratch/bin/zigrunk-nvcc"
+ln -s zigrunk-nvcc "$scratch/bin/zigrunk-batch"
 export PATH=$scratch/bin:$PATH ZIGRUNK_EXPLAIN=yes
 
 # begin_in FOLDER: an own folder for the sources of a case, with its products.
@@ -57,7 +58,7 @@ makes() {
     else
         [ -n "${quiet-}" ] || [ -s "$scratch/err" ] || problem+=" status $status without a message;"
     fi
-    [ -z "$driver" ] || [ -n "${planted-}" ] || rmdir "${tmp-$scratch/tmp}"/zigrunk-[0-9]* 2> /dev/null
+    [ -n "${planted-}" ] || rmdir "${tmp-$scratch/tmp}"/zigrunk-[0-9]* 2> /dev/null
     left=$(find "${tmp-$scratch/tmp}" -mindepth 1 ! -name "${planted:-none}" 2> /dev/null)
     [ -z "$left" ] || problem+=" left in TMPDIR: $left;"
     count "$name" "${problem:+$problem $(head -n 3 "$scratch/err")}"

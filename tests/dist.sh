@@ -65,13 +65,13 @@ of_package() {
     check "unpacking $name" dpkg-deb -x "$1" "$root"
     check "the version of $name" test "$(dpkg-deb -f "$1" Version)" = "$version"
     check "the library of $name" has_library "$root/usr"
-    for program in cudaplan zigrunk; do
+    for program in cudaplan zigrunk zigrunk-nvcc; do
         check "$program of $name needs no library" needs_no_library "$root/usr/bin/$program"
     done
     glibc=$(newest_glibc "$root/usr/lib/libzigrunk.so.1")
     check "libzigrunk.so.1 of $name asks for a version of glibc" test -n "$glibc"
     check 'it is at most 2.35' sh -c 'printf "%s\n" "$1" 2.35 | sort -C -V' _ "$glibc"
-    check "Depends of $name names it" grep -qF "libc6 (>= $glibc), " <(dpkg-deb -f "$1" Depends)
+    same "Depends of $name" "$(dpkg-deb -f "$1" Depends)" "libc6 (>= $glibc)"
     if command -v lintian > /dev/null; then
         check "lintian of $name" lintian --fail-on error --allow-root "$1"
     else

@@ -1,9 +1,15 @@
 #!/usr/bin/env python3
-"""Checks that the pages say what is there: links, quoted code, names of files, definitions and calls, and the version number.
+"""Checks that the pages say what is there: links, quoted code, names of files, definitions and calls, commands, and the version number.
 
 Prints a line for each finding, and last 'N passed, M failed': a page or a kind of check counts once. The status is 1 if one failed.
+
+    tests/docs.py --words    prints the words of each page and their sum, as `wc -w` counts them. The status is 1 if the sum is too large
+
+The sum has README, CONTRIBUTING, packaging/README, docs/*.md, driver/*.md and bindings/*/README.md. It leaves out the changelog, the manuals,
+and what tests/ says of its files of cases.
 """
 
+import glob
 import os
 import re
 import subprocess
@@ -13,8 +19,12 @@ from collections.abc import Iterable, Iterator
 from runner import Counts
 
 TOP = os.path.realpath(f"{os.path.dirname(os.path.realpath(__file__))}/..")
-PAGES = ["README.md", "CHANGELOG.md", "CONTRIBUTING.md", *(f"docs/{name}" for name in sorted(os.listdir(f"{TOP}/docs")) if name.endswith(".md"))]
+READ = ["README.md", "CONTRIBUTING.md", "packaging/README",
+        *sorted(path for folder in ("docs/*.md", "driver/*.md", "bindings/*/README.md") for path in glob.glob(folder, root_dir=TOP))]
+PAGES = [*READ, "CHANGELOG.md", "tests/LONG_INPUT.md", *sorted(glob.glob("tests/drivers/*/data/README.md", root_dir=TOP))]
 
+# Who reads all pages should be done in two hours, and who reads README in two minutes.
+MOST_WORDS, MOST_LINES = 24_000, 90
 
 # An exported function that only tests cover: std's contracts don't say which errors a file can give.
 WITHOUT_CLAUSE = {"unread_of"}
@@ -160,6 +170,37 @@ def words(page: str) -> Iterator[str]:
             yield f"{page} names {word}, which isn't there"
 
 
+def words_of(page: str) -> int:
+    return len(text_of(page).split())
+
+
+def lengths() -> Iterator[str]:
+    """Pages that are too long, all together or README alone."""
+    if (count := sum(map(words_of, READ))) > MOST_WORDS:
+        yield f"the pages have {count} words, and {MOST_WORDS} at most are wanted (tests/docs.py --words)"
+    if (count := len(text_of("README.md").splitlines())) > MOST_LINES:
+        yield f"README.md has {count} lines, and {MOST_LINES} at most are wanted"
+
+
+def print_words() -> int:
+    for page in READ:
+        print(f"{words_of(page):6} {page}")
+    total = sum(map(words_of, READ))
+    print(f"{total:6} in all, of {MOST_WORDS}")
+    return 1 if total > MOST_WORDS else 0
+
+
+def commands(page: str) -> Iterator[str]:
+    """Goals of make and scripts that the page has and the repository lacks."""
+    text = text_of(page)
+    code = "\n".join([*re.findall(r"```.*?```", text, re.DOTALL), *re.findall(r"^    .*$", text, re.MULTILINE), *words_in_code(text)])
+    goals = {goal for line in re.findall(r"^\.PHONY: (.*)$", text_of("Makefile"), re.MULTILINE) for goal in line.split()}
+    yield from (f"no such goal: make {goal}" for goal in re.findall(r"\bmake ([a-z][a-z-]+)\b", code) if goal not in goals | {"gcc"})
+    for script in re.findall(r"(?<![\w./])((?:tests|examples|packaging|bindings|demo)/[\w./-]*\w)", code):
+        if "/out/" not in script and not os.path.exists(f"{TOP}/{script}"):
+            yield f"no such file: {script}"
+
+
 def version() -> Iterator[str]:
     """Places whose version isn't that of VERSION."""
     number = text_of("VERSION").strip()
@@ -170,7 +211,8 @@ def version() -> Iterator[str]:
 
 def main() -> int:
     checks: list[tuple[str, Iterable[str]]] = [(page, links(page)) for page in PAGES]
-    checks += [("", check()) for check in (calling, files, contracts, architecture, definitions, version)]
+    checks += [(page, commands(page)) for page in READ]
+    checks += [("", check()) for check in (calling, files, contracts, architecture, definitions, lengths, version)]
     checks += [("", words(page)) for page in ("docs/DEFINITIONS.md", "docs/GUARANTEES.md")]
     counts = Counts()
     for name, findings in checks:
@@ -179,4 +221,4 @@ def main() -> int:
 
 
 if __name__ == "__main__":
-    sys.exit(main())
+    sys.exit(print_words() if sys.argv[1:] == ["--words"] else main())

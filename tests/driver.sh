@@ -2,20 +2,22 @@
 # Tests of the compiled driver: its unit tests, and calls with stand-ins for nvcc and its tools (tests/driver/), with real nvcc if that is here.
 # Prints a line for each case that fails, and last 'N passed, M failed'; the status is 1 if one failed.
 #
-#   tests/driver.sh [DRIVER]    DRIVER is a built zigrunk-driver; else this builds it in the workspace of `make rust`
+#   tests/driver.sh [DRIVER]    DRIVER is zigrunk-driver in the folder target/release of a workspace; else this builds it in the one of `make rust`
 #
-# ONLY=TEXT runs the cases whose names have this text. STOP_EARLY, if set, ends the run at the first failure.
-# shellcheck disable=SC2016,SC2010,SC2012 # the stand-ins expand what cases give them
+# ONLY=TEXT runs the cases whose names have this text. PARTS="signals slots" runs these parts, of those in the last line but one. STOP_EARLY, if
+# set, ends the run at the first failure.
+# shellcheck disable=SC2016,SC2010,SC2012,SC2030,SC2031 # the stand-ins expand what cases give them, and cases in subshells note their problems
 cd "$(dirname "$0")/.." || exit 1
 . tests/lib.sh
 trap 'kill $(jobs -p) 2> /dev/null; rm -rf "$scratch"' EXIT
 unset NVCC_PREPEND_FLAGS NVCC_APPEND_FLAGS CDPATH MAKEFLAGS MFLAGS "${!ZIGRUNK@}"
-root=$PWD user=$(id -u)
+user=$(id -u)
 shell=(driver)
+end_shell() { summary; exit 1; }
 
-# cargo_test: the unit tests, each as a case.
-cargo_test() {
-    (cd out/rust && cargo test --offline -p zigrunk-driver) > "$scratch/unit" 2>&1
+# unit: the unit tests, each as a case.
+unit() {
+    (cd "$workspace" && cargo test --offline -p zigrunk-driver) > "$scratch/unit" 2>&1
     local good bad
     good=$(grep -c '^test .* \.\.\. ok$' "$scratch/unit") bad=$(grep -c '^test .* \.\.\. FAILED$' "$scratch/unit")
     [ $((good + bad)) -gt 0 ] || { bad=1 && tail -n 20 "$scratch/unit"; }
@@ -31,10 +33,10 @@ build() {
     check 'the driver builds' cargo build --quiet --release --offline --manifest-path out/rust/Cargo.toml -p zigrunk-driver
     driver=$PWD/out/rust/target/release/zigrunk-driver
     [ -x "$driver" ] || { summary; exit 1; }
-    cargo_test
 }
 
-if [ -n "${1-}" ]; then driver=$(realpath "$1"); else require 'the driver' cargo; build; fi
+workspace=out/rust
+if [ -n "${1-}" ]; then driver=$(realpath "$1") workspace=${driver%/target/*}; else require 'the driver' cargo; build; fi
 data=$PWD/tests/drivers/test_plans/data/dry_runs
 stand_ins=$PWD/tests/driver
 
@@ -45,10 +47,14 @@ for tool in gcc cudafe++ ptxas fatbinary; do ln -s "$stand_ins/tool" "$CUDA/bin/
 ln -s "$stand_ins/tool" "$CUDA/nvvm/bin/cicc"
 ln -s "$stand_ins/nvcc" "$CUDA/bin/nvcc"
 cp "$driver" "$scratch/bin/zigrunk-nvcc"
-ln -s zigrunk-nvcc "$scratch/bin/zigrunk-plan"
+for name in plan report; do ln -s zigrunk-nvcc "$scratch/bin/zigrunk-$name"; done
 nvcc_driver=$scratch/bin/zigrunk-nvcc
 export PATH=$CUDA/bin:$PATH
 plain=(ZIGRUNK_EXPLAIN=1 NVCC_STATUS=5)
+# By how much a busy machine may be slower than an idle one: a limit of so many seconds on an idle one is so many times longer.
+patience=${PATIENCE:-6}
+# What a tool does that waits until the test lets it go on.
+waits='[ "$name" != cudafe++ ] || until [ -e "$LOG.go" ]; do sleep 0.05; done'
 
 # case_of NAME: begins a case, if it is one of those to run.
 case_of() {
@@ -64,7 +70,7 @@ call() {
     local settings=()
     while [[ ${1-} == *=* ]]; do settings+=("$1") && shift; done
     : > "$room/log"
-    timeout 60 env LOG="$room/log" TMPDIR="$room/tmp" XDG_RUNTIME_DIR="$room/run" "${settings[@]}" "${as:-$nvcc_driver}" "$@" > "$room/out" 2> "$room/err"
+    timeout $((60 * patience)) env LOG="$room/log" TMPDIR="$room/tmp" XDG_RUNTIME_DIR="$room/run" "${settings[@]}" "${as:-$nvcc_driver}" "$@" > "$room/out" 2> "$room/err"
     status=$?
 }
 
@@ -73,13 +79,13 @@ start() {
     local settings=()
     while [[ ${1-} == *=* ]]; do settings+=("$1") && shift; done
     : > "$room/log"
-    env --default-signal=HUP,INT,TERM LOG="$room/log" TMPDIR="$room/tmp" XDG_RUNTIME_DIR="$room/run" "${settings[@]}" "$nvcc_driver" "$@" > "$room/out" 2> "$room/err" &
+    env --default-signal=HUP,INT,TERM LOG="$room/log" TMPDIR="$room/tmp" XDG_RUNTIME_DIR="$room/run" "${settings[@]}" ${before+"${before[@]}"} "$nvcc_driver" "$@" > "$room/out" 2> "$room/err" &
     process=$!
 }
 
-# within SECONDS COMMAND..: waits until the command succeeds, and fails if it takes longer.
+# within SECONDS COMMAND..: waits until the command succeeds, and fails if it takes longer than so many seconds of an idle machine.
 within() {
-    local last=$((SECONDS + $1))
+    local last=$((SECONDS + $1 * patience))
     until "${@:2}"; do
         [ "$SECONDS" -le "$last" ] || return
         sleep 0.02
@@ -88,12 +94,15 @@ within() {
 has_begun() { grep -q "^+ $1" "$room/log"; }
 none_run() { ! pgrep -f "$room" > /dev/null; }
 
-# ended STATUS: a problem, unless the driver ends within eight seconds, with this status.
+has_ended() { [[ $(cut -d ' ' -f 3 "/proc/$process/stat" 2> /dev/null) != [A-Ya-y] ]]; }
+
+# ended STATUS: a problem, unless the driver ends within eight seconds of an idle machine, with this status.
 ended() {
-    local began=$SECONDS
+    within 8 has_ended || { problems+='  it ends late'$'\n'; kill -KILL "$process"; }
     { wait "$process"; } 2> /dev/null
-    same status "$?" "$1"
-    [ $((SECONDS - began)) -le 8 ] || problems+='  it ends late'$'\n'
+    local ended=$?
+    same status "$ended" "$1"
+    [ "$ended" = "$1" ] || problems+="  it says: $(head -c 500 "$room/err")"$'\n'
     within 5 none_run || problems+="  processes: $(pgrep -af "$room")"$'\n'
 }
 
@@ -111,6 +120,9 @@ by_nvcc() {
     same messages "$(cat "$room/err")" "zigrunk-nvcc: nvcc itself: $1"$'\nnvcc says'
 }
 
+# stamps: when the slots in use and those who wait for one were last touched, in seconds.
+stamps() { find "$slot_folder" \( -type f -o -name 'wait-*' \) -printf '%f %Ts\n' | sort; }
+
 # splits [WHAT]: a problem, unless the last call was split and said nothing.
 splits() {
     same "status and messages${1:+ $1}" "$status$(cat "$room/out" "$room/err")" 0
@@ -126,6 +138,23 @@ end_to_end() {
         splits
         same 'dry runs' "$(grep -c '^nvcc \[--dryrun\] \[-c\] \[k.cu\] \[-o\] \[k.o\]$' "$room/log") $(grep -c '^nvcc \[-x\] \[cu\].*\[--keep-dir\].*\[--dryrun\]' "$room/log") $(grep -c '^nvcc' "$room/log")" '1 1 2'
         same product "$(cat k.o)" made
+        end
+    fi
+    if case_of 'the program by its own name'; then
+        as=$driver call nvcc -c k.cu -o k.o
+        splits
+        for words in odd '' 'odd nvcc'; do
+            # shellcheck disable=SC2086 # several words, or none
+            as=$driver call $words
+            same "status and messages with '$words'" "$status $(cat "$room/err")" '2 usage: zigrunk-driver nvcc|batch|plan|report WORD..'
+        done
+        end
+    fi
+    if case_of 'no guard is left when a call ends'; then
+        for _ in 1 2 3; do
+            call -c k.cu -o k.o
+            same processes "$(pgrep -f "^$nvcc_driver")" ''
+        done
         end
     fi
     if case_of 'where commands run'; then
@@ -177,6 +206,19 @@ ROWS
         same 'what is said' "$(sort "$room/err" | sed "s,$room,ROOM,")" "$(printf "zigrunk-nvcc: ROOM/cache doesn't take %s, which runs without it\n" 'cicc' 'cudafe++')"
         end
     fi
+    if case_of 'what a cache had'; then
+        printf '%s\n' '#!/bin/sh' 'case $1 in *cicc) echo direct_cache_hit ;; *ptxas) echo cache_miss ;; esac >> "$CCACHE_STATSLOG"' 'exec "$@"' > "$room/cache" && chmod +x "$room/cache"
+        call ZIGRUNK_LAUNCHER="$room/cache" ZIGRUNK_LOG="$room/calls" -c k.cu -o k.o
+        same 'hits' "$status $(tr '{' '\n' < "$room/calls" | sed -n 's/.*kind":"\([a-z+]*\).*hit":\([a-z]*\).*/\1 \2/p' | sort | uniq -c | tr -s ' \n' ' ')" '0  2 cicc true 2 ptxas false '
+        same 'the report' "$("${nvcc_driver%nvcc}report" "$room/calls" | grep hits)" 'hits: 2 of 4 (50 %)'
+        printf '%s\n' '#!/bin/sh' 'if [ "$1" = --show-stats ]; then' 'echo "{\"stats\":{\"cache_hits\":{\"counts\":{\"CUDA\":4}},\"cache_misses\":{\"counts\":{\"PTX\":$(wc -l < "$LOG.asked")}}}}"' \
+            exit 'fi' 'echo >> "$LOG.asked"' 'exec "$@"' > "$room/sccache" && chmod +x "$room/sccache"
+        : > "$room/log.asked"
+        call ZIGRUNK_LAUNCHER="$room/sccache" ZIGRUNK_LOG="$room/counted" -c k.cu -o k.o
+        same 'what sccache counted' "$status $(grep -o '"counted":[^]]*' "$room/counted")" '0 "counted":[4,0,4,6'
+        same 'its report' "$("${nvcc_driver%nvcc}report" "$room/counted" | grep hits)" 'hits: 0 of 6 (0 %)'
+        end
+    fi
     if case_of 'a runner'; then
         call ZIGRUNK_RUNNER='env RAN=yes' TOOL_DOES='echo "$RAN" >> "$LOG.ran"' -c k.cu -o k.o
         same 'commands that it ran' "$status$(sort "$room/log.ran" | uniq -c | tr -s ' ')" '0 10 yes'
@@ -222,19 +264,48 @@ ROWS
         end
     fi
     if case_of 'two equal calls at once, and the next one'; then
-        start TOOL_DOES="$notes; [ \"\$name\" != cudafe++ ] || sleep 1" -c k.cu -o k.o
+        start TOOL_DOES="$notes; $waits" -c k.cu -o k.o
         within 20 has_begun cudafe++
         cp "$room/log" "$room/log.first"
         call TOOL_DOES="$notes" -c k.cu -o k.o
         splits
         same 'where' "$(sed 's/.*-//' "$room/log.cicc.80")" 2
+        : > "$room/log.go"
         ended 0
         call TOOL_DOES="$notes" -c k.cu -o k.o
         same 'where' "$(sed 's/.*zigrunk-[0-9a-f]*//' "$room/log.cicc.80")" ''
         end
     fi
+    if case_of 'many equal calls at once'; then
+        call TOOL_DOES="$notes" -c k.cu -o k.o
+        base=$(cat "$room/log.cicc.80") locks=()
+        for number in $(seq 64); do
+            [ "$number" != 1 ] || number=''
+            exec {lock}> "$base${number:+-$number}.lock" && flock "$lock" && locks+=("$lock")
+            case $number in 63 | 64) call TOOL_DOES="$notes" -c k.cu -o k.o; splits "$number"; sed "s,^$base,," "$room/log.cicc.80" >> "$room/places" ;; esac
+        done
+        same 'where' "$(sed 's,/zigrunk\.[0-9a-f]\{6\}$,/RANDOM,; s,^.*/RANDOM,RANDOM,' "$room/places" | paste -sd ' ')" '-64 RANDOM'
+        for lock in "${locks[@]}"; do exec {lock}>&-; done
+        rm -f "$base"*.lock
+        end
+    fi
+    if case_of 'what killed calls left long ago goes, and nothing else'; then
+        base=$room/tmp/zigrunk-$user
+        mkdir -m 700 "$base"
+        for name in old young held; do mkdir "$base/zigrunk-$name" && : > "$base/zigrunk-$name/file" && : > "$base/zigrunk-$name.lock"; done
+        mkdir "$base/unlocked"
+        touch -d '11 minutes ago' "$base"/*
+        touch -d '9 minutes ago' "$base/zigrunk-young.lock"
+        exec 5< "$base/zigrunk-held.lock" && flock 5
+        call -c k.cu -o k.o
+        splits
+        same 'what stays' "$(ls "$base" | paste -sd ' ')" 'unlocked zigrunk-held zigrunk-held.lock zigrunk-young zigrunk-young.lock'
+        exec 5<&-
+        rm -rf "${base:?}"/*
+        end
+    fi
     if case_of 'the call is killed'; then
-        start TOOL_DOES='[ "$name" != cudafe++ ] || sleep 30' -c k.cu -o k.o
+        start TOOL_DOES='[ "$name" != cudafe++ ] || sleep 300' -c k.cu -o k.o
         within 20 has_begun cudafe++
         kill -KILL "$process"
         ended 137
@@ -244,7 +315,7 @@ ROWS
         end
     fi
     if case_of 'the call and its guard are killed'; then
-        start TOOL_DOES='[ "$name" != cudafe++ ] || exec sleep 30' -c k.cu -o k.o
+        start TOOL_DOES='[ "$name" != cudafe++ ] || exec sleep 300' -c k.cu -o k.o
         within 20 has_begun cudafe++
         guard=$(pgrep -P "$process" -f zigrunk-nvcc | head -n 1)
         kill -KILL "$guard" "$process"
@@ -410,6 +481,13 @@ ROWS
 }
 
 outputs() {
+    if case_of 'a call that waits takes no time of a processor'; then
+        TIMEFORMAT='%U %S'
+        { time call TOOL_DOES='[ "$name" != cudafe++ ] || sleep 3' -c k.cu -o k.o; } 2> "$room/times"
+        splits
+        same 'less than 1.5 s' "$(awk '{ print ($1 + $2 < 1.5) }' "$room/times")" 1
+        end
+    fi
     if case_of "nvcc's warnings, and what commands say, in order"; then
         call WARNING='nvcc warns' TOOL_DOES='echo "out $name"; echo "err $name" >&2; case $name in *.80) sleep 0.3 ;; esac' -c k.cu -o k.o
         same status "$status" 0
@@ -483,7 +561,7 @@ products() {
         end
     fi
     if case_of 'a command fails, and the dependency file is made'; then
-        call TOOL_DOES='[ "$name" != ptxas.80 ] || { echo bad >&2; exit 6; }' -MD -c k.cu -o k.o
+        call TOOL_DOES='[ "$name" != ptxas.80 ] || { sleep 1; echo bad >&2; exit 6; }' -MD -c k.cu -o k.o
         same 'status, messages and file' "$status $(cat "$room/err") $(grep -c a.h k.d)" '6 bad 1'
         end
     fi
@@ -492,7 +570,7 @@ products() {
 signals() {
     for signal in HUP:129 INT:130 TERM:143; do
         case_of "the signal ${signal%:*}" || continue
-        start TOOL_DOES='if [ "$name" = cudafe++ ]; then trap "sleep 0.3; echo stopped >> $LOG.stopped; exit 2" HUP INT TERM; sleep 20 & wait; fi' -c k.cu -o k.o
+        start TOOL_DOES='if [ "$name" = cudafe++ ]; then trap "sleep 0.3; echo stopped >> $LOG.stopped; exit 2" HUP INT TERM; sleep 300 & wait; fi' -c k.cu -o k.o
         within 20 has_begun cudafe++
         sleep 0.1
         kill -s "${signal%:*}" "$process"
@@ -501,7 +579,7 @@ signals() {
         end
     done
     if case_of 'a command that ignores TERM'; then
-        start TOOL_DOES='if [ "$name" = cudafe++ ]; then trap "" TERM; sleep 20; sleep 20; fi' -c k.cu -o k.o
+        start TOOL_DOES='if [ "$name" = cudafe++ ]; then trap "" TERM; sleep 300; sleep 300; fi' -c k.cu -o k.o
         within 20 has_begun cudafe++
         sleep 0.1
         kill "$process"
@@ -509,14 +587,27 @@ signals() {
         end
     fi
     if case_of 'a signal while a dry run runs'; then
-        start OWN_DOES='echo "+ dry" >> "$LOG"; sleep 20' -c k.cu -o k.o
+        start OWN_DOES='echo "+ dry" >> "$LOG"; sleep 300' -c k.cu -o k.o
         within 20 has_begun dry
         kill "$process"
         ended 143
         end
     fi
+    if case_of 'a signal while the call waits for a slot'; then
+        mkdir -m 700 "$room/run/zigrunk-slots-$user"
+        exec 5> "$room/run/zigrunk-slots-$user/1" && flock 5
+        (exec 5>&-
+        start ZIGRUNK_SLOTS=1 -c k.cu -o k.o
+        within 20 eval 'ls "$room/run/zigrunk-slots-$user" | grep -q ^wait' || problems+='  it does not wait'$'\n'
+        kill "$process"
+        ended 143
+        echo "$problems" > "$room/problems")
+        same 'in the case' "$(cat "$room/problems") $(grep -c . "$room/log")" ' 0'
+        exec 5>&-
+        end
+    fi
     if case_of 'a signal while nvcc itself runs'; then
-        start NVCC_DOES='echo "+ nvcc $$" >> "$LOG"; exec sleep 20' k.cu
+        start NVCC_DOES='echo "+ nvcc $$" >> "$LOG"; exec sleep 300' k.cu
         within 20 has_begun nvcc
         same process "$(sed -n 's/^+ nvcc //p' "$room/log")" "$process"
         kill "$process"
@@ -526,25 +617,57 @@ signals() {
     if case_of 'signals that the caller ignores'; then
         # as nohup does, and a shell that isn't interactive in the background
         for signal in HUP INT TERM; do
-            (trap '' "$signal"; exec env LOG="$room/log" TMPDIR="$room/tmp" XDG_RUNTIME_DIR="$room/run" TOOL_DOES='[ "$name" != cudafe++ ] || sleep 1' "$nvcc_driver" -c k.cu -o k.o) > "$room/out" 2> "$room/err" &
+            rm -f "$room/log" "$room/log.go" && : > "$room/log"
+            (trap '' "$signal"; exec env LOG="$room/log" TMPDIR="$room/tmp" XDG_RUNTIME_DIR="$room/run" TOOL_DOES="$waits" "$nvcc_driver" -c k.cu -o k.o) > "$room/out" 2> "$room/err" &
             process=$!
-            : > "$room/log"
             within 20 has_begun cudafe++
             kill -s "$signal" "$process"
+            : > "$room/log.go"
             wait "$process"
             same "status with $signal" "$?$(cat "$room/err")" 0
         done
         end
     fi
-    if case_of 'TSTP and CONT'; then
-        start TOOL_DOES='[ "$name" != cudafe++ ] || { sleep 0.4; sleep 0.4; }' -c k.cu -o k.o
+    if case_of 'TSTP and CONT, twice'; then
+        # As a job of its own: in a group whose shell is gone, as this script's is if something starts it in the background, TSTP stops nobody.
+        set -m
+        start TOOL_DOES="$waits" -c k.cu -o k.o
+        set +m
         within 20 has_begun cudafe++
-        kill -TSTP "$process"
-        within 5 eval '[ "$(cut -d " " -f 3 "/proc/$process/stat")" = T ]' || problems+='  it does not stop'$'\n'
-        same 'a command that is stopped' "$(pgrep -f "$CUDA/bin/cudafe" | head -n 1 | xargs -I{} cut -d ' ' -f 3 /proc/{}/stat)" T
-        same 'slots that are free' "$(for slot in "$room/run"/*/[0-9]*; do flock -n "$slot" true || echo "$slot"; done)" ''
-        kill -CONT "$process"
+        for _ in 1 2; do
+            kill -TSTP "$process"
+            within 5 eval '[ "$(cut -d " " -f 3 "/proc/$process/stat")" = T ]' || problems+='  it does not stop'$'\n'
+            # D, if it was stopped while its shell waited for a child to begin
+            same 'a command that is stopped' "$(pgrep -f "$CUDA/bin/cudafe" | head -n 1 | xargs -I{} cut -d ' ' -f 3 /proc/{}/stat | tr D T)" T
+            same 'slots that are free' "$(for slot in "$room/run"/*/[0-9]*; do flock -n "$slot" true || echo "$slot"; done)" ''
+            kill -CONT "$process"
+            within 5 eval '[ "$(cut -d " " -f 3 "/proc/$process/stat")" != T ]' || problems+='  it does not go on'$'\n'
+        done
+        : > "$room/log.go"
         ended 0
+        end
+    fi
+    if case_of 'CONT while the call is about to stop'; then
+        if command -v strace > /dev/null; then
+            # It sends STOP to a command first, and that takes a while here.
+            (before=(strace -D -o "$room/trace" -e trace=kill -e inject=kill:delay_exit=400000:when=1); start TOOL_DOES="$waits" -c k.cu -o k.o
+            within 20 has_begun cudafe++
+            kill -TSTP "$process"
+            within 5 grep -q kill "$room/trace" || problems+='  it sends nothing'$'\n'
+            kill -CONT "$process"
+            : > "$room/log.go"
+            ended 0
+            echo "$problems" > "$room/problems")
+            same 'in the case' "$(cat "$room/problems")" ''
+        fi
+        end
+    fi
+    if case_of 'TERM to a call that nvcc makes, with a log'; then
+        start ZIGRUNK_LOG="$room/calls" NVCC_DOES='trap "echo ended > $LOG.ended; exit 3" TERM; echo "+ nvcc" >> "$LOG"; sleep 300 & wait' k.cu
+        within 20 has_begun nvcc
+        kill "$process"
+        ended 3
+        same 'what nvcc did' "$(cat "$room/log.ended") $(grep -o '"status":[0-9]*' "$room/calls")" 'ended "status":3'
         end
     fi
 }
@@ -563,7 +686,7 @@ graph() {
 # many [NAME=VALUE..] WORD..: runs a program that makes many calls.
 many() {
     : > "$room/log"
-    env LOG="$room/log" TMPDIR="$room/tmp" XDG_RUNTIME_DIR="$room/run" TOOL_DOES='sleep 0.02' timeout 120 env "$@" > "$room/out" 2> "$room/err"
+    env LOG="$room/log" TMPDIR="$room/tmp" XDG_RUNTIME_DIR="$room/run" TOOL_DOES='sleep 0.02' timeout $((120 * patience)) env "$@" > "$room/out" 2> "$room/err"
     status=$?
     : > "$room/said"
     grep -i 'failed\|token\|jobserver' "$room/out" "$room/err" > "$room/said"
@@ -626,6 +749,13 @@ slots() {
         ran 60 1
         end
     fi
+    if case_of 'slots: a disk that stops to take locks'; then
+        if command -v strace > /dev/null; then
+            (before=(strace -D -o "$room/trace" -e trace=flock -e inject=flock:error=ENOLCK:when=3+); start -c k.cu -o k.o; ended 0; echo "$problems" > "$room/problems")
+            same 'in the case' "$(cat "$room/problems") $(cat k.o)" ' made'
+        fi
+        end
+    fi
     if case_of 'slots: calls with more leave the first ones to others'; then
         call ZIGRUNK_SLOTS=4 ZIGRUNK_JOBS=1 TOOL_DOES='flock -n "$XDG_RUNTIME_DIR/zigrunk-slots-$(id -u)/1" true || echo taken >&2' -c k.cu -o k.o
         splits
@@ -646,29 +776,47 @@ slots() {
         end
     fi
     if case_of 'slots: older calls come first'; then
-        export LOG=$room/log TMPDIR=$room/tmp XDG_RUNTIME_DIR=$room/run ZIGRUNK_SLOTS=1 TOOL_DOES='sleep 0.05'
+        export LOG=$room/log TMPDIR=$room/tmp XDG_RUNTIME_DIR=$room/run ZIGRUNK_SLOTS=1 TOOL_DOES="$waits"
         : > "$room/log"
         for number in 1 2 3 4 5; do
             : > $number.cu
             { "$nvcc_driver" -c $number.cu -o $number.o; echo $number >> "$room/ends"; } &
-            sleep 0.1
+            within 20 eval '[ "$(ls "$slot_folder" 2> /dev/null | grep -c ^wait)" -ge '"$number"' ]' ||
+                problems+="  $(ls "$slot_folder" | grep -c ^wait) calls wait, not $number"$'\n'
         done
+        : > "$room/log.go"
         wait
         unset LOG XDG_RUNTIME_DIR ZIGRUNK_SLOTS TOOL_DOES
         export TMPDIR=/tmp
         same 'the order of their ends' "$(paste -sd ' ' "$room/ends")" '1 2 3 4 5'
         end
     fi
+    if case_of 'slots: calls that hold one, or wait, say so each second'; then
+        start ZIGRUNK_SLOTS=1 TOOL_DOES="$waits" -c k.cu -o one.o
+        within 20 has_begun cudafe++
+        first=$process
+        start ZIGRUNK_SLOTS=1 -c k.cu -o two.o
+        within 20 eval '[ "$(find "$slot_folder" -name "wait-*" | wc -l)" = 2 ]' || problems+='  nobody waits'$'\n'
+        touched=$(stamps)
+        within 5 eval '[ "$(comm -13 <(echo "$touched") <(stamps) | wc -l)" = 3 ]' || problems+="  newer than"$'\n'"$touched"$'\n'"  are only"$'\n'"$(stamps)"$'\n'
+        : > "$room/log.go"
+        ended 0
+        process=$first
+        ended 0
+        same products "$(cat one.o two.o)" $'made\nmade'
+        end
+    fi
     if case_of 'slots: a call that is stopped holds up no others for ever'; then
-        start ZIGRUNK_SLOTS=1 TOOL_DOES='[ "$name" != cudafe++ ] || sleep 1' -c k.cu -o one.o
+        start ZIGRUNK_SLOTS=1 TOOL_DOES="$waits" -c k.cu -o one.o
         within 20 has_begun cudafe++
         kill -STOP "$process"
         stopped=$process began=$SECONDS
         call ZIGRUNK_SLOTS=1 -c k.cu -o two.o
         splits
         took=$((SECONDS - began))
-        [ "$took" -le 15 ] || problems+="  the other takes $took s"$'\n'
+        [ "$took" -le $((15 * patience)) ] || problems+="  the other takes $took s"$'\n'
         kill -CONT "$stopped"
+        : > "$room/log.go"
         process=$stopped
         ended 0
         end
@@ -754,6 +902,19 @@ jobservers() {
         end
         exec 5>&- 6>&-
     fi
+    if case_of 'make: a job that the call cannot give back'; then
+        if command -v strace > /dev/null; then
+            mkfifo "$room/jobs"
+            exec 5<> "$room/jobs"
+            printf 'abc' >&5
+            (before=(strace -D -o "$room/trace" -e trace=write -e inject=write:error=EIO:when=1+)
+            start MAKEFLAGS=" -j4 --jobserver-auth=fifo:$room/jobs" ZIGRUNK_SLOTS=0 -c k.cu -o k.o; ended 0; echo "$problems" > "$room/problems")
+            same 'in the case' "$(cat "$room/problems")" ''
+            same tokens "$(tokens "$room/jobs" | fold -w 1 | sort | paste -sd '')" abc
+            exec 5>&-
+        fi
+        end
+    fi
     if case_of 'make: calls that are killed give their jobs back'; then
         mkfifo "$room/jobs"
         exec 5<> "$room/jobs"
@@ -789,12 +950,33 @@ logs() {
             'gcc -E,cudafe++,gcc -E __CUDA_ARCH__=800,cicc compute_80,ptxas sm_80,gcc -E __CUDA_ARCH__=900,cicc compute_90,ptxas sm_90,fatbinary,gcc -c __CUDA_ARCH__=900'
         same 'statuses' "$(sed 's/.*\("status":[0-9]*\),"reason".*/\1/; s/.*"end":[0-9.]*,\("status":[0-9]*\),"commands".*/\1/' "$room/calls" | grep '^"st' | paste -sd ' ')" \
             '"status":0 "status":7 "status":6 "status":0 "status":0'
-        if command -v python3 > /dev/null; then
-            "$root/bin/zigrunk-report" "$room/calls" > "$room/report" 2>&1
-            same 'the report' "$(sed -n 1,2p "$room/report")" $'calls: 5, failed: 2\nsplit: 2 of 5 (40 %)'
-        fi
+        same 'needs' "$(head -n 1 "$room/calls" | grep -o '"needs":[^]]*' | cut -d '[' -f 2 | paste -sd ' ')" ' 0 0 1,2 3 0 1,5 6 0,1,2,3,4,5,6,7 0,1,2,3,4,5,6,7,8'
+        "$scratch/bin/zigrunk-report" "$room/calls" > "$room/report" 2>&1
+        same 'the report' "$(sed -n 1,2p "$room/report")" $'calls: 5, failed: 2\nsplit: 2 of 5 (40 %)'
         { call ZIGRUNK_LOG="$room/calls" NVCC_DOES='kill -TERM $$' k.cu; } 2> /dev/null
         same 'a signal of nvcc' "$status $(tail -n 1 "$room/calls" | grep -o '"status":[0-9]*')" '143 "status":143'
+        end
+    fi
+    while IFS='|' read -r settings words text; do
+        case_of "a hint: $text" || continue
+        : > odd.rsp
+        chmod 000 odd.rsp
+        # A limit on files is one of this shell too.
+        ([ "$settings" != files ] || { ulimit -n 16 && settings=A=b; }
+        # shellcheck disable=SC2086 # several words
+        call ZIGRUNK_LOG="$room/calls" ${settings//ROOM/$room} $words)
+        same 'the hint' "$(grep '^{"hint"' "$room/calls")" "{\"hint\":\"$text\"}"
+        end
+    done << 'ROWS'
+TMPDIR=ROOM/missing|-c k.cu -o k.o|make room for temporary files, or set TMPDIR
+A=b|--keep --keep-dir missing -c k.cu -o k.o|make the directory that --keep-dir names
+files|-c k.cu -o k.o|raise the number of open files, with ulimit -n
+NVCC_APPEND_FLAGS="-DA"|-c k.cu -o k.o|take quotes out of NVCC_PREPEND_FLAGS and NVCC_APPEND_FLAGS
+A=b|--options-file missing.rsp -c k.cu -o k.o|set CMAKE_CUDA_USE_RESPONSE_FILE_FOR_INCLUDES to 0, if CMake writes the file
+ROWS
+    if case_of 'a log that cannot be written'; then
+        call ZIGRUNK_LOG="$room/missing/calls" -c k.cu -o k.o
+        same 'status and messages' "$status $(sed "s,$room,ROOM," "$room/err")" '0 zigrunk-nvcc: cannot write ROOM/missing/calls: No such file or directory (os error 2)'
         end
     fi
     if case_of 'a terminal'; then
@@ -826,6 +1008,23 @@ plans() {
         as=$as_plan call ninja nvcc -c k.cu -o k.o
         same 'descriptions' "$(sed -n 's/^  description = //p' "$room/out" | paste -sd ,)" \
             'gcc,cudafe++,gcc 800,cicc compute_80,ptxas sm_80,gcc 900,cicc compute_90,ptxas sm_90,fatbinary,gcc 900'
+        for format in json ninja dot shell compdb makeflow text; do
+            as=$as_plan call "$format" nvcc -c k.cu -o k.o
+            same "status, messages and product in $format" "$status$(cat "$room/err") $(grep -c 'k\.o\|k\.cu' "$room/out" | sed 's/[1-9][0-9]*/some/')" '0 some'
+        done
+        as=$as_plan call NVCC_APPEND_FLAGS=-DAPPENDED json nvcc -c k.cu -o k.o
+        same 'words of a variable' "$(grep -c '^nvcc .*--dryrun.*\[-DAPPENDED\]\|^nvcc .*\[-DAPPENDED\].*--dryrun' "$room/log")" 2
+        for words in ':a format is missing' '--json nvcc:unexpected option --json' 'odd nvcc:unknown format odd' 'json:nvcc and its words are missing' 'json --:nvcc and its words are missing'; do
+            # shellcheck disable=SC2086 # several words, or none
+            as=$as_plan call ${words%:*}
+            same "status and messages with '${words%:*}'" "$status $(head -n 1 "$room/err")$(grep -c ^usage "$room/err")" "2 zigrunk-plan: ${words#*:}1"
+        done
+        for word in -h --help; do
+            as=$as_plan call $word
+            same "status and output with $word" "$status $(cat "$room/out")" '0 usage: zigrunk-plan json|ninja|dot|shell|compdb|makeflow|text [--] NVCC WORD..'
+        done
+        as=$as_plan call json nvcc -c $'k\xff.cu'
+        same 'a word that is no text' "$status $(cat "$room/err")" "2 zigrunk-plan: a word isn't UTF-8"
         as=$as_plan call json nvcc k.cu
         same 'a line that goes to nvcc' "$status $(cat "$room/out" "$room/err")" '3 zigrunk: goes to nvcc: it links'
         as=$as_plan call KEPT_STATUS=1 DRY_RUN_DOES='echo bad >&2' json nvcc -c k.cu
@@ -834,15 +1033,5 @@ plans() {
     fi
 }
 
-end_to_end
-folders
-compilers
-to_nvcc
-outputs
-products
-signals
-logs
-plans
-slots
-jobservers
+for part in ${PARTS-unit end_to_end folders compilers to_nvcc outputs products signals logs plans slots jobservers}; do "$part"; done
 summary

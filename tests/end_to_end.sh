@@ -1,17 +1,16 @@
 #!/usr/bin/env bash
-# Tests zigrunk-nvcc: by stand-ins (tests/script.sh, tests/slots.sh for many at once, tests/batch.sh for zigrunk-batch, and
-# tests/cluster_scripts.sh for examples/), by calls that nvcc makes too (tests/compare_calls.py), by the installed nvcc's list of options
-# (tests/nvcc_options.sh), by commands that have only their own files (tests/isolated.py), where the machine refuses something
-# (tests/conditions.sh), and by signals in the middle of a build. It tests too that such tests fail if they show nothing (tests/runners.sh).
+# Tests zigrunk-nvcc, and what examples/ has (tests/cluster_scripts.sh), by stand-ins, of which tests/driver.sh has more, by calls that nvcc makes
+# too (tests/compare_calls.py), by the installed nvcc's list of options (tests/nvcc_options.sh), by commands that have only their own files
+# (tests/isolated.py), where the machine refuses something (tests/conditions.sh), and by signals in the middle of a build. It tests too that such tests fail if they show nothing (tests/runners.sh).
 # Prints a line for each failure, then for each part how long it took and how many seconds of processor, and last
 # 'N passed, M failed'; the status is 1 if one failed. All parts start at once. The calls take what the others leave of the
 # processors, so that none of these, each a chain of steps, is still running at the end.
 #
 #   tests/end_to_end.sh [--all] [PROGRAM]
 #
-# PROGRAM is the zigrunk that `make build` and the gate leave, unless given. With --all it makes all calls, builds CMake projects
-# (tests/cmake.sh, tests/builds.sh), and isolates the commands of five calls; the gate makes the quick calls and isolates the commands of one. Both
-# build a fatbin twenty times (tests/needs.sh).
+# PROGRAM is the zigrunk that `make build` and the gate leave, unless given. zigrunk-nvcc is that of DRIVER_BIN, or what `make rust` leaves. With
+# --all it makes all calls, builds CMake projects (tests/cmake.sh, tests/builds.sh), and isolates the commands of five calls; the gate makes the
+# quick calls and isolates the commands of one. Both build a fatbin twenty times (tests/needs.sh).
 cd "$(dirname "$0")/.." || exit 1
 all=''
 [ "${1-}" != --all ] || { all=yes && shift; }
@@ -74,6 +73,8 @@ interrupt() {
     done
     start=$((${EPOCHREALTIME/./} - ${start/./}))
     [ "$ended" = "$2" ] || problems+=" status $ended, not $2;"
+    # the user's folder stays
+    rmdir "$folder/tmp/zigrunk-$(id -u)" 2> /dev/null
     [ -z "$(ls -A "$folder/tmp")" ] || problems+=" files left: $(cd "$folder/tmp" && echo ./*);"
     [ ! -e "$folder/work/k.o" ] || problems+=' there is an object;'
     ! pgrep -f "$folder/tmp" > /dev/null || problems+=' commands still run;'
@@ -98,14 +99,11 @@ interrupts() {
 # missing: the first program that calls of nvcc need and the path lacks.
 missing() {
     local tool
-    for tool in nvcc "${ZIGRUNK_NINJA:-ninja}" objcopy nm python3; do
+    for tool in nvcc ninja objcopy nm python3; do
         command -v "$tool" > /dev/null || { echo "$tool" && return; }
     done
 }
 
-start script tests/script.sh
-start batch tests/batch.sh
-start slots tests/slots.sh
 start cluster_scripts tests/cluster_scripts.sh
 start options tests/nvcc_options.sh
 start runners tests/runners.sh
@@ -114,17 +112,17 @@ if [ -n "$lacking" ]; then
     echo "calls of nvcc: skipped, $lacking is not on the path"
 else
     [ -x "$program" ] || make build >&2 || exit 1
-    export ZIGRUNK_PROGRAM=$program
-    wrapper=$PWD/bin/zigrunk-nvcc
+    wrapper=${DRIVER_BIN:-$PWD/out/rust/target/release}/zigrunk-nvcc
+    [ -x "$wrapper" ] || make rust >&2 || exit 1
     calls=(tests/calls_quick.txt)
     alone=(--only=-dc)
     if [ -n "$all" ]; then
         calls+=(tests/calls.txt tests/calls_words.txt tests/calls_odd.txt)
         alone=(--leave-out)
-        start cmake tests/cmake.sh "$program"
-        start builds tests/builds.sh "$program"
+        start cmake tests/cmake.sh
+        start builds tests/builds.sh
     fi
-    start needs tests/needs.sh "$program"
+    start needs tests/needs.sh
     start signals interrupts TERM INT HUP
     start isolated tests/isolated.py "${alone[@]}" "$program"
     start conditions tests/conditions.sh "$program"

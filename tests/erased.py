@@ -7,7 +7,8 @@ Usage: tests/erased.py [OUT [SOURCE]]     OUT: what `make rust` wrote, out/rust 
 
 It knows nothing of the program that wrote them. For each crate it reads the source and the output by tokens: the output's have to be the
 source's in their order, but for ghost text, whose forms `rust_reading` lists, for imports that only ghost text used, and for the rewrites
-of REWRITES and `exported`. Documentation is compared too, other comments aren't. Each file has to be there, and no other.
+of REWRITES and `exported`. Documentation is compared too, other comments aren't. Each file has to be there, and no other, nor a crate that
+has laws alone. No file may join a `let` with `&&`, which Rust 1.85 doesn't have.
 """
 
 import argparse
@@ -32,7 +33,8 @@ TOP = Path(os.path.realpath(__file__)).parent.parent
 # Libraries of the kit that crates name only for their definitions.
 ONLY_BELOW = {"ucd_perl"}
 MANIFEST_KEYS = {"package.name", "package.description", "package.version", "package.edition", "package.rust-version", "package.license",
-                 "package.publish", "lints.workspace", "lib.name", "lib.crate-type", "lib.doc", "bin.name", "bin.path", "bin.doc"}
+                 "package.publish", "lints.workspace", "lib.name", "lib.crate-type", "lib.doc", "bin.name", "bin.path", "bin.doc",
+                 "bin.test"}
 
 
 @dataclass(frozen=True)
@@ -241,6 +243,12 @@ class Crate:
     outputs: dict[str, str]
     laws: set[str]
 
+    @property
+    def is_of_laws(self) -> bool:
+        """Whether it has laws, and otherwise documentation alone."""
+        others = [Reader(text, True).read() for place, text in self.sources.items() if place not in self.laws]
+        return bool(self.laws) and all(not reading.items and not reading.imports and reading.modules.keys() <= self.laws for reading in others)
+
     def laws_below(self, place: str) -> set[str]:
         """Returns the modules of laws that the file at a place could declare."""
         folder = place.rpartition("/")[0] if place.rpartition("/")[2] in ("lib", "main") else place
@@ -303,14 +311,40 @@ def check_crate(crate: Crate, folder: Path, needs: set[str], crates: set[str], c
         counts.case(MEMORY_FILE, different_memory(crate.outputs["memory"]))
 
 
+def let_chains(tokens: list[Token]) -> Iterator[int]:
+    """Lines of conditions that join a `let` with `&&`. Newer rustcs than 1.85 take them."""
+    for place, head in enumerate(tokens):
+        if head.text not in ("if", "while"):
+            continue
+        depth, condition = 0, list[str]()
+        for token in tokens[place + 1:]:
+            depth += (token.text in ("(", "[")) - (token.text in (")", "]"))
+            if depth == 0 and token.text == "{":
+                break
+            condition += [token.text] if depth == 0 else []
+        if "let" in condition and "&&" in condition:
+            yield head.line
+
+
+def too_new(out: Path) -> Iterator[str]:
+    """Places below a folder that Rust 1.85 doesn't compile."""
+    for file in sorted(out.rglob("*.rs")):
+        if "target" not in file.relative_to(out).parts:
+            lines = let_chains(tokens_of(file.read_text(encoding="utf-8")))
+            yield from (f"{file.relative_to(out)}:{line}: a `let` joined with `&&`" for line in lines)
+
+
 def check(source: Path, out: Path) -> int:
     """Checks all crates, and prints what was left out and rewritten. Each file is a case, and so are the files of a crate."""
     counts, found = Counts(), Counter[str]()
     crates = crates_there(source, out)
     there = {path.name for path in (out / "crates").iterdir()}
-    counts.case("crates", (f"{name} is no crate of the sources" for name in sorted(there - {*crates})))
-    for name, needs in crates.items():
-        check_crate(read_crate(source, out, name), out / "crates" / name, needs, {*crates}, counts, found)
+    read = [read_crate(source, out, name) for name in crates]
+    kept = [crate for crate in read if not crate.is_of_laws]
+    counts.case("crates", (f"{name} has no code in the sources" for name in sorted(there - {crate.name for crate in kept})))
+    for crate in kept:
+        check_crate(crate, out / "crates" / crate.name, crates[crate.name], {*crates}, counts, found)
+    counts.case("what Rust 1.85 lacks", too_new(out))
     print(", ".join(f"{kind} {number}" for kind, number in sorted(found.items())))
     return counts.summary()
 
@@ -344,7 +378,7 @@ def found_in_text(lot: random.Random, crate: Crate) -> tuple[str, bool] | None:
 def edited(number: int, seed: str, source: Path, out: Path) -> int:
     """Makes edits one by one, and counts those that the check finds. One of twenty is of a whole file."""
     counts, lot = Counts(), random.Random(seed)
-    crates = [read_crate(source, out, name) for name in crates_there(source, out)]
+    crates = [crate for crate in (read_crate(source, out, name) for name in crates_there(source, out)) if not crate.is_of_laws]
     there = {crate.name: files_of(out / "crates" / crate.name) for crate in crates}
     while counts.passed + counts.failed < number:
         crate = lot.choices(crates, [len(crate.outputs) for crate in crates])[0]

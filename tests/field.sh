@@ -3,8 +3,7 @@
 # have the status that nvcc's has, print the same, and make the same files. Then it builds the objects again through a cache: as they are,
 # and after a change of one kernel. docs/FIELD.md says what came out. It installs nothing.
 #
-#   tests/field.sh [PROGRAM]     PROGRAM is the zigrunk that `make build` leaves, unless given
-#
+#   DRIVER_BIN=FOLDER            where zigrunk-nvcc is, else where `make rust` leaves it
 #   PROJECTS='bart ceres'        only these of tests/field
 #   GENERATORS='Ninja'           only these of Ninja, make and own; make is CMake's too, and own is a project's own make
 #   ONLY=PATTERN                 only the objects whose paths match, for each project; some projects' files name such a part themselves
@@ -15,10 +14,8 @@
 cd "$(dirname "$0")/.." || exit 1
 . tests/lib.sh
 what='Projects in the field'
-require "$what" nvcc cmake make "${ZIGRUNK_NINJA:-ninja}" python3 curl tar xz dpkg-deb objcopy sha256sum
-ours=$PWD/bin/zigrunk-nvcc theirs=$(command -v nvcc) tools=$PWD/tests/field
-export ZIGRUNK_PROGRAM
-ZIGRUNK_PROGRAM=$(realpath "${1:-${ZIGRUNK_PROGRAM:-crates/zigrunk/out/zigrunk}}")
+require "$what" nvcc cmake make ninja python3 curl tar xz dpkg-deb objcopy sha256sum
+ours=${DRIVER_BIN:-$PWD/out/rust/target/release}/zigrunk-nvcc theirs=$(command -v nvcc) tools=$PWD/tests/field
 jobs=${JOBS:-$(nproc)}
 folder=${ZIGRUNK_FIELD:-${XDG_CACHE_HOME:-$HOME/.cache}/zigrunk/field}
 mkdir -p "$folder/files" && folder=$(realpath "$folder")
@@ -92,9 +89,9 @@ configure() {
 
 build() {
     if [ "$generator" = Ninja ]; then
-        "${ZIGRUNK_NINJA:-ninja}" -C build -t targets all |
+        ninja -C build -t targets all |
             sed -n '/^\//d; s/^\(.*\): CUDA_COMPILER__.*/\1/p; s/^\(.*_generated_.*\.o\): CUSTOM.*/\1/p' | grep -E "${only:-.}" |
-            (cd build && xargs "${ZIGRUNK_NINJA:-ninja}" -k 0 -j "$1")
+            (cd build && xargs ninja -k 0 -j "$1")
     else
         make -C build -f objects.mk -k -j "$1"
     fi

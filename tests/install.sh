@@ -130,12 +130,16 @@ if command -v cc > /dev/null && command -v pkg-config > /dev/null; then
 else
     echo 'skipped: calls of the library, without cc or pkg-config'
 fi
-if command -v nvcc > /dev/null && command -v ninja > /dev/null; then
+if ! command -v cargo > /dev/null; then
+    echo 'left out, without cargo on the path: zigrunk-nvcc'
+elif command -v nvcc > /dev/null; then
     echo '__global__ void none() {}' > k.cu
-    check 'zigrunk-nvcc' zigrunk-nvcc -c k.cu -o k.o
+    check 'zigrunk-nvcc' env ZIGRUNK_EXPLAIN=1 zigrunk-nvcc -c k.cu -o k.o
     check 'its object' test -s k.o
+    check 'it splits the call' prints '' cat "$scratch/said"
+    check 'zigrunk-plan' sh -c 'zigrunk-plan json nvcc -c k.cu -o k.o | grep -q cicc'
 else
-    echo 'left out, without nvcc or ninja on the path: zigrunk-nvcc'
+    echo 'left out, without nvcc on the path: zigrunk-nvcc'
 fi
 cd "$top" || exit 1
 check 'make install-library, alone' make -s install-library DESTDIR="$scratch/" PREFIX='a library'

@@ -1,10 +1,16 @@
+#!/usr/bin/env python3
 """Proved libraries that are kept between runs, outside the clone, each under the digest of the sources that made it.
 
 The folder is ZIGRUNK_PROOFS, or zigrunk/proofs in the user's cache folder. A library whose sources, or those of a library below it,
-have changed has another digest, so nothing in the folder goes stale: remove it whenever you like. The gate never reads it."""
+have changed has another digest, so nothing in the folder goes stale: remove it whenever you like. The gate never reads it.
+
+    tests/kept.py --from-rt-ci      puts into that folder what `rt ci` has proved on this machine of the same sources, by the same kit, so that
+                                    tests/quick has only what changed to prove. The last line says how many libraries are kept.
+"""
 
 import fcntl
 import hashlib
+import importlib.machinery
 import os
 import shutil
 import subprocess
@@ -102,3 +108,39 @@ def build_below(crates: List[Any], jobs: int, say: Callable[[str], None]) -> boo
         for it in below:
             done[it.name] = lanes.submit(one, it)
         return all([it.result() for it in done.values()])
+
+
+def take_from_rt_ci(top: str) -> int:
+    """Copies each library that `rt ci` keeps on this machine, if it was made of these sources and of what is below them, into the kept
+    folder. It asks the kit's own code, which compares every file with the sum noted when it was proved. Returns how many are kept."""
+    rt = importlib.machinery.SourceFileLoader("rt_ci", os.path.realpath(shutil.which("rt") or "rt")).load_module()
+    version, count = kit(), 0
+    os.makedirs(FOLDER, exist_ok=True)
+    with tempfile.TemporaryDirectory(dir=FOLDER) as room:
+        # `rt ci` puts its libraries into the crates' folders, where a check may be using others
+        shutil.copytree(f"{top}/crates", f"{room}/crates", ignore=shutil.ignore_patterns("out"))
+        for name in ("crates.txt", "HANDLES"):
+            shutil.copy(f"{top}/{name}", room)
+        os.chdir(room)
+        rt.Crate.allowed = rt.handles_of(room)
+        crates = rt.crates_of(room)
+        store = rt.Kept(crates)
+        for crate in crates:
+            if crate.is_program or not all(it.name in store.rlibs for it in crate.below()) or not store.give(crate, False, store.key(crate)):
+                continue
+            store.is_built(crate)
+            to = f"{FOLDER}/{key_of(version, crate)}/{crate.name}.rlib"
+            if os.path.isdir(f"{crate.folder}/out/rlib/{crate.name}.rlib"):
+                count += 1
+                if not os.path.isdir(to):
+                    os.makedirs(os.path.dirname(to), exist_ok=True)
+                    os.rename(f"{crate.folder}/out/rlib/{crate.name}.rlib", to)
+        os.chdir(top)
+    return count
+
+
+if __name__ == "__main__":
+    if sys.argv[1:] != ["--from-rt-ci"]:
+        print(__doc__, file=sys.stderr)
+        sys.exit(2)
+    print(f"{take_from_rt_ci(os.path.realpath(f'{os.path.dirname(os.path.realpath(__file__))}/..'))} libraries are kept in {FOLDER}")

@@ -49,7 +49,7 @@ FAILURES = (1, 2)
 LONG = ("lines", "plans", "programs")
 
 # The crates that a library for C is made of, beside those below them, and the tests of it in C that have long input.
-C_CRATES = ("c_texts", "c_plans", "c_steps", "c_keys", "c_lines", "zigrunk_c")
+C_CRATES = ("c_texts", "c_plans", "c_steps", "c_keys", "c_schedules", "c_lines", "zigrunk_c")
 C_TESTS = ("keys", "lines", "line_records", "plans", "records", "steps")
 
 # A run of a case: its status, the seconds that it took, and the numbers of the bodies that would give up in it. And the runs by case.
@@ -259,10 +259,6 @@ programs | plan_scripts/command | push_command | command.env_vars.as_slice().len
 programs | plan_exports/ninja | ninja_file | plan.groups.as_slice().len() > 50
 programs | plan_exports/ninja | ninja_file | long_body::has_large(plan.groups.as_slice(), 500)
 programs | plan_exports/ninja | ninja_file | plan.dropped.as_slice().len() > 500
-programs | plan_exports/scripts | ninja_file_of_scripts | plan.groups.as_slice().len() > 50
-programs | plan_exports/scripts | ninja_file_of_scripts | long_body::has_large(plan.groups.as_slice(), 500)
-programs | plan_exports/scripts | ninja_file_of_scripts | plan.dropped.as_slice().len() > 500
-programs | plan_exports/scripts | ninja_file_of_scripts | slot.len() > 50_000
 programs | plan_json/json | json_text | planned.plan.groups.as_slice().len() > 50
 programs | plan_json/json | json_text | long_body::has_large(planned.plan.groups.as_slice(), 500)
 programs | plan_json/json | json_text | planned.plan.dropped.as_slice().len() > 500

@@ -1,19 +1,17 @@
 #!/usr/bin/env bash
-# Tests that the edges of a Ninja file are enough: zigrunk-nvcc builds a fatbin for six targets twenty times with eight commands at once,
+# Tests that what commands need is enough: zigrunk-nvcc builds a fatbin for six targets twenty times with eight commands at once,
 # and each product has to be nvcc's. A call has 19 commands. Each build but the first holds another one back for a second, in which all
-# run that Ninja doesn't hold back for it. The last line is 'N passed, M failed'; the status is 1 if one failed.
+# run that don't need it. The last line is 'N passed, M failed'; the status is 1 if one failed.
 #
-#   tests/needs.sh [PROGRAM]    PROGRAM is the zigrunk that `make build` leaves, unless given
-#
+#   DRIVER_BIN=FOLDER      where zigrunk-nvcc is, else where `make rust` leaves it
 #   TARGETS='70 75 ..'     other targets: six that nvcc knows
 cd "$(dirname "$0")/.." || exit 1
 . tests/lib.sh
-require 'needs of commands' nvcc "${ZIGRUNK_NINJA:-ninja}"
-wrapper=$PWD/bin/zigrunk-nvcc
+require 'needs of commands' nvcc
+wrapper=${DRIVER_BIN:-$PWD/out/rust/target/release}/zigrunk-nvcc
 headers=$PWD/tests/small
-ZIGRUNK_PROGRAM=$(realpath "${1:-${ZIGRUNK_PROGRAM:-crates/zigrunk/out/zigrunk}}")
-export ZIGRUNK_PROGRAM ZIGRUNK_EXPLAIN=1 ZIGRUNK_JOBS=8 ZIGRUNK_SLOTS=8
-unset NVCC_PREPEND_FLAGS NVCC_APPEND_FLAGS MAKEFLAGS ZIGRUNK_RUNNER ZIGRUNK_LAUNCHER ZIGRUNK_TMP ZIGRUNK_PLAN
+export ZIGRUNK_EXPLAIN=1 ZIGRUNK_JOBS=8 ZIGRUNK_SLOTS=8
+unset NVCC_PREPEND_FLAGS NVCC_APPEND_FLAGS MAKEFLAGS ZIGRUNK_RUNNER ZIGRUNK_LAUNCHER ZIGRUNK_TMP
 
 cd "$scratch" || exit 1
 mkdir tmp

@@ -34,7 +34,7 @@ export PKG_CONFIG_PATH=$folder/cargo/zstd
 # workspace: the proved sources as plain Rust, in which the crate is. The eraser is built in a folder of its own: sccache's crates have another lock.
 workspace() {
     CARGO_HOME=$folder/eraser CARGO_TARGET_DIR=$folder/eraser/target \
-        cargo run --quiet --release --offline --manifest-path rust/Cargo.toml -p eraser -- . "$folder/rust"
+        cargo run --quiet --offline --manifest-path rust/Cargo.toml -p eraser -- . "$folder/rust"
 }
 
 # tree SIDE WORD..: a patched copy of the sources, unless there is one of this patch.

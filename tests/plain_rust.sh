@@ -29,29 +29,40 @@ script() {
 
 # write: the eraser writes the workspace, with the drivers that run cases, and cargo builds it.
 write() {
-    cargo run --quiet --release --locked --manifest-path rust/Cargo.toml -p eraser -- --drivers . "$folder" &&
+    cargo run --quiet --locked --manifest-path rust/Cargo.toml -p eraser -- --drivers . "$folder" &&
         cargo build --quiet --release --target-dir "$folder/target" --manifest-path "$folder/Cargo.toml"
+}
+
+# no_debug_form: no crate prints a text by `{:?}`, which escapes other characters in Rust than in the kit (docs/PLAIN_RUST.md).
+no_debug_form() {
+    ! grep -rnE --include='*.rs' --exclude-dir='test_*' '\{[a-z_0-9.]*:[^}]*\?\}' "$folder/crates"
 }
 
 # text: each token of the output is explained by its source, and edits drawn by lot aren't. The commit draws them.
 text() {
     script 'the text' tests/erased.py "$folder"
+    check 'no text by its debug form' no_debug_form
     script 'edits of the text' tests/erased.py --edits "${EDITS:-20}" --seed "$(git rev-parse HEAD 2> /dev/null)" "$folder"
 }
 
-# workspace: what rustfmt and cargo say of all crates, the stand-ins among them.
+# workspace: what rustfmt and cargo say of all crates, the stand-ins and the eraser among them. Each public item has a page.
 workspace() {
     local words=(--manifest-path "$folder/Cargo.toml") roots name without=()
-    # the drivers are tests in the kit's form, which rustfmt and clippy would write otherwise
-    for name in $(tests/drivers.sh --names); do
-        [ ! -d "$folder/crates/$name" ] || without+=(--exclude "$name")
+    # test_.. are tests in the kit's form, which rustfmt and clippy would write otherwise; `make rust` leaves them out
+    for name in "$folder"/crates/test_*; do
+        without+=(--exclude "${name##*/}")
     done
     export CARGO_TARGET_DIR=$folder/target
     roots=("$folder"/{crates,stand}/*/src/{lib,main}.rs)
     mapfile -t roots < <(printf '%s\n' "${roots[@]}" | grep -v '\*\|/test_')
     check 'the layout by rustfmt' rustfmt --check --edition 2024 "${roots[@]}"
-    check 'clippy' cargo clippy --quiet --workspace "${without[@]}" --all-targets "${words[@]}" -- -D warnings
+    check "the driver's layout" rustfmt --check --edition 2024 --config-path driver driver/src/lib.rs driver/src/main.rs
+    check 'clippy' cargo clippy --quiet --workspace "${without[@]}" --all-targets "${words[@]}" -- -D warnings -D missing_docs
     check 'the pages' env RUSTDOCFLAGS='-D warnings' cargo doc --quiet --no-deps --workspace "${words[@]}"
+    words=(--locked --manifest-path rust/Cargo.toml -p eraser)
+    check "the eraser's layout" cargo fmt --check --manifest-path rust/Cargo.toml -p eraser
+    check "the eraser's tests" cargo test --quiet "${words[@]}"
+    check 'clippy on the eraser' cargo clippy --quiet --all-targets "${words[@]}" -- -D warnings
     unset CARGO_TARGET_DIR
 }
 

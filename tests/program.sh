@@ -637,56 +637,35 @@ edge() {
     echo "  line = ( cd $3 ) && touch /t/zigrunk.$1"
 }
 
-# plan_files_of_scripts EDGES NEEDS: the plan of the kernel's run for Ninja with a script for each command. NEEDS are those of the last edge.
-plan_files_of_scripts() {
-    local head depends last
-    head=$(lines 'tmp = /t' "# stamps$2 \${tmp}/zigrunk.2.1" "# preprocessor $scratch/bin/gcc" 'slot = s "$$1" $$$$' 'builddir = ${tmp}' 'rule run' \
-        '  command = ${slot} ${out}' '  rspfile = ${out}.sh' '  rspfile_content = ${line} || { code=$$?; echo $$code > ${out}.status; exit $$code; }')
-    check 'a plan for Ninja, with scripts' 0 "${head%.}$1" '' ninja --slot 's "$1" $$' /t /t -c "$scratch/kernel" "$scratch/kernel.2"
-    depends=$(lines 'build ${tmp}/zigrunk.tmp/depended: run ${tmp}/zigrunk.0.0 ${tmp}/zigrunk.1.0' \
-        '  line = sh /t/zigrunk.tmp/dependencies && touch /t/zigrunk.tmp/depended')
-    last=$2$'\n  line'
-    check 'scripts and the dependency file' 0 "${head%.}${depends%.}${1/"$last"/"$2 \${tmp}/zigrunk.tmp/depended"$'\n  line'}" '' \
-        ninja --slot 's "$1" $$' --dependencies /t /t -c "$scratch/kernel" "$scratch/kernel.2"
-    run_of joined '#$ fatbinary k.cubin'
-    "$program" ninja --slot x --dependencies /t /t -c "$scratch/joined" "$scratch/joined.2" 2> "$scratch/err" | grep '^#\|depended' > "$scratch/out"
-    echo "${PIPESTATUS[0]}" > "$scratch/status"
-    head=$(lines '# stamps ${tmp}/zigrunk.1.0' '# preprocessor ' 'build ${tmp}/zigrunk.tmp/depended: run' \
-        '  line = sh /t/zigrunk.tmp/dependencies && touch /t/zigrunk.tmp/depended' 'build ${tmp}/zigrunk.1.0: run ${tmp}/zigrunk.tmp/depended')
-    judge 'scripts without a preprocessor' 0 "${head%.}" ''
-}
-
-# Ninja runs the scripts of a plan, in a directory whose name needs quotes in Ninja and in a shell: each once, with the stamp's path behind
-# the words, and the dependency file's after both preprocessors and before the last command
+# Ninja runs a plan, in a directory whose name needs quotes in Ninja and in a shell: each command once, and both preprocessors and all
+# device tools before the last one
 run_by_ninja() {
-    local tmp="$scratch/it's \$x" slot order
+    local tmp="$scratch/it's \$x" tool
     if ! command -v ninja > /dev/null; then
-        skip 'scripts run by Ninja' 'ninja is not on the path'
+        skip 'a plan run by Ninja' 'ninja is not on the path'
         return
     fi
-    mkdir -p "$tmp/zigrunk.tmp"
-    for order in gcc cudafe++ cicc ptxas fatbinary; do
-        printf '#!/bin/sh\necho "${0##*/} $*" >> "%s/order"\n' "$scratch" > "$scratch/bin/$order"
+    mkdir -p "$tmp"
+    for tool in gcc cudafe++ cicc ptxas fatbinary; do
+        printf '#!/bin/sh\necho "${0##*/} $*" >> "%s/order"\n' "$scratch" > "$scratch/bin/$tool"
     done
-    echo "echo depends >> '$scratch/order'" > "$tmp/zigrunk.tmp/dependencies"
-    # shellcheck disable=SC2016 # the words' own dollars
-    slot='run() { PATH=/usr/bin:/bin sh "$1.sh" && echo "${1##*/}" >> '"'$scratch/stamps'"'; }; run'
-    rm -f "$scratch/order" "$scratch/stamps"
-    "$program" ninja --slot "$slot" --dependencies "$scratch" "$tmp" -c "$scratch/kernel" "$scratch/kernel.2" > "$scratch/graph"
-    (cd "$scratch" && ninja -j 1 -f graph) > "$scratch/said" 2>&1
+    rm -f "$scratch/order"
+    "$program" ninja "$scratch" "$tmp" -c "$scratch/kernel" "$scratch/kernel.2" > "$scratch/graph"
+    (cd "$scratch" && PATH=/usr/bin:/bin ninja -j 1 -f graph) > "$scratch/said" 2>&1
     echo $? > "$scratch/status"
-    sort "$scratch/stamps" > "$scratch/out"
+    (cd "$tmp" && ls -d zigrunk.*) > "$scratch/out"
     : > "$scratch/err"
-    judge 'scripts run by Ninja' 0 "$(printf '%s\n' depended zigrunk.{0.{0,1},1.{0,1,2},2.{0,1}})"$'\n' ''
-    grep -n 'depends\| -E \|k.o$' "$scratch/order" | sed 's/ -D__[A-Z]*CC__ .*//' | cut -d : -f 2 | uniq > "$scratch/out"
-    judge 'the order of scripts' 0 $'gcc\ndepends\ngcc\n' ''
-    # a script that fails leaves its status
+    judge 'a plan run by Ninja' 0 "$(printf '%s\n' zigrunk.{0.{0,1},1.{0,1,2},2.{0,1}})"$'\n' ''
+    sed 's/ .*//' "$scratch/order" | sort | uniq -c | tr -s ' ' > "$scratch/out"
+    tail -n 1 "$scratch/order" | grep -c 'k\.o$' >> "$scratch/out"
+    judge 'each command once, and the last one last' 0 "$(printf ' %s\n' '1 cicc' '1 cudafe++' '1 fatbinary' '3 gcc' '1 ptxas')"$'\n1\n' ''
+    # a command that fails leaves its status
     printf '#!/bin/sh\nexit 7\n' > "$scratch/bin/ptxas"
-    rm -rf "$tmp"/zigrunk.[0-9]* "$tmp/zigrunk.tmp/depended"
-    (cd "$scratch" && ninja -j 1 -f graph) > "$scratch/said" 2>&1
+    rm -f "$tmp"/zigrunk.*
+    (cd "$scratch" && PATH=/usr/bin:/bin ninja -j 1 -f graph) > "$scratch/said" 2>&1
     echo $? > "$scratch/status"
     cat "$tmp"/zigrunk.*.status > "$scratch/out"
-    judge 'a script that fails' 1 $'7\n' ''
+    judge 'a command that fails in Ninja' 1 $'7\n' ''
 }
 
 # plans for Ninja and as JSON
@@ -707,7 +686,6 @@ plan_files() {
         edge 2.1 "$before \${tmp}/zigrunk.2.0" "/t && ${cached/ \$/ \'__SCCACHE_THIS_IS_A_CUDA_COMPILATION__=\' \$}/gcc -D__NVCC__ '-DA=it'\\''s' x_0.cudafe1.cpp -o k.o"
     )$'\n'"# dropped line 8 run 2 NotCuda $bin/g++ k.o"$'\n'
     check 'a plan for Ninja' 0 "$text" '' ninja /t /t -c "$scratch/kernel" "$scratch/kernel.2"
-    plan_files_of_scripts "build ${text#*$'\n'build }" "$before \${tmp}/zigrunk.2.0"
     run_of short '#$ gcc -D__NVCC__ -E k.cu -o k.cpp1.ii' '' '#$ cicc k.cpp1.ii -o k.ptx' '#$ g++ "a b"'
     env="[[\"PATH\",\"$scratch/none:$bin\"]]"
     text="{\"commands\":[{\"args\":[\"-D__NVCC__\",\"-E\",\"k.cu\",\"-o\",\"x_0.cpp1.ii\"],\"cacheable\":false,\"complete\":false,\"cwd\":\"/w\""
@@ -902,11 +880,6 @@ long_exports() {
         [ "$format" != shell ] || dropped=0
         counts "a thousand programs as $format" "$dropped" 'bin/p[0-9]\+' "$format" /w /t -c "$scratch/programs" "$scratch/programs.2"
     done
-    counts 'a group of a thousand commands as scripts' 1000 'o *k[0-9]\+\.cubin' ninja --slot x --dependencies /w /t -c "$scratch/group" "$scratch/group.2"
-    counts 'a hundred device groups as scripts' 100 'o *k[0-9]\+\.ptx' ninja --slot x /w /t -c "$scratch/groups" "$scratch/groups.2"
-    counts 'a hundred preprocessors before the dependency file' 1 'depended: run\( ${tmp}/zigrunk\.[0-9]*\.0\)\{100\}$' \
-        ninja --slot x --dependencies /w /t -c "$scratch/groups" "$scratch/groups.2"
-    counts 'a thousand programs as scripts' 1000 'bin/p[0-9]\+' ninja --slot x /w /t -c "$scratch/programs" "$scratch/programs.2"
     counts 'a group of a thousand commands as a Makeflow file' 1000 'o k[0-9]\+\.cubin' makeflow /w /t -c "$scratch/group" "$scratch/group.2"
     counts 'a hundred device groups as a Makeflow file' 100 'o k[0-9]\+\.ptx' makeflow /w /t -c "$scratch/groups" "$scratch/groups.2"
     counts 'a fatbin of a thousand images as json' 2000 'k[0-9]\+\.cubin' json /w /t -c "$scratch/images" "$scratch/images.2"
@@ -1040,7 +1013,6 @@ long_values() {
     done
     holds 'a dropped word of 70,000 bytes' json lost_word "w$long"
     holds 'a dropped word of 70,000 bytes' ninja lost_word "w$long"
-    counts 'words of 70,000 bytes for scripts' 1 "s$long" ninja --slot "s$long" /w /t -c "$scratch/kernel" "$scratch/kernel.2"
     holds 'an output of 70,000 bytes' dot name "n$long"
     for name in value word name; do
         check "a $name of 70,000 bytes as makeflow" 1 '' $'zigrunk: a command of the plan has over 65000 bytes, which Makeflow doesn\'t read\n' \
@@ -1307,7 +1279,6 @@ refused_exports() {
     check 'a program that is not on disk' 1 '' "zigrunk: $scratch/lost:2: cannot find nowhere in PATH ($scratch/none:$scratch/bin)"$'\n    #$ nowhere\n' \
         json /w /t -c "$scratch/lost" "$scratch/kernel"
     check 'a folder with a newline for Ninja' 1 '' "$unheld" ninja /w $'/t\n' -c "$scratch/kernel" "$scratch/kernel.2"
-    check 'words of two lines for scripts' 1 '' "$unheld" ninja --slot $'a\nb' /w /t -c "$scratch/kernel" "$scratch/kernel.2"
     mkdir -p "$scratch/h=re"
     : > "$scratch/h=re/gcc"
     chmod +x "$scratch/h=re/gcc"
@@ -1397,7 +1368,6 @@ wrong_usage() {
     local all='shell|ninja|json|dot|compdb|makeflow|text|plan|calls|directory|line .., or --help'
     local none="no command, or a word or variable that isn't UTF-8" bytes='--limit needs a number of bytes' odd='unexpected option' line='line cicc|ptxas|cudafe++ CWD WORD..'
     local plan='CWD TMP FLAG DRY1 DRY2 SUFFIX..' options='[--limit BYTES] [--keep] [--whole]' one=$scratch/kernel two=$scratch/kernel.2 name form
-    local ninja="ninja $options [--slot WORDS [--dependencies]] $plan"
     misuse "$none" "$all"
     misuse "$none" "$all" --limit 5
     misuse "$none" "$all" calls /w /t nvcc -c k.cu -o $'\xff'
@@ -1421,23 +1391,17 @@ wrong_usage() {
     misuse "$bytes" "shell $options $plan" shell --whole --limit
     for name in shell ninja json dot compdb makeflow text; do
         form="$name $options $plan"
-        [ "$name" != ninja ] || form=$ninja
         misuse "$name needs CWD" "$form" "$name"
         misuse "$name needs DRY2" "$form" "$name" /w /t -c "$one"
         misuse "$name needs DRY1" "$form" --limit 9 "$name" --whole --keep /w /t -c
         misuse "$odd --kep" "$form" "$name" --kep /w /t -c "$one" "$two"
         misuse "$odd --dependencies" "$form" "$name" --dependencies /w /t -c "$one" "$two"
-        [ "$name" = ninja ] || misuse "$odd --slot" "$form" "$name" --slot s /w /t -c "$one" "$two"
+        misuse "$odd --slot" "$form" "$name" --slot s /w /t -c "$one" "$two"
     done
-    misuse "$odd --slot" "$ninja" ninja --keep --slot
-    misuse "$odd --keep" "$ninja" ninja --slot s --keep /w /t -c "$one" "$two"
-    misuse "$odd --slot" "$ninja" ninja --slot s --slot s /w /t -c "$one" "$two"
-    misuse 'ninja needs CWD' "$ninja" ninja --slot s
-    misuse 'ninja needs TMP' "$ninja" --limit 9 ninja --whole --slot --keep --dependencies /w
     misuse "$odd --keep" "json $options $plan" json --keep --keep --whole --keep /w /t -c "$one" "$two"
     misuse "$odd -" "json $options $plan" json - /t -c "$one" "$two"
-    misuse 'ninja needs TMP' "$ninja" ninja --keep /w
-    misuse 'ninja needs FLAG' "$ninja" ninja --limit 5 /w /t
+    misuse 'ninja needs TMP' "ninja $options $plan" ninja --keep /w
+    misuse 'ninja needs FLAG' "ninja $options $plan" ninja --limit 5 /w /t
     misuse 'plan needs CWD' "plan $plan" plan
     misuse 'plan needs DRY2' "plan $plan" plan /w /t -c "$one"
     misuse 'calls needs CWD' 'calls CWD TMP NVCC WORD..' calls
@@ -1467,8 +1431,8 @@ zigrunk_pages() {
     head -n 4 "$scratch/help" > "$scratch/out"
     judge 'the help' 0 "usage: zigrunk FORMAT [--limit BYTES] [--keep] [--whole]
                    CWD TMP FLAG DRY1 DRY2 SUFFIX..
-       zigrunk ninja [--limit BYTES] [--keep] [--whole] --slot WORDS
-                   [--dependencies] CWD TMP FLAG DRY1 DRY2 SUFFIX..
+       zigrunk calls CWD TMP NVCC WORD..
+       zigrunk directory CWD NVCC WORD..
 " ''
     out=$("$program" --help; printf .)
     check 'the help by one letter' 0 "${out%.}" '' -h

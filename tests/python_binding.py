@@ -30,6 +30,12 @@ def first(lookup: zigrunk.Lookup, folder: str) -> str:
     return zigrunk.candidates(lookup, folder)[0]
 
 
+def heaviest(commands: tuple[zigrunk.Command, ...], at: int) -> int:
+    """What the commands of the heaviest chain that begins with this one weigh, by a search through all chains."""
+    own = {0: 33, 1: 2, 2: 41, 8: 11 if "-E" in commands[at].arguments else 38}.get(int(commands[at].tool or 0), 1)
+    return own + max((heaviest(commands, later) for later, command in enumerate(commands) if at in command.needs), default=0)
+
+
 def read(name: str, end: str) -> bytes:
     with open(f"{FOLDER}/{name}{end}", "rb") as file:
         return file.read()
@@ -298,6 +304,74 @@ class Calls(unittest.TestCase):
         self.assertEqual(len(zigrunk.command_key(tool, ["w" * 100_000])), 100_002)
         self.rejects(zigrunk.Status.BAD_LINE, "a text contains NUL", zigrunk.command_key, tool, ["a\0b"])
         self.rejects(zigrunk.Status.BAD_NUMBER, "a number has no meaning", zigrunk.command_key, tool, [], {}, ["/t"] * 27)
+
+    def refuses(self, reason: zigrunk.Refused, command: int, call: Callable[..., object], *arguments: object) -> None:
+        with self.assertRaises(zigrunk.ScheduleError) as caught:
+            call(*arguments)
+        error = caught.exception
+        self.assertEqual((error.number, error.reason, error.command), (zigrunk.Status.BAD_NUMBER, reason, command))
+        self.assertEqual(str(error), reason.name.lower().replace("_", " "))
+
+    def test_schedules(self) -> None:
+        state, status, refused = zigrunk.CommandState, zigrunk.PlanStatus, zigrunk.Refused
+        it = zigrunk.Schedule([[], [], [0, 1]], 2)
+        self.assertEqual((len(it), it.running, it.over, it.next()), (3, 0, False, 0))
+        self.refuses(refused.NEEDS_UNMET, 0, it.started, 2)
+        self.refuses(refused.NO_SUCH_COMMAND, 0, it.started, -1)
+        self.refuses(refused.NOT_RUNNING, 0, it.ended, 1, state.SUCCEEDED)
+        it.started(1)
+        self.refuses(refused.STARTED_BEFORE, 0, it.started, 1)
+        self.refuses(refused.BAD_OUTCOME, 0, it.ended, 1, state.RUNNING)
+        self.assertEqual((list(it.start_ready()), it.running, it.next()), ([0], 2, None))
+        it.ended(0, state.SUCCEEDED)
+        self.assertEqual(it.told(0, 3), zigrunk.Told(range(0, 1), status.UNFINISHED))
+        it.ended(1, state.FAILED)
+        self.assertEqual((it.over, it.told(0, 3)), (True, zigrunk.Told(range(0, 2), status.FAILED)))
+        self.assertEqual(it.told(1, 3), zigrunk.Told(range(1, 2), status.FAILED))
+        self.refuses(refused.NEEDS_UNMET, 0, it.started, 2)
+        self.assertEqual([it.state(number) for number in range(3)], [state.SUCCEEDED, state.FAILED, state.NOT_STARTED])
+        self.assertRaises(IndexError, it.state, 3)
+
+    def test_graphs(self) -> None:
+        refused, settings = zigrunk.Refused, zigrunk.AfterFailure
+        self.refuses(refused.NEEDS_LATER, 1, zigrunk.Schedule, [[], [1]], 1)
+        self.refuses(refused.BAD_SCHEDULE, 0, zigrunk.Schedule, [[]], 0)
+        self.assertRaises(ValueError, zigrunk.Schedule, [[]], 1, settings.GO_ON, [])
+        self.assertTrue(zigrunk.Schedule([], 1).over)
+        for setting, left in (settings.START_NOTHING, []), (settings.START_EARLIER, [0]), (settings.GO_ON, [2, 0]):
+            it = zigrunk.Schedule([[], [], []], 1, setting, [1, 3, 2])
+            self.assertEqual(list(it.start_ready()), [1])
+            self.refuses(refused.NO_SLOT, 0, it.started, 0)
+            it.ended(1, zigrunk.CommandState.CANCELLED)
+            self.assertEqual(it.told(1, 3), zigrunk.Told(range(1, 1), zigrunk.PlanStatus.UNFINISHED))
+            if setting != settings.GO_ON:
+                self.refuses(refused.HELD_BACK, 0, it.started, 2)
+            started = []
+            for number in it.start_ready():
+                started.append(number)
+                it.ended(number, zigrunk.CommandState.SUCCEEDED)
+            self.assertEqual((started, it.over), (left, True))
+        plan = zigrunk.plan_records(zigrunk.PlanCall(read(NAMES[0], ".dry1"), read(NAMES[0], ".dry2"), "/w", "/t"), first)
+        both, count = zigrunk.Schedule.of_plans([plan, plan], 1000), len(plan.commands)
+        ready = {number for number, command in enumerate(plan.commands) if not command.needs}
+        self.assertEqual(set(both.start_ready()), ready | {count + number for number in ready})
+
+    def test_weights(self) -> None:
+        for name in NAMES:
+            flag = read(name, ".flag").decode().strip()
+            plan = zigrunk.plan_records(zigrunk.PlanCall(read(name, ".dry1"), read(name, ".dry2"), "/w", "/t", flag), first)
+            commands, started = plan.commands, []
+            weights = [heaviest(commands, at) for at in range(len(commands))]
+            expected = zigrunk.Schedule([command.needs for command in commands], 1, priorities=weights)
+            it = zigrunk.Schedule.of_plans([plan], 1)
+            for number in it.start_ready():
+                started.append(number)
+                self.assertEqual(list(expected.start_ready()), [number])
+                it.ended(number, zigrunk.CommandState.SUCCEEDED)
+                expected.ended(number, zigrunk.CommandState.SUCCEEDED)
+            self.assertEqual(sorted(started), list(range(len(commands))))
+            if name == "two_targets":
+                self.assertEqual(started, [0, 1, 2, 5, 3, 6, 4, 7, 8, 9])
 
     def test_example(self) -> None:
         for name in NAMES:

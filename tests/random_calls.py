@@ -2,7 +2,7 @@
 """Makes random calls by nvcc and by zigrunk-nvcc, and says what differs.
 
     tests/random_calls.py [--seed N] [--count N] [--first N] [--jobs N] [--scratch FOLDER] [--json FILE] [--list] [--nvcc PATH]
-        [--ours PATH | --driver PATH]
+        [--ours PATH]
 
 The words of a call are drawn from nvcc's options, as crates/nvcc_words has them, with values from a small grammar: most are good, some
 are odd. Some words go into NVCC_PREPEND_FLAGS, NVCC_APPEND_FLAGS or an options file. The same seed draws the same calls, and each call
@@ -26,7 +26,7 @@ from collections.abc import Callable, Iterator
 from pathlib import Path
 
 from compare_calls import Call, Compared, Difference, Ran, compare, loud, path_of, shows_nothing, version_of
-from runner import Counts
+from runner import TOOLS, Counts
 
 TABLE = Path(__file__).resolve().parent.parent / "crates/nvcc_options/src/options.rt"
 Draw = random.Random
@@ -242,10 +242,11 @@ def is_source_in_ptx(line: str, want: Ran, got: Ran, found: Difference) -> bool:
 
 
 def is_host_code_of_dependencies(line: str, want: Ran, got: Ran, found: Difference) -> bool:
-    """-MD without host code: the same lines, some more often, and a kept file more."""
+    """-MD without host code, or of a C or C++ source: the same lines, some more often, and a kept file more."""
     if re.search(r"-MM?D|with-compile", line) is None:
         return False
-    return (found[0] == "SAID" and found[1].startswith("lacks [], has []")) or (found[0] == "FILE-LACKS" and found[1].endswith(".cpp4.ii"))
+    says_nothing_more = found[0] == "SAID" and found[1].startswith("lacks [], has []")
+    return says_nothing_more or (found[0] == "FILE-LACKS" and found[1].endswith((".cpp4.ii", "host.ii", "host.i")))
 
 
 def is_name_of_generated(line: str, want: Ran, got: Ran, found: Difference) -> bool:
@@ -314,11 +315,9 @@ def arguments() -> argparse.Namespace:
     parser.add_argument("--json")
     parser.add_argument("--list", action="store_true")
     parser.add_argument("--nvcc", type=path_of, default="nvcc")
-    parser.add_argument("--ours", type=path_of, default=str(Path(__file__).resolve().parent.parent / "bin/zigrunk-nvcc"))
-    parser.add_argument("--driver", type=path_of)
+    parser.add_argument("--ours", type=path_of, default=str(TOOLS / "zigrunk-nvcc"))
     args = parser.parse_args()
     args.keep = None
-    args.ours = args.driver or args.ours
     return args
 
 

@@ -201,7 +201,6 @@ good_zigrunk_calls() {
     call 'an nvcc line' 0 "$zigrunk" calls /w /t nvcc --threads 4 -c k.cu -o k.o -MD -MF k.d
     call 'a script' 0 "$zigrunk" shell /w /t -c found found2
     call 'a Ninja file' 0 "$zigrunk" ninja /w /t -c found found2
-    call 'a Ninja file of scripts' 0 "$zigrunk" ninja --slot 'a $b' --dependencies /w /t -c found found2
     call 'JSON' 0 "$zigrunk" json /w /t -c found found2
     call 'a graph' 0 "$zigrunk" dot /w /t -c found found2
     call 'a compilation database' 0 "$zigrunk" compdb /w /t -c found found2

@@ -1,6 +1,11 @@
 """What the Python tests share: counting cases, and the last line."""
 
+import os
 from collections.abc import Iterable
+from pathlib import Path
+
+# zigrunk-nvcc and its like, as `make rust` leaves them
+TOOLS = Path(os.environ.get("DRIVER_BIN") or Path(__file__).resolve().parent.parent / "out/rust/target/release")
 
 
 class Counts:

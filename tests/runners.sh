@@ -140,7 +140,7 @@ versions() {
     chmod +x "$scratch/zigrunk"
     echo "$compile" > "$scratch/calls"
     ends 'a fault with one version of nvcc' 1 $'nvcc 12.4, calls: 1 passed, 1 failed\n1 passed, 3 failed' \
-        env VERSIONS='11.8 12.4' PARTS=calls CALLS="$scratch/calls" CUDA_VERSIONS="$folder" ZIGRUNK_NINJA=true \
+        env VERSIONS='11.8 12.4' PARTS=calls CALLS="$scratch/calls" CUDA_VERSIONS="$folder" \
         PYTHONDONTWRITEBYTECODE=1 tests/versions.sh "$scratch/zigrunk"
 }
 

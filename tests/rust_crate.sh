@@ -26,7 +26,7 @@ linked=(-p zigrunk -p zigrunk-sys --no-default-features --features zigrunk/libzi
 workspace=${WORKSPACE-}
 if [ -z "$workspace" ]; then
     workspace=$scratch/rust
-    check 'the workspace of plain Rust' cargo run --quiet --release --manifest-path rust/Cargo.toml -p eraser -- . "$workspace"
+    check 'the workspace of plain Rust' cargo run --quiet --manifest-path rust/Cargo.toml -p eraser -- . "$workspace"
 fi
 if ! cd "$workspace"; then
     count 'the workspace' 'it is not there'
@@ -117,6 +117,7 @@ check 'the page of the package has these lines too' prints '' comm -13 <(sed -n 
     <(sed -n '/^```rust/,/^```$/p' zigrunk/README.md | grep -v '^```' | sort)
 check 'the versions' grep -qx "version = \"$version\"" Cargo.toml
 check 'the tests' cargo test -q "${plain[@]}"
+check 'programs are no tests' cargo test -q -p cudaplan -p zigrunk-cli
 check 'what the examples write' examples_write "$CARGO_TARGET_DIR/debug/examples"
 check 'five lines in a new project' new_project
 if cargo clippy --version > /dev/null 2>&1; then

@@ -10,18 +10,25 @@ A proof's text has these forms, and no other is taken for ghost text:
     #![tactic(NAME)]  prove!(NAME);                               words to the prover, the second with the fact that it takes
     'NAME: while ..                                               the label of a loop that nothing leaves by name: proofs name loops by labels
     Drop                                                          in derives and bounds: the prover's word for a type that owns memory
+    Contracts see ..  , seen in contracts as ..                   in documentation, and what names a law or a definition: see VIEWS
 """
 
+import itertools
 import re
 from collections import Counter
 from collections.abc import Iterator
-from dataclasses import dataclass, field
+from dataclasses import dataclass, field, replace
 
 from rust_tokens import Token, Unreadable, partners_of, tokens_of
 
 WITH_ITEMS = {"impl", "trait", "mod"}
 WITH_BODIES = {"fn", "struct", "enum", "union", "macro_rules", *WITH_ITEMS}
 MODIFIERS = {"const", "unsafe", "async", "extern", "default"}
+# What documentation says of proofs, in lines joined by newlines. A sentence goes if it ends its line, and if it is the last paragraph, so does
+# the empty line above it.
+SENTENCE = r"(?:Contracts see |Clauses see |`laws::)[^.\n]*(?:\n//[/!] [^.\n]*)*\.$"
+VIEWS = re.compile(rf"\n//[/!]\n//[/!] {SENTENCE}(?!\n//[/!] )|^//[/!] {SENTENCE}\n?|(?<=\.) {SENTENCE}|"
+                   r", seen in contracts as [^.\n]*(?=\.$)| \(`(?:laws::|specs/)[^)\n]*\)", re.M)
 # The places of a bound's end.
 AFTER_BOUND = {",", ">", "+", "{", ";", "=", "where", "ensures", "requires"}
 
@@ -65,15 +72,27 @@ class Reading:
         return self.counts["law"] > 0 and self.items == 0
 
 
+def without_views(tokens: list[Token], counts: Counter[str]) -> list[Token]:
+    """Returns the tokens without what documentation says of proofs."""
+    made = list[Token]()
+    for kind, group in itertools.groupby(tokens, lambda token: token.kind):
+        run = list(group)
+        text, views = VIEWS.subn("", "\n".join(token.text for token in run)) if kind == "doc" else ("", 0)
+        counts["view"] += views
+        lines = [line for line in text.split("\n") if line]
+        made += [replace(run[0], text=line, line=run[0].line + number) for number, line in enumerate(lines)] if views else run
+    return made
+
+
 class Reader:
     """Reads the items of a file one by one. If `erases`, ghost text is left out; else it is code like any other."""
 
     def __init__(self, text: str, erases: bool) -> None:
-        self.tokens = tokens_of(text)
+        self.reading = Reading()
+        self.tokens = without_views(tokens_of(text), self.reading.counts) if erases else tokens_of(text)
         self.partners = partners_of(self.tokens)
         self.erases = erases
         self.module: list[str] = []
-        self.reading = Reading()
 
     def read(self) -> Reading:
         self.items(0, len(self.tokens))

@@ -1,7 +1,8 @@
 #!/usr/bin/env bash
 # Compares the stand-ins for std and for the kit's crates (rust/stand), on which the plain Rust build rests, with the kit's own: the driver
 # test_std is compiled by the kit and, erased, by rustc over the stand-ins. Both get the same lines, most of them drawn by a seed, and have
-# to answer the same. Then one allocation of each call is refused. The last line is 'N passed, M failed'; a line is a case.
+# to answer the same. Then one allocation of each call is refused. No call may lose a block of memory, refused or not. The last line is
+# 'N passed, M failed'; a line is a case.
 #
 #   tests/stand_ins.sh                    SEED=1 COUNT=100000: how many lines are drawn
 #   tests/stand_ins.sh --line 'LINE'      what both answer to one line
@@ -16,7 +17,7 @@ seed=${SEED:-1} count=${COUNT:-100000}
 # build_plain: leaves the erased driver, built over the stand-ins, in $scratch/plain.
 build_plain() {
     local target=$PWD/out/stand_ins
-    cargo run --quiet --release --offline --target-dir "$target" --manifest-path rust/Cargo.toml -p eraser -- \
+    cargo run --quiet --offline --target-dir "$target" --manifest-path rust/Cargo.toml -p eraser -- \
         --drivers --unformatted . "$scratch/rust" &&
         cargo build --quiet --release --offline --target-dir "$target" --manifest-path "$scratch/rust/Cargo.toml" -p test_std &&
         cp "$target/release/test_std" "$scratch/plain/test_std"
@@ -67,7 +68,7 @@ preloaded=()
 answer_lines() {
     local program
     for program in kit plain; do
-        start "$program" < "$scratch/lines" > "$scratch/$program.said" 2> "$scratch/$program.err"
+        start "$program" < "$scratch/lines" > "$scratch/$program.said" 2> "$scratch/$program.err" 9> "$scratch/$program.blocks"
         echo $? > "$scratch/$program.status"
     done
 }
@@ -88,13 +89,25 @@ compare_lines() {
     passed=$((passed + $(wc -l < "$scratch/kit.said") - ${#numbers[@]}))
 }
 
-# refuse_allocations: each call once more, and one of its allocations fails.
+# no_block_lost WHEN: a case for each program: at no answer it held more or fewer blocks than at the one before.
+no_block_lost() {
+    local program
+    for program in kit plain; do
+        check "blocks lost by $program, $1" prints "0 of $(wc -l < "$scratch/whole") answers" cat "$scratch/$program.blocks"
+    done
+}
+
+# refuse_allocations: each call once more while its blocks are counted, and again while one of its allocations fails.
 refuse_allocations() {
     cc -shared -fPIC -O2 -Wall -Werror "$driver/refuse.c" -o "$scratch/refuse.so" || { count refused 'refuse.c does not compile'; return; }
     cp "$scratch/kit.said" "$scratch/whole"
-    preloaded=(LD_PRELOAD="$scratch/refuse.so" SEED="$seed")
+    preloaded=(LD_PRELOAD="$scratch/refuse.so")
+    answer_lines
+    no_block_lost 'with all memory'
+    preloaded+=(SEED="$seed")
     answer_lines
     preloaded=()
+    no_block_lost 'without some'
     for program in kit plain; do
         check "refused allocations, $program" python3 "$driver/judge.py" "$scratch/lines" "$scratch/whole" "$scratch/$program.said"
         tail -n 1 "$scratch/said"

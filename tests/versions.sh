@@ -6,7 +6,8 @@
 # (tests/clang_tools.sh). Each version and part has a line of counts, and one that fails doesn't stop the others. The last line is
 # 'N passed, M failed'.
 #
-#   tests/versions.sh [PROGRAM]      PROGRAM is the zigrunk that `make build` leaves, unless given
+#   tests/versions.sh [PROGRAM]      PROGRAM is the zigrunk that `make build` leaves, unless given. zigrunk-nvcc is that of DRIVER_BIN, or what
+#                                    `make rust` leaves
 #
 #   CUDA_VERSIONS=FOLDER   the toolkits (tests/toolkits.sh), else out/versions. What it lacks is downloaded: up to 3 GB, 1 GB of which stay.
 #   VERSIONS='11.8 ..'     only these
@@ -24,11 +25,10 @@ read -ra lists <<< "${CALLS:-tests/calls_quick.txt tests/calls.txt tests/calls_w
 parts=${PARTS:-calls older hosts options needs isolated cmake clang}
 # In per cent, of all calls in the lists, of those that nvcc compiles, and of those that the lists say are split.
 readonly LEAST_SPLIT=65
-require 'other versions of nvcc' "${ZIGRUNK_NINJA:-ninja}" objcopy nm python3
+require 'other versions of nvcc' ninja objcopy nm python3
 [ -x "$program" ] || make build >&2 || exit 1
 unset NVCC_PREPEND_FLAGS NVCC_APPEND_FLAGS
 ready=() lacking=()
-export ZIGRUNK_PROGRAM=$program
 # A host compiler that isn't there fails by both tools alike.
 export GCC_10=$folder/11.2/usr/bin/g++-10 GCC_11=$folder/11.8/usr/bin/g++-11 GCC_12=$folder/12.4/usr/bin/g++-12
 
@@ -65,13 +65,13 @@ for version in "${ready[@]}"; do
     # (with --only, since an older nvcc refuses most of these)
     part "$version" older "${compare[@]}" --only @name= ${RECORDS:+--json "$RECORDS/$version.older.json"} tests/calls_older.txt
     part "$version" hosts "${compare[@]}" --only ccbin tests/calls_hosts.txt
-    part "$version" options tests/nvcc_readings.py "$program"
-    part "$version" needs env TARGETS="$(targets "$version")" tests/needs.sh "$program"
+    part "$version" options tests/nvcc_readings.py
+    part "$version" needs env TARGETS="$(targets "$version")" tests/needs.sh
     part "$version" isolated env TARGETS="$(targets "$version")" tests/isolated.py --leave-out --mount "$folder" "$program"
     [ "$version" != 11.2 ] || export BY_SYMBOLS=yes
-    part "$version" cmake tests/cmake.sh "$program"
+    part "$version" cmake tests/cmake.sh
     unset BY_SYMBOLS
     # clang 14 knows no other of these
-    [ "$version" != 11.8 ] || part "$version" clang tests/clang_tools.sh "$program"
+    [ "$version" != 11.8 ] || part "$version" clang tests/clang_tools.sh
 done
 summary

@@ -1,9 +1,10 @@
 /* Makes what nvcc makes, with up to four commands at once: `schedule WORD..` in place of `nvcc WORD..`. The records of
- * zigrunk_plan_steps say all that it takes: what each command runs, and which commands have to end before it starts. */
+ * zigrunk_plan_steps say what each command runs, and zigrunk_schedule_next which one may start. */
 #define _POSIX_C_SOURCE 200809L
 #include <zigrunk.h>
 
 #include <limits.h>
+#include <poll.h>
 #include <stdio.h>
 #include <stdlib.h>
 #include <string.h>
@@ -12,6 +13,9 @@
 #include <unistd.h>
 
 enum { JOBS = 4, GROUPS = 64, COMMANDS = 512, NUMBERS = 1 << 16, RANGES = 1 << 15, BYTES = 1 << 21, WORDS = 1024, PROGRAMS = 64 };
+
+/* The process of a command, and what it prints. */
+typedef struct job { FILE *process, *memory; char *printed; size_t length; int status; } job;
 
 static zigrunk_group groups[GROUPS];
 static zigrunk_command commands[COMMANDS];
@@ -33,11 +37,11 @@ static char *part(const uint8_t *all, zigrunk_range range) {
     return made ? memcpy(made, all + range.offset, range.length) : (exit(1), made);
 }
 
-static void to_nvcc(char **words, const char *tmp) {
-    rmdir(tmp);
-    execvp(words[0] = "nvcc", words);
-    perror("nvcc");
-    exit(127);
+/* Leaves the call to nvcc, unless all is as it should be. */
+static void or_nvcc(int is_well, char **words, const char *tmp) {
+    if (!is_well) {
+        rmdir(tmp), execvp(words[0] = "nvcc", words), perror("nvcc"), exit(127);
+    }
 }
 
 /* What a dry run prints on standard error; empty if it fails. */
@@ -51,81 +55,85 @@ static zigrunk_text dry_run(const char *command) {
 /* The first path of a look-up that is an executable file. */
 static zigrunk_found_program found(const char *program, const char *path, zigrunk_text cwd) {
     zigrunk_found_program row = {text_of(program), text_of(path), no_text, 0, 0};
+    struct stat file;
     zigrunk_list_answer paths = zigrunk_candidates(row.program.bytes, row.program.length, row.path.bytes, row.path.length, cwd.bytes,
         cwd.length, tried_at, 64, tried, sizeof tried);
     for (size_t i = 0; i < paths.count && paths.count <= 64 && paths.length <= sizeof tried && !row.is_found; i++) {
-        const char *name = part(tried, tried_at[i]);
-        struct stat file;
-        row.found = text_of(name);
-        row.is_found = stat(name, &file) == 0 && S_ISREG(file.st_mode) && access(name, X_OK) == 0;
+        row.found = text_of(part(tried, tried_at[i]));
+        row.is_found = stat((const char *)row.found.bytes, &file) == 0 && S_ISREG(file.st_mode) && access((const char *)row.found.bytes, X_OK) == 0;
     }
     return row;
 }
 
-/* Starts a command. Its variables are what it adds to the environment, since the call has none. */
-static pid_t start(const zigrunk_command *command) {
-    char *words[WORDS] = {part(bytes, ranges[command->program])};
-    pid_t child = command->arguments.length < WORDS - 1 ? fork() : -1;
-    if (child != 0) {
-        return child;
+/* Starts a command in a shell. Its variables are what it adds to the environment, since the call has none. */
+static FILE *start(const zigrunk_command *command) {
+    zigrunk_text words[WORDS] = {text_of("exec"), text_of("env"), text_of("-C"), text_of(part(bytes, ranges[command->cwd]))};
+    static uint8_t line[BYTES];
+    const zigrunk_range *pair = &ranges[command->variables.offset], *end = pair + command->variables.length;
+    size_t count = 4;
+    for (; pair < end && count < WORDS - 1; pair += 2) {
+        char *set = calloc(pair[0].length + pair[1].length + 2, 1);
+        words[count++] = text_of(strcat(strcat(strcat(set, part(bytes, pair[0])), "="), part(bytes, pair[1])));
     }
-    for (size_t i = 0; i < command->arguments.length; i++) {
-        words[i + 1] = part(bytes, ranges[command->arguments.offset + i]);
+    words[count++] = text_of(part(bytes, ranges[command->program]));
+    for (size_t i = 0; i < command->arguments.length && count < WORDS; i++) {
+        words[count++] = text_of(part(bytes, ranges[command->arguments.offset + i]));
     }
-    for (size_t i = 0; i < command->variables.length; i += 2) {
-        const zigrunk_range *pair = &ranges[command->variables.offset + i];
-        setenv(part(bytes, pair[0]), part(bytes, pair[1]), 1);
-    }
-    if (chdir(part(bytes, ranges[command->cwd])) == 0) {
-        execv(words[0], words);
-    }
-    perror(words[0]);
-    _exit(127);
+    zigrunk_text_answer quoted = zigrunk_quote(words, count, line, sizeof line - 6);
+    memcpy(line + (quoted.length < sizeof line - 6 ? quoted.length : 0), " 2>&1", 6);
+    return count < WORDS ? popen((char *)line, "r") : NULL;
 }
 
-/* Runs each command once all that it needs have ended, beside a process if there is one. Returns the status of the first that fails. */
-static int run(size_t count, pid_t beside) {
-    static pid_t children[COMMANDS];
-    static char ended[COMMANDS];
-    int failed = 0, status;
-    for (size_t running = beside > 0, left = count + running; left > 0 && (running > 0 || !failed); running--, left--) {
-        for (size_t i = 0, needed; i < count && running < JOBS && !failed; i++) {
-            for (needed = 0; needed < steps[i].needs.length && ended[numbers[steps[i].needs.offset + needed]];) {
-                needed++;
-            }
-            if (!children[i] && needed == steps[i].needs.length) {
-                children[i] = start(&commands[i]);
-                running++;
-            }
-        }
-        pid_t child = wait(&status);
-        for (size_t i = 0; i < count; i++) {
-            ended[i] |= children[i] == child;
-        }
-        failed = failed ? failed : child < 0 ? 1 : WIFEXITED(status) ? WEXITSTATUS(status) : 128 + WTERMSIG(status);
+/* Runs the commands as their schedule says. Prints what they print in the plan's order, up to the first that fails, and returns its status. */
+static int run(size_t count) {
+    static zigrunk_scheduled_command list[COMMANDS];
+    static job jobs[COMMANDS];
+    static struct pollfd prints[COMMANDS];
+    static uint8_t states[COMMANDS], some[1 << 16];
+    const zigrunk_schedule schedule = {list, count, JOBS, ZIGRUNK_START_EARLIER, 0};
+    size_t told = 0, next;
+    for (size_t i = 0; i < count; i++) {
+        list[i] = (zigrunk_scheduled_command){&numbers[steps[i].needs.offset], steps[i].needs.length, 0, 0};
+        prints[i].fd = -1;
     }
-    return failed;
+    int bad = zigrunk_schedule_begin(&schedule, states, count).status;
+    while (!bad && !zigrunk_schedule_progress(&schedule, states, count).over) {
+        while (!bad && (next = zigrunk_schedule_next(&schedule, states, count).command) < count) {
+            bad = zigrunk_schedule_started(&schedule, states, count, next).status || !(jobs[next].process = start(&commands[next]))
+                || !(jobs[next].memory = open_memstream(&jobs[next].printed, &jobs[next].length));
+            prints[next] = (struct pollfd){bad ? -1 : fileno(jobs[next].process), POLLIN, 0};
+        }
+        poll(prints, count, -1);
+        for (size_t i = 0; i < count; i++) {
+            ssize_t length = prints[i].fd >= 0 && prints[i].revents ? read(prints[i].fd, some, sizeof some) : -1;
+            if (length > 0) {
+                fwrite(some, 1, (size_t)length, jobs[i].memory);
+            } else if (length == 0) {
+                prints[i].fd = (fclose(jobs[i].memory), jobs[i].status = pclose(jobs[i].process), -1);
+                bad |= zigrunk_schedule_ended(&schedule, states, count, i, jobs[i].status ? ZIGRUNK_FAILED : ZIGRUNK_SUCCEEDED).status;
+            }
+        }
+        for (size_t end = zigrunk_schedule_told(&schedule, states, count, told, count).end; told < end; told++) {
+            fwrite(jobs[told].printed, 1, jobs[told].length, stderr);
+        }
+    }
+    return bad || told == 0 ? 1 << 8 : jobs[told - 1].status;
 }
 
 int main(int count, char **arguments) {
     static zigrunk_text words[WORDS];
     char cwd[PATH_MAX], tmp[PATH_MAX], *folder = getenv("TMPDIR");
     snprintf(tmp, sizeof tmp, "%s/schedule.XXXXXX", folder ? folder : "/tmp");
-    if (count > WORDS || !getcwd(cwd, sizeof cwd) || getenv("NVCC_PREPEND_FLAGS") || getenv("NVCC_APPEND_FLAGS") || !mkdtemp(tmp)) {
-        to_nvcc(arguments, tmp);
-    }
+    or_nvcc(count <= WORDS && getcwd(cwd, sizeof cwd) && !getenv("NVCC_PREPEND_FLAGS") && !getenv("NVCC_APPEND_FLAGS") && mkdtemp(tmp), arguments, tmp);
     for (int i = 1; i < count; i++) {
         words[i - 1] = text_of(arguments[i]);
     }
     zigrunk_nvcc_call line = {text_of(cwd), text_of(tmp), text_of("nvcc"), words, (size_t)count - 1, &no_variable, 0, 0};
     zigrunk_list_answer outline = zigrunk_nvcc_line(&line, ranges, RANGES, bytes, sizeof bytes);
-    if (outline.status != ZIGRUNK_OK || outline.length > sizeof bytes || ranges[5].length > 0) {
-        to_nvcc(arguments, tmp);
-    }
+    or_nvcc(outline.status == ZIGRUNK_OK && outline.length <= sizeof bytes && ranges[5].length == 0, arguments, tmp);
     char *dependencies = part(bytes, ranges[0]);
-    zigrunk_plan_call call = {.dry1 = dry_run(part(bytes, ranges[1])), .dry2 = dry_run(part(bytes, ranges[2])), .cwd = line.cwd,
-        .tmp = line.tmp, .flag = text_of(part(bytes, ranges[3])), .keep_dir = no_text, .variables = &no_variable,
-        .suffixes = &no_text, .programs = rows};
+    zigrunk_plan_call call = {dry_run(part(bytes, ranges[1])), dry_run(part(bytes, ranges[2])), line.cwd, line.tmp,
+        text_of(part(bytes, ranges[3])), no_text, &no_variable, 0, &no_text, 0, rows, 0, 0, 0, 0};
     zigrunk_list_answer asked = zigrunk_lookups(call.dry1.bytes, call.dry1.length, call.dry2.bytes, call.dry2.length, call.cwd.bytes,
         call.cwd.length, asked_at, 2 * PROGRAMS, asked_bytes, sizeof asked_bytes);
     for (size_t i = 0; i < asked.count && asked.count <= 2 * PROGRAMS && asked.length <= sizeof asked_bytes; i += 2) {
@@ -133,18 +141,10 @@ int main(int count, char **arguments) {
     }
     zigrunk_steps_answer plan = zigrunk_plan_steps(&call, groups, GROUPS, commands, COMMANDS, steps, COMMANDS, numbers, NUMBERS,
         ranges, RANGES, bytes, sizeof bytes);
-    if (plan.status != ZIGRUNK_OK || plan.steps < plan.commands || plan.groups > GROUPS || plan.commands > COMMANDS
-        || plan.numbers > NUMBERS || plan.ranges > RANGES || plan.length > sizeof bytes) {
-        to_nvcc(arguments, tmp);
-    }
-    pid_t beside = dependencies[0] ? fork() : -1;
-    if (beside == 0) {
-        execl("/bin/sh", "sh", "-c", dependencies, (char *)NULL);
-    }
-    int status = run(plan.steps, beside);
-    if (fork() == 0) {
-        execlp("rm", "rm", "-rf", tmp, (char *)NULL);
-    }
+    or_nvcc(plan.status == ZIGRUNK_OK && plan.steps == plan.commands && plan.groups <= GROUPS && plan.commands <= COMMANDS
+        && plan.numbers <= NUMBERS && plan.ranges <= RANGES && plan.length <= sizeof bytes, arguments, tmp);
+    int first = dependencies[0] ? system(dependencies) : 0, status = first != 0 ? first : run(plan.steps);
+    (void)(fork() != 0 || execlp("rm", "rm", "-rf", tmp, (char *)NULL));
     wait(NULL);
-    return status;
+    return WIFEXITED(status) ? WEXITSTATUS(status) : 128 + WTERMSIG(status);
 }

@@ -126,6 +126,35 @@ extern "C" {
 #define ZIGRUNK_FIELD_KEEPS 10u
 #define ZIGRUNK_FIELD_HOST_COMPILER 11u
 
+/* States of the commands of a schedule. */
+#define ZIGRUNK_NOT_STARTED 0
+#define ZIGRUNK_RUNNING 1
+#define ZIGRUNK_SUCCEEDED 2
+#define ZIGRUNK_FAILED 3
+#define ZIGRUNK_CANCELLED 4 /* you ended it: it holds others back as a failure does, but its output isn't printed */
+
+/* What may start after a command failed or was cancelled. */
+#define ZIGRUNK_START_NOTHING 0u
+#define ZIGRUNK_START_EARLIER 1u /* only commands before it: then you print what nvcc prints, up to the first failure */
+#define ZIGRUNK_GO_ON 2u         /* each command whose needs have all succeeded */
+
+/* Why a call on a schedule is refused. */
+#define ZIGRUNK_NOT_REFUSED 0u
+#define ZIGRUNK_NO_SUCH_COMMAND 1u
+#define ZIGRUNK_STARTED_BEFORE 2u
+#define ZIGRUNK_NEEDS_UNMET 3u  /* not all that the command needs have succeeded */
+#define ZIGRUNK_HELD_BACK 4u    /* another command failed or was cancelled, so this one may not start */
+#define ZIGRUNK_NO_SLOT 5u      /* as many commands run as may */
+#define ZIGRUNK_NOT_RUNNING 6u  /* the command can't have ended */
+#define ZIGRUNK_BAD_SCHEDULE 7u /* a number or a state has no meaning, slots is 0, or there isn't one state for each command */
+#define ZIGRUNK_NEEDS_LATER 8u  /* the command that the answer names isn't behind all that it needs */
+#define ZIGRUNK_BAD_OUTCOME 9u  /* a command ends as ZIGRUNK_SUCCEEDED, ZIGRUNK_FAILED or ZIGRUNK_CANCELLED */
+
+/* How a plan has come out so far. */
+#define ZIGRUNK_UNFINISHED 0u     /* not all of it may be printed yet */
+#define ZIGRUNK_ALL_SUCCEEDED 1u
+#define ZIGRUNK_ONE_FAILED 2u     /* the last command that may be printed, and nothing is printed after it */
+
 #if defined(__GNUC__) || defined(__clang__)
 #define ZIGRUNK_CHECK_RESULT __attribute__((warn_unused_result))
 #else
@@ -335,6 +364,47 @@ typedef struct zigrunk_line_answer {
     zigrunk_line_record line;
 } zigrunk_line_answer;
 
+/* A command of a schedule. A good priority is how long others wait for it: give each its own weight, say 41 for cudafe++, 33 for cicc, 2 for
+ * ptxas, 11 for a preprocessor and 38 for a host compiler. Then go from the last command to the first, and add to each the greatest
+ * priority of those that need it. */
+typedef struct zigrunk_scheduled_command {
+    const size_t *needs; /* the numbers of the commands that it needs, counted from `first`: &numbers[steps[i].needs.offset] */
+    size_t needs_count;  /* steps[i].needs.length */
+    size_t first;        /* the number that the first command of its plan has in the schedule */
+    size_t priority;     /* of those that may start, the one with the greatest priority is next, and of equal ones the first */
+} zigrunk_scheduled_command;
+
+/* A schedule of commands: those of a plan in its order, or of several plans, one behind the other. The state of each is a byte of
+ * yours, apart from this record. */
+typedef struct zigrunk_schedule {
+    const zigrunk_scheduled_command *commands;
+    size_t commands_count;
+    size_t slots;           /* how many may run at once, at least 1 */
+    uint32_t after_failure; /* ZIGRUNK_START_NOTHING .. */
+    uint32_t reserved;      /* 0 */
+} zigrunk_schedule;
+
+/* The answer of a call that names a command, or notes what happened to one. */
+typedef struct zigrunk_schedule_answer {
+    int32_t status;  /* ZIGRUNK_OK or ZIGRUNK_BAD_NUMBER */
+    uint32_t reason; /* why it is refused: ZIGRUNK_NOT_REFUSED .. */
+    size_t command;  /* of zigrunk_schedule_next: the command, or commands_count if none may start; of a refused graph: the one at fault */
+} zigrunk_schedule_answer;
+
+/* How far a schedule is. All of it is 0 but the status if the call refuses. */
+typedef struct zigrunk_progress_answer {
+    int32_t status;
+    uint32_t over;  /* 1 if nothing runs and nothing may start, else 0 */
+    size_t running; /* how many commands run */
+} zigrunk_progress_answer;
+
+/* Which outputs may be printed. All of it is 0 but the status if the call refuses. */
+typedef struct zigrunk_told_answer {
+    int32_t status;
+    uint32_t plan; /* how the plan has come out so far: ZIGRUNK_UNFINISHED .. */
+    size_t end;    /* the number behind that of the last command whose output may be printed */
+} zigrunk_told_answer;
+
 /* The number of the binary interface. A program may compare it with ZIGRUNK_ABI_VERSION once, before other calls. */
 uint32_t zigrunk_abi_version(void);
 
@@ -433,6 +503,36 @@ ZIGRUNK_CHECK_RESULT zigrunk_text_answer zigrunk_command_key(const zigrunk_key_c
 ZIGRUNK_CHECK_RESULT zigrunk_list_answer zigrunk_remap(const zigrunk_text *words, size_t words_count,
     const zigrunk_text *suffixes, size_t suffixes_count,
     zigrunk_range *ranges, size_t ranges_size, uint8_t *out, size_t out_size);
+
+/* A schedule says which command may start next, and which outputs may be printed. It starts nothing: you say what happened. It is
+ * your record, and `states` a byte of yours for each command (ZIGRUNK_NOT_STARTED ..). These six calls only read the record, allocate
+ * nothing, and answer ZIGRUNK_BAD_NUMBER, with the reason, to whatever makes no sense; then the states are unchanged.
+ *
+ * Begins: sets all states to ZIGRUNK_NOT_STARTED. Refuses a schedule in which a command isn't behind all that it needs. */
+ZIGRUNK_CHECK_RESULT zigrunk_schedule_answer zigrunk_schedule_begin(const zigrunk_schedule *schedule,
+    uint8_t *states, size_t states_size);
+
+/* Names the command that may start next: not started, all that it needs have succeeded, no failure holds it back, and fewer run than
+ * there are slots. Start it, and call zigrunk_schedule_started. */
+ZIGRUNK_CHECK_RESULT zigrunk_schedule_answer zigrunk_schedule_next(const zigrunk_schedule *schedule,
+    const uint8_t *states, size_t states_size);
+
+/* Notes that a command has started. Any that may start will do, not only the next one. */
+ZIGRUNK_CHECK_RESULT zigrunk_schedule_answer zigrunk_schedule_started(const zigrunk_schedule *schedule,
+    uint8_t *states, size_t states_size, size_t command);
+
+/* Notes that a command which runs has ended: ZIGRUNK_SUCCEEDED, ZIGRUNK_FAILED or ZIGRUNK_CANCELLED. */
+ZIGRUNK_CHECK_RESULT zigrunk_schedule_answer zigrunk_schedule_ended(const zigrunk_schedule *schedule,
+    uint8_t *states, size_t states_size, size_t command, uint32_t outcome);
+
+/* Says how many commands run, and whether the schedule is over. */
+ZIGRUNK_CHECK_RESULT zigrunk_progress_answer zigrunk_schedule_progress(const zigrunk_schedule *schedule,
+    const uint8_t *states, size_t states_size);
+
+/* Says which outputs of a plan you may print now: those of its commands from `first` up to answer.end, in this order. The plan's
+ * commands have the numbers from `first` up to `end`, without `end` itself; to go on, pass the answer's end as `first`. */
+ZIGRUNK_CHECK_RESULT zigrunk_told_answer zigrunk_schedule_told(const zigrunk_schedule *schedule,
+    const uint8_t *states, size_t states_size, size_t first, size_t end);
 
 #ifdef __cplusplus
 }

@@ -46,39 +46,45 @@ fn planned_job(words: &Words) -> Job {
     job(words.words.clone(), &words.folder)
 }
 
-/// Runs jobs side by side in one slot, and waits for all.
-fn all<M: Machine>(machine: &mut M, jobs: &[Job]) -> Result<Vec<Ended>, Failed> {
+/// Starts jobs side by side in one slot.
+fn start_all<M: Machine>(machine: &mut M, jobs: &[Job]) -> Result<(), String> {
+    for (number, job) in jobs.iter().enumerate() {
+        let job = Job { shares_slot: number > 0, ..job.clone() };
+        machine.start(number, &job).map_err(|_| "no process for a dry run".to_owned())?;
+    }
+    machine.want(false);
+    Ok(())
+}
+
+/// Runs jobs side by side in one slot, does something else once they run, and waits for all.
+fn all<M: Machine>(machine: &mut M, jobs: &[Job], meanwhile: impl FnOnce() -> Result<(), String>) -> Result<Vec<Ended>, Failed> {
     let mut ended: Vec<Option<Ended>> = vec![None; jobs.len()];
-    let mut running = 0;
+    let mut meanwhile = Some(meanwhile);
     machine.want(true);
-    while running > 0 || ended.iter().any(Option::is_none) {
-        match machine.next() {
-            Event::Slot => {
-                for (number, job) in jobs.iter().enumerate() {
-                    let job = Job { shares_slot: number > 0, ..job.clone() };
-                    if machine.start(number, &job).is_err() {
-                        machine.end_all(TERM);
-                        return Err(Failed::ByNvcc("no process for a dry run".into()));
-                    }
-                    running += 1;
-                }
-                machine.want(false);
-            }
+    while ended.iter().any(Option::is_none) {
+        let gone_on = match machine.next() {
+            Event::Slot => start_all(machine, jobs).and_then(|()| meanwhile.take().map_or(Ok(()), |act| act())),
             Event::Ended(number, one) => {
-                running -= 1;
                 ended[number] = Some(one);
+                Ok(())
             }
-            Event::Lost(reason) => {
-                machine.end_all(TERM);
-                return Err(Failed::ByNvcc(reason));
-            }
+            Event::Lost(reason) => Err(reason),
             Event::Signal(number) => {
                 machine.end_all(number);
                 return Err(Failed::Signal(number));
             }
+        };
+        if let Err(reason) = gone_on {
+            machine.end_all(TERM);
+            return Err(Failed::ByNvcc(reason));
         }
     }
     Ok(ended.into_iter().flatten().collect())
+}
+
+/// Runs a job alone.
+fn one<M: Machine>(machine: &mut M, job: Job) -> Result<Ended, Failed> {
+    all(machine, &[job], || Ok(()))?.pop().ok_or_else(fails)
 }
 
 /// The bytes that a proved function gives.
@@ -95,10 +101,8 @@ fn for_one_thread<M: Machine>(machine: &mut M, line: &Line<'_>, failed: &[u8]) -
     if !fails_by_threads(failed) {
         return Err(fails());
     }
-    match all(machine, &[own_job(line, &["--threads", "1"])])?.as_slice() {
-        [again] if again.status.succeeded() => bytes(with_commands(Global, failed, &again.errors)),
-        _ => Err(fails()),
-    }
+    let again = one(machine, own_job(line, &["--threads", "1"]))?;
+    if again.status.succeeded() { bytes(with_commands(Global, failed, &again.errors)) } else { Err(fails()) }
 }
 
 fn fails() -> Failed {
@@ -113,16 +117,17 @@ fn own_job(line: &Line<'_>, further: &[&str]) -> Job {
 
 /// Makes the dry runs of a call. The first is what the second says without the call's directory, and nvcc makes it only if that doesn't
 /// have the commands of the line, or if the call keeps files. So it doesn't matter which options this nvcc has, and what they mean to it.
+/// `meanwhile` is done while nvcc runs, and says why nvcc has to make the call if it can't be done.
 ///
 /// # Errors
 ///
 /// If a dry run fails, the line's own has other commands, or a signal comes.
-pub fn make<M: Machine>(machine: &mut M, line: &Line<'_>) -> Result<DryRuns, Failed> {
+pub fn make<M: Machine>(machine: &mut M, line: &Line<'_>, meanwhile: impl FnOnce() -> Result<(), String>) -> Result<DryRuns, Failed> {
     let outline = line.outline;
     let places = Comparison { cwd: line.cwd, keep_dir: outline.keep_dir.as_deref().unwrap_or_default(), writes_rule: outline.dependencies.is_some() };
     let mut jobs = vec![own_job(line, &[]), planned_job(&outline.second_dry_run)];
     jobs.extend(outline.keep_dir.is_some().then(|| planned_job(&outline.first_dry_run)));
-    let mut ended = all(machine, &jobs)?.into_iter();
+    let mut ended = all(machine, &jobs, meanwhile)?.into_iter();
     let (Some(own), Some(second), first) = (ended.next(), ended.next(), ended.next()) else { return Err(fails()) };
     let own = if own.status.succeeded() { own.errors } else { for_one_thread(machine, line, &own.errors)? };
     if [Some(&second), first.as_ref()].into_iter().flatten().any(|run| !run.status.succeeded()) {
@@ -131,10 +136,12 @@ pub fn make<M: Machine>(machine: &mut M, line: &Line<'_>) -> Result<DryRuns, Fai
     let agrees = |commands: &[u8]| agree(Global, &places, &own, commands).map_err(out_of_memory);
     let derived = || bytes(without_folder(Global, &second.errors, line.tmp));
     let mut commands = first.map_or_else(derived, |first| Ok(first.errors))?;
-    if outline.keep_dir.is_none() && !agrees(&commands)? {
+    let mut is_agreed = agrees(&commands)?;
+    if !is_agreed && outline.keep_dir.is_none() {
         commands = first_by_nvcc(machine, outline)?;
+        is_agreed = agrees(&commands)?;
     }
-    if !agrees(&commands)? {
+    if !is_agreed {
         return Err(Failed::ByNvcc("nvcc reads the line otherwise".into()));
     }
     Ok(DryRuns { first: commands, second: second.errors, messages: bytes(remarks_in(Global, &own))? })
@@ -146,10 +153,10 @@ pub fn make<M: Machine>(machine: &mut M, line: &Line<'_>) -> Result<DryRuns, Fai
 ///
 /// If a signal comes, or no process can be started.
 pub fn make_planned<M: Machine>(machine: &mut M, outline: &Outline) -> Result<Vec<Ended>, Failed> {
-    all(machine, &[planned_job(&outline.first_dry_run), planned_job(&outline.second_dry_run)])
+    all(machine, &[planned_job(&outline.first_dry_run), planned_job(&outline.second_dry_run)], || Ok(()))
 }
 
 fn first_by_nvcc<M: Machine>(machine: &mut M, outline: &Outline) -> Result<Vec<u8>, Failed> {
-    let ended = all(machine, &[planned_job(&outline.first_dry_run)])?;
-    ended.into_iter().find(|run| run.status.succeeded()).map(|run| run.errors).ok_or_else(fails)
+    let run = one(machine, planned_job(&outline.first_dry_run))?;
+    if run.status.succeeded() { Ok(run.errors) } else { Err(fails()) }
 }

@@ -61,7 +61,7 @@ impl Folder {
     fn make_anew(&self, name: &str) -> io::Result<Folder> {
         self.clear(name);
         system::make_folder(self.as_fd(), name)?;
-        Ok(Folder { file: system::open_below(self.as_fd(), name, Opening::Folder)?.into(), path: self.path.join(name) })
+        opened(self.as_fd(), &self.path, name)
     }
 
     /// Removes a folder in this one, with all that it holds.
@@ -100,8 +100,8 @@ impl CallFolder {
                 let name = if number == 1 { name.to_owned() } else { format!("{name}-{number}") };
                 match lock(&user, &name) {
                     Ok(Some(lock)) => {
-                        let folder = user.make_anew(&name)?;
-                        return Ok(CallFolder { folder, place: Some(Place { user, name, lock }) });
+                        let made = user.make_anew(&name).inspect_err(|_| drop(system::remove_below(user.as_fd(), &lock_name(&name))));
+                        return Ok(CallFolder { folder: made?, place: Some(Place { user, name, lock }) });
                     }
                     Ok(None) => {}
                     Err(_) => break,
@@ -126,7 +126,7 @@ impl CallFolder {
     }
 
     /// Removes it, and what calls that were killed left long ago.
-    pub fn remove(self) {
+    pub fn remove(&self) {
         match &self.place {
             None => drop(fs::remove_dir_all(self.path())),
             Some(place) => {
@@ -159,6 +159,13 @@ fn lock(user: &Folder, name: &str) -> io::Result<Option<OwnedFd>> {
     Ok(None)
 }
 
+/// Opens a folder that was just made below another. It goes if that fails, as it does if no more files may be open.
+fn opened(parent: BorrowedFd<'_>, above: &Path, name: &str) -> io::Result<Folder> {
+    let path = above.join(name);
+    let file = system::open_below(parent, name, Opening::Folder).inspect_err(|_| drop(fs::remove_dir(&path)))?;
+    Ok(Folder { file: file.into(), path })
+}
+
 /// A directory of a name that nobody else has.
 fn random(above: &Path) -> io::Result<CallFolder> {
     let parent = File::open(above)?;
@@ -167,10 +174,7 @@ fn random(above: &Path) -> io::Result<CallFolder> {
         seed = seed.wrapping_mul(6_364_136_223_846_793_005).wrapping_add(1_442_695_040_888_963_407);
         let name = format!("zigrunk.{:06x}", seed >> 40);
         match system::make_folder(parent.as_fd(), &name) {
-            Ok(()) => {
-                let file = system::open_below(parent.as_fd(), &name, Opening::Folder)?;
-                return Ok(CallFolder { folder: Folder { file: file.into(), path: above.join(name) }, place: None });
-            }
+            Ok(()) => return Ok(CallFolder { folder: opened(parent.as_fd(), above, &name)?, place: None }),
             Err(error) if error.kind() == io::ErrorKind::AlreadyExists => {}
             Err(error) => return Err(error),
         }
@@ -242,8 +246,14 @@ mod tests {
         let cases: [(&str, Spoils); 4] = [
             ("755", |path| fs::set_permissions(path, PermissionsExt::from_mode(0o755)).unwrap()),
             ("1700", |path| fs::set_permissions(path, PermissionsExt::from_mode(0o1700)).unwrap()),
-            ("a link", |path| { fs::rename(path, path.with_extension("x")).unwrap(); symlink(path.with_extension("x"), path).unwrap(); }),
-            ("a file", |path| { fs::remove_dir(path).unwrap(); fs::write(path, "").unwrap(); }),
+            ("a link", |path| {
+                fs::rename(path, path.with_extension("x")).unwrap();
+                symlink(path.with_extension("x"), path).unwrap();
+            }),
+            ("a file", |path| {
+                fs::remove_dir(path).unwrap();
+                fs::write(path, "").unwrap();
+            }),
         ];
         for (name, spoil) in cases {
             let scratch = Scratch::new();

@@ -3,7 +3,7 @@
 use crate::folder::CallFolder;
 use crate::system::{self, KILL, TERM};
 use std::io;
-use std::os::fd::{AsFd, AsRawFd, OwnedFd};
+use std::os::fd::{AsFd, AsRawFd, OwnedFd, RawFd};
 use std::ptr;
 use std::thread::sleep;
 use std::time::Duration;
@@ -34,7 +34,9 @@ impl Shared {
         assert!(number < MOST_GROUPS);
         // SAFETY: the page has room for so many, and begins at a page's border.
         #[allow(clippy::cast_ptr_alignment)]
-        unsafe { self.0.cast::<i32>().add(number) }
+        unsafe {
+            self.0.cast::<i32>().add(number)
+        }
     }
 
     /// The place of a job that make has given; 0 if there is none.
@@ -65,18 +67,20 @@ pub struct Guard {
 }
 
 impl Guard {
-    /// Starts the guard of a call with this directory, and with these jobs of make to give back.
+    /// Starts the guard of a call with this directory, and with these jobs of make to give back. It closes these files: locks of slots, which
+    /// would last as long as it does.
     ///
     /// # Errors
     ///
     /// If there is no process or no pipe for it.
-    pub fn start(shared: Shared, folder: &mut Option<CallFolder>, tokens: Option<&OwnedFd>) -> io::Result<Guard> {
+    pub fn start(shared: Shared, folder: &CallFolder, tokens: Option<&OwnedFd>, locks: &[RawFd]) -> io::Result<Guard> {
         let (gone, alive) = system::pipe()?;
         let alive_there = alive.as_raw_fd();
         let process = system::fork_to(|| {
-            system::close(alive_there);
+            system::leave_group();
+            locks.iter().chain([&alive_there]).for_each(|&file| system::close(file));
             system::leave_streams();
-            watch(&gone, shared, folder.take(), tokens);
+            watch(&gone, shared, folder, tokens);
         })?;
         Ok(Guard { alive, shared, process })
     }
@@ -91,15 +95,13 @@ impl Guard {
 }
 
 /// What the guard does, once nobody has the other end of `gone` any more.
-fn watch(gone: &OwnedFd, shared: Shared, folder: Option<CallFolder>, tokens: Option<&OwnedFd>) {
-    let mut byte = 0;
-    // Signals are blocked, but a debugger interrupts.
-    while system::wait_for(&[gone.as_raw_fd()], -1) != [true] || system::read_byte(gone.as_fd(), &raw mut byte) {}
-    // SAFETY: the call is gone, and nobody else writes there.
-    if unsafe { ptr::read_volatile(shared.done()) } != 0 {
-        return;
+fn watch(gone: &OwnedFd, shared: Shared, folder: &CallFolder, tokens: Option<&OwnedFd>) {
+    system::wait_for_end(gone.as_fd());
+    // SAFETY: the call is gone, or waits for the guard, and nobody else writes there.
+    let has_ended = unsafe { ptr::read_volatile(shared.done()) } != 0;
+    if !has_ended {
+        end_groups(shared);
     }
-    end_groups(shared);
     for number in 0..MOST_TOKENS {
         // SAFETY: as before.
         let token = unsafe { ptr::read_volatile(shared.token(number)) };
@@ -107,7 +109,7 @@ fn watch(gone: &OwnedFd, shared: Shared, folder: Option<CallFolder>, tokens: Opt
             system::write_byte(server.as_fd(), token);
         }
     }
-    if let Some(folder) = folder {
+    if !has_ended {
         folder.remove();
     }
 }

@@ -1,25 +1,31 @@
 //! The machine on which the driver runs.
+use crate::environments::Environment;
+use crate::folder::CallFolder;
 use crate::guard::{Guard, MOST_GROUPS, Shared};
-use crate::jobserver::{Token, Tokens};
+use crate::jobserver::{Make, Token, Tokens};
 use crate::machine::{Ended, Event, Job, Machine};
 use crate::programs;
+use crate::settings::Settings;
 use crate::slots::{BEAT, Slot, Slots};
+use crate::streams::{complain, content};
 use crate::system::{self, CHLD, CONT, Image, KILL, STOP, Signals, Status, TSTP};
+use std::borrow::Cow;
 use std::collections::VecDeque;
 use std::env;
-use std::ffi::{CString, OsStr, OsString};
+use std::ffi::{CStr, CString, OsStr};
 use std::fs::File;
-use std::io::{self, Read, Seek};
+use std::io::{self, Read};
 use std::os::fd::{AsRawFd, OwnedFd, RawFd};
 use std::os::unix::ffi::OsStrExt;
-use std::path::Path;
+use std::path::{Path, PathBuf};
 use std::ptr;
+use std::rc::Rc;
 use std::time::{Duration, Instant, SystemTime};
 
 /// How many milliseconds a call that waits for a slot sleeps at most, until it looks again for a slot of a call that died.
 const LOOK: i32 = 200;
 /// How long commands may take to end after a signal.
-const GRACE: Duration = Duration::from_secs(1);
+const GRACE: Duration = Duration::from_millis(700);
 
 /// What a job runs in: a slot, and a job of make.
 #[derive(Debug, Default)]
@@ -53,11 +59,13 @@ pub struct Host {
     signals: Signals,
     shared: Shared,
     guard: Option<Guard>,
+    /// The directory of a guard that is still to start.
+    unguarded: Option<Rc<CallFolder>>,
     slots: Option<Slots>,
     tokens: Option<Tokens>,
     null: File,
     shows_colours: bool,
-    environment: Vec<(OsString, OsString)>,
+    environment: Environment,
     wants: bool,
     permit: Option<Permit>,
     running: Vec<Running>,
@@ -76,13 +84,6 @@ pub fn nanoseconds() -> u64 {
     time.as_secs() * 1_000_000_000 + u64::from(time.subsec_nanos())
 }
 
-/// All that a file in memory holds.
-fn content(mut file: File) -> Vec<u8> {
-    let mut text = Vec::new();
-    let read = file.rewind().and_then(|()| file.read_to_end(&mut text));
-    read.map_or_else(|_| Vec::new(), |_| text)
-}
-
 impl Printed {
     /// For a terminal's end that is read.
     fn drain(&mut self) {
@@ -93,26 +94,56 @@ impl Printed {
         }
     }
 
-    fn text(mut self) -> Vec<u8> {
+    fn text(mut self) -> io::Result<Vec<u8>> {
         self.drain();
         match self {
-            Printed::Memory(file) => content(file),
-            Printed::Terminal(_, text) => text,
+            Printed::Memory(file) => content(&file),
+            Printed::Terminal(_, text) => Ok(text),
         }
     }
 }
 
+/// The slots that this process shares with the user's others, if there is a limit. `most` is how many jobs make has, if it says so.
+fn slots(settings: &Settings, most: Option<usize>) -> Option<Slots> {
+    if !settings.runner.is_empty() {
+        return None;
+    }
+    let count = settings.slots.unwrap_or_else(|| system::processors().min(most.unwrap_or(usize::MAX)));
+    let run = env::var_os("XDG_RUNTIME_DIR").filter(|it| !it.is_empty()).map(PathBuf::from);
+    let places: Vec<PathBuf> = run.into_iter().chain(["/tmp".into(), "/dev/shm".into()]).collect();
+    let slots = (count > 0).then(|| Slots::open(count, nanoseconds(), &places)).flatten();
+    if count > 0 && slots.is_none() && settings.explains {
+        complain("zigrunk-nvcc: no folder for slots takes locks, so nothing limits how many commands run at once");
+    }
+    slots
+}
+
 impl Host {
+    /// This machine for a process with this directory, with its slots and its jobs of make. Commands get `environment`.
+    ///
+    /// # Errors
+    ///
+    /// What it lacks.
+    pub fn of_process(settings: &Settings, make: Make, environment: Environment, folder: Rc<CallFolder>) -> Result<Host, &'static str> {
+        let shared = Shared::new().map_err(|_| "memory")?;
+        let signals = Signals::open().map_err(|_| "signals")?;
+        let slots = slots(settings, make.most_jobs());
+        let tokens = make.server.map(|server| Tokens::new(server, shared));
+        let host = Host::new(signals, shared, slots, tokens, environment).map_err(|_| "/dev/null")?;
+        Ok(Host { unguarded: Some(folder), ..host })
+    }
+
     /// This machine, with slots and jobs of make, if they count. Commands get `environment`.
     ///
     /// # Errors
     ///
     /// If /dev/null can't be opened.
-    pub fn new(signals: Signals, shared: Shared, slots: Option<Slots>, tokens: Option<Tokens>, environment: Vec<(OsString, OsString)>) -> io::Result<Host> {
+    pub fn new(signals: Signals, shared: Shared, slots: Option<Slots>, tokens: Option<Tokens>, environment: Environment) -> io::Result<Host> {
         Ok(Host {
             signals,
             shared,
             guard: None,
+            unguarded: None,
             slots,
             tokens,
             null: File::options().read(true).write(true).open("/dev/null")?,
@@ -126,9 +157,15 @@ impl Host {
         })
     }
 
-    /// Has a guard, which it tells when the call has ended.
-    pub fn guarded_by(&mut self, guard: Guard) {
-        self.guard = Some(guard);
+    /// Starts the guard, if that is still to be done. The call's first processes run by now, so nothing waits for that.
+    fn start_guard(&mut self) -> io::Result<()> {
+        let Some(folder) = self.unguarded.take() else { return Ok(()) };
+        let permits = self.running.iter().filter_map(|running| running.permit.as_ref()).chain(&self.permit);
+        let slots = permits.filter_map(|permit| permit.slot.as_ref()).map(Slot::file);
+        let locks: Vec<RawFd> = slots.chain(self.slots.as_ref().and_then(Slots::file)).collect();
+        let tokens = self.tokens.as_ref().map(|tokens| tokens.server().writer());
+        self.guard = Some(Guard::start(self.shared, &folder, tokens, &locks)?);
+        Ok(())
     }
 
     pub fn signals(&self) -> &Signals {
@@ -191,7 +228,6 @@ impl Host {
             match number {
                 CHLD => {}
                 TSTP => self.pause(),
-                CONT => self.signal_all(CONT),
                 _ => self.events.push_back(Event::Signal(number)),
             }
         }
@@ -239,8 +275,11 @@ impl Host {
         // SAFETY: the place is one of a page that lasts as long as this process.
         unsafe { ptr::write_volatile(self.shared.group(running.place), 0) };
         self.keep_or_give_back(running.permit);
-        let ended = Ended { status, out: content(running.out), errors: running.errors.text(), times: (running.begun, now()) };
-        self.events.push_back(Event::Ended(running.number, ended));
+        let said = content(&running.out).and_then(|out| Ok((out, running.errors.text()?)));
+        self.events.push_back(match said {
+            Ok((out, errors)) => Event::Ended(running.number, Ended { status, out, errors, times: (running.begun, now()) }),
+            Err(error) => Event::Lost(format!("what a command said is lost: {error}")),
+        });
     }
 
     /// Keeps a permit for the next job, unless an older call wants the slot.
@@ -266,7 +305,13 @@ impl Host {
             Printed::Memory(_) => None,
         }));
         let holds = self.permit.is_some() || !self.running.is_empty();
-        let longest = if waits.is_some() { LOOK } else if holds { BEAT } else { -1 };
+        let longest = if waits.is_some() {
+            LOOK
+        } else if holds {
+            BEAT
+        } else {
+            -1
+        };
         system::wait_for(&files, longest);
         if let Some(slots) = &self.slots {
             slots.awake();
@@ -287,22 +332,15 @@ impl Host {
         }
     }
 
-    /// The environment of a job.
-    fn environment_of<'a>(&'a self, job: &'a Job) -> Vec<(&'a OsStr, &'a OsStr)> {
-        let is_kept = |name: &OsStr| !job.variables.iter().any(|(other, _)| name == other.as_str());
-        let kept = self.environment.iter().map(|(name, value)| (name.as_os_str(), value.as_os_str())).filter(|(name, _)| is_kept(name));
-        let given = job.variables.iter().filter_map(|(name, value)| Some((OsStr::new(name), OsStr::new(value.as_ref()?))));
-        kept.chain(given).collect()
-    }
-
     /// A job as a program to run, or why it can't be run.
-    fn image_of(&self, job: &Job) -> Result<Image, String> {
-        let environment = self.environment_of(job);
-        let path = environment.iter().find(|(name, _)| *name == "PATH").map(|(_, value)| *value).unwrap_or_default();
+    fn image_of(&self, job: &Job) -> Result<Image<'_>, String> {
+        let given = job.variables.iter().find(|(name, _)| name == "PATH").and_then(|(_, value)| value.as_ref());
+        let path = given.map(OsStr::new).or_else(|| self.environment.get("PATH")).unwrap_or_default();
         let name = job.words.first().map(String::as_str).unwrap_or_default();
-        let folder = Path::new(&job.folder);
-        let program = programs::find(OsStr::new(name), path, folder).ok_or_else(|| format!("{name}: not found"))?;
-        image(program.as_os_str(), job.words.iter().map(OsStr::new), &environment, &job.folder).map_err(|error| format!("{name}: {error}"))
+        let program = programs::find(OsStr::new(name), path, Path::new(&job.folder)).ok_or_else(|| format!("{name}: not found"))?;
+        let words = job.words.iter().map(OsStr::new);
+        let environment = self.environment.changed(&job.variables);
+        environment.and_then(|environment| image(program.as_os_str(), words, environment, &job.folder)).map_err(|error| format!("{name}: {error}"))
     }
 
     /// The streams that a job prints to: what is read later, and what the job gets for its messages.
@@ -328,17 +366,15 @@ impl Host {
 /// # Errors
 ///
 /// If a text has a NUL.
-pub fn image<'a>(program: &OsStr, words: impl Iterator<Item = &'a OsStr>, environment: &[(&OsStr, &OsStr)], folder: &str) -> io::Result<Image> {
+pub fn image<'a, 'b>(
+    program: &OsStr,
+    words: impl Iterator<Item = &'a OsStr>,
+    environment: Vec<Cow<'b, CStr>>,
+    folder: &str,
+) -> io::Result<Image<'b>> {
     let text = |text: &OsStr| CString::new(text.as_bytes());
-    let variables = environment.iter().map(|(name, value)| CString::new([name.as_bytes(), b"=", value.as_bytes()].concat()));
     let folder = if folder.is_empty() { None } else { Some(CString::new(folder)?) };
-    Ok(Image::new(text(program)?, words.map(text).collect::<Result<_, _>>()?, variables.collect::<Result<_, _>>()?, folder))
-}
-
-/// This process's environment, with one variable in place of what it had.
-pub fn environment_with(name: &str, value: &OsStr) -> Vec<(OsString, OsString)> {
-    let others = env::vars_os().filter(|(other, _)| other != name);
-    others.chain([(name.into(), value.into())]).collect()
+    Ok(Image::new(text(program)?, words.map(text).collect::<Result<_, _>>()?, environment, folder))
 }
 
 impl Machine for Host {
@@ -361,6 +397,9 @@ impl Machine for Host {
             }
             if let (Some(slots), true) = (&mut self.slots, !self.wants) {
                 slots.end_to_wait();
+            }
+            if self.start_guard().is_err() {
+                return Event::Lost("no process for the call".into());
             }
             self.wait();
         }

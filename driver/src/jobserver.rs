@@ -1,6 +1,7 @@
 //! The jobserver of make: below a make with `-jN`, a command takes a job of make too, the one that its call has or a further one.
 use crate::guard::{MOST_TOKENS, Shared};
 use crate::system;
+use std::env;
 use std::ffi::CString;
 use std::fs::File;
 use std::os::fd::{AsFd, AsRawFd, BorrowedFd, OwnedFd, RawFd};
@@ -27,6 +28,28 @@ impl MakeFlags {
             flags.jobs = jobs.or(flags.jobs);
         }
         flags
+    }
+}
+
+/// What make says to this process.
+#[derive(Debug)]
+pub struct Make {
+    pub flags: MakeFlags,
+    /// Its jobserver, if this process can use it.
+    pub server: Option<Jobserver>,
+}
+
+impl Make {
+    /// What `MAKEFLAGS` says.
+    pub fn of_environment() -> Make {
+        let flags = MakeFlags::of(&env::var("MAKEFLAGS").unwrap_or_default());
+        let server = flags.server.as_deref().and_then(Jobserver::open);
+        Make { flags, server }
+    }
+
+    /// How many jobs a make has whose jobserver this process can't use.
+    pub fn most_jobs(&self) -> Option<usize> {
+        self.flags.jobs.filter(|_| self.flags.server.is_some() && self.server.is_none())
     }
 }
 
@@ -107,10 +130,11 @@ impl Tokens {
             Token::Own => self.own_is_free = true,
             Token::Given(place) => {
                 let place = self.shared.token(*place);
-                // SAFETY: as before. The guard gives it back if this process is killed before the second line.
+                // SAFETY: as before. What stays there the guard gives back: if this process is killed, or the job can't be written.
                 let byte = unsafe { ptr::read_volatile(place) };
-                system::write_byte(self.server.to.as_fd(), byte);
-                unsafe { ptr::write_volatile(place, 0) };
+                if system::write_byte(self.server.to.as_fd(), byte) {
+                    unsafe { ptr::write_volatile(place, 0) };
+                }
             }
         }
     }
@@ -166,7 +190,16 @@ mod tests {
         let (read, write) = system::pipe().unwrap();
         let (_other, other_end) = system::pipe().unwrap();
         let number = |file: &OwnedFd| file.as_raw_fd();
-        let texts = [format!("{},{}", number(&read), number(&other_end)), format!("{},999", number(&read)), format!("999,{}", number(&write)), "fifo:/missing".into(), "fifo:/dev/null".into(), "3".into(), "-1,-1".into(), "a,b".into()];
+        let texts = [
+            format!("{},{}", number(&read), number(&other_end)),
+            format!("{},999", number(&read)),
+            format!("999,{}", number(&write)),
+            "fifo:/missing".into(),
+            "fifo:/dev/null".into(),
+            "3".into(),
+            "-1,-1".into(),
+            "a,b".into(),
+        ];
         for text in texts {
             assert!(Jobserver::open(&text).is_none(), "{text}");
         }

@@ -1,12 +1,17 @@
 //! One program under several names: zigrunk-nvcc runs the commands of an nvcc call side by side, and through a compiler cache.
 //!
 //! It acts by its name, or by its first word if that isn't a name of its own.
+mod batch;
+mod caches;
 mod call;
 mod dry_runs;
+mod entries;
+mod environments;
 mod folder;
 mod guard;
 mod host;
 mod jobserver;
+mod json_values;
 mod log;
 mod machine;
 mod places;
@@ -14,26 +19,31 @@ mod plan_program;
 mod planner;
 mod products;
 mod programs;
+mod report;
 mod rule;
 mod run;
-mod schedule;
 mod settings;
 mod slots;
+mod split;
+mod streams;
 mod system;
 mod tasks;
-mod texts;
+#[cfg(test)]
+mod whole_call;
 
 pub use system::open_standard_streams;
 
 use std::ffi::{OsStr, OsString};
 use std::path::Path;
 
-const USAGE: &str = "usage: zigrunk-driver nvcc|plan WORD..";
+const USAGE: &str = "usage: zigrunk-driver nvcc|batch|plan|report WORD..";
 
 /// What is run under a name.
 fn run_as(name: &OsStr, words: &[OsString]) -> Option<i32> {
     match name.to_str()? {
         "zigrunk-plan" => Some(plan_program::run(words)),
+        "zigrunk-batch" => Some(batch::main(words)),
+        "zigrunk-report" => Some(report::run(words)),
         other if other.ends_with("nvcc") => Some(call::make(name, words)),
         _ => None,
     }
@@ -53,7 +63,7 @@ pub fn run_words(words: &[OsString]) -> i32 {
     let name = Path::new(own).file_name().unwrap_or_default();
     let by_word = || rest.split_first().and_then(|(name, words)| run_as(&named(name), words));
     run_as(name, rest).or_else(by_word).unwrap_or_else(|| {
-        eprintln!("{USAGE}");
+        streams::complain(USAGE);
         2
     })
 }

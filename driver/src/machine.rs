@@ -43,6 +43,9 @@ pub trait Machine {
     /// Says whether the call has a job to start, so that it waits for a slot or not.
     fn want(&mut self, wants: bool);
 
+    /// Says whether what follows is part of planning the call.
+    fn plans(&mut self, _: bool) {}
+
     /// Waits for what comes next. Without a job that runs or is wanted, that is a signal.
     fn next(&mut self) -> Event;
 

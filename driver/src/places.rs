@@ -39,7 +39,15 @@ mod tests {
 
     #[test]
     fn a_directory_has_one_form() {
-        let cases = [("/usr", "/usr"), ("/usr/", "/usr"), ("//usr/./bin", "/usr/bin"), ("bin", "/usr/bin"), ("./../usr/bin", "/usr/bin"), ("/usr/bin/..", "/usr"), ("/missing/x/../y", "/missing/y")];
+        let cases = [
+            ("/usr", "/usr"),
+            ("/usr/", "/usr"),
+            ("//usr/./bin", "/usr/bin"),
+            ("bin", "/usr/bin"),
+            ("./../usr/bin", "/usr/bin"),
+            ("/usr/bin/..", "/usr"),
+            ("/missing/x/../y", "/missing/y"),
+        ];
         for (path, wanted) in cases {
             assert_eq!(absolute(Path::new(path), Path::new("/usr")), PathBuf::from(wanted), "{path}");
         }

@@ -1,16 +1,17 @@
 //! zigrunk-plan: prints the plan of an nvcc line. It makes the two dry runs as zigrunk-nvcc does, and runs nothing else.
 use crate::dry_runs::{Failed, make_planned};
+use crate::environments::Environment;
 use crate::guard::Shared;
-use crate::host::{self, Host};
+use crate::host::Host;
 use crate::machine::Ended;
 use crate::places::{absolute, working_directory};
 use crate::planner::{self, Line, PlannedCommand, ToPlan};
 use crate::settings::Settings;
+use crate::streams::{complain, say};
 use crate::system::{self, Signals};
 use crate::tasks;
 use std::env;
 use std::ffi::{OsStr, OsString};
-use std::io::Write;
 
 const USAGE: &str = "usage: zigrunk-plan json|ninja|dot|shell|compdb|makeflow|text [--] NVCC WORD..";
 const FORMATS: [&str; 7] = ["json", "ninja", "dot", "shell", "compdb", "makeflow", "text"];
@@ -72,7 +73,7 @@ fn directory_of(line: &Line) -> Result<String, Refusal> {
 
 /// A machine without slots, for the dry runs.
 fn machine() -> std::io::Result<Host> {
-    Host::new(Signals::open()?, Shared::new()?, None, None, host::environment_with("ZIGRUNK_INSIDE", OsStr::new("")))
+    Host::new(Signals::open()?, Shared::new()?, None, None, Environment::own().with("ZIGRUNK_INSIDE", OsStr::new("")))
 }
 
 /// Why one of these dry runs has failed, if one has, and what it said.
@@ -121,14 +122,13 @@ fn plan_of(asked: &Asked<'_>) -> Result<String, Refusal> {
 /// Prints the plan of the line that these words ask for. Says the exit status: 2 for wrong usage, 3 if the line goes to nvcc unchanged.
 pub fn run(words: &[OsString]) -> i32 {
     if matches!(words, [word, ..] if word == "-h" || word == "--help") {
-        println!("{USAGE}");
-        return 0;
+        return i32::from(say(1, format!("{USAGE}\n").as_bytes()).is_err());
     }
     match asked(words).and_then(|asked| plan_of(&asked)) {
-        Ok(file) => i32::from(std::io::stdout().write_all(file.as_bytes()).is_err()),
+        Ok(file) => i32::from(say(1, file.as_bytes()).is_err()),
         Err(Refusal { status, text }) => {
             if !text.is_empty() {
-                eprintln!("{text}");
+                complain(&text);
             }
             status
         }
@@ -141,7 +141,14 @@ mod tests {
 
     #[test]
     fn wrong_usage_is_said() {
-        let cases = [("", "a format is missing"), ("yaml nvcc", "unknown format yaml"), ("json", "nvcc and its words are missing"), ("json --", "nvcc and its words are missing"), ("-- nvcc", "unexpected option --"), ("--json nvcc", "unexpected option --json")];
+        let cases = [
+            ("", "a format is missing"),
+            ("yaml nvcc", "unknown format yaml"),
+            ("json", "nvcc and its words are missing"),
+            ("json --", "nvcc and its words are missing"),
+            ("-- nvcc", "unexpected option --"),
+            ("--json nvcc", "unexpected option --json"),
+        ];
         for (line, wanted) in cases {
             let words: Vec<OsString> = line.split_whitespace().map(OsString::from).collect();
             let refusal = asked(&words).err().unwrap();
@@ -153,8 +160,17 @@ mod tests {
 
     #[test]
     fn edges_have_descriptions() {
-        let command = |program: &str, words: &str| PlannedCommand { program: program.into(), words: words.split(' ').map(String::from).collect(), ..PlannedCommand::default() };
-        let commands = [command("/usr/bin/gcc", "-E -D__CUDA_ARCH__=800 k.cu"), command("/usr/bin/g++", "-E k.cu"), command("/a/cicc", "-arch compute_80 k.ii"), command("ptxas", "-arch=sm_100a k.ptx")];
+        let command = |program: &str, words: &str| PlannedCommand {
+            program: program.into(),
+            words: words.split(' ').map(String::from).collect(),
+            ..PlannedCommand::default()
+        };
+        let commands = [
+            command("/usr/bin/gcc", "-E -D__CUDA_ARCH__=800 k.cu"),
+            command("/usr/bin/g++", "-E k.cu"),
+            command("/a/cicc", "-arch compute_80 k.ii"),
+            command("ptxas", "-arch=sm_100a k.ptx"),
+        ];
         let file = "head\nbuild a: run\n  line = 1\n  line = 2\n  line = 3\n  line = 4\nend\n";
         let wanted = "head\nbuild a: run\n  line = 1\n  description = gcc 800\n  line = 2\n  description = g++\n  line = 3\n  description = cicc compute_80\n  line = 4\n  description = ptxas sm_100a\nend\n";
         assert_eq!(described(file, &commands), wanted);

@@ -1,9 +1,10 @@
 //! What the proved crates say of a call: the name of its directory, its dry runs, and its plan. Here their texts become Rust's own.
 use crate::programs::is_program;
+use crate::streams::content_of;
 use canonical_names::all_suffixes;
 use command_files::{files_and_needs, preprocesses};
 use command_groups::{CallToPlan, plan_with_origins_within};
-use compilers::command::Cacheable;
+use compilers::command::{Cacheable, SingleCompileCommand};
 use compilers::compiler::NvccHostCompiler;
 use dry_runs::Which;
 use nvcc_calls::{Answer, directory_name, file_names, read_call};
@@ -13,7 +14,10 @@ use program_calls::{DirectoryCall, NvccCall};
 use rattle_std::alloc::{AllocError, Global};
 use rattle_std::string::String as Text;
 use rattle_std::vec::Vec as List;
+use std::cell::RefCell;
+use std::collections::BTreeMap;
 use std::fs;
+use std::iter;
 use std::path::Path;
 
 /// The limit on the bytes that a dry run's lines are expanded to. It is far above what a line can make: nvcc wrote these dry runs, and
@@ -77,7 +81,7 @@ fn text(text: &str) -> Result<Text, AllocError> {
     Text::from_str(Global, text)
 }
 
-fn texts(words: &[String]) -> Result<Vec<Text>, AllocError> {
+pub fn list_of(words: &[String]) -> Result<Vec<Text>, AllocError> {
     words.iter().map(|word| text(word)).collect()
 }
 
@@ -105,7 +109,7 @@ fn out_of_memory(_: AllocError) -> String {
 /// A text that says that memory ran out.
 pub fn directory_of(line: &Line) -> Result<String, String> {
     let name = || {
-        let words = texts(&line.words)?;
+        let words = list_of(&line.words)?;
         let call = DirectoryCall { cwd: &line.cwd, nvcc: &line.nvcc, words: &words };
         directory_name(Global, &call, &pairs(&line.variables)?)
     };
@@ -115,17 +119,15 @@ pub fn directory_of(line: &Line) -> Result<String, String> {
 /// The text of a plain file. nvcc reads an options file too, and a pipe gives its bytes only once.
 fn options_file(cwd: &str, name: &str) -> Option<(String, String)> {
     let path = Path::new(cwd).join(name);
-    let content = fs::metadata(&path).is_ok_and(|file| file.is_file()).then(|| fs::read(path).ok())??;
+    let content = fs::metadata(&path).is_ok_and(|file| file.is_file()).then(|| content_of(&path).ok())??;
     Some((name.to_owned(), String::from_utf8(content).ok()?))
 }
 
-/// The words of a command of an outline, whose text unsets the variables with nvcc's own flags, changes to a folder and then has these words.
-fn words_of(command: &str) -> Result<Words, String> {
-    let split = shell_words::split(Global, command).map_err(out_of_memory)?;
-    match split.as_ref().map(List::as_slice) {
-        Some([_, _, _, _, _, folder, _, words @ .., _]) => Ok(Words { folder: string(folder), words: strings(words) }),
-        _ => Err("a command has no words".into()),
-    }
+/// The words of a command of an outline.
+fn words_of(command: &SingleCompileCommand) -> Words {
+    let program = command.executable.as_str().to_owned();
+    let words = iter::once(program).chain(strings(command.arguments.as_slice())).collect();
+    Words { folder: command.cwd.as_str().to_owned(), words }
 }
 
 /// What becomes of a line whose files go to the directory `tmp`.
@@ -134,7 +136,7 @@ fn words_of(command: &str) -> Result<Words, String> {
 ///
 /// Why nvcc makes the call unchanged.
 pub fn outline_of(line: &Line, tmp: &str) -> Result<Outline, String> {
-    let words = texts(&line.words).map_err(out_of_memory)?;
+    let words = list_of(&line.words).map_err(out_of_memory)?;
     let variables = pairs(&line.variables).map_err(out_of_memory)?;
     let names = file_names(Global, &words, &variables).map_err(out_of_memory)?;
     let files: Vec<(String, String)> = names.as_slice().iter().filter_map(|name| options_file(&line.cwd, name.as_str())).collect();
@@ -142,27 +144,31 @@ pub fn outline_of(line: &Line, tmp: &str) -> Result<Outline, String> {
     let call = NvccCall { cwd: &line.cwd, tmp, nvcc: &line.nvcc, words: &words };
     match read_call(Global, &call, &variables, &files).map_err(|fault| fault.to_string())? {
         Answer::Pass(reason) => Err(reason.as_str().to_owned()),
-        Answer::Split(outline) => {
-            let filled = |text: &str| (!text.is_empty()).then(|| text.to_owned());
-            Ok(Outline {
-                dependencies: filled(outline.dependencies.as_str()).map(|text| words_of(&text)).transpose()?,
-                first_dry_run: words_of(outline.first.as_str())?,
-                second_dry_run: words_of(outline.second.as_str())?,
-                flag: outline.flag.as_str().to_owned(),
-                jobs: outline.jobs.as_str().parse().ok(),
-                keep_dir: filled(outline.keep_dir.as_str()),
-            })
-        }
+        Answer::Split(outline) => Ok(Outline {
+            dependencies: outline.dependencies.as_ref().map(words_of),
+            first_dry_run: words_of(&outline.first),
+            second_dry_run: words_of(&outline.second),
+            flag: outline.flag.as_str().to_owned(),
+            jobs: (outline.jobs > 0).then_some(outline.jobs),
+            keep_dir: outline.keep_dir.as_ref().map(|folder| folder.as_str().to_owned()),
+        }),
     }
 }
 
-/// Looks programs up on the disk.
-struct Disk;
+/// Looks programs up on the disk, each path once for a plan: most commands are of few programs.
+#[derive(Default)]
+struct Disk(RefCell<BTreeMap<String, bool>>);
+
+impl Disk {
+    fn has(&self, path: &str) -> bool {
+        *self.0.borrow_mut().entry(path.to_owned()).or_insert_with(|| is_program(Path::new(path)))
+    }
+}
 
 impl Which for Disk {
     fn found(&self, alloc: Global, program: &str, path: &str, cwd: &str) -> Result<Option<Text>, AllocError> {
         let paths = program_lookups::candidates(alloc, program, path, cwd)?;
-        let found = paths.as_slice().iter().find(|path| is_program(Path::new(path.as_str())));
+        let found = paths.as_slice().iter().find(|path| self.has(path.as_str()));
         found.map(|found| text(found.as_str())).transpose()
     }
 }
@@ -193,7 +199,7 @@ fn planned(of: &ToPlan<'_>) -> Result<PlanWithOrigins, String> {
         suffixes: &suffixes,
     };
     let [dry1, dry2] = of.dry_runs;
-    let planned = plan_with_origins_within(Global, dry1, dry2, &call, &Disk, MOST_BYTES).map_err(|fault| fault.to_string())?;
+    let planned = plan_with_origins_within(Global, dry1, dry2, &call, &Disk::default(), MOST_BYTES).map_err(|fault| fault.to_string())?;
     let is_empty = planned.plan.groups.as_slice().iter().all(|group| group.as_slice().is_empty());
     if is_empty { Err("the plan has no command".into()) } else { Ok(planned) }
 }

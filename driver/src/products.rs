@@ -1,7 +1,7 @@
 //! The files of a call that stay.
+use crate::streams::write_all;
 use crate::tasks::OWN;
 use std::fs;
-use std::io::Write;
 use std::path::Path;
 use std::time::SystemTime;
 
@@ -22,7 +22,7 @@ pub fn keep(tmp: &Path, keep_dir: &Path, begun: SystemTime) {
 /// What to say of a command that failed without a message: on a full disk its message is lost.
 pub fn lack_of_room(temporary: &Path) -> String {
     let path = temporary.join(format!(".zigrunk-room.{}", std::process::id()));
-    let has_room = fs::File::create(&path).and_then(|mut file| file.write_all(&vec![0; 65536])).is_ok();
+    let has_room = fs::File::create(&path).and_then(|file| write_all(&file, &vec![0; 65536])).is_ok();
     let _ = fs::remove_file(&path);
     if has_room { String::new() } else { format!(": there is no room in {}", temporary.display()) }
 }

@@ -112,7 +112,13 @@ mod tests {
     #[test]
     fn a_first_word_may_be_the_compiler() {
         let settings = Settings { nvcc: "my-compiler".into(), ..Settings::default() };
-        let cases = [("/a/nvcc", "/a/nvcc"), ("cross-nvcc", "cross-nvcc"), ("my-compiler", "my-compiler"), ("-Invcc", "my-compiler"), ("k.cu", "my-compiler")];
+        let cases = [
+            ("/a/nvcc", "/a/nvcc"),
+            ("cross-nvcc", "cross-nvcc"),
+            ("my-compiler", "my-compiler"),
+            ("-Invcc", "my-compiler"),
+            ("k.cu", "my-compiler"),
+        ];
         for (first, wanted) in cases {
             let words = [OsString::from(first), "-c".into()];
             let (name, rest) = named(&settings, &words);

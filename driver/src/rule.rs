@@ -1,9 +1,19 @@
 //! The dependency file of a call, made from what its preprocessors have written.
-use crate::planner::{PlannedCommand, Words};
+use crate::planner::{PlannedCommand, Words, list_of};
 use crate::run::Watch;
-use crate::texts::rule;
-use std::fs;
+use crate::streams::{complain, content_of, write_all};
+use dependency_rules::{Rule, order_of, rule_asked, rule_text};
+use rattle_std::alloc::{AllocError, Global};
+use rattle_std::vec::{Collect, Vec as List};
+use std::collections::BTreeSet;
+use std::fs::File;
 use std::path::Path;
+use std::sync::Mutex;
+use texts::bytes::Bytes;
+use texts::words::Words as WordList;
+
+/// The tools whose commands the cache refuses, of all calls that this process makes.
+pub type Refusals = Mutex<BTreeSet<String>>;
 
 /// Makes the dependency file, and tells of a cache that refuses a command.
 pub struct RuleMaker<'a> {
@@ -11,39 +21,35 @@ pub struct RuleMaker<'a> {
     /// The command that makes it by nvcc, if the line asks for one.
     pub asked: Option<&'a Words>,
     /// The cache's name.
-    pub launcher: String,
+    pub launcher: &'a str,
+    pub refusals: &'a Refusals,
 }
 
-/// Makes no dependency file.
-pub struct NoRule;
-
-impl Watch for NoRule {
-    fn make_rule(&mut self) -> bool {
-        false
-    }
-
-    fn refused(&mut self, _: &str) {}
+/// The words of commands.
+fn word_lists(commands: &[&PlannedCommand]) -> Result<Vec<WordList>, AllocError> {
+    let words = |command: &&PlannedCommand| Ok(WordList::from_vec(list_of(&command.words)?.into_iter().collect_in(Global)?));
+    commands.iter().map(words).collect()
 }
 
 impl RuleMaker<'_> {
-    /// What the preprocessors have written: first those for devices, and the host's last. `None` if nvcc has to make the rule.
-    fn written(&self) -> Option<Vec<Vec<u8>>> {
-        let all: Vec<&PlannedCommand> = self.commands.iter().filter(|command| command.preprocesses).collect();
-        if !all.iter().all(|command| rule::is_known(&command.words)) {
-            return None;
-        }
-        let (devices, host): (Vec<_>, Vec<_>) = all.into_iter().partition(|command| rule::is_for_device(&command.words));
-        if devices.is_empty() || host.len() != 1 {
-            return None;
-        }
-        devices.into_iter().chain(host).map(|command| fs::read(command.writes.first()?).ok()).collect()
+    /// What the preprocessors have written, in the order in which nvcc reads it. `None` if nvcc has to make the rule.
+    fn written(&self) -> Option<Vec<Bytes>> {
+        let commands: Vec<&PlannedCommand> = self.commands.iter().filter(|command| command.preprocesses).collect();
+        let order = order_of(Global, &word_lists(&commands).ok()?).ok()??;
+        let text_of = |&place: &usize| Bytes::copy_of(Global, &content_of(Path::new(commands[place].writes.first()?)).ok()?).ok();
+        order.as_slice().iter().map(text_of).collect()
+    }
+
+    fn text_of(&self, rule: &Rule<'_>) -> Option<List<u8>> {
+        rule_text(Global, rule, &self.written()?).ok()?
     }
 
     fn try_make(&self) -> Option<()> {
-        let words = self.asked?;
-        let asked = rule::asked(&words.words)?;
-        let text = rule::text(&asked, &self.written()?)?;
-        fs::write(Path::new(&words.folder).join(asked.file), text).ok()
+        let command = self.asked?;
+        let words = list_of(&command.words).ok()?;
+        let rule = rule_asked(&words)?;
+        let text = self.text_of(&rule)?;
+        write_all(&File::create(Path::new(&command.folder).join(rule.file)).ok()?, text.as_slice()).ok()
     }
 }
 
@@ -53,6 +59,74 @@ impl Watch for RuleMaker<'_> {
     }
 
     fn refused(&mut self, tool: &str) {
-        eprintln!("zigrunk-nvcc: {} doesn't take {tool}, which runs without it", self.launcher);
+        if self.refusals.lock().is_ok_and(|mut refusals| refusals.insert(tool.to_owned())) {
+            complain(&format!("zigrunk-nvcc: {} doesn't take {tool}, which runs without it", self.launcher));
+        }
+    }
+
+    fn refuses(&self, tool: &str) -> bool {
+        self.refusals.lock().is_ok_and(|refusals| refusals.contains(tool))
+    }
+}
+
+#[cfg(test)]
+mod tests {
+    use super::*;
+    use std::fs;
+    use std::path::PathBuf;
+
+    /// A folder for a test, which goes with it.
+    struct Scratch(PathBuf);
+
+    impl Scratch {
+        fn new(name: &str) -> Scratch {
+            let path = std::env::temp_dir().join(format!("rule-{name}-{}", std::process::id()));
+            fs::create_dir_all(&path).unwrap();
+            Scratch(path)
+        }
+
+        /// A preprocessor that has written this.
+        fn wrote(&self, words: &str, name: &str, text: &str) -> PlannedCommand {
+            let path = self.0.join(name);
+            fs::write(&path, text).unwrap();
+            let words = words.split(' ').map(String::from).collect();
+            PlannedCommand { words, preprocesses: true, writes: vec![path.to_str().unwrap().into()], ..PlannedCommand::default() }
+        }
+
+        /// What the dependency file gets, if the driver makes it.
+        fn made(&self, asked: &str, commands: &[PlannedCommand]) -> Option<String> {
+            let _ = fs::remove_file(self.0.join("k.d"));
+            let words = Words { folder: self.0.to_str().unwrap().into(), words: asked.split(' ').map(String::from).collect() };
+            let mut maker = RuleMaker { commands, asked: Some(&words), launcher: "", refusals: &Refusals::default() };
+            maker.make_rule().then(|| fs::read_to_string(self.0.join("k.d")).unwrap())
+        }
+    }
+
+    impl Drop for Scratch {
+        fn drop(&mut self) {
+            let _ = fs::remove_dir_all(&self.0);
+        }
+    }
+
+    const ASKED: &str = "nvcc -x cu k.cu -M -MF k.d -MT k.o";
+
+    #[test]
+    fn the_rule_is_made_of_what_was_written() {
+        let scratch = Scratch::new("made");
+        let host = scratch.wrote("-E -D__CUDACC_VER_MAJOR__=13 k.cu", "host.ii", "# 0 \"k.cu\"\n# 1 \"host.h\" 1\n");
+        let device = scratch.wrote("-D__CUDA_ARCH__=800 -E -D__CUDACC_VER_MAJOR__=13 k.cu", "80.ii", "# 0 \"k.cu\"\n# 1 \"a b.h\" 1\n");
+        assert_eq!(scratch.made(ASKED, &[host.clone(), device.clone()]).as_deref(), Some("k.o : k.cu \\\n    a\\ b.h \\\n    host.h\n"));
+        assert_eq!(scratch.made("nvcc -x cu k.cu -MM -MF k.d -MT k.o", &[host.clone(), device]), None, "other words");
+        assert_eq!(scratch.made(ASKED, &[host]), None, "no command for a device");
+    }
+
+    #[test]
+    fn without_all_texts_nvcc_makes_it() {
+        let scratch = Scratch::new("left");
+        let host = scratch.wrote("-E -D__CUDACC_VER_MAJOR__=13 k.cu", "host.ii", "# 0 \"k.cu\"\n# 1 \"a.h\" 1\n");
+        let device = scratch.wrote("-D__CUDA_ARCH__=800 -E -D__CUDACC_VER_MAJOR__=13 k.cu", "80.ii", "");
+        assert_eq!(scratch.made(ASKED, &[host.clone(), device.clone()]), None, "an empty text");
+        fs::remove_file(&device.writes[0]).unwrap();
+        assert_eq!(scratch.made(ASKED, &[host, device]), None, "a text that is gone");
     }
 }

@@ -1,6 +1,8 @@
 //! Runs the commands of a plan on a machine.
 use crate::machine::{Ended, Event, Job, Machine};
-use crate::schedule::{Outcome, Refused, Schedule};
+use rattle_std::alloc::{AllocError, Global};
+use rattle_std::vec::Vec as List;
+use schedules::{AfterFailure, BadGraph, Outcome, Refused, Schedule, chain_weights};
 use std::io;
 
 /// A command of a plan, or what writes the dependency file.
@@ -15,6 +17,10 @@ pub struct Task {
     pub is_rule: bool,
     /// What it is, for the log: a program, what it does, and for which target.
     pub kind: String,
+    /// How long it usually takes, in any unit: the longer what waits for a command, the earlier it starts.
+    pub weight: usize,
+    /// Where the cache says whether it had what the command makes, if it was asked to.
+    pub statistics: Option<String>,
 }
 
 impl Task {
@@ -62,12 +68,29 @@ impl From<Refused> for Stopped {
     }
 }
 
-/// What tells of tasks that end.
+/// What the caller of a run does for its tasks.
 pub trait Watch {
     /// Does a task without a process, if that is possible.
     fn make_rule(&mut self) -> bool;
-    /// Hears that the cache refuses a command: it runs without it.
+    /// Hears that the cache refuses commands of a tool: they run without it.
     fn refused(&mut self, tool: &str);
+    /// Whether the cache has refused commands of a tool.
+    fn refuses(&self, tool: &str) -> bool;
+}
+
+/// Makes no dependency file.
+pub struct NoRule;
+
+impl Watch for NoRule {
+    fn make_rule(&mut self) -> bool {
+        false
+    }
+
+    fn refused(&mut self, _: &str) {}
+
+    fn refuses(&self, _: &str) -> bool {
+        false
+    }
 }
 
 /// The words with which a cache says that it doesn't know a compiler.
@@ -82,10 +105,19 @@ struct Run<'a, M, W> {
     done: Vec<Done>,
     /// Tasks that run once more, without the cache.
     again: Vec<usize>,
-    /// What the cache refuses.
-    refused: Vec<&'a str>,
     /// Whether each task was started through the cache.
     launched: Vec<bool>,
+}
+
+/// The schedule of tasks, of which so many may run at once. What begins the heaviest chain starts first.
+fn schedule_of(tasks: &[Task], at_once: usize) -> Result<Schedule, BadGraph> {
+    let mut needs = List::with_capacity(Global, tasks.len())?;
+    for task in tasks {
+        needs.push(List::from_slice(Global, &task.needs)?).map_err(AllocError::from)?;
+    }
+    let weights: Vec<usize> = tasks.iter().map(|task| task.weight).collect();
+    let priorities = chain_weights(Global, needs.as_slice(), &weights)?;
+    Schedule::new(Global, needs, priorities, at_once, AfterFailure::StartEarlier)
 }
 
 /// Runs tasks, so many at once, until all have ended or one has failed and all before it have ended. Says what became of each.
@@ -94,9 +126,9 @@ struct Run<'a, M, W> {
 ///
 /// If a signal comes, or no process can be started though none runs. Then no task runs any more.
 pub fn run<M: Machine, W: Watch>(machine: &mut M, watch: &mut W, tasks: &[Task], at_once: usize) -> Result<Vec<Done>, Stopped> {
-    let schedule = Schedule::new(tasks.iter().map(|task| task.needs.clone()).collect(), at_once.max(1));
+    let schedule = schedule_of(tasks, at_once.max(1)).map_err(|_| Stopped::NoProcess("the commands have no schedule".into()))?;
     let done = vec![Done::default(); tasks.len()];
-    let mut run = Run { machine, watch, tasks, schedule, done, again: Vec::new(), refused: Vec::new(), launched: vec![false; tasks.len()] };
+    let mut run = Run { machine, watch, tasks, schedule, done, again: Vec::new(), launched: vec![false; tasks.len()] };
     let ended = run.run_all();
     if let Err(stopped) = &ended {
         run.machine.end_all(if let Stopped::Signal(number) = stopped { *number } else { crate::system::TERM });
@@ -151,7 +183,7 @@ impl<M: Machine, W: Watch> Run<'_, M, W> {
     fn start(&mut self, next: Option<usize>) -> Result<bool, Stopped> {
         let Some(next) = next else { return Ok(false) };
         let task = &self.tasks[next];
-        let bare = task.without_launcher.as_ref().filter(|_| self.refused.contains(&task.tool()));
+        let bare = task.without_launcher.as_ref().filter(|_| self.watch.refuses(task.tool()));
         match self.machine.start(next, bare.unwrap_or(&task.job)) {
             Ok(()) => {
                 self.launched[next] = task.without_launcher.is_some() && bare.is_none();
@@ -169,8 +201,7 @@ impl<M: Machine, W: Watch> Run<'_, M, W> {
         let task = &self.tasks[number];
         let is_refusal = !ended.status.succeeded() && contains(&ended.errors, REFUSAL);
         if is_refusal && self.launched[number] {
-            if !self.refused.contains(&task.tool()) {
-                self.refused.push(task.tool());
+            if !self.watch.refuses(task.tool()) {
                 self.watch.refused(task.tool());
             }
             self.again.push(number);
@@ -265,6 +296,10 @@ mod tests {
         fn refused(&mut self, tool: &str) {
             self.refused.push(tool.to_owned());
         }
+
+        fn refuses(&self, tool: &str) -> bool {
+            self.refused.iter().any(|other| other == tool)
+        }
     }
 
     fn job(words: &str) -> Job {
@@ -290,6 +325,14 @@ mod tests {
         let mut machine = Fake::default();
         assert_eq!(run_all(&mut machine, &tasks, 1), ("abcde".into(), vec![Some(0); 5]));
         assert_eq!(machine.most_at_once, 1);
+    }
+
+    #[test]
+    fn the_heaviest_chain_starts_first() {
+        let weighs = |weight, task: Task| Task { weight, ..task };
+        let tasks = [weighs(1, task("a 0", &[])), weighs(1, task("b 0", &[])), weighs(3, task("c 0", &[0])), weighs(2, task("d 0", &[]))];
+        assert_eq!(run_all(&mut Fake::default(), &tasks, 1), ("acdb".into(), vec![Some(0); 4]));
+        assert_eq!(run_all(&mut Fake::default(), &tasks, 2), ("adcb".into(), vec![Some(0); 4]));
     }
 
     #[test]
@@ -334,7 +377,12 @@ mod tests {
             without_launcher: Some(job(&format!("{name}-bare {status}"))),
             ..task(&format!("{name} 2 error: Compiler not supported: {name}"), &[])
         };
-        let tasks = [refused("cicc", "0"), refused("cicc", "0"), Task { needs: vec![0, 1], ..refused("cicc", "5") }, task("gcc 2 Compiler not supported", &[])];
+        let tasks = [
+            refused("cicc", "0"),
+            refused("cicc", "0"),
+            Task { needs: vec![0, 1], ..refused("cicc", "5") },
+            task("gcc 2 Compiler not supported", &[]),
+        ];
         let mut machine = Fake::default();
         let mut heard = Heard::default();
         let done = run(&mut machine, &mut heard, &tasks, 2).unwrap();

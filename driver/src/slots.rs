@@ -6,6 +6,7 @@
 //! wasn't touched for some seconds belongs to a call that is stopped or frozen, and doesn't count.
 use crate::folder::Folder;
 use crate::system::{self, Opening};
+use std::cell::Cell;
 use std::fs::{self, File};
 use std::io;
 use std::os::fd::{AsFd, AsRawFd, OwnedFd, RawFd};
@@ -22,6 +23,12 @@ pub const BEAT: i32 = 1000;
 pub struct Slot {
     number: usize,
     file: File,
+}
+
+impl Slot {
+    pub fn file(&self) -> RawFd {
+        self.file.as_raw_fd()
+    }
 }
 
 /// Why a slot can't be had.
@@ -66,6 +73,8 @@ pub struct Slots {
     folder: Folder,
     own: Waiter,
     ticket: Option<Ticket>,
+    /// Whether the disk has stopped to take locks.
+    is_without_locks: Cell<bool>,
 }
 
 /// Whether a file was touched within the last seconds.
@@ -85,7 +94,7 @@ impl Slots {
         let folder = Folder::private(place, &format!("zigrunk-slots-{}", system::user()))?;
         let first = system::open_below(folder.as_fd(), "1", Opening::Kept)?;
         system::try_lock(first.as_fd())?;
-        Ok(Slots { folder, own, ticket: None })
+        Ok(Slots { folder, own, ticket: None, is_without_locks: Cell::new(false) })
     }
 
     /// The calls that wait, oldest first.
@@ -133,9 +142,9 @@ impl Slots {
         (self.own.count + 1..=self.own.count + stale).find_map(|number| self.lock(number).ok())
     }
 
-    /// Whether nobody can have a slot any more: the folder is gone, or takes no file.
+    /// Whether nobody can have a slot any more: the folder is gone, or takes no file or no lock.
     pub fn are_lost(&self) -> bool {
-        !self.folder.is_there() || system::open_below(self.folder.as_fd(), "1", Opening::Kept).is_err()
+        self.is_without_locks.get() || !self.folder.is_there() || system::open_below(self.folder.as_fd(), "1", Opening::Kept).is_err()
     }
 
     /// The slot of a number, or why it can't be had.
@@ -148,7 +157,11 @@ impl Slots {
                 Ok(Slot { number, file })
             }
             Ok(false) if !is_fresh(&file) => Err(Taken::Stale),
-            _ => Err(Taken::Busy),
+            Ok(false) => Err(Taken::Busy),
+            Err(_) => {
+                self.is_without_locks.set(true);
+                Err(Taken::Busy)
+            }
         }
     }
 
@@ -288,7 +301,10 @@ mod tests {
         assert!(young.begin_to_wait() && old.begin_to_wait() && !old.begin_to_wait());
         assert!(holder.is_wanted(&slot));
         holder.give_back(slot);
-        assert_eq!((old.file().map(|file| system::wait_for(&[file], 0)), young.file().map(|file| system::wait_for(&[file], 0))), (Some(vec![true]), Some(vec![false])));
+        assert_eq!(
+            (old.file().map(|file| system::wait_for(&[file], 0)), young.file().map(|file| system::wait_for(&[file], 0))),
+            (Some(vec![true]), Some(vec![false]))
+        );
         assert!(young.try_take().is_none(), "an older one waits");
         let slot = old.try_take().unwrap();
         old.end_to_wait();

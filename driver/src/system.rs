@@ -1,11 +1,16 @@
 //! The calls of Linux that std lacks, each behind a safe function: files below a folder, locks, signals, memory files, processes.
 //!
 //! They are declared by hand: these few are all that is needed, and the crate `libc` would be the only one from outside.
+use std::borrow::Cow;
 use std::ffi::{CStr, CString, c_char, c_int, c_long, c_uint, c_ulong, c_void};
 use std::fs::File;
 use std::io;
+use std::ops::Deref;
 use std::os::fd::{AsRawFd, BorrowedFd, FromRawFd, OwnedFd, RawFd};
 use std::ptr;
+use std::sync::atomic::{AtomicBool, Ordering};
+use std::thread::sleep;
+use std::time::Duration;
 
 type Handler = usize;
 const DEFAULT: Handler = 0;
@@ -25,6 +30,11 @@ pub const TSTP: i32 = 20;
 
 /// The error of a file that is no program.
 const NO_FORMAT: i32 = 8;
+
+const SHARES_MEMORY: c_int = 0x100;
+const PARENT_WAITS: c_int = 0x4000;
+/// How many parts of sixteen bytes a child's stack has.
+const CHILD_STACK: usize = 4096;
 
 const CREATE: c_int = 0o100;
 const UNBLOCKED: c_int = 0o4000;
@@ -52,6 +62,7 @@ struct Times([[c_long; 2]; 2]);
 unsafe extern "C" {
     fn _exit(status: c_int) -> !;
     fn chdir(path: *const c_char) -> c_int;
+    fn clone(run: extern "C" fn(*mut c_void) -> c_int, stack: *mut c_void, flags: c_int, given: *mut c_void, ...) -> c_int;
     fn dup2(from: c_int, to: c_int) -> c_int;
     fn execve(path: *const c_char, argv: *const *const c_char, envp: *const *const c_char) -> c_int;
     fn fcntl(fd: c_int, what: c_int, ...) -> c_int;
@@ -213,11 +224,40 @@ pub fn unlock(file: BorrowedFd<'_>) {
     unsafe { flock(file.as_raw_fd(), 8) };
 }
 
-/// Waits until one of these files can be read, at most so many milliseconds; -1 is for ever. Says which can be.
+/// Waits until one of these files can be read, at most so many milliseconds; -1 is for ever. Says which can be. If a signal or a lack of memory
+/// ends it early, it has waited for a moment all the same.
 pub fn wait_for(files: &[RawFd], milliseconds: i32) -> Vec<bool> {
     let mut fds: Vec<PollFd> = files.iter().map(|&fd| PollFd { fd, events: 1, ready: 0 }).collect();
     let count = unsafe { poll(fds.as_mut_ptr(), fds.len() as c_ulong, milliseconds) };
+    if count < 0 {
+        sleep(Duration::from_millis(1));
+    }
     fds.iter().map(|it| count > 0 && it.ready != 0).collect()
+}
+
+/// Has an open file not wait.
+///
+/// # Errors
+///
+/// Those of `fcntl`.
+pub fn set_unblocked(file: RawFd) -> io::Result<()> {
+    checked(unsafe { fcntl(file, 4, 2 | UNBLOCKED) }).map(|_| ())
+}
+
+/// Waits until a stream takes more, at most so many milliseconds.
+pub fn wait_to_write(file: RawFd, milliseconds: i32) {
+    let mut one = PollFd { fd: file, events: 4, ready: 0 };
+    if unsafe { poll(&raw mut one, 1, milliseconds) } < 0 {
+        sleep(Duration::from_millis(1));
+    }
+}
+
+/// Waits until nobody has the other end of a pipe.
+pub fn wait_for_end(pipe: BorrowedFd<'_>) {
+    let mut byte = 0;
+    while unsafe { read(pipe.as_raw_fd(), (&raw mut byte).cast::<u8>().cast(), 1) } != 0 {
+        sleep(Duration::from_millis(1));
+    }
 }
 
 /// Reads a byte into a place that another process may see, without waiting on an open file that doesn't wait. Says whether there was one.
@@ -271,15 +311,14 @@ impl Status {
 
 /// A child that has ended, and how; nothing if none has.
 pub fn ended_child() -> io::Result<Option<(i32, Status)>> {
-    loop {
-        let mut state = 0;
-        match checked(unsafe { waitpid(-1, &raw mut state, 1) }) {
-            Ok(0) => return Ok(None),
-            Ok(child) => return Ok(Some((child, Status::of(state)))),
-            Err(error) if error.kind() == io::ErrorKind::Interrupted => {}
-            Err(error) => return Err(error),
-        }
-    }
+    let mut state = 0;
+    let child = checked(unsafe { waitpid(-1, &raw mut state, 1) })?;
+    Ok((child != 0).then(|| (child, Status::of(state))))
+}
+
+/// Sends a signal to a process.
+pub fn signal_process(process: i32, number: i32) {
+    unsafe { kill(process, number) };
 }
 
 /// Sends a signal to a process group, or to its first process if that has no group yet. Says whether there was one.
@@ -296,6 +335,13 @@ pub fn end_by(number: i32) {
     }
 }
 
+/// Whether CONT has come.
+static CONTINUED: AtomicBool = AtomicBool::new(false);
+
+extern "C" fn note_continue(_: c_int) {
+    CONTINUED.store(true, Ordering::SeqCst);
+}
+
 /// The signals that come by a file. Those that the caller ignores stay ignored.
 pub struct Signals {
     file: OwnedFd,
@@ -303,7 +349,7 @@ pub struct Signals {
 }
 
 impl Signals {
-    /// From now on HUP, INT, TERM, TSTP, CONT and CHLD come by the file.
+    /// From now on HUP, INT, TERM, TSTP and CHLD come by the file.
     ///
     /// TSTP is ignored too: one that a child gets before it has a group of its own is dropped then, and doesn't stop it for ever.
     ///
@@ -312,7 +358,7 @@ impl Signals {
     /// Those of `signalfd`.
     pub fn open() -> io::Result<Signals> {
         let mut set: SignalSet = [0; 16];
-        for number in [HUP, INT, TERM, CONT] {
+        for number in [HUP, INT, TERM] {
             unsafe {
                 if signal(number, DEFAULT) == IGNORED {
                     signal(number, IGNORED);
@@ -324,6 +370,9 @@ impl Signals {
         set[0] |= 1 << (CHLD - 1);
         unsafe {
             signal(CHLD, DEFAULT);
+            if signal(CONT, note_continue as *const () as Handler) == IGNORED {
+                signal(CONT, IGNORED);
+            }
             let stop_ignored = signal(TSTP, IGNORED) == IGNORED;
             if !stop_ignored {
                 set[0] |= 1 << (TSTP - 1);
@@ -341,6 +390,7 @@ impl Signals {
     /// The next signal that has come.
     pub fn next(&self) -> Option<i32> {
         let mut one = [0_u8; 128];
+        CONTINUED.store(false, Ordering::SeqCst);
         let size = unsafe { read(self.file.as_raw_fd(), one.as_mut_ptr().cast(), one.len()) };
         (size == 128).then(|| i32::from_ne_bytes([one[0], one[1], one[2], one[3]]))
     }
@@ -355,13 +405,18 @@ impl Signals {
         }
     }
 
-    /// Stops this process as TSTP does, until it is continued.
+    /// Stops this process as TSTP does, until it is continued. If CONT has come since TSTP was read, this process goes on: nobody would
+    /// continue it.
     pub fn stop() {
         let mut set: SignalSet = [0; 16];
         set[0] = 1 << (TSTP - 1);
         unsafe {
             signal(TSTP, DEFAULT);
             raise(TSTP);
+            // TSTP waits now, and a CONT that comes from here on takes it away. An earlier one has been noted, and to ignore TSTP takes it away.
+            if CONTINUED.load(Ordering::SeqCst) {
+                signal(TSTP, IGNORED);
+            }
             sigprocmask(1, &raw const set, ptr::null_mut());
             sigprocmask(0, &raw const set, ptr::null_mut());
             signal(TSTP, IGNORED);
@@ -369,22 +424,28 @@ impl Signals {
     }
 }
 
+impl Drop for Signals {
+    fn drop(&mut self) {
+        self.give_back();
+    }
+}
+
 /// A program to run, with all that it gets.
-pub struct Image {
+pub struct Image<'a> {
     program: CString,
     argv: Vec<CString>,
-    envp: Vec<CString>,
+    envp: Vec<Cow<'a, CStr>>,
     folder: Option<CString>,
 }
 
 /// Pointers to texts, and a null behind them.
-fn pointers(texts: &[CString]) -> Vec<*const c_char> {
+fn pointers<T: Deref<Target = CStr>>(texts: &[T]) -> Vec<*const c_char> {
     texts.iter().map(|text| text.as_ptr()).chain([ptr::null()]).collect()
 }
 
-impl Image {
+impl<'a> Image<'a> {
     /// A program by its path, the words that it gets, its own name first, its environment, and its folder if that isn't this process's.
-    pub fn new(program: CString, argv: Vec<CString>, envp: Vec<CString>, folder: Option<CString>) -> Image {
+    pub fn new(program: CString, argv: Vec<CString>, envp: Vec<Cow<'a, CStr>>, folder: Option<CString>) -> Image<'a> {
         Image { program, argv, envp, folder }
     }
 
@@ -393,8 +454,7 @@ impl Image {
     /// A file that is no program of the kernel's is a script of the shell's, as for `execvp`.
     pub fn become_it(&self) -> io::Error {
         let (argv, envp) = (pointers(&self.argv), pointers(&self.envp));
-        let script: Vec<*const c_char> =
-            [c"sh".as_ptr(), self.program.as_ptr()].into_iter().chain(argv.iter().copied().skip(1)).collect();
+        let script: Vec<*const c_char> = [c"sh".as_ptr(), self.program.as_ptr()].into_iter().chain(argv.iter().copied().skip(1)).collect();
         self.replace(&argv, &script, &envp)
     }
 
@@ -410,42 +470,65 @@ impl Image {
     /// Starts the program with these standard streams, in a process group of its own whose number goes to `group`, a place that other
     /// processes may see. It gets TERM if this process ends. Says its number.
     ///
+    /// Until it runs the program, the child has this process's memory, and this process waits: to copy the memory would take longer than
+    /// many a command.
+    ///
     /// # Errors
     ///
-    /// Those of `fork`. If the program can't be run, the child says so on its standard error and ends with 127.
+    /// Those of `clone`. If the program can't be run, the child says so on its standard error and ends with 127.
     pub fn start(&self, streams: [RawFd; 3], signals: &Signals, group: *mut i32, complaint: &CStr) -> io::Result<i32> {
         let (argv, envp) = (pointers(&self.argv), pointers(&self.envp));
-        let script: Vec<*const c_char> =
-            [c"sh".as_ptr(), self.program.as_ptr()].into_iter().chain(argv.iter().copied().skip(1)).collect();
-        let parent = process();
-        let child = checked(unsafe { fork() })?;
-        if child != 0 {
-            unsafe { setpgid(child, child) };
-            return Ok(child);
-        }
-        // SAFETY: from here to the end the child allocates nothing, since this process has one thread but libraries may lock.
-        unsafe {
-            setpgid(0, 0);
-            group.write_volatile(getpid());
-            prctl(1, TERM as c_ulong);
-            if getppid() != parent {
-                _exit(143);
-            }
-            for (number, &stream) in (0..3).zip(&streams) {
-                dup2(stream, number);
-            }
-            signals.give_back();
-            let entered = self.folder.as_ref().is_none_or(|folder| chdir(folder.as_ptr()) == 0);
-            if entered {
-                self.replace(&argv, &script, &envp);
-            }
-            write(2, complaint.as_ptr().cast(), complaint.count_bytes());
-            _exit(127)
-        }
+        let script: Vec<*const c_char> = [c"sh".as_ptr(), self.program.as_ptr()].into_iter().chain(argv.iter().copied().skip(1)).collect();
+        let mut child = Child { image: self, argv, script, envp, streams, signals, group, complaint, parent: process() };
+        let mut stack: Vec<u128> = Vec::with_capacity(CHILD_STACK);
+        // SAFETY: the stack and what the child uses stay until it has become the program, since this process waits for that.
+        let number = checked(unsafe {
+            let top = stack.as_mut_ptr().add(CHILD_STACK);
+            clone(become_child, top.cast(), SHARES_MEMORY | PARENT_WAITS | CHLD, (&raw mut child).cast())
+        })?;
+        unsafe { setpgid(number, number) };
+        Ok(number)
     }
 }
 
-/// Starts a copy of this process, in a group of its own, that runs a function and ends. Says its number.
+/// What a child needs that becomes a program.
+struct Child<'a> {
+    image: &'a Image<'a>,
+    argv: Vec<*const c_char>,
+    script: Vec<*const c_char>,
+    envp: Vec<*const c_char>,
+    streams: [RawFd; 3],
+    signals: &'a Signals,
+    group: *mut i32,
+    complaint: &'a CStr,
+    parent: i32,
+}
+
+/// What a child does until it is the program. It allocates nothing, and changes nothing of its parent's memory but the group's place.
+extern "C" fn become_child(child: *mut c_void) -> c_int {
+    // SAFETY: the parent waits, and hands over a `Child`.
+    unsafe {
+        let child = &*child.cast::<Child<'_>>();
+        setpgid(0, 0);
+        child.group.write_volatile(getpid());
+        prctl(1, TERM as c_ulong);
+        if getppid() != child.parent {
+            _exit(143);
+        }
+        for (number, &stream) in (0..3).zip(&child.streams) {
+            dup2(stream, number);
+        }
+        child.signals.give_back();
+        let entered = child.image.folder.as_ref().is_none_or(|folder| chdir(folder.as_ptr()) == 0);
+        if entered {
+            child.image.replace(&child.argv, &child.script, &child.envp);
+        }
+        write(2, child.complaint.as_ptr().cast(), child.complaint.count_bytes());
+        _exit(127)
+    }
+}
+
+/// Starts a copy of this process that runs a function and ends. Says its number.
 ///
 /// # Errors
 ///
@@ -453,7 +536,6 @@ impl Image {
 pub fn fork_to(run: impl FnOnce()) -> io::Result<i32> {
     let child = checked(unsafe { fork() })?;
     if child == 0 {
-        unsafe { setpgid(0, 0) };
         run();
         unsafe { _exit(0) }
     }
@@ -478,9 +560,19 @@ pub fn terminal() -> io::Result<(File, OwnedFd)> {
         checked(tcgetattr(program.as_raw_fd(), &raw mut modes))?;
         modes[1] = 0;
         checked(tcsetattr(program.as_raw_fd(), 0, &raw const modes))?;
-        checked(fcntl(number, 4, 2 | UNBLOCKED))?;
+        set_unblocked(number)?;
         Ok((File::from(owner), program))
     }
+}
+
+/// Gives this process a group of its own, which no terminal's signal reaches.
+pub fn leave_group() {
+    unsafe { setpgid(0, 0) };
+}
+
+/// Has this process end by TERM once its parent has ended.
+pub fn end_with_parent() {
+    unsafe { prctl(1, TERM as c_ulong) };
 }
 
 /// Closes a file of this process, which has no owner here.
@@ -504,9 +596,12 @@ pub fn exit(status: i32) -> ! {
     unsafe { _exit(status) }
 }
 
-/// Waits for a child, and says how it ended.
-pub fn wait_for_child(child: i32) -> Status {
+/// Waits for a child.
+pub fn wait_for_child(child: i32) {
     let mut state = 0;
-    while unsafe { waitpid(child, &raw mut state, 0) } < 0 && io::Error::last_os_error().kind() == io::ErrorKind::Interrupted {}
-    Status::of(state)
+    for _ in 0..1000 {
+        if unsafe { waitpid(child, &raw mut state, 0) } >= 0 || io::Error::last_os_error().kind() != io::ErrorKind::Interrupted {
+            return;
+        }
+    }
 }

@@ -1,9 +1,11 @@
 //! The commands of a plan as tasks for the machine.
+use crate::caches;
 use crate::machine::Job;
 use crate::planner::{PlannedCommand, Words};
 use crate::run::Task;
 use crate::settings::Settings;
 use crate::system::Status;
+use schedules::{CommandKind, usual_weight};
 
 /// The folder in a call's directory for files that aren't the plan's.
 pub const OWN: &str = "zigrunk.tmp";
@@ -55,6 +57,19 @@ fn launched_as(command: &PlannedCommand) -> &str {
     }
 }
 
+/// How long a command usually takes.
+fn weight_of(command: &PlannedCommand) -> usize {
+    usual_weight(match launched_as(command) {
+        "cudafe++" => CommandKind::CudaFe,
+        "cicc" => CommandKind::Cicc,
+        "ptxas" => CommandKind::Ptxas,
+        "fatbinary" => CommandKind::Other,
+        "-E" => CommandKind::Preprocess,
+        _ if command.words.iter().any(|word| word == "-c") => CommandKind::HostCompile,
+        _ => CommandKind::Other,
+    })
+}
+
 /// Whether a command goes through the cache.
 fn is_launched(command: &PlannedCommand, settings: &Settings) -> bool {
     let named = settings.launched.iter().any(|kind| kind == launched_as(command));
@@ -73,16 +88,17 @@ fn job_of(command: &PlannedCommand, before: &[&[String]], around: &Surroundings<
     Job { words, folder: command.folder.clone(), variables, shares_slot: false }
 }
 
-fn task_of(command: &PlannedCommand, around: &Surroundings<'_>) -> Task {
+fn task_of(number: usize, command: &PlannedCommand, around: &Surroundings<'_>) -> Task {
     let settings = around.settings;
     let bare = job_of(command, &[&settings.runner], around);
-    let (needs, kind) = (command.needs.clone(), kind_of(command));
-    if is_launched(command, settings) {
-        let job = job_of(command, &[&settings.runner, &settings.launcher], around);
-        Task { job, without_launcher: Some(bare), needs, is_rule: false, kind }
-    } else {
-        Task { job: bare, without_launcher: None, needs, is_rule: false, kind }
+    let task = Task { needs: command.needs.clone(), kind: kind_of(command), weight: weight_of(command), ..Task::default() };
+    if !is_launched(command, settings) {
+        return Task { job: bare, ..task };
     }
+    let mut job = job_of(command, &[&settings.runner, &settings.launcher], around);
+    let statistics = caches::file_of(number, settings, around.tmp);
+    job.variables.extend(caches::variables_of(statistics.as_ref()));
+    Task { job, without_launcher: Some(bare), statistics, ..task }
 }
 
 /// The task that makes the dependency file by nvcc, once the source is preprocessed.
@@ -90,12 +106,12 @@ fn rule_task(words: &Words, commands: &[PlannedCommand]) -> Task {
     let variables = ["NVCC_PREPEND_FLAGS", "NVCC_APPEND_FLAGS"].map(|name| (name.to_owned(), None));
     let job = Job { words: words.words.clone(), folder: words.folder.clone(), variables: variables.into(), shares_slot: false };
     let needs = (0..commands.len()).filter(|&number| commands[number].preprocesses).collect();
-    Task { job, without_launcher: None, needs, is_rule: true, kind: "nvcc -M".into() }
+    Task { job, needs, is_rule: true, kind: "nvcc -M".into(), ..Task::default() }
 }
 
 /// The tasks of a plan. What makes the dependency file comes before the last command, which writes the product and waits for it.
 pub fn tasks_of(commands: &[PlannedCommand], dependencies: Option<&Words>, around: &Surroundings<'_>) -> Vec<Task> {
-    let mut tasks: Vec<Task> = commands.iter().map(|command| task_of(command, around)).collect();
+    let mut tasks: Vec<Task> = commands.iter().enumerate().map(|(number, command)| task_of(number, command, around)).collect();
     let (Some(words), Some(last)) = (dependencies, tasks.len().checked_sub(1)) else { return tasks };
     let mut rule = rule_task(words, commands);
     rule.needs.retain(|&need| need < last);

@@ -9,8 +9,8 @@ files that the plan says they read; each machine gets the tools themselves once.
 
 A machine that vanishes or refuses is left out, and its commands run again elsewhere; after five seconds it gets a new chance. One that can't
 take files is left out for a minute. Without any machine, all runs here. A command that fails on a machine runs here once more: if it works, the
-machine is left out for a minute; if not, the call has failed. What the commands print comes at the end, in the list's order. The status is 1 if
-a call failed. ../plans.py plans the calls. Files go below ZIGRUNK_TMP, TMPDIR or /tmp, and on the machines below their TMPDIR or /tmp.
+machine is left out for a minute; if not, the call has failed. What nvcc would print comes at the end, in the list's order. The status is 1 if a call
+failed. ../plans.py plans the calls, libzigrunk schedules them. Files go below ZIGRUNK_TMP, TMPDIR or /tmp, on machines below their TMPDIR or /tmp.
 """
 import argparse
 import asyncio
@@ -27,8 +27,9 @@ import tarfile
 import tempfile
 from typing import Any
 
-sys.path.insert(0, os.path.join(os.path.dirname(os.path.abspath(__file__)), ".."))
+sys.path[:0] = [os.path.join(os.path.dirname(os.path.abspath(__file__)), "..", folder) for folder in (".", "../python", "../bindings/python")]
 import plans
+import zigrunk
 
 # ssh gives up on a machine that is silent for 15 seconds.
 OPTIONS = "-oBatchMode=yes -oConnectTimeout=10 -oServerAliveInterval=5 -oServerAliveCountMax=3 -oControlMaster=auto -oControlPersist=60".split()
@@ -56,14 +57,15 @@ class Job:
 
 
 class Work:
-    """A call and its jobs."""
+    """A call, its jobs, and which of these may start."""
 
     def __init__(self, call: plans.Call) -> None:
-        self.call, self.failed = call, False
+        self.call = call
         made, dependencies = plans.plan(call)
         self.jobs = [Job([command["exe"], *command["args"]], command["cwd"], command, plans.is_far(command, made["tmp"]))
                      for command in (made["commands"] if made else [])]
         self.jobs += [Job(["sh", "-c", line], call.folder, {"needs": [], "env": []}, False) for line in [dependencies if made else call.text] if line]
+        self.schedule = zigrunk.Schedule([job.command["needs"] for job in self.jobs], max(len(self.jobs), 1))
 
 
 async def run(words: list[str], data: Any = subprocess.DEVNULL, **settings: Any) -> tuple[int, bytes, bytes]:
@@ -213,27 +215,25 @@ class Build:
             status, job.out, job.err = await run(job.words, cwd=job.folder, env=os.environ | dict(job.command["env"]))
         return status == 0
 
-    async def make(self, job: Job, work: Work, needs: list[asyncio.Task[None]]) -> None:
-        """Makes a job after those that it needs, unless one of its call has failed."""
-        for need in needs:
-            await need
-        worked = None
-        while worked is None and not work.failed:
+    async def make(self, work: Work, number: int) -> None:
+        """Makes a job, and then those that may start after it."""
+        job, worked = work.jobs[number], None
+        while worked is None:
             machine = await self.take() if job.far else None
             try:
                 worked = await (self.make_there(job, machine) if machine else self.make_here(job))
             except OSError as error:
                 job.err, worked = f"{error}\n".encode(), False
-        work.failed = work.failed or not worked
+        work.schedule.ended(number, zigrunk.CommandState.SUCCEEDED if worked else zigrunk.CommandState.FAILED)
+        await self.make_ready(work)
+
+    async def make_ready(self, work: Work) -> None:
+        await asyncio.gather(*[self.make(work, number) for number in work.schedule.start_ready()])
 
     async def make_all(self, works: list[Work]) -> None:
+        tasks = [asyncio.create_task(self.make_ready(work)) for work in works]
         keepers = [asyncio.create_task(self.keep(machine)) for machine in self.machines]
-        tasks: list[asyncio.Task[None]] = []
         try:
-            for work in works:
-                first = len(tasks)
-                for job in work.jobs:
-                    tasks.append(asyncio.create_task(self.make(job, work, [tasks[first + need] for need in job.command["needs"]])))
             await asyncio.gather(*tasks)
         finally:
             for task in [*tasks, *keepers]:
@@ -241,15 +241,15 @@ class Build:
             await asyncio.gather(*tasks, *keepers, *(machine.leave() for machine in self.machines), return_exceptions=True)
 
 
-def report(works: list[Work]) -> int:
-    for work in works:
-        for job in work.jobs:
-            sys.stdout.buffer.write(job.out)
-            sys.stderr.buffer.write(job.err)
-        sys.stdout.flush()
-        if work.failed:
-            plans.say(f"{work.call.name}: failed")
-    return 1 if any(work.failed for work in works) else 0
+def report(work: Work) -> bool:
+    told = work.schedule.told(0, len(work.jobs))
+    for job in work.jobs[:told.commands.stop]:
+        sys.stdout.buffer.write(job.out)
+        sys.stderr.buffer.write(job.err)
+    sys.stdout.flush()
+    if failed := told.status != zigrunk.PlanStatus.SUCCEEDED:
+        plans.say(f"{work.call.name}: failed")
+    return failed
 
 
 def main() -> int:
@@ -271,7 +271,7 @@ def main() -> int:
                 works = list(pool.map(Work, calls))
             plans.check_products(calls)
             asyncio.run(Build([Machine(login, sockets) for login in logins], words.j).make_all(works))
-            return report(works)
+            return int(any([report(work) for work in works]))
         finally:
             shutil.rmtree(root, ignore_errors=True)
 

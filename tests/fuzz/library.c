@@ -1029,6 +1029,40 @@ static void try_plan(planned *it, int misses, unsigned long failing, size_t limi
     release(lookups);
 }
 
+/* What each call on a schedule answers and leaves, whatever the numbers and the states are. */
+static void try_schedule(const uint8_t *bytes, size_t size) {
+    enum { COMMANDS = 24 };
+    zigrunk_scheduled_command commands[COMMANDS];
+    size_t numbers[COMMANDS + 2], count = size < 4 ? 0 : (size - 4) / 3 < COMMANDS ? (size - 4) / 3 : COMMANDS, all = count + 2;
+    uint8_t states[COMMANDS], after[COMMANDS];
+    for (size_t i = 0; i < all; i++) {
+        numbers[i] = i < size && bytes[i] < 0xF0 ? bytes[i] % 32 : SIZE_MAX - i;
+    }
+    for (size_t i = 0; i < count; i++) {
+        const uint8_t *at = bytes + 4 + 3 * i;
+        size_t from = at[0] % all;
+        commands[i] = (zigrunk_scheduled_command){numbers + from, at[1] % (all - from), at[1] > 0xF0 ? SIZE_MAX : at[1] / 64, at[2] / 6};
+        states[i] = at[2] % 6;
+    }
+    const zigrunk_schedule schedule = {commands, count, size > 0 ? bytes[0] % 5 : 0, size > 1 ? bytes[1] % 4 : 0, size > 2 && bytes[2] == 7};
+    size_t states_size = size > 3 && count > 0 ? count - (bytes[3] == 7) : count, command = size > 3 ? bytes[3] % 32 : 0;
+    zigrunk_schedule_answer next = zigrunk_schedule_next(&schedule, states, states_size);
+    zigrunk_progress_answer progress = zigrunk_schedule_progress(&schedule, states, states_size);
+    zigrunk_told_answer first_told = zigrunk_schedule_told(&schedule, states, states_size, command, numbers[0]);
+    holds(next.status == progress.status && next.status == first_told.status, "a schedule is one for each call");
+    holds(next.status == ZIGRUNK_OK || next.reason == ZIGRUNK_BAD_SCHEDULE, "a bad schedule is the only reason for no answer");
+    holds(next.status != ZIGRUNK_OK || (progress.over == 1) == (progress.running == 0 && next.command == count), "over is when nothing runs and nothing is next");
+    for (uint32_t outcome = 0; outcome < 6; outcome++) {
+        memcpy(after, states, count);
+        zigrunk_schedule_answer noted = outcome == 0 ? zigrunk_schedule_begin(&schedule, after, states_size)
+            : outcome == 1 ? zigrunk_schedule_started(&schedule, after, states_size, next.command)
+                           : zigrunk_schedule_ended(&schedule, after, states_size, command, outcome);
+        holds((noted.status == ZIGRUNK_OK) == (noted.reason == ZIGRUNK_NOT_REFUSED), "a refusal has a reason");
+        holds(noted.status == ZIGRUNK_OK || memcmp(after, states, count) == 0, "a refusal changes no state");
+        holds(outcome != 1 || next.status != ZIGRUNK_OK || (noted.status == ZIGRUNK_OK) == (next.command < count), "what is next may start");
+    }
+}
+
 static void tell(void) {
     const char *name = getenv("FIGURES");
     FILE *file = name ? fopen(name, "w") : NULL;
@@ -1085,6 +1119,9 @@ int LLVMFuzzerTestOneInput(const uint8_t *data, size_t size) {
         try_text(it.call.dry1, &it.call, data[1] / 4);
         zigrunk_text asked[3] = {it.call.flag, it.call.dry2, it.call.cwd};
         release(ask(asks_candidates, asked, 0));
+    }
+    if (data[1] % 4 == 1) {
+        try_schedule(it.call.dry1.bytes, it.call.dry1.length);
     }
     release_list(&all);
     release_list(&names);

@@ -16,11 +16,12 @@ import os
 import struct
 import sys
 from dataclasses import dataclass, field
-from typing import Any, Callable, Dict, Iterable, List, Mapping, Optional, Sequence, Tuple, Type, TypeVar, Union
+from typing import Any, Callable, Dict, Iterable, Iterator, List, Mapping, Optional, Sequence, Tuple, Type, TypeVar, Union
 
-__all__ = ["ColorMode", "Command", "CommandTool", "Field", "Form", "Group", "HostCompiler", "Language", "Line", "Lookup", "Missing",
-           "NvccLine", "Output", "Place", "Plan", "PlanCall", "Reason", "Stage", "Status", "Tool", "ZigrunkError", "candidates", "command_key",
-           "find", "line", "line_records", "line_words", "lookups", "nvcc_line", "plan", "plan_records", "quote", "remap", "split", "version"]
+__all__ = ["AfterFailure", "ColorMode", "Command", "CommandState", "CommandTool", "Field", "Form", "Group", "HostCompiler", "Language", "Line",
+           "Lookup", "Missing", "NvccLine", "Output", "Place", "Plan", "PlanCall", "PlanStatus", "Reason", "Refused", "Schedule",
+           "ScheduleError", "Stage", "Status", "Told", "Tool", "ZigrunkError", "candidates", "command_key", "find", "line", "line_records",
+           "line_words", "lookups", "nvcc_line", "plan", "plan_records", "quote", "remap", "split", "version"]
 
 _ABI_VERSION = 1
 
@@ -156,6 +157,58 @@ class Field(enum.IntEnum):
     HOST_COMPILER = 11
 
 
+class AfterFailure(enum.IntEnum):
+    """What may start after a command failed or was cancelled."""
+
+    START_NOTHING = 0
+    START_EARLIER = 1
+    """Only commands before it. Then you print what the commands print one after the other, up to the first that fails."""
+    GO_ON = 2
+    """Each command whose needs have all succeeded."""
+
+
+class CommandState(enum.IntEnum):
+    """What has become of a command of a schedule. The last three say how it ended."""
+
+    NOT_STARTED = 0
+    RUNNING = 1
+    SUCCEEDED = 2
+    FAILED = 3
+    CANCELLED = 4
+    """You ended it. It holds others back as a failure does, but its output isn't printed."""
+
+
+class PlanStatus(enum.IntEnum):
+    """How a plan has come out so far."""
+
+    UNFINISHED = 0
+    """Not all of it may be printed yet."""
+    SUCCEEDED = 1
+    FAILED = 2
+    """The last command that may be printed failed, and nothing is printed after it."""
+
+
+class Refused(enum.IntEnum):
+    """Why a schedule refuses a call."""
+
+    NO_SUCH_COMMAND = 1
+    STARTED_BEFORE = 2
+    NEEDS_UNMET = 3
+    """Not all that the command needs have succeeded."""
+    HELD_BACK = 4
+    """Another command failed or was cancelled, so this one may not start."""
+    NO_SLOT = 5
+    """As many commands run as may."""
+    NOT_RUNNING = 6
+    """The command can't have ended."""
+    BAD_SCHEDULE = 7
+    """There are no slots."""
+    NEEDS_LATER = 8
+    """A command needs one that isn't earlier."""
+    BAD_OUTCOME = 9
+    """A command ends as SUCCEEDED, FAILED or CANCELLED."""
+
+
 @dataclass(frozen=True)
 class Place:
     """Where `plan_records` rejects a call."""
@@ -174,6 +227,15 @@ class ZigrunkError(Exception):
         super().__init__(message)
         self.number = number
         self.place = place
+
+
+class ScheduleError(ZigrunkError):
+    """A schedule refused a call, and is unchanged. `reason` says why, and `command` which command of a graph is at fault."""
+
+    def __init__(self, number: int, reason: Union[Refused, int], command: int) -> None:
+        super().__init__(number, str(getattr(reason, "name", reason)).lower().replace("_", " "))
+        self.reason = reason
+        self.command = command
 
 
 @dataclass(frozen=True)
@@ -456,9 +518,35 @@ class _LineAnswer(ctypes.Structure):
     ]
 
 
+class _ScheduledCommand(ctypes.Structure):
+    _fields_ = [
+        ("needs", ctypes.POINTER(ctypes.c_size_t)), ("needs_count", ctypes.c_size_t), ("first", ctypes.c_size_t), ("priority", ctypes.c_size_t),
+    ]
+
+
+class _Schedule(ctypes.Structure):
+    _fields_ = [
+        ("commands", ctypes.POINTER(_ScheduledCommand)), ("commands_count", ctypes.c_size_t), ("slots", ctypes.c_size_t),
+        ("after_failure", ctypes.c_uint32), ("reserved", ctypes.c_uint32),
+    ]
+
+
+class _ScheduleAnswer(ctypes.Structure):
+    _fields_ = [("status", ctypes.c_int32), ("reason", ctypes.c_uint32), ("command", ctypes.c_size_t)]
+
+
+class _ProgressAnswer(ctypes.Structure):
+    _fields_ = [("status", ctypes.c_int32), ("over", ctypes.c_uint32), ("running", ctypes.c_size_t)]
+
+
+class _ToldAnswer(ctypes.Structure):
+    _fields_ = [("status", ctypes.c_int32), ("plan", ctypes.c_uint32), ("end", ctypes.c_size_t)]
+
+
 _TEXT = [ctypes.c_char_p, ctypes.c_size_t]
 _OUT = [ctypes.c_char_p, ctypes.c_size_t]
 _RANGES = [ctypes.POINTER(_Range), ctypes.c_size_t]
+_SCHEDULE = [ctypes.POINTER(_Schedule), ctypes.POINTER(ctypes.c_uint8), ctypes.c_size_t]
 _CALLS = {
     "zigrunk_abi_version": (ctypes.c_uint32, []),
     "zigrunk_version": (_TextAnswer, _OUT),
@@ -477,6 +565,12 @@ _CALLS = {
     "zigrunk_nvcc_line": (_ListAnswer, [ctypes.POINTER(_NvccCall)] + _RANGES + _OUT),
     "zigrunk_command_key": (_TextAnswer, [ctypes.POINTER(_KeyCall)] + _OUT),
     "zigrunk_remap": (_ListAnswer, [ctypes.POINTER(_Text), ctypes.c_size_t] * 2 + _RANGES + _OUT),
+    "zigrunk_schedule_begin": (_ScheduleAnswer, _SCHEDULE),
+    "zigrunk_schedule_next": (_ScheduleAnswer, _SCHEDULE),
+    "zigrunk_schedule_started": (_ScheduleAnswer, _SCHEDULE + [ctypes.c_size_t]),
+    "zigrunk_schedule_ended": (_ScheduleAnswer, _SCHEDULE + [ctypes.c_size_t, ctypes.c_uint32]),
+    "zigrunk_schedule_progress": (_ProgressAnswer, _SCHEDULE),
+    "zigrunk_schedule_told": (_ToldAnswer, _SCHEDULE + [ctypes.c_size_t] * 2),
 }
 
 
@@ -839,3 +933,119 @@ def remap(words: Sequence[str], suffixes: Sequence[str] = ()) -> List[str]:
     Raises `ZigrunkError` if the suffixes, behind the standard ones, break a rule.
     """
     return _ask_list(_library.zigrunk_remap, *_array(words), *_array(suffixes))
+
+
+@dataclass(frozen=True)
+class Told:
+    """Which outputs may be printed, in this order, and how the plan has come out."""
+
+    commands: range
+    status: Union[PlanStatus, int]
+
+
+_USUAL_WEIGHTS: Dict[Union[CommandTool, int, None], int] = {CommandTool.CUDAFE: 41, CommandTool.CICC: 33, CommandTool.PTXAS: 2}
+
+
+def _usual_weight(command: Command) -> int:
+    """How long such a command takes for a small source, in hundredths of a second of processor time."""
+    if command.tool == CommandTool.HOST:
+        return 11 if "-E" in command.arguments else 38
+    return _USUAL_WEIGHTS.get(command.tool, 1)
+
+
+def _chain_weights(needs: Sequence[Sequence[int]], weights: Sequence[int]) -> List[int]:
+    """Each command's weight, and the greatest one of those that need it: the longest that anything waits for it."""
+    chains = [0] * len(needs)
+    for number in reversed(range(len(needs))):
+        chains[number] += weights[number]
+        for need in needs[number]:
+            chains[need] = max(chains[need], chains[number])
+    return chains
+
+
+class Schedule:
+    """Which command of a plan, or of several, may start next, and what has become of each. It starts nothing: you say what happened.
+
+    `needs` has the numbers of the commands that each one needs, all smaller than its own. At most `slots` run at once. Of those that may
+    start, the one with the greatest priority is next. `of_plans` makes one of plans, one behind the other.
+
+    A call that makes no sense raises `ScheduleError`. Two threads may not call one schedule at the same time.
+    """
+
+    def __init__(self, needs: Sequence[Sequence[int]], slots: int, after_failure: AfterFailure = AfterFailure.START_EARLIER,
+                 priorities: Optional[Sequence[int]] = None) -> None:
+        if priorities is not None and len(priorities) != len(needs):
+            raise ValueError(f"{len(priorities)} priorities of {len(needs)} commands")
+        rows = [(ctypes.c_size_t * max(len(row), 1))(*row) for row in needs]
+        commands = (_ScheduledCommand * max(len(needs), 1))(*[
+            _ScheduledCommand(numbers, len(row), 0, priority) for numbers, row, priority in zip(rows, needs, priorities or [0] * len(needs))])
+        self._count = len(needs)
+        self._states = (ctypes.c_uint8 * max(self._count, 1))()
+        self._record = _Schedule(commands, self._count, slots, int(after_failure), 0)
+        self._note(self._ask(_library.zigrunk_schedule_begin))
+
+    @classmethod
+    def of_plans(cls, plans: Iterable[Plan], slots: int, after_failure: AfterFailure = AfterFailure.START_EARLIER) -> Schedule:
+        """A schedule of the commands of plans, the numbers of each behind those of the plans before it. Of the commands that may start, the one
+        is next for which others wait longest, by how long such commands usually take."""
+        needs: List[List[int]] = []
+        weights: List[int] = []
+        for it in plans:
+            first = len(needs)
+            needs += [[first + need for need in command.needs] for command in it.commands]
+            weights += map(_usual_weight, it.commands)
+        return cls(needs, slots, after_failure, _chain_weights(needs, weights))
+
+    def _ask(self, call: Callable[..., Any], *arguments: int) -> Any:
+        return call(ctypes.byref(self._record), self._states, self._count, *arguments)
+
+    @staticmethod
+    def _note(answer: _ScheduleAnswer) -> None:
+        if answer.status != Status.OK:
+            raise ScheduleError(answer.status, _known(Refused, answer.reason), answer.command)
+
+    def __len__(self) -> int:
+        return self._count
+
+    def state(self, command: int) -> CommandState:
+        """What has become of a command."""
+        if not 0 <= command < self._count:
+            raise IndexError(command)
+        return CommandState(self._states[command])
+
+    @property
+    def running(self) -> int:
+        """How many commands run."""
+        return int(self._ask(_library.zigrunk_schedule_progress).running)
+
+    @property
+    def over(self) -> bool:
+        """Whether nothing runs and nothing may start."""
+        return bool(self._ask(_library.zigrunk_schedule_progress).over)
+
+    def next(self) -> Optional[int]:
+        """The command that may start next, or None."""
+        command = self._ask(_library.zigrunk_schedule_next).command
+        return command if command < self._count else None
+
+    def started(self, command: int) -> None:
+        """Notes that a command has started."""
+        self._note(self._ask(_library.zigrunk_schedule_started, command))
+
+    def ended(self, command: int, outcome: CommandState) -> None:
+        """Notes that a command has ended: SUCCEEDED, FAILED or CANCELLED."""
+        self._note(self._ask(_library.zigrunk_schedule_ended, command, int(outcome)))
+
+    def start_ready(self) -> Iterator[int]:
+        """All that may start now, one after the other, each noted as started when the iterator gives it."""
+        command = self.next()
+        while command is not None:
+            self.started(command)
+            yield command
+            command = self.next()
+
+    def told(self, first: int, end: int) -> Told:
+        """Which outputs of the commands with these numbers, of one plan or of what hasn't been printed of it, may be printed now: those up to the
+        first that hasn't succeeded, and its own if it failed."""
+        answer = self._ask(_library.zigrunk_schedule_told, first, end)
+        return Told(range(first, answer.end), _known(PlanStatus, answer.plan))

@@ -19,7 +19,8 @@
 //!
 //! [`NvccCall::plan`] runs nvcc's dry runs on this machine, and [`find_programs`] looks on its disk for the programs that they name. Nothing
 //! else here starts a process or reads a file: [`plan()`] plans dry runs that you have, with programs that you know, for any machine.
-//! [`plan_text`] writes the same plan as JSON, as a Ninja file, as a shell script or for people.
+//! [`plan_text`] writes the same plan as JSON, as a Ninja file, as a shell script or for people. A [`schedule`] says in which order to run
+//! the commands.
 //!
 //! Calls share no state, so any number of threads may call. The same input always gives the same answer, unless an allocation fails.
 //!
@@ -45,6 +46,7 @@ mod needs;
 mod nvcc;
 mod plan;
 mod programs;
+pub mod schedule;
 mod texts;
 mod tools;
 mod variable;

@@ -2,8 +2,9 @@
 use Rattle.std.specs.Prelude.{ℕ, List, [], ◌∷◌, ◌++◌, ◌==◌, if◌then◌else◌, Option, Some, Result, Ok, Err, codes, option_and_then}
 use Rattle.nvcc_calls.specs.declared.answer.Answer.{Answer}
 use Rattle.nvcc_calls.specs.declared.answer.Answer.TheVariants.{Split, Pass}
-use Rattle.nvcc_calls.specs.declared.outline.Outline.{Outline}
+use Rattle.nvcc_calls.specs.declared.outline_texts.OutlineTexts.{OutlineTexts}
 use Rattle.nvcc_calls.specs.Answer.{nvcc_answer}
+use Rattle.nvcc_calls.specs.OutlineTexts.{texts_of}
 use Rattle.texts.specs.declared.fault.Fault.{Fault}
 use Rattle.c_texts.specs.declared.memory.InputText.{InputText}
 use Rattle.c_lines.specs.declared.nvcc_outline.NvccLineCall.{NvccLineCall}
@@ -29,9 +30,9 @@ tools_of tmp nvcc =
 abbrev pub tools_seen : HeldTools → Tools
 tools_seen tools = record { tmp = tools.tmp.now; nvcc = tools.nvcc.now }
 
--- the six texts of an outline
-abbrev pub texts_of : Outline → List (List ℕ)
-texts_of o = o.dependencies ∷ o.first ∷ o.second ∷ o.flag ∷ o.jobs ∷ o.keep_dir ∷ []
+-- the six texts, as a list
+abbrev pub list_of : OutlineTexts → List (List ℕ)
+list_of t = t.dependencies ∷ t.first ∷ t.second ∷ t.flag ∷ t.jobs ∷ t.keep_dir ∷ []
 
 -- the refusal of a line that goes to nvcc, and why
 abbrev pub passed : List ℕ → Outcome
@@ -39,7 +40,7 @@ passed why = refused_with ToNvcc (codes "goes to nvcc: " ++ why)
 
 -- the outcome of an answer
 abbrev pub outcome_of : Answer → Outcome
-outcome_of (Split outline) = of_texts (texts_of outline)
+outcome_of (Split outline) = of_texts (list_of (texts_of outline))
 outcome_of (Pass why) = passed why
 
 -- the outcome of an answer, or of a fault

@@ -34,10 +34,15 @@ pub struct LineRecord {
     pub color_mode: u32,
     /// 1 if the input comes after `--`, else 0.
     pub double_dash_input: u32,
+    /// 0: a field of sccache's that no reader of these tools sets.
     pub msvc_explicit_language: u32,
+    /// 0: a field of sccache's that no reader of these tools sets.
     pub msvc_show_includes: u32,
+    /// 0: a field of sccache's that no reader of these tools sets.
     pub profile_generate: u32,
+    /// 0: a field of sccache's that no reader of these tools sets.
     pub suppress_rewrite_includes_only: u32,
+    /// 0: a field of sccache's that no reader of these tools sets.
     pub uses_external_assembler: u32,
 }
 

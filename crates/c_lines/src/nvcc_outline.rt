@@ -4,6 +4,7 @@ ghost use Rattle.std.specs.Prelude.{◌≡◌, Err, IfOk, OnOk, Result, option_m
 ghost use Rattle.texts.specs.declared.fault.Fault.{Fault};
 ghost use Rattle.texts.specs.Fault.{UnlessMemory};
 ghost use Rattle.nvcc_calls.specs.declared.answer.Answer.{Answer};
+ghost use Rattle.nvcc_calls.specs.OutlineTexts.{texts_of};
 ghost use Rattle.c_lines.specs.LineCalls.{line_seen};
 ghost use Rattle.c_texts.specs.Outcomes.{GivesList, of_texts, with_texts};
 ghost use Rattle.c_lines.specs.NvccOutline as spec;
@@ -13,7 +14,7 @@ use c_texts::{
     InputText, ListAnswer, Outcome, Range, Status, Variable, failed, give_list, refused,
     refused_with, text_of,
 };
-use nvcc_calls::{Answer, Outline, read_call};
+use nvcc_calls::{Answer, Outline, OutlineTexts, read_call, texts_of};
 use program_calls::NvccCall;
 use std::alloc::{AllocError, Global};
 use texts::fault::Fault;
@@ -54,23 +55,23 @@ fn tools_of<'a>(tmp: &InputText<'a>, nvcc: &InputText<'a>) -> Option<Tools<'a>>
 }
 
 // Adds the texts of what an nvcc line says.
-fn push_texts(texts: &mut Outcome, outline: &Outline) -> Result<(), AllocError>
-    ensures { OnOk result (texts.new ≡ with_texts texts.old (spec.texts_of outline.now)) }
+fn push_texts(outcome: &mut Outcome, texts: &OutlineTexts) -> Result<(), AllocError>
+    ensures { OnOk result (outcome.new ≡ with_texts outcome.old (spec.list_of texts.now)) }
 {
-    texts.push(outline.dependencies.as_str())?;
-    texts.push(outline.first.as_str())?;
-    texts.push(outline.second.as_str())?;
-    texts.push(outline.flag.as_str())?;
-    texts.push(outline.jobs.as_str())?;
-    texts.push(outline.keep_dir.as_str())
+    outcome.push(texts.dependencies.as_str())?;
+    outcome.push(texts.first.as_str())?;
+    outcome.push(texts.second.as_str())?;
+    outcome.push(texts.flag.as_str())?;
+    outcome.push(texts.jobs.as_str())?;
+    outcome.push(texts.keep_dir.as_str())
 }
 
-// What an nvcc line says, as a list.
-fn listed(alloc: Global, outline: &Outline) -> Result<Outcome, AllocError>
-    ensures { IfOk result (λ outcome. outcome ≡ of_texts (spec.texts_of outline.now)) }
+// The texts of what an nvcc line says, as a list.
+fn listed_texts(alloc: Global, texts: &OutlineTexts) -> Result<Outcome, AllocError>
+    ensures { IfOk result (λ outcome. outcome ≡ of_texts (spec.list_of texts.now)) }
 {
     let mut outcome = Outcome::new(alloc);
-    match push_texts(&mut outcome, outline) {
+    match push_texts(&mut outcome, texts) {
         Ok(()) => Ok(outcome),
         Err(fault) => {
             // Dropped by a call: see "Explicit drops" in docs/ARCHITECTURE.md.
@@ -78,6 +79,17 @@ fn listed(alloc: Global, outline: &Outline) -> Result<Outcome, AllocError>
             Err(fault)
         }
     }
+}
+
+// What an nvcc line says, as a list.
+fn listed(alloc: Global, outline: &Outline) -> Result<Outcome, AllocError>
+    ensures { IfOk result (λ outcome. outcome ≡ of_texts (spec.list_of (texts_of outline.now))) }
+{
+    let texts = texts_of(alloc, outline)?;
+    let outcome = listed_texts(alloc, &texts);
+    // Dropped by a call: see "Explicit drops" in docs/ARCHITECTURE.md.
+    drop(texts);
+    outcome
 }
 
 // The refusal of a line that goes to nvcc.
@@ -173,7 +185,7 @@ pub fn nvcc_outcome(alloc: Global, call: &NvccLineCall<'_>) -> Result<Outcome, A
     }
 }
 
-/// Reads a line of nvcc as `nvcc_calls::read_call`, and lists the texts of its `Outline`: the command that writes the
+/// Reads a line of nvcc as `nvcc_calls::read_call`, and lists the texts of its outline: the command that writes the
 /// dependency file, the first dry run, the second, the compilation flag, the number of jobs and the directory that keeps
 /// generated files.
 ///

@@ -20,8 +20,11 @@ use texts::words::Words;
 /// A status and texts, and the records that say what the texts are.
 #[derive(Drop)]
 pub struct RecordedLine {
+    /// The status, and the texts that the records name by their numbers.
     pub outcome: Outcome,
+    /// What the line says.
     pub line: LineRecord,
+    /// The line's outputs, in the order of their keys.
     pub outputs: Vec<OutputRecord>,
 }
 

@@ -15,6 +15,7 @@ use std::alloc::{AllocError, Global};
 pub struct OddField {
     /// The field's number, as `c_steps` has it in a place.
     pub field: u32,
+    /// What is wrong with it, in words for people.
     pub why: &'static str,
 }
 

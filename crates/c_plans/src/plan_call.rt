@@ -17,7 +17,9 @@ use texts::words::Words;
 #[repr(C)]
 #[derive(Clone, Copy, Debug)]
 pub struct FoundProgram<'a> {
+    /// The program's name, as a command of a dry run has it.
     pub program: InputText<'a>,
+    /// The value of `PATH` that the program is looked up in.
     pub path: InputText<'a>,
     /// The program's path, if `is_found` is 1.
     pub found: InputText<'a>,
@@ -88,9 +90,13 @@ pub fn has_numbers(call: &PlanCall<'_>) -> bool
 /// The texts of a call but those of its tables.
 #[derive(Clone, Copy)]
 pub struct Texts<'a> {
+    /// The directory that nvcc is called in.
     pub cwd: &'a str,
+    /// The directory for generated files.
     pub tmp: &'a str,
+    /// The option that says what nvcc makes, as `-c`.
     pub flag: &'a str,
+    /// The directory that keeps generated files, if the call keeps them.
     pub keep_dir: &'a str,
 }
 
@@ -177,8 +183,11 @@ fn entries_of(
 /// Copies of the tables of a call.
 #[derive(Drop)]
 pub struct Tables {
+    /// Suffixes of generated files, behind the standard ones.
     pub suffixes: Words,
+    /// The call's environment.
     pub variables: Variables,
+    /// What the look-ups of programs find.
     pub found: Snapshot,
 }
 

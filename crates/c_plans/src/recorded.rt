@@ -17,8 +17,11 @@ use std::marker::Model;
 /// A status and texts, and the records that say what the texts are.
 #[derive(Drop)]
 pub struct Recorded {
+    /// The status, and the texts that the records name by their numbers.
     pub outcome: Outcome,
+    /// The groups, in the plan's order.
     pub groups: Vec<GroupRecord>,
+    /// The commands, in the plan's order, and then those that were dropped.
     pub commands: Vec<CommandRecord>,
 }
 

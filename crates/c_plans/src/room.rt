@@ -10,7 +10,9 @@ use plans::{Dropped, NvccGeneratedSubcommand, Plan};
 /// How many texts there are, and the bytes of all. A sum that no number can hold is the largest number.
 #[derive(Clone, Copy)]
 pub struct Room {
+    /// The number of texts.
     pub texts: usize,
+    /// The bytes of all texts.
     pub bytes: usize,
 }
 

@@ -20,9 +20,13 @@ use std::marker::Model;
 /// The place of a refusal, a plan's records, and what else there is to know of its commands.
 #[derive(Drop)]
 pub struct Stepped {
+    /// Where the call or a dry run is at fault, if it is refused.
     pub place: PlaceRecord,
+    /// The status, the texts, and the plan's groups and commands.
     pub recorded: Recorded,
+    /// What each command that runs reads, writes and needs, in the plan's order.
     pub steps: Vec<StepRecord>,
+    /// The numbers that the steps name: of texts and of commands.
     pub numbers: Vec<usize>,
 }
 

@@ -11,6 +11,7 @@ use texts::words::Words;
 #[repr(C)]
 #[derive(Clone, Copy, Debug)]
 pub struct InputText<'a> {
+    /// The text's bytes.
     pub bytes: &'a [u8],
 }
 
@@ -18,7 +19,9 @@ pub struct InputText<'a> {
 #[repr(C)]
 #[derive(Clone, Copy, Debug)]
 pub struct Range {
+    /// The number of the first one, from 0.
     pub offset: usize,
+    /// How many there are.
     pub length: usize,
 }
 

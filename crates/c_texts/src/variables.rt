@@ -12,7 +12,9 @@ use texts::variables::Variables;
 #[repr(C)]
 #[derive(Clone, Copy, Debug)]
 pub struct Variable<'a> {
+    /// The name, without `=`.
     pub name: InputText<'a>,
+    /// The value.
     pub value: InputText<'a>,
 }
 

@@ -81,7 +81,7 @@ fn in_order(
 /// The planned commands of two runs: nvcc's own tools of the first run, and all other programs of the
 /// second, in order of line and run.
 ///
-/// The commands of one run have rising lines, so no two merged commands share line and run.
+/// The commands of each run have to have rising lines, so no two merged commands share line and run.
 pub fn merge(
     alloc: Global,
     first: Commands,

@@ -9,10 +9,15 @@ use std::alloc::{AllocError, Global};
 /// The kinds of tools that a command runs.
 #[derive(Clone, Copy, Debug)]
 pub enum KeyTool {
+    /// cicc, which makes PTX.
     Cicc,
+    /// ptxas, which makes a cubin.
     Ptxas,
+    /// cudafe++, which makes host code.
     CudaFe,
+    /// fatbinary, which joins what the device tools make.
     Fatbinary,
+    /// nvlink, which links device code.
     Nvlink,
     /// A host compiler: gcc, or clang.
     Host,

@@ -13,8 +13,11 @@ use texts::words::Words;
 /// Whether a compiler colours its messages.
 #[derive(Clone, Copy, Debug, PartialEq)]
 pub enum ColorMode {
+    /// Never.
     Off,
+    /// Always.
     On,
+    /// The compiler decides.
     Auto,
 }
 
@@ -48,11 +51,17 @@ pub struct ParsedArguments {
     pub extra_dist_files: Words,
     /// Paths of files whose contents are part of a cache key.
     pub extra_hash_files: Words,
+    /// False: a field of sccache's that no reader of these tools sets.
     pub uses_external_assembler: bool,
+    /// False: a field of sccache's that no reader of these tools sets.
     pub msvc_show_includes: bool,
+    /// False: a field of sccache's that no reader of these tools sets.
     pub msvc_explicit_language: bool,
+    /// False: a field of sccache's that no reader of these tools sets.
     pub profile_generate: bool,
+    /// Whether messages have colours.
     pub color_mode: ColorMode,
+    /// False: a field of sccache's that no reader of these tools sets.
     pub suppress_rewrite_includes_only: bool,
     /// The option that keeps a cache from looking at the preprocessor's input.
     pub too_hard_for_preprocessor_cache_mode: Option<Text>,
@@ -62,8 +71,11 @@ pub struct ParsedArguments {
 /// the line is no compilation.
 #[derive(Debug, PartialEq, Drop)]
 pub enum CompilerArguments<T> {
+    /// The arguments.
     Ok(T),
+    /// No cache can serve the line: the reason, and a word about it.
     CannotCache(&'static str, Option<Text>),
+    /// The line compiles nothing.
     NotCompilation,
 }
 

@@ -12,7 +12,9 @@ use texts::words::Words;
 /// Whether a command's outputs may come from a cache.
 #[derive(Clone, Copy, Debug, PartialEq)]
 pub enum Cacheable {
+    /// They may.
     Yes,
+    /// The command has to run.
     No,
 }
 

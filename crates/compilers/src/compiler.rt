@@ -14,18 +14,26 @@ use texts::text::Text;
 /// The tools whose command lines can be read.
 #[derive(Clone, Copy, Debug, PartialEq)]
 pub enum CCompilerKind {
+    /// cicc, which makes PTX of preprocessed device code.
     Cicc,
+    /// cudafe++, which makes host code of preprocessed CUDA code.
     CudaFE,
+    /// ptxas, which makes a cubin of PTX.
     Ptxas,
+    /// nvcc, which calls the others.
     Nvcc,
+    /// nvc, nvc++ or nvfortran, the compilers of the NVIDIA HPC SDK.
     Nvhpc,
 }
 
 /// The compiler that nvcc compiles host code with.
 #[derive(Clone, Copy, Debug, PartialEq)]
 pub enum NvccHostCompiler {
+    /// gcc, or clang, which takes the same words.
     Gcc,
+    /// cl.exe.
     Msvc,
+    /// nvc++.
     Nvhpc,
 }
 
@@ -33,7 +41,9 @@ pub enum NvccHostCompiler {
 /// symbolic links resolved.
 #[derive(Debug, PartialEq, Drop)]
 pub struct Places {
+    /// The path of the folder for temporary files.
     pub temp_dir: Text,
+    /// The input's path, with symbolic links resolved.
     pub canonical_input: Text,
 }
 

@@ -10,7 +10,9 @@ use texts::text::Text;
 /// One file that a command makes: its path, and whether the command may leave it out.
 #[derive(Debug, PartialEq, Drop)]
 pub struct ArtifactDescriptor {
+    /// The path, as the line gives it.
     pub path: Text,
+    /// Whether the command may leave the file out.
     pub optional: bool,
 }
 

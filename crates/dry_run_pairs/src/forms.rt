@@ -79,9 +79,10 @@ fn without_blanks(line: &[u8]) -> &[u8]
     ensures { result.now ≡ spec.without_blanks line.now }
 {
     let mut rest = line;
-    while let Some((last, front)) = rest.split_last()
-        && *last == b' '
-    {
+    while let Some((last, front)) = rest.split_last() {
+        if *last != b' ' {
+            break;
+        }
         rest = front;
     }
     rest

@@ -15,7 +15,12 @@ pub enum LimitedFault {
     Fault(Fault),
     /// A line exceeds the limit. The run is 1 or 2, the first or the second dry run, and its lines are numbered from 0,
     /// as in a `Fault`. A message that people read should add 1.
-    TooLong { run: usize, line: usize },
+    TooLong {
+        /// The dry run.
+        run: usize,
+        /// The line's number.
+        line: usize,
+    },
 }
 
 impl fmt::Display for LimitedFault {

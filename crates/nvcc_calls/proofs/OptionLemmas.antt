@@ -7,7 +7,6 @@ use Rattle.compilers.specs.declared.arguments.ParsedArguments.{ParsedArguments}
 use Rattle.compilers.specs.Compiler.{Reading}
 use Rattle.cuda_plans.specs.declared.nvcc.command.NvccCompileCommand.{NvccCompileCommand}
 use Rattle.cuda_plans.specs.Nvcc.{nvcc_reading}
-use Rattle.cuda_plans.specs.NvccCommand.{dry_runs}
 use Rattle.host_lines.specs.NvccEnvironment.{with_added_words}
 use Rattle.nvcc_words.specs.declared.asked.Asked.{Asked}
 use Rattle.nvcc_options.specs.declared.reason.Reason.{Reason}
@@ -26,20 +25,12 @@ use Rattle.nvcc_calls.specs.Answer.{split_by, answer_by, answer_of, answer_to, u
 use Rattle.program_calls.specs.Calls.{NvccOf}
 use Rattle.nvcc_calls.specs.Hazards.{hazard_of}
 use Rattle.nvcc_calls.specs.Laws.{DryRunsSayAs, SplitLinesKeepOptions}
-use Rattle.nvcc_calls.specs.Outline.{command_text, outline_with}
 
 -- the outline of an answer
 abbrev outline_in : Result Answer Fault → Option Outline
 outline_in (Ok (Split outline)) = Some outline
 outline_in (Ok (Pass why)) = None
 outline_in (Err fault) = None
-
-abbrev HasDryRuns : Outline → NvccCompileCommand → Type 0
-HasDryRuns o command = (o.first ≡ command_text (dry_runs command).0) × (o.second ≡ command_text (dry_runs command).1)
-
-with-jobs : (command : NvccCompileCommand) (dependencies : List ℕ) (r : Result (List ℕ) Fault) (o : Outline) →
-    outline_in (and_then (and_then r (λ jobs. Ok (outline_with command dependencies jobs))) (λ made. Ok (Split made))) ≡ Some o → HasDryRuns o command
-with-jobs command dependencies r o e = grind (arith, false≢true)
 
 module _ (call : NvccOf) (variables files : List (List ℕ × List ℕ)) where
   abbrev asked : Asked

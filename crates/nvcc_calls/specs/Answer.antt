@@ -20,7 +20,8 @@ use Rattle.nvcc_calls.specs.declared.answer.Answer.{Answer}
 use Rattle.nvcc_calls.specs.declared.answer.Answer.TheVariants.{Split, Pass}
 use Rattle.program_calls.specs.Calls.{NvccOf}
 use Rattle.nvcc_calls.specs.Hazards.{hazard_of}
-use Rattle.nvcc_calls.specs.Outline.{command_of, outline_of, outline_text}
+use Rattle.nvcc_calls.specs.Outline.{command_of, outline_of}
+use Rattle.nvcc_calls.specs.OutlineTexts.{outline_text}
 
 -- the answer to arguments that are split, given their command
 abbrev pub split_by : NvccOf → List (List ℕ × List ℕ) → ParsedArguments → NvccCompileCommand → Result Answer Fault

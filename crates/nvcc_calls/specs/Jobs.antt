@@ -1,4 +1,4 @@
--- How many commands Ninja runs at once.
+-- How many commands run at once.
 use Rattle.std.specs.Prelude.{◌≡◌, ℕ, List, [], ◌∷◌, length, Bool, true, false, ◌||◌, ◌==◌, if◌then◌else◌, Option, Some, None, codes, refl, option_and_then}
 use Rattle.texts.specs.Numeral.{numeral}
 use Rattle.texts.specs.Variables.{first_value}
@@ -10,7 +10,7 @@ abbrev pub has_jobserver : Option (List ℕ) → Bool
 has_jobserver None = false
 has_jobserver (Some flags) = holds (codes "--jobserver-auth=") flags || holds (codes "--jobserver-fds=") flags
 
--- the number of jobs, or 0 for Ninja's own choice, given the number in `ZIGRUNK_JOBS`, whether make hands out jobs, and the
+-- the number of jobs, or 0 if nobody says, given the number in `ZIGRUNK_JOBS`, whether make hands out jobs, and the
 -- line's number of threads. Under a make that hands out jobs, the call is one of them
 abbrev pub jobs_with : Option ℕ → Bool → ℕ → ℕ
 jobs_with (Some number) shares threads = number

@@ -10,12 +10,11 @@ use Rattle.nvcc_calls.specs.declared.answer.Answer.TheVariants.{Split}
 use Rattle.nvcc_calls.specs.declared.outline.Outline.{Outline}
 use Rattle.nvcc_calls.specs.Answer.{nvcc_answer}
 use Rattle.program_calls.specs.Calls.{NvccOf}
-use Rattle.nvcc_calls.specs.Outline.{command_text}
 
 -- both dry runs of an outline are those of a command whose words say what a line that asks for `a` does
 pub record DryRunsSayAs (a : Asked) (outline : Outline) (command : NvccCompileCommand) : Type 0 where
-  pub first : outline.first ≡ command_text (dry_runs command).0
-  pub second : outline.second ≡ command_text (dry_runs command).1
+  pub first : outline.first ≡ (dry_runs command).0
+  pub second : outline.second ≡ (dry_runs command).1
   pub words : SaysAs a (asked_of [] command.arguments)
 
 -- the options of a split line, with the words of its variables and options files, are those of its dry runs, as nvcc reads both

@@ -4,3 +4,4 @@ pub mod Hazards
 pub mod Jobs
 pub mod Laws
 pub mod Outline
+pub mod OutlineTexts

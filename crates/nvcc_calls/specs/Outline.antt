@@ -1,12 +1,11 @@
 -- What the arguments of an nvcc line say: the commands that a plan of the line begins with.
-use Rattle.std.specs.Prelude.{◌≡◌, ℕ, List, [], ◌∷◌, ◌++◌, length, ◌==◌, Bool, ◌||◌, if◌then◌else◌, unwrap_or, Result, Ok, codes, refl, bytes_eq}
+use Rattle.std.specs.Prelude.{◌≡◌, ℕ, List, [], ◌∷◌, length, ◌==◌, Bool, ◌||◌, if◌then◌else◌, Option, Some, None, Result, Ok, codes, refl, bytes_eq}
 use Rattle.std.specs.List.{list_any}
 use Rattle.texts.specs.declared.fault.Fault.{Fault}
 use Rattle.texts.specs.declared.language.Language.TheVariants.{Cuda}
 use Rattle.texts.specs.Path.{joined}
 use Rattle.texts.specs.Results.{and_then}
 use Rattle.texts.specs.Rows.{spaced}
-use Rattle.shell_words.specs.Shell.Quoting.{written}
 use Rattle.compilers.specs.declared.arguments.ParsedArguments.{ParsedArguments}
 use Rattle.compilers.specs.declared.command.SingleCompileCommand.{SingleCompileCommand}
 use Rattle.compilers.specs.declared.compiler.NvccHostCompiler.TheVariants.{Gcc}
@@ -18,15 +17,7 @@ use Rattle.host_lines.specs.KeepThreads.{keep_of, threads_of}
 use Rattle.host_lines.specs.Preprocess.{nvcc_preprocess}
 use Rattle.nvcc_calls.specs.declared.outline.Outline.{Outline}
 use Rattle.program_calls.specs.Calls.{NvccOf}
-use Rattle.nvcc_calls.specs.Jobs.{jobs_of, jobs_text, threads_asked}
-
--- how a command's text begins: nvcc's words hold those of both variables already
-abbrev pub unsetting : List ℕ
-unsetting = codes "( unset NVCC_PREPEND_FLAGS NVCC_APPEND_FLAGS; cd "
-
--- a command's text. It runs in a shell of its own, in its directory
-abbrev pub command_text : SingleCompileCommand → List ℕ
-command_text c = unsetting ++ (written (c.cwd ∷ []) ++ (codes " && " ++ (written (c.executable ∷ c.arguments) ++ codes " )")))
+use Rattle.nvcc_calls.specs.Jobs.{jobs_of, threads_asked}
 
 -- whether a word asks nvcc to put the source's lines into device code
 abbrev pub is_lines_word : List ℕ → Bool
@@ -45,16 +36,15 @@ input_of cwd p = if asks_lines p.common_args then joined cwd p.input else p.inpu
 abbrev pub places_of : NvccOf → ParsedArguments → Places
 places_of call p = record { temp_dir = call.tmp; canonical_input = input_of call.cwd p }
 
--- the text of the first command, if there is one
-abbrev pub first_text : List SingleCompileCommand → List ℕ
-first_text [] = []
-first_text (c ∷ cs) = command_text c
+abbrev pub first_command : List SingleCompileCommand → Option SingleCompileCommand
+first_command [] = None
+first_command (c ∷ cs) = Some c
 
--- the text of the command that writes the dependency file, or empty if the line doesn't ask for one
-abbrev pub dependencies_of : NvccOf → ParsedArguments → List (List ℕ × List ℕ) → Result (List ℕ) Fault
+-- the command that writes the dependency file, if the line asks for one
+abbrev pub dependencies_of : NvccOf → ParsedArguments → List (List ℕ × List ℕ) → Result (Option SingleCompileCommand) Fault
 dependencies_of call p variables =
-    if length p.dependency_args == 0 then Ok [] else
-    and_then (nvcc_preprocess Gcc call.nvcc p call.cwd variables) (λ commands. Ok (first_text commands))
+    if length p.dependency_args == 0 then Ok None else
+    and_then (nvcc_preprocess Gcc call.nvcc p call.cwd variables) (λ commands. Ok (first_command commands))
 
 -- the number of threads that a line asks for, or 0 if it has no thread words
 abbrev pub threads_of_line : List ℕ → ParsedArguments → Result ℕ Fault
@@ -63,19 +53,19 @@ threads_of_line cwd p =
     and_then (threads_of kept.0) (λ taken.
     Ok (threads_asked kept.0 taken)))
 
--- the number for Ninja's `-j`, or empty for Ninja's own choice
-abbrev pub jobs_of_line : NvccOf → ParsedArguments → List (List ℕ × List ℕ) → Result (List ℕ) Fault
-jobs_of_line call p variables = and_then (threads_of_line call.cwd p) (λ threads. Ok (jobs_text (jobs_of variables threads)))
+-- how many commands run at once, or 0 if nobody says
+abbrev pub jobs_of_line : NvccOf → ParsedArguments → List (List ℕ × List ℕ) → Result ℕ Fault
+jobs_of_line call p variables = and_then (threads_of_line call.cwd p) (λ threads. Ok (jobs_of variables threads))
 
 -- what a line says, given its command, the dependency command and the number of jobs
-abbrev pub outline_with : NvccCompileCommand → List ℕ → List ℕ → Outline
+abbrev pub outline_with : NvccCompileCommand → Option SingleCompileCommand → ℕ → Outline
 outline_with c dependencies jobs = record {
   dependencies = dependencies;
-  first = command_text (dry_runs c).0;
-  second = command_text (dry_runs c).1;
+  first = (dry_runs c).0;
+  second = (dry_runs c).1;
   flag = c.compilation_flag;
   jobs = jobs;
-  keep_dir = unwrap_or c.keep_dir [];
+  keep_dir = c.keep_dir;
 }
 
 -- the nvcc command of a line's arguments
@@ -89,20 +79,6 @@ outline_of call p variables command =
     and_then (dependencies_of call p variables) (λ dependencies.
     and_then (jobs_of_line call p variables) (λ jobs.
     Ok (outline_with command dependencies jobs)))
-
--- the line that gives a variable a value
-abbrev pub assignment : List ℕ → List ℕ → List ℕ
-assignment name value = name ++ (61 ∷ (written (value ∷ []) ++ 10 ∷ []))
-
--- the text for a shell's `eval`
-abbrev pub outline_text : Outline → List ℕ
-outline_text o =
-    assignment (codes "dependencies") o.dependencies ++
-    (assignment (codes "first_dry_run") o.first ++
-    (assignment (codes "second_dry_run") o.second ++
-    (assignment (codes "flag") o.flag ++
-    (assignment (codes "jobs") o.jobs ++
-    assignment (codes "keep_dir") o.keep_dir))))
 
 -- a worked example
 pub input_of_lines : input_of (codes "/w") (record (plain_arguments (codes "k.cu") Cuda []) { common_args = spaced "-lineinfo -c" }) ≡ codes "/w/k.cu"

@@ -2,7 +2,7 @@
 
 ghost use Rattle.std.specs.Prelude.{◌≡◌, ◌++◌, ◌∷◌, [], IfOk, OnOk, codes, string_bytes};
 ghost use Rattle.shell_words.specs.Shell.Quoting.{written};
-ghost use Rattle.nvcc_calls.specs.Outline as spec;
+ghost use Rattle.nvcc_calls.specs.OutlineTexts as spec;
 
 use compilers::command::SingleCompileCommand;
 use shell_words::push_quoted;

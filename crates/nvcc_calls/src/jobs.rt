@@ -1,4 +1,4 @@
-//! How many commands Ninja runs at once.
+//! How many commands run at once.
 
 ghost use Rattle.std.specs.Prelude.{◌≡◌, IfOk, codes, map, string_bytes, option_and_then, option_copied};
 ghost use Rattle.texts.specs.Variables.{pair_of};
@@ -36,8 +36,10 @@ fn number_given(variables: &[(String, String)]) -> Option<usize>
     number_in(first_value(variables, "ZIGRUNK_JOBS")?)
 }
 
-// The number of jobs, or 0 for Ninja's own choice.
-fn number_of_jobs(variables: &[(String, String)], threads: usize) -> usize
+/// How many commands run at once, or 0 if nobody says, given the line's number of `threads` or 0.
+///
+/// `ZIGRUNK_JOBS` decides if it is a number. Else, under a make that hands out jobs, one command runs at a time.
+pub fn number_of_jobs(variables: &[(String, String)], threads: usize) -> usize
     ensures { result ≡ spec.jobs_of (map pair_of variables.now) threads }
 {
     match number_given(variables) {
@@ -47,17 +49,10 @@ fn number_of_jobs(variables: &[(String, String)], threads: usize) -> usize
     }
 }
 
-/// The number for Ninja's `-j`, or empty for Ninja's own choice, given the line's number of `threads` or 0.
-///
-/// `ZIGRUNK_JOBS` decides if it is a number. Else, under a make that hands out jobs, one command runs at a time.
-pub fn jobs(
-    alloc: Global,
-    variables: &[(String, String)],
-    threads: usize,
-) -> Result<Text, AllocError>
-    ensures { IfOk result (λ text. text ≡ spec.jobs_text (spec.jobs_of (map pair_of variables.now) threads)) }
+/// The number as Ninja's `-j` takes it, or empty for 0, Ninja's own choice.
+pub fn jobs_text(alloc: Global, number: usize) -> Result<Text, AllocError>
+    ensures { IfOk result (λ text. text ≡ spec.jobs_text number) }
 {
-    let number = number_of_jobs(variables, threads);
     if number == 0 {
         return Ok(Text::new(String::new(alloc)));
     }

@@ -8,10 +8,12 @@ mod hazard;
 mod jobs;
 pub mod laws;
 mod outline;
+mod outline_texts;
 mod shell;
 
 pub use answer::{Answer, read_call};
 pub use directory::directory_name;
 pub use nvcc_words::file_names;
 pub use outline::Outline;
+pub use outline_texts::{OutlineTexts, texts_of};
 pub use shell::shell_text;

@@ -1,15 +1,12 @@
 //! What the arguments of an nvcc line say.
 
-ghost use Rattle.std.specs.Prelude.{◌≡◌, [], IfOk, Ok, map, string_bytes, unwrap_or};
+ghost use Rattle.std.specs.Prelude.{◌≡◌, IfOk, Ok, map, string_bytes};
 ghost use Rattle.texts.specs.Fault.{UnlessMemory};
 ghost use Rattle.texts.specs.Variables.{pair_of};
-ghost use Rattle.texts.specs.Results.{and_then};
-ghost use Rattle.cuda_plans.specs.NvccCommand.{dry_runs};
 ghost use Rattle.program_calls.specs.Calls.{nvcc_of};
 ghost use Rattle.nvcc_calls.specs.Outline as spec;
 
-use crate::command_text::command_text;
-use crate::jobs::{jobs, threads_asked};
+use crate::jobs::{number_of_jobs, threads_asked};
 use compilers::arguments::ParsedArguments;
 use compilers::command::SingleCompileCommand;
 use compilers::compiler::{CCompilerImpl, Places};
@@ -19,54 +16,52 @@ use std::alloc::{AllocError, Global};
 use texts::fault::Fault;
 use texts::text::{Text, join};
 
-/// What an nvcc line says. The commands are texts for a shell.
+/// What an nvcc line says: the commands to run before there is a plan, and how to run it.
+///
+/// The commands' words have those of `NVCC_PREPEND_FLAGS` and `NVCC_APPEND_FLAGS` in them, so they run without these variables.
 #[derive(Debug, Drop)]
 pub struct Outline {
-    /// The command that writes the dependency file, or empty if the line doesn't ask for one.
-    pub dependencies: Text,
+    /// The command that writes the dependency file, if the line asks for one.
+    pub dependencies: Option<SingleCompileCommand>,
     /// The first dry run.
-    pub first: Text,
+    pub first: SingleCompileCommand,
     /// The second dry run.
-    pub second: Text,
+    pub second: SingleCompileCommand,
     /// The compilation flag, as `-c`, or empty if the line has none.
     pub flag: Text,
-    /// How many commands run at once: the number for Ninja's `-j`, or empty for Ninja's own choice.
-    pub jobs: Text,
-    /// The directory that keeps the generated files, or empty if none does.
-    pub keep_dir: Text,
+    /// How many commands run at once, or 0 if neither the line nor the environment says.
+    pub jobs: usize,
+    /// The directory that keeps the generated files, if one does.
+    pub keep_dir: Option<Text>,
 }
 
-// No text.
-fn nothing(alloc: Global) -> Text
-    ensures { result ≡ [] }
-{
-    Text::new(String::new(alloc))
-}
-
-// The text of the first command, if there is one.
-fn first_text(alloc: Global, commands: &[SingleCompileCommand]) -> Result<Text, AllocError>
-    ensures { IfOk result (λ text. text ≡ spec.first_text commands.now) }
+// The first command, if there is one.
+fn first_command(
+    alloc: Global,
+    commands: &[SingleCompileCommand],
+) -> Result<Option<SingleCompileCommand>, AllocError>
+    ensures { IfOk result (λ command. command ≡ spec.first_command commands.now) }
 {
     match commands {
-        [] => Ok(nothing(alloc)),
-        [command, ..] => command_text(alloc, command),
+        [] => Ok(None),
+        [command, ..] => Ok(Some(command.try_clone(alloc)?)),
     }
 }
 
-// The text of the command that writes the dependency file.
+// The command that writes the dependency file.
 fn dependencies(
     alloc: Global,
     call: &NvccCall<'_>,
     parsed: &ParsedArguments,
     variables: &[(String, String)],
-) -> Result<Text, Fault>
+) -> Result<Option<SingleCompileCommand>, Fault>
     ensures { UnlessMemory result (spec.dependencies_of (nvcc_of call.now) parsed.now (map pair_of variables.now)) }
 {
     if parsed.dependency_args.is_empty() {
-        return Ok(nothing(alloc));
+        return Ok(None);
     }
     let commands = Nvcc::gcc().preprocess(alloc, call.nvcc, parsed, call.cwd, variables)?;
-    Ok(first_text(alloc, commands.as_slice())?)
+    Ok(first_command(alloc, commands.as_slice())?)
 }
 
 // The number of threads that a line asks for, or 0 if it has no thread words.
@@ -79,16 +74,16 @@ fn threads(alloc: Global, cwd: &str, parsed: &ParsedArguments) -> Result<usize, 
 }
 
 // The number of jobs that a line and the environment ask for.
-fn jobs_text(
+fn jobs(
     alloc: Global,
     call: &NvccCall<'_>,
     parsed: &ParsedArguments,
     variables: &[(String, String)],
-) -> Result<Text, Fault>
+) -> Result<usize, Fault>
     ensures { UnlessMemory result (spec.jobs_of_line (nvcc_of call.now) parsed.now (map pair_of variables.now)) }
 {
     let threads = threads(alloc, call.cwd, parsed)?;
-    Ok(jobs(alloc, variables, threads)?)
+    Ok(number_of_jobs(variables, threads))
 }
 
 // Whether a word asks for the source's lines in device code.
@@ -154,53 +149,37 @@ pub fn command(
     Ok(command)
 }
 
-// A directory's path, or empty if there is none.
-fn folder_text(alloc: Global, folder: &Option<Text>) -> Result<Text, AllocError>
-    ensures { IfOk result (λ text. text ≡ unwrap_or folder.now []) }
+// A copy of a directory's path, if there is one.
+fn folder(alloc: Global, folder: &Option<Text>) -> Result<Option<Text>, AllocError>
+    ensures { IfOk result (λ copy. copy ≡ folder.now) }
 {
     match folder {
-        None => Ok(nothing(alloc)),
-        Some(path) => path.try_clone(alloc),
+        None => Ok(None),
+        Some(path) => Ok(Some(path.try_clone(alloc)?)),
     }
 }
 
-// The texts of two commands.
-fn two_texts(
-    alloc: Global,
-    commands: &(SingleCompileCommand, SingleCompileCommand),
-) -> Result<(Text, Text), AllocError>
-    ensures { IfOk result (λ texts. texts ≡ (spec.command_text commands.now.0, spec.command_text commands.now.1)) }
-{
-    let first = command_text(alloc, &commands.0)?;
-    Ok((first, command_text(alloc, &commands.1)?))
-}
-
-// The texts of both dry runs.
-fn dry_run_texts(alloc: Global, command: &NvccCompileCommand) -> Result<(Text, Text), AllocError>
-    ensures { IfOk result (λ texts. texts ≡ (spec.command_text (dry_runs command.now).0, spec.command_text (dry_runs command.now).1)) }
-{
-    let commands = command.dryrun_commands(alloc)?;
-    two_texts(alloc, &commands)
-}
-
 // A command's compilation flag, and the directory that keeps generated files.
-fn flag_and_folder(alloc: Global, command: &NvccCompileCommand) -> Result<(Text, Text), AllocError>
-    ensures { IfOk result (λ texts. texts ≡ (command.now.compilation_flag, unwrap_or command.now.keep_dir [])) }
+fn flag_and_folder(
+    alloc: Global,
+    command: &NvccCompileCommand,
+) -> Result<(Text, Option<Text>), AllocError>
+    ensures { IfOk result (λ copies. copies ≡ (command.now.compilation_flag, command.now.keep_dir)) }
 {
     let flag = command.compilation_flag.try_clone(alloc)?;
-    Ok((flag, folder_text(alloc, &command.keep_dir)?))
+    Ok((flag, folder(alloc, &command.keep_dir)?))
 }
 
 // What a line says, given its command, dependency command and number of jobs.
 fn outline_with(
     alloc: Global,
     command: &NvccCompileCommand,
-    dependencies: Text,
-    jobs: Text,
+    dependencies: Option<SingleCompileCommand>,
+    jobs: usize,
 ) -> Result<Outline, AllocError>
     ensures { IfOk result (λ outline. outline ≡ spec.outline_with command.now dependencies jobs) }
 {
-    let (first, second) = dry_run_texts(alloc, command)?;
+    let (first, second) = command.dryrun_commands(alloc)?;
     let (flag, keep_dir) = flag_and_folder(alloc, command)?;
     Ok(Outline {
         dependencies,
@@ -223,6 +202,6 @@ pub fn outline_of(
     ensures { UnlessMemory result (spec.outline_of (nvcc_of call.now) parsed.now (map pair_of variables.now) command.now) }
 {
     let dependencies = dependencies(alloc, call, parsed, variables)?;
-    let jobs = jobs_text(alloc, call, parsed, variables)?;
+    let jobs = jobs(alloc, call, parsed, variables)?;
     Ok(outline_with(alloc, command, dependencies, jobs)?)
 }

@@ -1,9 +1,10 @@
 //! What an nvcc line says, as text for a shell's `eval`.
 
 ghost use Rattle.std.specs.Prelude.{◌≡◌, ◌++◌, IfOk, OnOk, string_bytes};
-ghost use Rattle.nvcc_calls.specs.Outline as spec;
+ghost use Rattle.nvcc_calls.specs.OutlineTexts as spec;
 
 use crate::outline::Outline;
+use crate::outline_texts::{OutlineTexts, texts_of};
 use shell_words::push_quoted;
 use std::alloc::{AllocError, Global};
 use texts::text::Text;
@@ -18,17 +19,25 @@ fn push_assignment(text: &mut String, name: &str, value: &Text) -> Result<(), Al
     text.push_str("\n")
 }
 
+// The lines that give variables these texts.
+fn assignments(alloc: Global, texts: &OutlineTexts) -> Result<String, AllocError>
+    ensures { IfOk result (λ text. string_bytes text ≡ spec.assignments texts.now) }
+{
+    let mut text = String::new(alloc);
+    push_assignment(&mut text, "dependencies", &texts.dependencies)?;
+    push_assignment(&mut text, "first_dry_run", &texts.first)?;
+    push_assignment(&mut text, "second_dry_run", &texts.second)?;
+    push_assignment(&mut text, "flag", &texts.flag)?;
+    push_assignment(&mut text, "jobs", &texts.jobs)?;
+    push_assignment(&mut text, "keep_dir", &texts.keep_dir)?;
+    Ok(text)
+}
+
 /// The text for a shell's `eval`: a line `NAME=VALUE` for each of `dependencies`, `first_dry_run`, `second_dry_run`, `flag`,
 /// `jobs` and `keep_dir`, in this order, with the value quoted.
 pub fn shell_text(alloc: Global, outline: &Outline) -> Result<String, AllocError>
     ensures { IfOk result (λ text. string_bytes text ≡ spec.outline_text outline.now) }
 {
-    let mut text = String::new(alloc);
-    push_assignment(&mut text, "dependencies", &outline.dependencies)?;
-    push_assignment(&mut text, "first_dry_run", &outline.first)?;
-    push_assignment(&mut text, "second_dry_run", &outline.second)?;
-    push_assignment(&mut text, "flag", &outline.flag)?;
-    push_assignment(&mut text, "jobs", &outline.jobs)?;
-    push_assignment(&mut text, "keep_dir", &outline.keep_dir)?;
-    Ok(text)
+    let texts = texts_of(alloc, outline)?;
+    assignments(alloc, &texts)
 }

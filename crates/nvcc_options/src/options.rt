@@ -233,6 +233,7 @@ const PASSES: [ArgInfo<Purpose>; 25] = entries![
 /// Several tables that are searched as one: of equally long matches the first wins.
 #[derive(Clone, Copy, Debug)]
 pub struct Tables<'a> {
+    /// The tables, in the order in which they are searched.
     pub parts: [Table<'a, Purpose>; 10],
 }
 

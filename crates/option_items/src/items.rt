@@ -39,7 +39,7 @@ impl<'a> Line<'a> {
         }
     }
 
-    /// The words but the one at `place`.
+    /// The words but the one at `place`, which has to be an index of `words`.
     pub fn without(words: &'a [String], place: usize) -> Line<'a>
         requires { place < length words.now }
         ensures { result ≡ remove (map string_bytes words.entry.now) place }

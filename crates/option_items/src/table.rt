@@ -38,7 +38,9 @@ pub const EITHER_WAY_OR_EQUALS: ArgDisposition = ArgDisposition::CanBeSeparated(
 /// An entry of an option table: the option's text, its kind, and how it takes a value, if it does.
 #[derive(Clone, Copy, Debug)]
 pub enum ArgInfo<T: Copy> {
+    /// An option without a value: its text and its kind.
     Flag(&'static str, T),
+    /// An option with a value: its text, its kind, and where the value stands.
     TakeArg(&'static str, T, ArgDisposition),
 }
 
@@ -201,6 +203,7 @@ pub trait SearchableArgInfo<T: Copy> {
 /// A table whose entries are in a slice. If two entries that match are equally long, the first wins.
 #[derive(Clone, Copy, Debug)]
 pub struct Table<'a, T: Copy> {
+    /// The entries, in any order.
     pub rows: &'a [ArgInfo<T>],
 }
 
@@ -270,7 +273,9 @@ impl<T: Copy, A: SearchableArgInfo<T>, B: SearchableArgInfo<T>> SearchableArgInf
 /// can take it.
 #[derive(Clone, Copy, Debug)]
 pub struct Pair<'a, T: Copy> {
+    /// The table that wins if both match equally long texts.
     pub first: Table<'a, T>,
+    /// The other table.
     pub second: Table<'a, T>,
 }
 

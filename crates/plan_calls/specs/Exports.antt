@@ -13,7 +13,6 @@ use Rattle.plan_scripts.specs.declared.refusal.Refusal.{Refusal}
 use Rattle.plan_formats.specs.Texts.{file_in}
 use Rattle.plan_json.specs.Json.{Described}
 use Rattle.plan_scripts.specs.Message.{message_of}
-use Rattle.plan_exports.specs.Scripts.{scripts_answer}
 use Rattle.programs.specs.declared.stop.Stop.{Stop}
 use Rattle.programs.specs.declared.stop.Stop.TheVariants as stops
 use Rattle.program_calls.specs.Calls.{PlanOf}
@@ -32,13 +31,9 @@ written (Err refusal) = Err (stops.Unwritable (message_of refusal))
 abbrev pub described : PlanOf → PlanWithOrigins → Described
 described call planned = record { cwd = call.cwd; tmp = call.tmp; flag = call.flag; planned = planned }
 
--- The plan of a call. Each command of a Ninja file becomes a script if there are words that run it, which `usage` allows for that format alone.
-abbrev pub plan_with : Option (List ℕ) → ExportOf → PlanWithOrigins → Result (List ℕ) Refusal
-plan_with None call planned = file_in call.format (described call.plan planned)
-plan_with (Some slot) call planned = scripts_answer call.plan.tmp slot call.dependencies planned.plan
-
+-- the plan of a call, in its format
 abbrev pub plan_in : ExportOf → PlanWithOrigins → Result (List ℕ) Stop
-plan_in call planned = written (plan_with call.slot call planned)
+plan_in call planned = written (file_in call.format (described call.plan planned))
 
 -- why a plan lacks commands, if it does: it has none, or it has to be whole and dropped one
 abbrev pub lacking : Bool → Plan → Option (List ℕ)

@@ -19,7 +19,6 @@ use command_groups::{CallToPlan, plan_of_parsed};
 use compilers::compiler::NvccHostCompiler;
 use directories::is_plain;
 use dry_runs::{ParsedRuns, Which, is_dry_run};
-use plan_exports::ninja_file_of_scripts;
 use plan_formats::plan_file;
 use plan_scripts::Refusal;
 use plans::{NvccGeneratedSubcommand, Plan, PlanWithOrigins};
@@ -53,22 +52,16 @@ fn written(alloc: Global, answer: Result<String, Refusal>) -> Result<String, Sto
     }
 }
 
-// The plan of a call: a Ninja file of scripts if the call has words that run them, else a file of its format.
+// The plan of a call, in its format.
 fn plan_in(alloc: Global, call: &ExportCall<'_>, planned: &PlanWithOrigins) -> Result<String, Stop>
     ensures { Answers (text_of result) (spec.plan_in (export_of call.now) planned.now) }
 {
     let setting = &call.plan;
     let (cwd, tmp, flag) = (setting.cwd, setting.tmp, setting.flag);
-    match call.slot {
-        Some(slot) => written(
-            alloc,
-            ninja_file_of_scripts(alloc, tmp, slot, call.dependencies, &planned.plan),
-        ),
-        None => written(
-            alloc,
-            plan_file(alloc, call.format, cwd, tmp, flag, planned),
-        ),
-    }
+    written(
+        alloc,
+        plan_file(alloc, call.format, cwd, tmp, flag, planned),
+    )
 }
 
 // Whether each group is empty.

@@ -1,4 +1,3 @@
 pub mod EscapedLemmas
 pub mod ReadGraphLemmas
-pub mod ReadScriptsLemmas
 pub mod ValueLemmas

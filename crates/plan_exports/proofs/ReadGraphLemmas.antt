@@ -1,5 +1,5 @@
 -- What is written for Ninja is read as the edges of the plan.
-use Rattle.std.proofs.Common.{ℕ, suc, ◌<◌, ◌+◌, List, [], ◌∷◌, ◌++◌, ◌≡◌, refl, sym, ap, ◌∙◌, subst, append_assoc, append-nil, map, length, drop, Bool, true, false, not, ◌&&◌, eqb, eqb-true, eq-eqb, ne_eqb, Option, Some, None, Result, Ok, codes, encode_utf8_all, arith, IsUtf8, chars}
+use Rattle.std.proofs.Common.{ℕ, suc, ◌<◌, ◌+◌, List, [], ◌∷◌, ◌++◌, ◌≡◌, refl, sym, ap, ◌∙◌, subst, append_assoc, append-nil, map, length, drop, Bool, true, false, not, ◌&&◌, eqb, eqb-true, eq-eqb, ne_eqb, Some, None, Result, Ok, codes, encode_utf8_all, arith, IsUtf8, chars}
 use Rattle.std.specs.List.{AllByRecursion, flat_map, list_all}
 use Rattle.std.proofs.lemmas.List.{get_or_at, get_or-drop, drop-drop, length_push, length-append}
 use Rattle.std.proofs.lemmas.Bool.{false≢true, and_parts, and_from, not-true, cond_both, eqb-false}
@@ -22,10 +22,9 @@ use Rattle.plan_scripts.specs.CommandText.{assignment, env_words, command_text}
 use Rattle.plan_scripts.specs.Judging.{holds_text, holds_variables, holds_command, judged_command, judged_group, judged_groups, and_then}
 use Rattle.plan_scripts.specs.Script.{unless_refused}
 use Rattle.plans.specs.Reasons.{reason_name}
-use Rattle.plan_exports.specs.Graph.{escaped, stamp, stamp_below, stamp_path, runner, touch, edge_command, edge_line, edge, places_in, places_from, plan_places, place_at, stamp_at, stamps_at, depended, waits, awaited, edges_from as written_edges, group_edges, comment, head, graph, holds_dropped, judged_rest, ninja_answer}
-use Rattle.plan_exports.specs.Scripts.{stamps_of}
+use Rattle.plan_exports.specs.Graph.{escaped, stamp, stamp_below, stamp_path, runner, touch, edge_command, edge_line, edge, places_in, places_from, plan_places, place_at, stamp_at, stamps_at, edges_from as written_edges, group_edges, comment, head, graph, holds_dropped, judged_rest, ninja_answer}
 use Rattle.plan_scripts.specs.ReadBack.{IsOfTexts}
-use Rattle.plan_exports.specs.ReadGraph.{parts_at, behind, Edge, path_of, head_behind, edges_from, edges_of, path_at, place_path, awaited_paths, edges_at, plan_commands, plan_edges, IsDroppedText}
+use Rattle.plan_exports.specs.ReadGraph.{parts_at, behind, Edge, path_of, head_behind, edges_from, edges_of, path_at, edges_at, plan_commands, plan_edges, IsDroppedText}
 use Rattle.command_files.specs.Order.{needs_at}
 use Rattle.command_files.specs.PlanNeeds.{plan_needs}
 use Rattle.texts.proofs.NumeralLemmas.{utf8-numeral}
@@ -201,57 +200,30 @@ pub record IsNeeds (tmp text : List ℕ) (paths : List (List ℕ)) : Type 0 wher
   pub colon : lacks 58 text ≡ true
   pub read : map (path_of tmp) (drop 1 (parts_at 32 text)) ≡ paths
 
--- a stamp as it stands behind a blank, by its place
-abbrev place_text : ℕ × ℕ → List ℕ
-place_text p = stamp_text p.0 p.1
+-- the stamp of the command with a number, as it stands behind a blank
+abbrev number_text : List (ℕ × ℕ) → ℕ → List ℕ
+number_text places n = stamp_text (place_at places n).0 (place_at places n).1
 
-pub lacks-stamps : (byte : ℕ) (ps : List (ℕ × ℕ)) → ((group place : ℕ) → lacks byte (stamp_below group place) ≡ true) → lacks byte (stamps_of ps) ≡ true
-lacks-stamps byte [] each = refl
-lacks-stamps byte (p ∷ ps) each = lacks-append byte (stamp_below p.0 p.1) (stamps_of ps) (each p.0 p.1) (lacks-stamps byte ps each)
+lacks-stamps : (byte : ℕ) (places : List (ℕ × ℕ)) (numbers : List ℕ) → ((group place : ℕ) → lacks byte (stamp_below group place) ≡ true) → lacks byte (stamps_at places numbers) ≡ true
+lacks-stamps byte places [] each = refl
+lacks-stamps byte places (n ∷ numbers) each =
+    lacks-append byte (stamp_at places n) (stamps_at places numbers) (each (place_at places n).0 (place_at places n).1) (lacks-stamps byte places numbers each)
 
--- stamps before a text that begins with a blank, or has none
-parts-stamps : (ps : List (ℕ × ℕ)) (tail : List ℕ) (more : List (List ℕ)) → parts_at 32 tail ≡ [] ∷ more → parts_at 32 (stamps_of ps ++ tail) ≡ [] ∷ (map place_text ps ++ more)
-parts-stamps [] tail more found = found
-parts-stamps (p ∷ ps) tail more found =
-    grind (arith, append_assoc, parts-onto, stamp-no_blank, append-nil, (parts-stamps ps tail more found))
+parts-stamps : (places : List (ℕ × ℕ)) (numbers : List ℕ) → parts_at 32 (stamps_at places numbers) ≡ [] ∷ map (number_text places) numbers
+parts-stamps places [] = refl
+parts-stamps places (n ∷ numbers) =
+    grind (arith, append_assoc, parts-onto, stamp-no_blank, append-nil, (parts-stamps places numbers))
 
-paths-stamps : (tmp : List ℕ) (ps : List (ℕ × ℕ)) (more : List (List ℕ)) → map (path_of tmp) (map place_text ps ++ more) ≡ map (place_path tmp) ps ++ map (path_of tmp) more
-paths-stamps tmp [] more = refl
-paths-stamps tmp (p ∷ ps) more = ap (λ paths. place_path tmp p ∷ paths) (paths-stamps tmp ps more)
+paths-stamps : (tmp : List ℕ) (places : List (ℕ × ℕ)) (numbers : List ℕ) → map (path_of tmp) (map (number_text places) numbers) ≡ map (path_at tmp places) numbers
+paths-stamps tmp places [] = refl
+paths-stamps tmp places (n ∷ numbers) = ap (λ paths. path_at tmp places n ∷ paths) (paths-stamps tmp places numbers)
 
-needs-before : (tmp : List ℕ) (ps : List (ℕ × ℕ)) (tail : List ℕ) (more : List (List ℕ)) → lacks 10 tail ≡ true → lacks 58 tail ≡ true → parts_at 32 tail ≡ [] ∷ more →
-    IsNeeds tmp (stamps_of ps ++ tail) (map (place_path tmp) ps ++ map (path_of tmp) more)
-needs-before tmp ps tail more newline colon found = record {
-  newline = lacks-append 10 (stamps_of ps) tail (lacks-stamps 10 ps stamp-no_newline) newline;
-  colon = lacks-append 58 (stamps_of ps) tail (lacks-stamps 58 ps stamp-no_colon) colon;
-  read = ap (λ parts. map (path_of tmp) (drop 1 parts)) (parts-stamps ps tail more found) ∙ paths-stamps tmp ps more;
+needs-stamps : (tmp : List ℕ) (places : List (ℕ × ℕ)) (numbers : List ℕ) → IsNeeds tmp (stamps_at places numbers) (map (path_at tmp places) numbers)
+needs-stamps tmp places numbers = record {
+  newline = lacks-stamps 10 places numbers stamp-no_newline;
+  colon = lacks-stamps 58 places numbers stamp-no_colon;
+  read = ap (λ parts. map (path_of tmp) (drop 1 parts)) (parts-stamps places numbers) ∙ paths-stamps tmp places numbers;
 }
-
-pub needs-stamps : (tmp : List ℕ) (ps : List (ℕ × ℕ)) → IsNeeds tmp (stamps_of ps) (map (place_path tmp) ps)
-needs-stamps tmp ps =
-    subst (λ paths. IsNeeds tmp (stamps_of ps) paths) (append-nil (map (place_path tmp) ps))
-    (subst (λ text. IsNeeds tmp text (map (place_path tmp) ps ++ [])) (append-nil (stamps_of ps)) (needs-before tmp ps [] [] refl refl refl))
-
--- the same by the numbers of commands
-stamps-numbered : (places : List (ℕ × ℕ)) (numbers : List ℕ) → stamps_of (map (place_at places) numbers) ≡ stamps_at places numbers
-stamps-numbered places [] = refl
-stamps-numbered places (n ∷ numbers) = ap (λ t. stamp_at places n ++ t) (stamps-numbered places numbers)
-
-paths-numbered : (tmp : List ℕ) (places : List (ℕ × ℕ)) (numbers : List ℕ) → map (place_path tmp) (map (place_at places) numbers) ≡ map (path_at tmp places) numbers
-paths-numbered tmp places [] = refl
-paths-numbered tmp places (n ∷ numbers) = ap (λ paths. path_at tmp places n ∷ paths) (paths-numbered tmp places numbers)
-
-needs-awaited : (tmp : List ℕ) (wait : Bool) (places : List (ℕ × ℕ)) (numbers : List ℕ) → IsNeeds tmp (awaited wait places numbers) (awaited_paths wait tmp (map (path_at tmp places) numbers))
-needs-awaited tmp false places numbers =
-    subst (λ paths. IsNeeds tmp (stamps_at places numbers) paths) (paths-numbered tmp places numbers)
-    (subst (λ text. IsNeeds tmp text (map (place_path tmp) (map (place_at places) numbers))) (stamps-numbered places numbers) (needs-stamps tmp (map (place_at places) numbers)))
-needs-awaited tmp true places numbers =
-    let ps = map (place_at places) numbers in
-    let tail = codes " ${tmp}" ++ depended in
-    let file = tmp ++ depended in
-    subst (λ paths. IsNeeds tmp (stamps_at places numbers ++ tail) (paths ++ file ∷ [])) (paths-numbered tmp places numbers)
-    (subst (λ text. IsNeeds tmp (text ++ tail) (map (place_path tmp) ps ++ file ∷ [])) (stamps-numbered places numbers)
-    (needs-before tmp ps tail ((codes "${tmp}" ++ depended) ∷ []) refl refl refl))
 
 -- ---- edges
 
@@ -277,19 +249,19 @@ pub any-edge-read : (tmp output needs text rest : List ℕ) (paths : List (List 
 any-edge-read tmp output needs text rest paths es newline colon are line found = grind (arith, lacks-append, edge-lines, parts-past, line-escaped, head-read, value_reads_back)
 
 -- the edge of a command by its place
-abbrev edge_of : List ℕ → List (ℕ × ℕ) → ℕ → ℕ → Bool → List ℕ → NvccGeneratedSubcommand → Edge
-edge_of tmp places group place wait numbers c = record {
+abbrev edge_of : List ℕ → List (ℕ × ℕ) → ℕ → ℕ → List ℕ → NvccGeneratedSubcommand → Edge
+edge_of tmp places group place numbers c = record {
   output = stamp_path tmp group place;
-  needs = awaited_paths wait tmp (map (path_at tmp places) numbers);
+  needs = map (path_at tmp places) numbers;
   command = edge_command tmp group place c;
 }
 
-edge-read : (tmp : List ℕ) (places : List (ℕ × ℕ)) (group place : ℕ) (wait : Bool) (numbers : List ℕ) (c : NvccGeneratedSubcommand) (rest : List ℕ) (es : List Edge) →
+edge-read : (tmp : List ℕ) (places : List (ℕ × ℕ)) (group place : ℕ) (numbers : List ℕ) (c : NvccGeneratedSubcommand) (rest : List ℕ) (es : List Edge) →
     IsLine tmp → IsOfTexts c → holds_command Ninja c ≡ true → edges_from tmp None (parts_at 10 rest) ≡ Some es →
-    edges_from tmp None (parts_at 10 (edge tmp group place (awaited wait places numbers) c ++ rest)) ≡ Some (edge_of tmp places group place wait numbers c ∷ es)
-edge-read tmp places group place wait numbers c rest es is are h found =
-    any-edge-read tmp (stamp_text group place) (awaited wait places numbers) (edge_command tmp group place c) rest (awaited_paths wait tmp (map (path_at tmp places) numbers)) es
-    (stamp-no_newline group place) (stamp-no_colon group place) (needs-awaited tmp wait places numbers) (line-edge tmp group place c is are h) found
+    edges_from tmp None (parts_at 10 (edge tmp group place (stamps_at places numbers) c ++ rest)) ≡ Some (edge_of tmp places group place numbers c ∷ es)
+edge-read tmp places group place numbers c rest es is are h found =
+    any-edge-read tmp (stamp_text group place) (stamps_at places numbers) (edge_command tmp group place c) rest (map (path_at tmp places) numbers) es
+    (stamp-no_newline group place) (stamp-no_colon group place) (needs-stamps tmp places numbers) (line-edge tmp group place c is are h) found
 
 pub held-command : (c : NvccGeneratedSubcommand) (b : Bool) → holds_command Ninja c ≡ b → judged_command Ninja c ≡ Ok tt → holds_command Ninja c ≡ true
 held-command c b e h = grind arith
@@ -298,71 +270,71 @@ pub then-both : (one next : Result (Unit {0}) Refusal) → and_then one next ≡
 then-both one next h = grind arith
 
 -- the edges of a group's commands, and of groups, by their places
-abbrev group_edges_of : List ℕ → List (ℕ × ℕ) → Option (ℕ × ℕ) → ℕ → ℕ → List (List ℕ) → List NvccGeneratedSubcommand → List Edge
-group_edges_of tmp places last group place needs [] = []
-group_edges_of tmp places last group place needs (c ∷ commands) =
-    edge_of tmp places group place (waits last group place) (needs_at needs place) c ∷ group_edges_of tmp places last group (place + 1) needs commands
+abbrev group_edges_of : List ℕ → List (ℕ × ℕ) → ℕ → ℕ → List (List ℕ) → List NvccGeneratedSubcommand → List Edge
+group_edges_of tmp places group place needs [] = []
+group_edges_of tmp places group place needs (c ∷ commands) =
+    edge_of tmp places group place (needs_at needs place) c ∷ group_edges_of tmp places group (place + 1) needs commands
 
-abbrev all_edges_of : List ℕ → List (ℕ × ℕ) → Option (ℕ × ℕ) → ℕ → List (List ℕ) → List (List NvccGeneratedSubcommand) → List Edge
-all_edges_of tmp places last group needs [] = []
-all_edges_of tmp places last group needs (commands ∷ groups) =
-    group_edges_of tmp places last group 0 needs commands ++ all_edges_of tmp places last (group + 1) (drop (length commands) needs) groups
+abbrev all_edges_of : List ℕ → List (ℕ × ℕ) → ℕ → List (List ℕ) → List (List NvccGeneratedSubcommand) → List Edge
+all_edges_of tmp places group needs [] = []
+all_edges_of tmp places group needs (commands ∷ groups) =
+    group_edges_of tmp places group 0 needs commands ++ all_edges_of tmp places (group + 1) (drop (length commands) needs) groups
 
-group-read : (tmp : List ℕ) (places : List (ℕ × ℕ)) (last : Option (ℕ × ℕ)) (group place : ℕ) (needs : List (List ℕ)) (commands : List NvccGeneratedSubcommand) (rest : List ℕ) (es : List Edge) →
+group-read : (tmp : List ℕ) (places : List (ℕ × ℕ)) (group place : ℕ) (needs : List (List ℕ)) (commands : List NvccGeneratedSubcommand) (rest : List ℕ) (es : List Edge) →
     IsLine tmp → AllByRecursion IsOfTexts commands → judged_group Ninja commands ≡ Ok tt → edges_from tmp None (parts_at 10 rest) ≡ Some es →
-    edges_from tmp None (parts_at 10 (written_edges tmp places last group place needs commands ++ rest)) ≡ Some (group_edges_of tmp places last group place needs commands ++ es)
-group-read tmp places last group place needs [] rest es is are h found = found
-group-read tmp places last group place needs (c ∷ commands) rest es is are h found =
+    edges_from tmp None (parts_at 10 (written_edges tmp places group place needs commands ++ rest)) ≡ Some (group_edges_of tmp places group place needs commands ++ es)
+group-read tmp places group place needs [] rest es is are h found = found
+group-read tmp places group place needs (c ∷ commands) rest es is are h found =
     let judged = then-both (judged_command Ninja c) (judged_group Ninja commands) h in
     let numbers = needs_at needs place in
-    let more = written_edges tmp places last group (place + 1) needs commands in
-    ap (λ t. edges_from tmp None (parts_at 10 t)) (append_assoc (edge tmp group place (awaited (waits last group place) places numbers) c) more rest)
-    ∙ edge-read tmp places group place (waits last group place) numbers c (more ++ rest) (group_edges_of tmp places last group (place + 1) needs commands ++ es) is are.0 (held-command c (holds_command Ninja c) refl judged.0)
-    (group-read tmp places last group (place + 1) needs commands rest es is are.1 judged.1 found)
+    let more = written_edges tmp places group (place + 1) needs commands in
+    ap (λ t. edges_from tmp None (parts_at 10 t)) (append_assoc (edge tmp group place (stamps_at places numbers) c) more rest)
+    ∙ edge-read tmp places group place numbers c (more ++ rest) (group_edges_of tmp places group (place + 1) needs commands ++ es) is are.0 (held-command c (holds_command Ninja c) refl judged.0)
+    (group-read tmp places group (place + 1) needs commands rest es is are.1 judged.1 found)
 
-groups-read : (tmp : List ℕ) (places : List (ℕ × ℕ)) (last : Option (ℕ × ℕ)) (group : ℕ) (needs : List (List ℕ)) (groups : List (List NvccGeneratedSubcommand)) (rest : List ℕ) (es : List Edge) →
+groups-read : (tmp : List ℕ) (places : List (ℕ × ℕ)) (group : ℕ) (needs : List (List ℕ)) (groups : List (List NvccGeneratedSubcommand)) (rest : List ℕ) (es : List Edge) →
     IsLine tmp → AllByRecursion (AllByRecursion IsOfTexts) groups → judged_groups Ninja groups ≡ Ok tt → edges_from tmp None (parts_at 10 rest) ≡ Some es →
-    edges_from tmp None (parts_at 10 (group_edges tmp places last group needs groups ++ rest)) ≡ Some (all_edges_of tmp places last group needs groups ++ es)
-groups-read tmp places last group needs [] rest es is are h found = found
-groups-read tmp places last group needs (commands ∷ groups) rest es is are h found =
-    grind (arith, append_assoc, group-read, then-both, (groups-read tmp places last (group + 1) (drop (length commands) needs) groups rest es is are.1))
+    edges_from tmp None (parts_at 10 (group_edges tmp places group needs groups ++ rest)) ≡ Some (all_edges_of tmp places group needs groups ++ es)
+groups-read tmp places group needs [] rest es is are h found = found
+groups-read tmp places group needs (commands ∷ groups) rest es is are h found =
+    grind (arith, append_assoc, group-read, then-both, (groups-read tmp places (group + 1) (drop (length commands) needs) groups rest es is are.1))
 
 -- ---- the same edges by the numbers of commands
 
-group-numbered : (tmp : List ℕ) (places : List (ℕ × ℕ)) (last : Option (ℕ × ℕ)) (needs : List (List ℕ)) (group place n : ℕ) (commands : List NvccGeneratedSubcommand) (front more : List (ℕ × ℕ)) →
+group-numbered : (tmp : List ℕ) (places : List (ℕ × ℕ)) (needs : List (List ℕ)) (group place n : ℕ) (commands : List NvccGeneratedSubcommand) (front more : List (ℕ × ℕ)) →
     places ≡ front ++ (places_in group place commands ++ more) → length front ≡ n + place →
-    group_edges_of tmp places last group place (drop n needs) commands ≡ edges_at tmp places last needs (n + place) commands
-group-numbered tmp places last needs group place n [] front more are long = refl
-group-numbered tmp places last needs group place n (c ∷ commands) front more are long =
-    grind (arith, get_or_at, append_assoc, length_push, get_or-drop, (group-numbered tmp places last needs group (place + 1) n commands (front ++ (group, place) ∷ []) more))
+    group_edges_of tmp places group place (drop n needs) commands ≡ edges_at tmp places needs (n + place) commands
+group-numbered tmp places needs group place n [] front more are long = refl
+group-numbered tmp places needs group place n (c ∷ commands) front more are long =
+    grind (arith, get_or_at, append_assoc, length_push, get_or-drop, (group-numbered tmp places needs group (place + 1) n commands (front ++ (group, place) ∷ []) more))
 
-edges-append : (tmp : List ℕ) (places : List (ℕ × ℕ)) (last : Option (ℕ × ℕ)) (needs : List (List ℕ)) (n : ℕ) (xs ys : List NvccGeneratedSubcommand) →
-    edges_at tmp places last needs n (xs ++ ys) ≡ edges_at tmp places last needs n xs ++ edges_at tmp places last needs (n + length xs) ys
-edges-append tmp places last needs n [] ys = ap (λ m. edges_at tmp places last needs m ys) (omega arith)
-edges-append tmp places last needs n (x ∷ xs) ys = grind (arith, (edges-append tmp places last needs (n + 1) xs ys))
+edges-append : (tmp : List ℕ) (places : List (ℕ × ℕ)) (needs : List (List ℕ)) (n : ℕ) (xs ys : List NvccGeneratedSubcommand) →
+    edges_at tmp places needs n (xs ++ ys) ≡ edges_at tmp places needs n xs ++ edges_at tmp places needs (n + length xs) ys
+edges-append tmp places needs n [] ys = ap (λ m. edges_at tmp places needs m ys) (omega arith)
+edges-append tmp places needs n (x ∷ xs) ys = grind (arith, (edges-append tmp places needs (n + 1) xs ys))
 
 length-places : (group place : ℕ) (commands : List NvccGeneratedSubcommand) → length (places_in group place commands) ≡ length commands
 length-places group place [] = refl
 length-places group place (c ∷ commands) = ap suc (length-places group (place + 1) commands)
 
-all-numbered : (tmp : List ℕ) (places : List (ℕ × ℕ)) (last : Option (ℕ × ℕ)) (needs : List (List ℕ)) (group n : ℕ) (groups : List (List NvccGeneratedSubcommand)) (front : List (ℕ × ℕ)) →
+all-numbered : (tmp : List ℕ) (places : List (ℕ × ℕ)) (needs : List (List ℕ)) (group n : ℕ) (groups : List (List NvccGeneratedSubcommand)) (front : List (ℕ × ℕ)) →
     places ≡ front ++ places_from group groups → length front ≡ n →
-    all_edges_of tmp places last group (drop n needs) groups ≡ edges_at tmp places last needs n (flat_map (λ commands. commands) groups)
-all-numbered tmp places last needs group n [] front are long = refl
-all-numbered tmp places last needs group n (commands ∷ groups) front are long =
+    all_edges_of tmp places group (drop n needs) groups ≡ edges_at tmp places needs n (flat_map (λ commands. commands) groups)
+all-numbered tmp places needs group n [] front are long = refl
+all-numbered tmp places needs group n (commands ∷ groups) front are long =
     let here = places_in group 0 commands in
     let later = places_from (group + 1) groups in
     let none : n + 0 ≡ n = omega arith in
-    let first : group_edges_of tmp places last group 0 (drop n needs) commands ≡ edges_at tmp places last needs n commands =
-    group-numbered tmp places last needs group 0 n commands front later are (long ∙ sym none) ∙ ap (λ m. edges_at tmp places last needs m commands) none in
+    let first : group_edges_of tmp places group 0 (drop n needs) commands ≡ edges_at tmp places needs n commands =
+    group-numbered tmp places needs group 0 n commands front later are (long ∙ sym none) ∙ ap (λ m. edges_at tmp places needs m commands) none in
     let next : places ≡ (front ++ here) ++ later = are ∙ sym (append_assoc front here later) in
     let longer : length (front ++ here) ≡ n + length commands = length-append front here ∙ omega (arith, long, length-places group 0 commands) in
-    let rest : all_edges_of tmp places last (group + 1) (drop (length commands) (drop n needs)) groups ≡ edges_at tmp places last needs (n + length commands) (flat_map (λ cs. cs) groups) =
-    ap (λ ns. all_edges_of tmp places last (group + 1) ns groups) (drop-drop (length commands) n needs)
-    ∙ all-numbered tmp places last needs (group + 1) (n + length commands) groups (front ++ here) next longer in
-    ap (λ es. es ++ all_edges_of tmp places last (group + 1) (drop (length commands) (drop n needs)) groups) first
-    ∙ ap (λ es. edges_at tmp places last needs n commands ++ es) rest
-    ∙ sym (edges-append tmp places last needs n commands (flat_map (λ cs. cs) groups))
+    let rest : all_edges_of tmp places (group + 1) (drop (length commands) (drop n needs)) groups ≡ edges_at tmp places needs (n + length commands) (flat_map (λ cs. cs) groups) =
+    ap (λ ns. all_edges_of tmp places (group + 1) ns groups) (drop-drop (length commands) n needs)
+    ∙ all-numbered tmp places needs (group + 1) (n + length commands) groups (front ++ here) next longer in
+    ap (λ es. es ++ all_edges_of tmp places (group + 1) (drop (length commands) (drop n needs)) groups) first
+    ∙ ap (λ es. edges_at tmp places needs n commands ++ es) rest
+    ∙ sym (edges-append tmp places needs n commands (flat_map (λ cs. cs) groups))
 
 -- ---- comments
 
@@ -400,15 +372,15 @@ head-lines : (tmp rest : List ℕ) → IsLine tmp → parts_at 10 (head tmp ++ r
 head-lines tmp rest is = simp (append_assoc, parts-past, lacks-append, line-escaped)
 
 -- the edges of a plan's commands, and the comments behind them
-pub plan-reads : (tmp : List ℕ) (last : Option (ℕ × ℕ)) (plan : Plan) → IsLine tmp → AllByRecursion (AllByRecursion IsOfTexts) plan.groups → AllByRecursion IsDroppedText plan.dropped →
+pub plan-reads : (tmp : List ℕ) (plan : Plan) → IsLine tmp → AllByRecursion (AllByRecursion IsOfTexts) plan.groups → AllByRecursion IsDroppedText plan.dropped →
     judged_groups Ninja plan.groups ≡ Ok tt → list_all holds_dropped plan.dropped ≡ true →
-    edges_from tmp None (parts_at 10 (group_edges tmp (plan_places plan) last 0 (plan_needs plan) plan.groups ++ flat_map comment plan.dropped))
-    ≡ Some (edges_at tmp (plan_places plan) last (plan_needs plan) 0 (plan_commands plan))
-plan-reads tmp last plan is groups dropped judged held =
+    edges_from tmp None (parts_at 10 (group_edges tmp (plan_places plan) 0 (plan_needs plan) plan.groups ++ flat_map comment plan.dropped))
+    ≡ Some (edges_at tmp (plan_places plan) (plan_needs plan) 0 (plan_commands plan))
+plan-reads tmp plan is groups dropped judged held =
     let places = plan_places plan in
     let needs = plan_needs plan in
-    groups-read tmp places last 0 needs plan.groups (flat_map comment plan.dropped) [] is groups judged (comments-read tmp plan.dropped dropped held)
-    ∙ ap Some (append-nil (all_edges_of tmp places last 0 needs plan.groups) ∙ all-numbered tmp places last needs 0 0 plan.groups [] refl refl)
+    groups-read tmp places 0 needs plan.groups (flat_map comment plan.dropped) [] is groups judged (comments-read tmp plan.dropped dropped held)
+    ∙ ap Some (append-nil (all_edges_of tmp places 0 needs plan.groups) ∙ all-numbered tmp places needs 0 0 plan.groups [] refl refl)
 
 graph-reads : (tmp : List ℕ) (plan : Plan) → IsLine tmp → AllByRecursion (AllByRecursion IsOfTexts) plan.groups → AllByRecursion IsDroppedText plan.dropped →
     judged_groups Ninja plan.groups ≡ Ok tt → list_all holds_dropped plan.dropped ≡ true → edges_of (graph tmp plan) ≡ Some (plan_edges tmp plan)

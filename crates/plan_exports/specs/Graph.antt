@@ -1,5 +1,5 @@
 -- A plan as a Ninja file.
-use Rattle.std.specs.Prelude.{ℕ, Bool, true, false, ◌+◌, List, [], ◌∷◌, ◌++◌, length, drop, get_or, ◌==◌, ◌&&◌, if◌then◌else◌, Option, Some, None, codes, encode_utf8_all, Result, Ok, Err, chars}
+use Rattle.std.specs.Prelude.{ℕ, Bool, ◌+◌, List, [], ◌∷◌, ◌++◌, length, drop, get_or, ◌==◌, ◌&&◌, if◌then◌else◌, codes, encode_utf8_all, Result, Ok, Err, chars}
 use Rattle.std.specs.List.{flat_map, list_all}
 use Rattle.compilers.specs.declared.command.Cacheable.{Cacheable}
 use Rattle.compilers.specs.declared.command.Cacheable.TheVariants.{Yes, No}
@@ -83,31 +83,17 @@ stamp_at places n = stamp_below (place_at places n).0 (place_at places n).1
 abbrev pub stamps_at : List (ℕ × ℕ) → List ℕ → List ℕ
 stamps_at places numbers = flat_map (stamp_at places) numbers
 
--- The stamp of the edge that makes the dependency file, if a file has that edge. One command waits for it.
-abbrev pub depended : List ℕ
-depended = codes "/zigrunk.tmp/depended"
-
-abbrev pub waits : Option (ℕ × ℕ) → ℕ → ℕ → Bool
-waits None group place = false
-waits (Some last) group place = last.0 == group && last.1 == place
-
--- the stamps of the commands with these numbers, and that stamp for the command that waits for it
-abbrev pub awaited : Bool → List (ℕ × ℕ) → List ℕ → List ℕ
-awaited false places numbers = stamps_at places numbers
-awaited true places numbers = stamps_at places numbers ++ (codes " ${tmp}" ++ depended)
-
--- the edges of a group's commands from a place on, given which command waits for the dependency file, and what the group's commands
--- need
-abbrev pub edges_from : List ℕ → List (ℕ × ℕ) → Option (ℕ × ℕ) → ℕ → ℕ → List (List ℕ) → List NvccGeneratedSubcommand → List ℕ
-edges_from tmp places last group place needs [] = []
-edges_from tmp places last group place needs (c ∷ commands) =
-    edge tmp group place (awaited (waits last group place) places (needs_at needs place)) c ++ edges_from tmp places last group (place + 1) needs commands
+-- the edges of a group's commands from a place on, given what the group's commands need
+abbrev pub edges_from : List ℕ → List (ℕ × ℕ) → ℕ → ℕ → List (List ℕ) → List NvccGeneratedSubcommand → List ℕ
+edges_from tmp places group place needs [] = []
+edges_from tmp places group place needs (c ∷ commands) =
+    edge tmp group place (stamps_at places (needs_at needs place)) c ++ edges_from tmp places group (place + 1) needs commands
 
 -- the edges of groups from a number on, given what their commands need
-abbrev pub group_edges : List ℕ → List (ℕ × ℕ) → Option (ℕ × ℕ) → ℕ → List (List ℕ) → List (List NvccGeneratedSubcommand) → List ℕ
-group_edges tmp places last group needs [] = []
-group_edges tmp places last group needs (commands ∷ groups) =
-    edges_from tmp places last group 0 needs commands ++ group_edges tmp places last (group + 1) (drop (length commands) needs) groups
+abbrev pub group_edges : List ℕ → List (ℕ × ℕ) → ℕ → List (List ℕ) → List (List NvccGeneratedSubcommand) → List ℕ
+group_edges tmp places group needs [] = []
+group_edges tmp places group needs (commands ∷ groups) =
+    edges_from tmp places group 0 needs commands ++ group_edges tmp places (group + 1) (drop (length commands) needs) groups
 
 -- the reason and the words of a dropped command
 abbrev pub comment_words : Dropped → List ℕ
@@ -128,7 +114,7 @@ head tmp = codes "tmp = " ++ (escaped tmp ++ rule)
 
 -- the Ninja file of a plan
 abbrev pub graph : List ℕ → Plan → List ℕ
-graph tmp plan = head tmp ++ (group_edges tmp (plan_places plan) None 0 (plan_needs plan) plan.groups ++ flat_map comment plan.dropped)
+graph tmp plan = head tmp ++ (group_edges tmp (plan_places plan) 0 (plan_needs plan) plan.groups ++ flat_map comment plan.dropped)
 
 -- ---- what a Ninja file can't represent
 

@@ -2,9 +2,7 @@ pub mod ExportExamples
 pub mod Graph
 pub mod ReadEdge
 pub mod ReadGraph
-pub mod ReadScripts
 pub mod ReadValue
-pub mod Scripts
 pub use Rattle.plan_scripts.specs.Answers
 pub use Rattle.plan_scripts.specs.CommandText
 pub use Rattle.plan_scripts.specs.Judging

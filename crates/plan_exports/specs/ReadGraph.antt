@@ -1,5 +1,5 @@
 -- What Ninja reads in a written file: its edges.
-use Rattle.std.specs.Prelude.{◌≡◌, ℕ, ◌+◌, List, [], ◌∷◌, ◌++◌, map, drop, ◌==◌, Bool, true, false, if◌then◌else◌, Option, Some, None, Ok, codes, refl, option_map}
+use Rattle.std.specs.Prelude.{◌≡◌, ℕ, ◌+◌, List, [], ◌∷◌, ◌++◌, map, drop, ◌==◌, if◌then◌else◌, Option, Some, None, Ok, codes, refl, option_map}
 use Rattle.std.specs.List.{AllByRecursion, flat_map}
 use Rattle.std.specs.Str.{IsUtf8, chars}
 use Rattle.plans.specs.declared.plan.NvccGeneratedSubcommand.{NvccGeneratedSubcommand}
@@ -7,7 +7,7 @@ use Rattle.plans.specs.declared.plan.Dropped.{Dropped}
 use Rattle.plans.specs.declared.plan.Plan.{Plan}
 use Rattle.command_files.specs.Order.{needs_at}
 use Rattle.command_files.specs.PlanNeeds.{plan_needs}
-use Rattle.plan_exports.specs.Graph.{stamp_path, edge_command, plan_places, place_at, depended, waits, ninja_answer}
+use Rattle.plan_exports.specs.Graph.{stamp_path, edge_command, plan_places, place_at, ninja_answer}
 use Rattle.plan_scripts.specs.ReadBack.{IsOfTexts}
 use Rattle.plan_exports.specs.ReadValue.{value_of}
 
@@ -91,35 +91,26 @@ edges_of text = edges_of_lines (parts_at 10 text)
 abbrev pub path_at : List ℕ → List (ℕ × ℕ) → ℕ → List ℕ
 path_at tmp places n = stamp_path tmp (place_at places n).0 (place_at places n).1
 
--- the stamp's path at a place
-abbrev pub place_path : List ℕ → ℕ × ℕ → List ℕ
-place_path tmp p = stamp_path tmp p.0 p.1
-
--- the stamps' paths of a command's needs, and that of the dependency file for the command that waits for it
-abbrev pub awaited_paths : Bool → List ℕ → List (List ℕ) → List (List ℕ)
-awaited_paths false tmp paths = paths
-awaited_paths true tmp paths = paths ++ (tmp ++ depended) ∷ []
-
 -- The edge of the command with a number: it makes the command's stamp, and it needs the stamps of the commands that the
--- command needs, and that of the dependency file if the command waits for it.
-abbrev pub edge_at : List ℕ → List (ℕ × ℕ) → Option (ℕ × ℕ) → List (List ℕ) → ℕ → NvccGeneratedSubcommand → Edge
-edge_at tmp places last needs n c = record {
+-- command needs.
+abbrev pub edge_at : List ℕ → List (ℕ × ℕ) → List (List ℕ) → ℕ → NvccGeneratedSubcommand → Edge
+edge_at tmp places needs n c = record {
   output = path_at tmp places n;
-  needs = awaited_paths (waits last (place_at places n).0 (place_at places n).1) tmp (map (path_at tmp places) (needs_at needs n));
+  needs = map (path_at tmp places) (needs_at needs n);
   command = edge_command tmp (place_at places n).0 (place_at places n).1 c;
 }
 
 -- the edges of commands from a number on
-abbrev pub edges_at : List ℕ → List (ℕ × ℕ) → Option (ℕ × ℕ) → List (List ℕ) → ℕ → List NvccGeneratedSubcommand → List Edge
-edges_at tmp places last needs n [] = []
-edges_at tmp places last needs n (c ∷ commands) = edge_at tmp places last needs n c ∷ edges_at tmp places last needs (n + 1) commands
+abbrev pub edges_at : List ℕ → List (ℕ × ℕ) → List (List ℕ) → ℕ → List NvccGeneratedSubcommand → List Edge
+edges_at tmp places needs n [] = []
+edges_at tmp places needs n (c ∷ commands) = edge_at tmp places needs n c ∷ edges_at tmp places needs (n + 1) commands
 
 -- the commands of a plan in plan order, and their edges
 abbrev pub plan_commands : Plan → List NvccGeneratedSubcommand
 plan_commands plan = flat_map (λ group. group) plan.groups
 
 abbrev pub plan_edges : List ℕ → Plan → List Edge
-plan_edges tmp plan = edges_at tmp (plan_places plan) None (plan_needs plan) 0 (plan_commands plan)
+plan_edges tmp plan = edges_at tmp (plan_places plan) (plan_needs plan) 0 (plan_commands plan)
 
 -- all texts of a dropped command are UTF-8
 pub record IsDroppedText (d : Dropped) : Type 0 where

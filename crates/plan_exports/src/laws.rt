@@ -3,7 +3,6 @@
 ghost use Rattle.plan_exports.specs.ExportExamples.{EdgeOfCicc, EdgesOfFatbin};
 ghost use Rattle.plan_exports.specs.ReadEdge.{EdgesReadBack};
 ghost use Rattle.plan_exports.specs.ReadGraph.{GraphsReadBack};
-ghost use Rattle.plan_exports.specs.ReadScripts.{ScriptsRun};
 ghost use Rattle.plan_exports.specs.ReadValue.{ValuesReadBack};
 
 /// A POSIX shell reads what an edge of a Ninja file runs as the command and then `touch`, with any words in the place of the expansions of
@@ -21,14 +20,6 @@ pub fn values_read_back()
 /// exactly the stamps of the commands that the command needs (`command_files::needs`), and runs the command.
 pub fn graphs_read_back()
     ensures { GraphsReadBack }
-{}
-
-/// Ninja reads a file of scripts as one edge for each command of the plan, in order, and before them the dependency file's, if the file
-/// has it. It writes what each edge runs to the script beside the edge's stamp, and runs that by the words of `slot`. An edge needs
-/// exactly the stamps of the commands that its command needs; the dependency file's needs those of all commands that preprocess, and the
-/// last command waits for it.
-pub fn scripts_run()
-    ensures { ScriptsRun }
 {}
 
 /// The definitions give these edges for a small command and for a real plan.

@@ -3,8 +3,6 @@
 
 pub mod laws;
 mod ninja;
-mod scripts;
 
 pub use ninja::ninja_file;
 pub use plan_scripts::{Refusal, shell_script};
-pub use scripts::ninja_file_of_scripts;

@@ -25,7 +25,7 @@ fn first_dollar(value: &str) -> Option<(&str, &str)>
 }
 
 // Adds a text as a variable's value, in which `$` is doubled.
-pub fn push_value(text: &mut String, value: &str) -> Result<(), AllocError>
+fn push_value(text: &mut String, value: &str) -> Result<(), AllocError>
     ensures { OnOk result (string_bytes text.new ≡ string_bytes text.old ++ spec.escaped value.now) }
 {
     let mut rest = value;
@@ -48,11 +48,7 @@ fn push_stamp(alloc: Global, text: &mut String, at: (usize, usize)) -> Result<()
 }
 
 // Adds a space and the path of a stamp in the temporary directory.
-pub fn push_stamp_below(
-    alloc: Global,
-    text: &mut String,
-    at: (usize, usize),
-) -> Result<(), AllocError>
+fn push_stamp_below(alloc: Global, text: &mut String, at: (usize, usize)) -> Result<(), AllocError>
     ensures { OnOk result (string_bytes text.new ≡ string_bytes text.old ++ spec.stamp_below at.0 at.1) }
 {
     text.push_str(" ${tmp}/")?;
@@ -109,7 +105,7 @@ fn edge_command(
 }
 
 // Adds the line that says what an edge runs.
-pub fn push_edge_line(text: &mut String, command: &str) -> Result<(), AllocError>
+fn push_edge_line(text: &mut String, command: &str) -> Result<(), AllocError>
     ensures { OnOk result (string_bytes text.new ≡ string_bytes text.old ++ spec.edge_line command.now) }
 {
     text.push_str("\n  line = ")?;
@@ -165,7 +161,7 @@ fn push_places(
 }
 
 // Where each command of groups is, in plan order.
-pub fn places_of(
+fn places_of(
     alloc: Global,
     groups: &[Vec<NvccGeneratedSubcommand>],
 ) -> Result<Vec<(usize, usize)>, AllocError>
@@ -216,32 +212,6 @@ fn stamps_at(
     Ok(text)
 }
 
-// Whether the command at a place waits for the dependency file.
-fn waits(last: Option<(usize, usize)>, group: usize, place: usize) -> bool
-    ensures { result ≡ spec.waits last group place }
-{
-    match last {
-        Some(at) => at.0 == group && at.1 == place,
-        None => false,
-    }
-}
-
-// The stamps of the commands with these numbers, and that of the dependency file's edge if the command waits for it.
-fn awaited(
-    alloc: Global,
-    waits: bool,
-    places: &[(usize, usize)],
-    numbers: &[usize],
-) -> Result<String, AllocError>
-    ensures { IfOk result (λ text. string_bytes text ≡ spec.awaited waits places.now numbers.now) }
-{
-    let mut text = stamps_at(alloc, places, numbers)?;
-    if waits {
-        text.push_str(" ${tmp}/zigrunk.tmp/depended")?;
-    }
-    Ok(text)
-}
-
 // What the command at a place needs, in a list of what commands need. Each command has its needs there.
 fn needs_at(needs: &[Vec<usize>], place: usize) -> &[usize]
     ensures { result.now ≡ needs_at (map vec_items needs.now) place }
@@ -252,23 +222,22 @@ fn needs_at(needs: &[Vec<usize>], place: usize) -> &[usize]
     }
 }
 
-// Adds the edges of a group's commands, given which command waits for the dependency file, and what they need.
+// Adds the edges of a group's commands, given what they need.
 fn push_edges(
     alloc: Global,
     text: &mut String,
     tmp: &str,
     places: &[(usize, usize)],
-    last: Option<(usize, usize)>,
     group: usize,
     needs: &[Vec<usize>],
     commands: &[NvccGeneratedSubcommand],
 ) -> Result<(), AllocError>
     ensures { OnOk result (string_bytes text.new ≡ string_bytes text.old
-        ++ spec.edges_from tmp.now places.now last group 0 (map vec_items needs.now) commands.now) }
+        ++ spec.edges_from tmp.now places.now group 0 (map vec_items needs.now) commands.now) }
 {
     for (place, command) in commands.iter().enumerate() {
         let numbers = needs_at(needs, place);
-        let stamps = awaited(alloc, waits(last, group, place), places, numbers)?;
+        let stamps = stamps_at(alloc, places, numbers)?;
         let at = (group, place);
         push_edge(alloc, text, tmp, at, stamps.as_str(), command)?;
     }
@@ -292,45 +261,34 @@ fn push_groups(
     text: &mut String,
     tmp: &str,
     places: &[(usize, usize)],
-    last: Option<(usize, usize)>,
     needs: &[Vec<usize>],
     groups: &[Vec<NvccGeneratedSubcommand>],
 ) -> Result<(), AllocError>
     ensures { OnOk result (string_bytes text.new ≡ string_bytes text.old
-        ++ spec.group_edges tmp.now places.now last 0 (map vec_items needs.now) (map vec_items groups.now)) }
+        ++ spec.group_edges tmp.now places.now 0 (map vec_items needs.now) (map vec_items groups.now)) }
 {
     let mut rest = needs;
     for (group, commands) in groups.iter().enumerate() {
-        push_edges(
-            alloc,
-            text,
-            tmp,
-            places,
-            last,
-            group,
-            rest,
-            commands.as_slice(),
-        )?;
+        push_edges(alloc, text, tmp, places, group, rest, commands.as_slice())?;
         rest = needs_behind(rest, commands.len());
     }
     Ok(())
 }
 
-// Adds the edges of a plan's commands, given their places, and which of them waits for the dependency file.
-pub fn push_plan(
+// Adds the edges of a plan's commands, given their places.
+fn push_plan(
     alloc: Global,
     text: &mut String,
     tmp: &str,
     places: &[(usize, usize)],
-    last: Option<(usize, usize)>,
     plan: &Plan,
 ) -> Result<(), AllocError>
     ensures { OnOk result (string_bytes text.new ≡ string_bytes text.old
-        ++ spec.group_edges tmp.now places.now last 0 (plan_needs plan.now) plan.now.groups) }
+        ++ spec.group_edges tmp.now places.now 0 (plan_needs plan.now) plan.now.groups) }
 {
     let needs = needs(alloc, plan)?;
     let groups = plan.groups.as_slice();
-    push_groups(alloc, text, tmp, places, last, needs.as_slice(), groups)
+    push_groups(alloc, text, tmp, places, needs.as_slice(), groups)
 }
 
 // Adds the reason and the words of a dropped command.
@@ -356,11 +314,7 @@ fn push_comment(alloc: Global, text: &mut String, dropped: &Dropped) -> Result<(
 }
 
 // Adds the dropped commands, as comments.
-pub fn push_comments(
-    alloc: Global,
-    text: &mut String,
-    dropped: &[Dropped],
-) -> Result<(), AllocError>
+fn push_comments(alloc: Global, text: &mut String, dropped: &[Dropped]) -> Result<(), AllocError>
     ensures { OnOk result (string_bytes text.new ≡ string_bytes text.old ++ flat_map spec.comment dropped.now) }
 {
     for command in dropped {
@@ -392,7 +346,7 @@ fn graph(alloc: Global, tmp: &str, plan: &Plan) -> Result<String, AllocError>
     let mut text = String::new(alloc);
     push_head(&mut text, tmp)?;
     let places = places_of(alloc, plan.groups.as_slice())?;
-    push_plan(alloc, &mut text, tmp, places.as_slice(), None, plan)?;
+    push_plan(alloc, &mut text, tmp, places.as_slice(), plan)?;
     push_comments(alloc, &mut text, plan.dropped.as_slice())?;
     Ok(text)
 }
@@ -418,7 +372,7 @@ fn hold_all_dropped(dropped: &[Dropped]) -> bool
 }
 
 // Why a file can't represent the temporary directory or the dropped commands, if it can't.
-pub fn judge_rest(tmp: &str, dropped: &[Dropped]) -> Result<(), Refusal>
+fn judge_rest(tmp: &str, dropped: &[Dropped]) -> Result<(), Refusal>
     ensures { result ≡ spec.judged_rest tmp.now dropped.now }
 {
     if holds_text(Format::Ninja, tmp.as_bytes()) && hold_all_dropped(dropped) {

@@ -10,6 +10,7 @@ pub enum Format {
     Shell,
     /// A Ninja file.
     Ninja,
+    /// JSON, with each command's words, variables, files and needs.
     Json,
     /// A graph that Graphviz draws.
     Dot,

@@ -6,8 +6,11 @@ ghost use Rattle.plan_texts.specs.Tools as spec;
 /// A tool whose lines can be read.
 #[derive(Clone, Copy, Debug, PartialEq)]
 pub enum Tool {
+    /// cicc, which makes PTX.
     Cicc,
+    /// ptxas, which makes a cubin.
     Ptxas,
+    /// cudafe++, which makes host code.
     CudaFe,
 }
 

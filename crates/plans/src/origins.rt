@@ -48,6 +48,7 @@ impl Origins {
 /// A plan, and the lines that its commands come from.
 #[derive(Debug, Drop)]
 pub struct PlanWithOrigins {
+    /// The plan.
     pub plan: Plan,
     /// The origin of each command in the plan's groups, in plan order.
     pub origins: Origins,

@@ -78,6 +78,7 @@ pub struct Dropped {
     pub exe: Text,
     /// The words after the program's name.
     pub args: Words,
+    /// Why it is in no group.
     pub reason: Reason,
 }
 

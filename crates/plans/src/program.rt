@@ -8,10 +8,15 @@ use texts::text::file_stem;
 /// The programs that nvcc runs, as far as plans tell them apart: by the stem of a path's file name.
 #[derive(Clone, Copy)]
 pub enum Program {
+    /// cicc, which makes PTX.
     Cicc,
+    /// cudafe++, which makes host code.
     Cudafe,
+    /// ptxas, which makes a cubin.
     Ptxas,
+    /// fatbinary, which joins what the device tools make.
     Fatbinary,
+    /// nvlink, which links device code.
     Nvlink,
     /// Any other program, as a host compiler.
     Other,

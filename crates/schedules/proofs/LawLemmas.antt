@@ -224,7 +224,7 @@ never_stuck needs priorities slots setting events fine accepts is n h either =
     all_succeed (after s events) (over needs priorities slots setting events (good needs (length priorities) slots fine) is)
     (elim either [ inl e ↦ inl (ap StartsEarlier (EventLemmas.same_setting s events) ∙ e) | inr e ↦ inr (e ∙ sym count) ]) (suc n) n (omega arith) h
 
--- What is told.
+-- What may be printed.
 
 -- how commands that have ended ended, by their states
 abbrev StateAs : (ℕ → Bool) → ℕ → ℕ → CommandState → Type 0
@@ -256,7 +256,7 @@ states_as succeeds end s (Ended n o ∷ es) h so all =
 unstarted_as : (succeeds : ℕ → Bool) (end count m : ℕ) → StateAs succeeds end m (state_at (replicate count kinds.NotStarted) m)
 unstarted_as succeeds end count m = subst (StateAs succeeds end m) (sym (unstarted count m)) tt
 
--- the plan's own order tells at least what it came to
+-- the plan's own order prints at least what it came to
 comes_to : (succeeds : ℕ → Bool) (n left : ℕ) → n ≤ (told_in_order succeeds n left).end
 comes_to succeeds n zero = omega arith
 comes_to succeeds n (suc left) = by (succeeds n) (comes_to succeeds (n + 1) left)

@@ -1,3 +1,4 @@
+pub mod ChainLemmas
 pub mod CountLemmas
 pub mod EventLemmas
 pub mod GraphLemmas

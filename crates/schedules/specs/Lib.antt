@@ -1,7 +1,9 @@
+pub mod Chains
 pub mod Entered
 pub mod Events
 pub mod Graphs
 pub mod Kept
+pub mod Kinds
 pub mod ScheduleLaws
 pub mod Scheduled
 pub mod States

@@ -56,9 +56,9 @@ NeverStuck = OfSchedules (λ s events. is_over (after s events) ≡ true → (n 
     → (StartsEarlier s.after_failure ≡ true) ⊎ (first_bad (after s events).states ≡ length s.states)
     → is_succeeded (state_at (after s events).states n) ≡ true)
 
--- What is told.
+-- What is printed.
 
--- what the plan's own order tells of commands from a number on, one after the other up to the first failure
+-- what the plan's own order prints of commands from a number on, one after the other up to the first failure
 abbrev pub told_in_order : (ℕ → Bool) → ℕ → ℕ → Told
 told_in_order succeeds n zero = record { end = n; status = statuses.Succeeded }
 told_in_order succeeds n (suc left) = if succeeds n then told_in_order succeeds (n + 1) left else record { end = n + 1; status = statuses.Failed }
@@ -74,7 +74,7 @@ abbrev pub AllEndAs : (ℕ → Bool) → ℕ → List Event → Type 0
 AllEndAs succeeds end [] = Unit {0}
 AllEndAs succeeds end (e ∷ es) = EndsAs succeeds end e × AllEndAs succeeds end es
 
--- a schedule that is over has told exactly what the plan's own order tells
+-- a schedule that is over has let exactly that be printed which the plan's own order prints
 abbrev pub ToldInOrder : Type 0
 ToldInOrder = OfSchedules (λ s events. (succeeds : ℕ → Bool)
     → AllEndAs succeeds (told_in_order succeeds 0 (length s.states)).end events

@@ -1,4 +1,4 @@
--- Which outputs may be told: those of a plan in its own order, up to the first failure.
+-- Which outputs may be printed: those of a plan in its own order, up to the first failure.
 use Rattle.std.specs.Prelude.{ℕ, ◌+◌, ◌-◌, List, [], ◌∷◌, take, drop}
 use Rattle.schedules.specs.declared.command.CommandState.{CommandState}
 use Rattle.schedules.specs.declared.command.CommandState.TheVariants as kinds

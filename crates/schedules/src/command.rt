@@ -12,7 +12,7 @@ pub enum AfterFailure {
     StartNothing,
     /// Only commands that are earlier, in the order of the graph, than each one that failed.
     ///
-    /// Then the outputs that are told are those of the commands run one after the other, up to the first that fails.
+    /// Then the outputs that are printed are those of the commands run one after the other, up to the first that fails.
     StartEarlier,
     /// Every command whose needs have all succeeded.
     GoOn,
@@ -21,19 +21,26 @@ pub enum AfterFailure {
 /// How a command ended.
 #[derive(Clone, Copy, Debug)]
 pub enum Outcome {
+    /// It succeeded.
     Success,
+    /// It failed.
     Failure,
-    /// The caller ended it. It holds others back as a failure does, but isn't told.
+    /// The caller ended it. It holds others back as a failure does, but its output isn't printed.
     Cancelled,
 }
 
 /// What has become of a command.
 #[derive(Clone, Copy, Debug)]
 pub enum CommandState {
+    /// It hasn't started.
     NotStarted,
+    /// It has started and not ended.
     Running,
+    /// It ended with success.
     Succeeded,
+    /// It ended with failure.
     Failed,
+    /// The caller ended it.
     Cancelled,
 }
 
@@ -84,19 +91,20 @@ impl From<AllocError> for BadGraph {
 /// How a plan has come out so far.
 #[derive(Clone, Copy, Debug)]
 pub enum PlanStatus {
-    /// Not all of it has been told.
+    /// Not all of it has been printed.
     Unfinished,
     /// Every command succeeded.
     Succeeded,
-    /// The last command told failed, and nothing of the plan is told after it.
+    /// The last command whose output is printed failed, and nothing of the plan is printed after it.
     Failed,
 }
 
-/// Which outputs may be told.
+/// Which outputs may be printed.
 #[derive(Clone, Copy, Debug)]
 pub struct Told {
-    /// The number behind that of the last command whose output may be told.
+    /// The number behind that of the last command whose output may be printed.
     pub end: usize,
+    /// How the plan has come out so far.
     pub status: PlanStatus,
 }
 

@@ -306,10 +306,10 @@ impl Schedule {
         next
     }
 
-    /// Which outputs of a plan, or of what hasn't been told of it, may be told now, in this order.
+    /// Which outputs of a plan, or of what hasn't been printed of it, may be printed now, in this order.
     ///
     /// Its commands are those with the numbers from `first` up to `end`, without `end` itself; all before `first` have been
-    /// told, and succeeded. The outputs of those up to the answer's `end` may be told: of commands that succeeded, and at last
+    /// printed, and succeeded. The outputs of those up to the answer's `end` may be printed: of commands that succeeded, and at last
     /// of one that failed, if the status says so. Go on from there when more has ended.
     pub fn told(&self, first: usize, end: usize) -> Told
         ensures { result ≡ telling.told self.now.states first end }

@@ -1,11 +1,11 @@
-//! Which outputs may be told.
+//! Which outputs may be printed.
 
 ghost use Rattle.std.specs.Prelude.{◌≡◌};
 ghost use Rattle.schedules.specs.Told as spec;
 
 use crate::command::{CommandState, PlanStatus, Told};
 
-/// Which outputs of the commands with the numbers from `first` up to `end`, without `end` itself, may be told.
+/// Which outputs of the commands with the numbers from `first` up to `end`, without `end` itself, may be printed.
 pub(crate) fn told(states: &[CommandState], first: usize, end: usize) -> Told
     ensures { result ≡ spec.told states.now first end }
 {

@@ -15,17 +15,43 @@ use std::fmt;
 #[derive(Debug, PartialEq, Drop)]
 pub enum Fault {
     /// A line of a dry run isn't UTF-8.
-    NotUtf8 { run: usize, line: usize },
+    NotUtf8 {
+        /// The dry run.
+        run: usize,
+        /// The line's number.
+        line: usize,
+    },
     /// A command's line, expanded, has an open quote or ends in a backslash.
-    BadShell { run: usize, line: usize },
+    BadShell {
+        /// The dry run.
+        run: usize,
+        /// The line's number.
+        line: usize,
+    },
     /// A command's line, expanded, holds no word.
-    EmptyCommand { run: usize, line: usize },
+    EmptyCommand {
+        /// The dry run.
+        run: usize,
+        /// The line's number.
+        line: usize,
+    },
     /// No line before a command's line sets `PATH`.
-    NoPath { run: usize, line: usize },
+    NoPath {
+        /// The dry run.
+        run: usize,
+        /// The line's number.
+        line: usize,
+    },
     /// The look-up has no such program.
-    NotFound { program: Text },
+    NotFound {
+        /// The program's name, as the command has it.
+        program: Text,
+    },
     /// Arguments that are to be written have no output `obj`.
-    MissingOutput { language: Language },
+    MissingOutput {
+        /// The arguments' language.
+        language: Language,
+    },
     /// The path of the output `obj` has no file name.
     NoFileName,
     /// An option that names a keep directory is the last word.

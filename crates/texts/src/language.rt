@@ -8,13 +8,21 @@ use crate::extension::extension;
 /// The language of a file, or the kind of what a CUDA tool makes of it.
 #[derive(Clone, Copy, Debug, PartialEq)]
 pub enum Language {
+    /// C.
     C,
+    /// C++.
     Cxx,
+    /// Objective-C.
     ObjectiveC,
+    /// Objective-C++.
     ObjectiveCxx,
+    /// CUDA C++.
     Cuda,
+    /// CUDA C++, preprocessed for cudafe++.
     CudaFE,
+    /// PTX, the assembly language of device code.
     Ptx,
+    /// Device code for one architecture.
     Cubin,
 }
 

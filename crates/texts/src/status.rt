@@ -76,6 +76,7 @@ impl ExitStatus {
 /// How a process ended and the bytes that it wrote.
 #[derive(Debug, PartialEq, Drop)]
 pub struct Output {
+    /// How the process ended.
     pub status: ExitStatus,
     /// What it wrote to its standard output.
     pub stdout: Bytes,

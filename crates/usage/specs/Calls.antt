@@ -1,25 +1,21 @@
 -- The calls of zigrunk.
-use Rattle.std.specs.Prelude.{ℕ, List, [], ◌∷◌, Bool, true, false, ◌||◌, if◌then◌else◌, Option, Some, None, is_some, codes, option_map, option_and_then, option_copied, bytes_eq}
+use Rattle.std.specs.Prelude.{ℕ, List, [], ◌∷◌, Bool, false, ◌||◌, if◌then◌else◌, Option, Some, None, codes, option_map, option_and_then, bytes_eq}
 use Rattle.host_lines.specs.KeepThreads.{number_of}
 use Rattle.plan_scripts.specs.Formats.{format_of_name}
 use Rattle.plan_scripts.specs.declared.format.Format.{Format}
-use Rattle.plan_scripts.specs.declared.format.Format.TheVariants.{Ninja}
 use Rattle.program_calls.specs.Calls.{NvccOf, nvcc_of, nvcc_call_of, DirectoryOf, directory_of, directory_call_of, LineOf, PlanOf, line_of, plan_of, line_call_of, plan_call_of}
-use Rattle.usage.specs.Settings.{past, begins_option, options_taken, slot_taken, dependencies_taken}
+use Rattle.usage.specs.Settings.{past, begins_option, options_taken}
 use Rattle.usage.specs.declared.settings.Settings.{Settings}
 use Rattle.usage.specs.declared.call.Call.{Call}
 use Rattle.usage.specs.declared.call.Call.TheVariants as calls
 use Rattle.usage.specs.declared.call.ExportCall.{ExportCall}
 
 -- a call that writes a plan: the format, whether generated files keep nvcc's names, whether a plan that dropped a command is an
--- error, the words that run a script if each command of a Ninja file becomes one, whether that file makes the dependency file, and what
--- to plan
+-- error, and what to plan
 pub record ExportOf : Type 0 where
   pub format : Format
   pub keeps : Bool
   pub whole : Bool
-  pub slot : Option (List ℕ)
-  pub dependencies : Bool
   pub plan : PlanOf
 
 pub data CallOf : Type 0 where
@@ -37,8 +33,6 @@ export_of call = record {
   format = call.format;
   keeps = call.keeps;
   whole = call.whole;
-  slot = option_copied call.slot;
-  dependencies = call.dependencies;
   plan = plan_of call.plan;
 }
 
@@ -59,31 +53,16 @@ seen_limited (limit, call) = (limit, seen call)
 abbrev pub limited_export : ℕ × ExportCall → ℕ × ExportOf
 limited_export (limit, call) = (limit, export_of call)
 
--- whether a format is a Ninja file, whose commands may become scripts
-abbrev pub is_ninja : Format → Bool
-is_ninja Ninja = true
-is_ninja format = false
-
 -- a call of what to plan, with its settings
-abbrev pub with_settings : Format → Settings → Option (List ℕ) → Bool → PlanOf → ℕ × ExportOf
-with_settings format settings slot dependencies plan = (
-  settings.limit,
-  record { format = format; keeps = settings.keeps; whole = settings.whole; slot = slot; dependencies = dependencies; plan = plan },
-)
+abbrev pub with_settings : Format → Settings → PlanOf → ℕ × ExportOf
+with_settings format settings plan = (settings.limit, record { format = format; keeps = settings.keeps; whole = settings.whole; plan = plan })
 
--- The call that the words behind the options are: what to plan. No working directory begins with `-`.
-abbrev pub planned_call : Format → Settings → Option (List ℕ) → Bool → List (List ℕ) → Option (ℕ × ExportOf)
-planned_call format settings slot dependencies words =
-    if begins_option words then None else option_map (with_settings format settings slot dependencies) (plan_call_of words)
-
--- the call that the words behind a format's name are, given the limit of one that names none: options, those of a Ninja file, and what
--- to plan
+-- The call that the words behind a format's name are, given the limit of one that names none: options, and what to plan. No working
+-- directory begins with `-`.
 abbrev pub export_call_of : ℕ → Format → List (List ℕ) → Option (ℕ × ExportOf)
 export_call_of limit format words =
     let options = options_taken limit words in
-    let slot = slot_taken (is_ninja format) options.1 in
-    let dependencies = dependencies_taken (is_some slot.0) slot.1 in
-    planned_call format options.0 slot.0 dependencies.0 dependencies.1
+    if begins_option options.1 then None else option_map (with_settings format options.0) (plan_call_of options.1)
 
 -- a call that takes no further words
 abbrev pub alone : CallOf → List (List ℕ) → Option CallOf

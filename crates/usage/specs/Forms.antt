@@ -2,9 +2,8 @@
 use Rattle.std.specs.Prelude.{ℕ, List, [], ◌∷◌, if◌then◌else◌, Option, Some, None, codes, bytes_eq}
 use Rattle.plan_scripts.specs.Formats.{format_of_name}
 use Rattle.plan_scripts.specs.declared.format.Format.{Format}
-use Rattle.plan_scripts.specs.declared.format.Format.TheVariants as formats
 use Rattle.usage.specs.declared.form.Form.{Form}
-use Rattle.usage.specs.declared.form.Form.TheVariants.{Export, Ninja, Plan, Calls, Directory, Line, Page}
+use Rattle.usage.specs.declared.form.Form.TheVariants.{Export, Plan, Calls, Directory, Line, Page}
 
 -- the form of a call that writes no format, by its name
 abbrev pub plain_form : List ℕ → Option Form
@@ -19,7 +18,6 @@ plain_form name =
 
 -- the form of a call, by its name
 abbrev pub form_with : List ℕ → Option Format → Option Form
-form_with name (Some formats.Ninja) = Some Ninja
 form_with name (Some format) = Some Export
 form_with name None = plain_form name
 
@@ -29,7 +27,6 @@ form_of name = form_with name (format_of_name name)
 -- the words that follow a call's name, as a message shows them
 abbrev pub words_of : Form → List ℕ
 words_of Export = codes " [--limit BYTES] [--keep] [--whole] CWD TMP FLAG DRY1 DRY2 SUFFIX.."
-words_of Ninja = codes " [--limit BYTES] [--keep] [--whole] [--slot WORDS [--dependencies]] CWD TMP FLAG DRY1 DRY2 SUFFIX.."
 words_of Plan = codes " CWD TMP FLAG DRY1 DRY2 SUFFIX.."
 words_of Calls = codes " CWD TMP NVCC WORD.."
 words_of Directory = codes " CWD NVCC WORD.."
@@ -58,7 +55,6 @@ lacking_of_two first second (word ∷ other ∷ words) = None
 
 abbrev pub lacking : Form → List (List ℕ) → Option (List ℕ)
 lacking Export words = lacking_in_plan words
-lacking Ninja words = lacking_in_plan words
 lacking Plan words = lacking_in_plan words
 lacking Calls words = lacking_in_calls words
 lacking Directory words = lacking_of_two (codes "CWD") (codes "NVCC") words

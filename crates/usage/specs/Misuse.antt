@@ -1,12 +1,12 @@
 -- What the program says of words that are no call: what is wrong with them, and the form of the call.
-use Rattle.std.specs.Prelude.{◌≡◌, ◌⊎◌, ℕ, List, [], ◌∷◌, ◌++◌, Bool, true, false, if◌then◌else◌, Option, Some, None, is_some, refl, codes, bytes_eq}
+use Rattle.std.specs.Prelude.{◌≡◌, ◌⊎◌, ℕ, List, [], ◌∷◌, ◌++◌, if◌then◌else◌, Option, Some, None, is_some, refl, codes, bytes_eq}
 use Rattle.std.specs.Io.KnownBytes.{Appends}
 use Rattle.host_lines.specs.KeepThreads.{number_of}
 use Rattle.message_texts.specs.Excerpts.{shown}
 use Rattle.usage.specs.Forms.{form_of, words_of, lacking}
-use Rattle.usage.specs.Settings.{past, is_option, begins_option, options_taken, slot_taken, dependencies_taken}
+use Rattle.usage.specs.Settings.{past, is_option, begins_option, options_taken}
 use Rattle.usage.specs.declared.form.Form.{Form}
-use Rattle.usage.specs.declared.form.Form.TheVariants.{Export, Ninja, Line}
+use Rattle.usage.specs.declared.form.Form.TheVariants.{Export, Line}
 
 -- a word behind a text, as far as a message shows it, and the first of some words
 abbrev pub with_word : List ℕ → List ℕ → List ℕ
@@ -43,17 +43,11 @@ behind_lacking name form words None = odd name form words
 abbrev pub behind : List ℕ → Form → List (List ℕ) → List ℕ
 behind name form words = behind_lacking name form words (lacking form words)
 
--- the words behind the options of a call that has some, which may be one of a Ninja file
-abbrev pub behind_options : Bool → List (List ℕ) → List (List ℕ)
-behind_options ninja words =
-    let slot = slot_taken ninja (options_taken 0 words).1 in
-    (dependencies_taken (is_some slot.0) slot.1).1
-
--- what is wrong with the words behind the name of such a call
-abbrev pub export_misuse : List ℕ → Form → Bool → List (List ℕ) → List ℕ
-export_misuse name form ninja words =
-    let rest = behind_options ninja words in
-    if begins_option rest then option_misuse rest else behind name form rest
+-- what is wrong with the words behind the name of a call with options
+abbrev pub export_misuse : List ℕ → List (List ℕ) → List ℕ
+export_misuse name words =
+    let rest = (options_taken 0 words).1 in
+    if begins_option rest then option_misuse rest else behind name Export rest
 
 -- what a name that no call has is
 abbrev pub kind_of : List ℕ → List ℕ
@@ -62,8 +56,7 @@ kind_of name = if is_option name then codes "unexpected option " else codes "unk
 -- what is wrong with a name and the words behind it, given the form of that name's call
 abbrev pub formed_misuse : List ℕ → List (List ℕ) → Option Form → List ℕ
 formed_misuse name words None = with_word (kind_of name) name
-formed_misuse name words (Some Export) = export_misuse name Export false words
-formed_misuse name words (Some Ninja) = export_misuse name Ninja true words
+formed_misuse name words (Some Export) = export_misuse name words
 formed_misuse name words (Some form) = behind name form words
 
 abbrev pub named_misuse : List ℕ → List (List ℕ) → List ℕ

@@ -11,8 +11,6 @@ help_text =
     lines_of
     (codes "usage: zigrunk FORMAT [--limit BYTES] [--keep] [--whole]" ∷
     codes "                   CWD TMP FLAG DRY1 DRY2 SUFFIX.." ∷
-    codes "       zigrunk ninja [--limit BYTES] [--keep] [--whole] --slot WORDS" ∷
-    codes "                   [--dependencies] CWD TMP FLAG DRY1 DRY2 SUFFIX.." ∷
     codes "       zigrunk calls CWD TMP NVCC WORD.." ∷
     codes "       zigrunk directory CWD NVCC WORD.." ∷
     codes "       zigrunk line TOOL CWD WORD.." ∷
@@ -35,10 +33,6 @@ help_text =
     codes "line                Read a line of cicc, ptxas or cudafe++ and write it back, one" ∷
     codes "                    word a line." ∷
     codes "plan                Write the plan of two dry runs as text, as cudaplan does." ∷
-    codes "--slot              Write each command to a script, and run that by WORDS, which" ∷
-    codes "                    are a shell's: the script's path without .sh comes behind" ∷
-    codes "                    them. With --dependencies, Ninja also runs the script" ∷
-    codes "                    TMP/zigrunk.tmp/dependencies once the source is preprocessed." ∷
     codes "--limit             Stop if reading a dry run makes over so many bytes of text:" ∷
     codes "                    its variables can make a short one explode. It is 2097152" ∷
     codes "                    (2 MiB) if not given." ∷
@@ -51,7 +45,7 @@ help_text =
     [] ∷
     codes "The exit status is 0 on success, 1 on a fault, 2 for wrong usage, and 3 if calls" ∷
     codes "reads a line that goes to nvcc unchanged." ∷
-    codes "See zigrunk(1). zigrunk-nvcc runs calls, ninja and Ninja for you." ∷
+    codes "See zigrunk(1). zigrunk-nvcc runs a call's commands for you." ∷
     [])
 
 -- what `--version` writes

@@ -1,5 +1,5 @@
 -- The options of a call that writes a plan for another tool.
-use Rattle.std.specs.Prelude.{ℕ, List, [], ◌∷◌, Bool, true, false, ◌&&◌, if◌then◌else◌, Option, Some, None, nat_eq, codes, bytes_eq}
+use Rattle.std.specs.Prelude.{ℕ, List, [], ◌∷◌, Bool, true, false, if◌then◌else◌, Option, Some, None, nat_eq, codes, bytes_eq}
 use Rattle.std.specs.List.{starts_with}
 use Rattle.host_lines.specs.KeepThreads.{number_of}
 use Rattle.usage.specs.declared.settings.Settings.{Settings}
@@ -45,13 +45,3 @@ options_taken limit words =
     let first = taken (record { limit = limit; keeps = false; whole = false }) words in
     let second = taken first.0 first.1 in
     taken second.0 second.1
-
--- the words of `--slot WORDS`, if words begin with it and are those of a call that may have it, and the words behind them
-abbrev pub slot_taken : Bool → List (List ℕ) → Option (List ℕ) × List (List ℕ)
-slot_taken allowed (option ∷ slot ∷ words) =
-    if allowed && bytes_eq option (codes "--slot") then (Some slot, words) else (None, option ∷ slot ∷ words)
-slot_taken allowed words = (None, words)
-
--- whether words begin with `--dependencies` and are those of a call that may have it, and the words behind it
-abbrev pub dependencies_taken : Bool → List (List ℕ) → Bool × List (List ℕ)
-dependencies_taken allowed words = if allowed then past (codes "--dependencies") words else (false, words)

@@ -1,11 +1,9 @@
 //! The forms of a call.
 
-ghost use Rattle.std.specs.Prelude.{◌≡◌, map, string_bytes, option_map, option_copied};
+ghost use Rattle.std.specs.Prelude.{◌≡◌, map, string_bytes, option_map};
 ghost use Rattle.usage.specs.Calls as spec;
 
-use crate::settings::{
-    Settings, begins_option, dependencies_taken, number_in, options_taken, past, slot_taken,
-};
+use crate::settings::{begins_option, number_in, options_taken, past};
 use plan_scripts::Format;
 use program_calls::{
     DirectoryCall, LineCall, NvccCall, PlanCall, directory_call, line_call, nvcc_call, plan_call,
@@ -14,15 +12,13 @@ use program_calls::{
 /// A call that writes the plan of two dry runs for another tool.
 #[derive(Drop)]
 pub struct ExportCall<'a> {
+    /// What the plan is written as.
     pub format: Format,
     /// Whether generated files keep nvcc's names.
     pub keeps: bool,
     /// Whether a plan that dropped a command is an error.
     pub whole: bool,
-    /// The words that run a script, if each command of a Ninja file becomes one.
-    pub slot: Option<&'a str>,
-    /// Whether that file makes the dependency file.
-    pub dependencies: bool,
+    /// The plan's own words.
     pub plan: PlanCall<'a>,
 }
 
@@ -33,54 +29,22 @@ pub enum Call<'a> {
     Line(LineCall<'a>),
     /// Writes the text of the plan of two dry runs.
     Plan(PlanCall<'a>),
+    /// Writes the plan of two dry runs for another tool.
     Export(ExportCall<'a>),
     /// Reads an nvcc line.
     Nvcc(NvccCall<'a>),
     /// Names the directory of an nvcc call.
     Directory(DirectoryCall<'a>),
+    /// Prints how to call the program.
     Help,
+    /// Prints the version.
     Version,
 }
 
 /// The limit of a call that names none, in bytes: 2 MiB. The dry runs of a real call hold some hundred KiB.
 const DEFAULT_LIMIT: usize = 2_097_152;
 
-// Whether a format is a Ninja file, whose commands may become scripts.
-fn is_ninja(format: Format) -> bool
-    ensures { result ≡ spec.is_ninja format }
-{
-    match format {
-        Format::Ninja => true,
-        _ => false,
-    }
-}
-
-// Parses `CWD TMP FLAG DRY1 DRY2 SUFFIX..`. No working directory begins with `-`.
-fn planned_call<'a>(
-    format: Format,
-    settings: Settings,
-    slot: Option<&'a str>,
-    dependencies: bool,
-    words: &'a [String],
-) -> Option<(usize, ExportCall<'a>)>
-    ensures { option_map spec.limited_export result
-        ≡ spec.planned_call format settings (option_copied slot.entry) dependencies (map string_bytes words.now) }
-{
-    if begins_option(words) {
-        return None;
-    }
-    let call = ExportCall {
-        format,
-        keeps: settings.keeps,
-        whole: settings.whole,
-        slot,
-        dependencies,
-        plan: plan_call(words)?,
-    };
-    Some((settings.limit, call))
-}
-
-// Parses `OPTION.. CWD TMP FLAG DRY1 DRY2 SUFFIX..`.
+// Parses `OPTION.. CWD TMP FLAG DRY1 DRY2 SUFFIX..`. No working directory begins with `-`.
 fn export_call<'a>(
     limit: usize,
     format: Format,
@@ -89,9 +53,16 @@ fn export_call<'a>(
     ensures { option_map spec.limited_export result ≡ spec.export_call_of limit format (map string_bytes words.now) }
 {
     let (settings, words) = options_taken(limit, words);
-    let (slot, words) = slot_taken(is_ninja(format), words);
-    let (dependencies, words) = dependencies_taken(slot.is_some(), words);
-    planned_call(format, settings, slot, dependencies, words)
+    if begins_option(words) {
+        return None;
+    }
+    let call = ExportCall {
+        format,
+        keeps: settings.keeps,
+        whole: settings.whole,
+        plan: plan_call(words)?,
+    };
+    Some((settings.limit, call))
 }
 
 // The call, if no further words follow.
@@ -175,8 +146,7 @@ fn call_behind_limit<'a>(words: &'a [String]) -> Option<(usize, Call<'a>)>
 /// Parses the words after the program's name, `[--limit BYTES]` and one of these calls, and gives the limit too:
 ///
 /// - `shell|ninja|json|dot|compdb|makeflow|text OPTION.. CWD TMP FLAG DRY1 DRY2 SUFFIX..`, with the options `--keep` if generated files keep
-///   nvcc's names, `--whole` if a plan that dropped a command is an error, and `--limit BYTES`, in any order. Behind these `ninja` takes
-///   `--slot WORDS`, and then `--dependencies`: WORDS run each command's script, and the file makes the dependency file too;
+///   nvcc's names, `--whole` if a plan that dropped a command is an error, and `--limit BYTES`, in any order.
 /// - `calls CWD TMP NVCC WORD..`;
 /// - `directory CWD NVCC WORD..`;
 /// - `line TOOL CWD WORD..` or `plan CWD TMP FLAG DRY1 DRY2 SUFFIX..`, as `cudaplan`;

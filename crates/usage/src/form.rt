@@ -10,8 +10,6 @@ use plan_scripts::Format;
 pub enum Form {
     /// Options and two dry runs.
     Export,
-    /// The same, for a Ninja file.
-    Ninja,
     /// Two dry runs.
     Plan,
     /// An nvcc line, and where it runs.
@@ -43,7 +41,6 @@ pub fn form_named(name: &str) -> Option<Form>
     ensures { result ≡ spec.form_of name.now }
 {
     match Format::named(name) {
-        Some(Format::Ninja) => Some(Form::Ninja),
         Some(_) => Some(Form::Export),
         None => plain_form(name),
     }
@@ -54,10 +51,7 @@ pub fn words_of(form: Form) -> &'static str
     ensures { result.now ≡ spec.words_of form }
 {
     match form {
-        Form::Export => { " [--limit BYTES] [--keep] [--whole] CWD TMP FLAG DRY1 DRY2 SUFFIX.." }
-        Form::Ninja => {
-            " [--limit BYTES] [--keep] [--whole] [--slot WORDS [--dependencies]] CWD TMP FLAG DRY1 DRY2 SUFFIX.."
-        }
+        Form::Export => " [--limit BYTES] [--keep] [--whole] CWD TMP FLAG DRY1 DRY2 SUFFIX..",
         Form::Plan => " CWD TMP FLAG DRY1 DRY2 SUFFIX..",
         Form::Calls => " CWD TMP NVCC WORD..",
         Form::Directory => " CWD NVCC WORD..",
@@ -112,7 +106,7 @@ pub fn lacking(form: Form, words: &[String]) -> Option<&'static str>
     ensures { option_copied result ≡ spec.lacking form (map string_bytes words.now) }
 {
     match form {
-        Form::Export | Form::Ninja | Form::Plan => lacking_in_plan(words),
+        Form::Export | Form::Plan => lacking_in_plan(words),
         Form::Calls => lacking_in_calls(words),
         Form::Directory => lacking_of_two("CWD", "NVCC", words),
         Form::Line => lacking_of_two("a tool", "CWD", words),

@@ -4,9 +4,7 @@ ghost use Rattle.std.specs.Prelude.{◌≡◌, ◌++◌, IfOk, OnOk, map, string
 ghost use Rattle.usage.specs.Misuse as spec;
 
 use crate::form::{Form, form_named, lacking, words_of};
-use crate::settings::{
-    begins_option, dependencies_taken, is_option, number_in, options_taken, past, slot_taken,
-};
+use crate::settings::{begins_option, is_option, number_in, options_taken, past};
 use message_texts::push_shown;
 use std::alloc::{AllocError, Global};
 use std::io::{self, Write};
@@ -94,31 +92,15 @@ fn push_behind(
     }
 }
 
-// The words behind the options of a call that has some.
-fn behind_options(ninja: bool, words: &[String]) -> &[String]
-    ensures { map string_bytes result.now ≡ spec.behind_options ninja (map string_bytes words.now) }
-{
-    let (_, words) = options_taken(0, words);
-    let (slot, words) = slot_taken(ninja, words);
-    let (_, words) = dependencies_taken(slot.is_some(), words);
-    words
-}
-
 // Adds what is wrong with the words behind the name of a call with options.
-fn push_behind_options(
-    text: &mut String,
-    name: &str,
-    form: Form,
-    ninja: bool,
-    words: &[String],
-) -> Result<(), AllocError>
-    ensures { OnOk result (string_bytes text.new ≡ string_bytes text.old ++ spec.export_misuse name.now form ninja (map string_bytes words.now)) }
+fn push_behind_options(text: &mut String, name: &str, words: &[String]) -> Result<(), AllocError>
+    ensures { OnOk result (string_bytes text.new ≡ string_bytes text.old ++ spec.export_misuse name.now (map string_bytes words.now)) }
 {
-    let rest = behind_options(ninja, words);
+    let (_, rest) = options_taken(0, words);
     if begins_option(rest) {
         push_option(text, rest)
     } else {
-        push_behind(text, name, form, rest)
+        push_behind(text, name, Form::Export, rest)
     }
 }
 
@@ -139,8 +121,7 @@ fn push_named(text: &mut String, name: &str, words: &[String]) -> Result<(), All
 {
     match form_named(name) {
         None => push_word(text, kind_of(name), name),
-        Some(Form::Export) => push_behind_options(text, name, Form::Export, false, words),
-        Some(Form::Ninja) => push_behind_options(text, name, Form::Ninja, true, words),
+        Some(Form::Export) => push_behind_options(text, name, words),
         Some(form) => push_behind(text, name, form, words),
     }
 }

@@ -9,8 +9,6 @@ pub fn help() -> &'static str
 {
     "usage: zigrunk FORMAT [--limit BYTES] [--keep] [--whole]
                    CWD TMP FLAG DRY1 DRY2 SUFFIX..
-       zigrunk ninja [--limit BYTES] [--keep] [--whole] --slot WORDS
-                   [--dependencies] CWD TMP FLAG DRY1 DRY2 SUFFIX..
        zigrunk calls CWD TMP NVCC WORD..
        zigrunk directory CWD NVCC WORD..
        zigrunk line TOOL CWD WORD..
@@ -33,10 +31,6 @@ directory           Write a name for the directory of an nvcc call. The same cal
 line                Read a line of cicc, ptxas or cudafe++ and write it back, one
                     word a line.
 plan                Write the plan of two dry runs as text, as cudaplan does.
---slot              Write each command to a script, and run that by WORDS, which
-                    are a shell's: the script's path without .sh comes behind
-                    them. With --dependencies, Ninja also runs the script
-                    TMP/zigrunk.tmp/dependencies once the source is preprocessed.
 --limit             Stop if reading a dry run makes over so many bytes of text:
                     its variables can make a short one explode. It is 2097152
                     (2 MiB) if not given.
@@ -49,7 +43,7 @@ commands run at once.
 
 The exit status is 0 on success, 1 on a fault, 2 for wrong usage, and 3 if calls
 reads a line that goes to nvcc unchanged.
-See zigrunk(1). zigrunk-nvcc runs calls, ninja and Ninja for you.
+See zigrunk(1). zigrunk-nvcc runs a call's commands for you.
 "
 }
 

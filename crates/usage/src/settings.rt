@@ -1,6 +1,6 @@
 //! The options of a call that writes a plan for another tool.
 
-ghost use Rattle.std.specs.Prelude.{◌≡◌, map, string_bytes, option_copied};
+ghost use Rattle.std.specs.Prelude.{◌≡◌, map, string_bytes};
 ghost use Rattle.host_lines.specs.KeepThreads.{number_of};
 ghost use Rattle.usage.specs.Settings as spec;
 
@@ -129,27 +129,4 @@ pub fn options_taken<'a>(limit: usize, words: &'a [String]) -> (Settings, &'a [S
     let (settings, words) = taken(settings, words);
     let (settings, words) = taken(settings, words);
     taken(settings, words)
-}
-
-/// Takes `--slot WORDS`, if words begin with it and are those of a call that may have it.
-pub fn slot_taken<'a>(allowed: bool, words: &'a [String]) -> (Option<&'a str>, &'a [String])
-    ensures { (option_copied result.0, map string_bytes result.1.now) ≡ spec.slot_taken allowed (map string_bytes words.now) }
-{
-    match words {
-        [option, slot, rest @ ..] if allowed && option.as_str() == "--slot" => {
-            (Some(slot.as_str()), rest)
-        }
-        _ => (None, words),
-    }
-}
-
-/// Takes `--dependencies`, if words begin with it and are those of a call that may have it.
-pub fn dependencies_taken<'a>(allowed: bool, words: &'a [String]) -> (bool, &'a [String])
-    ensures { (result.0, map string_bytes result.1.now) ≡ spec.dependencies_taken allowed (map string_bytes words.now) }
-{
-    if allowed {
-        past("--dependencies", words)
-    } else {
-        (false, words)
-    }
 }

@@ -1,7 +1,7 @@
-//! The exports of libzigrunk: for each call of `c_texts`, `c_lines`, `c_plans`, `c_steps` and `c_keys`, one C function. The header is `bindings/c/zigrunk.h`.
+//! The exports of libzigrunk: for each call of `c_texts`, `c_lines`, `c_plans`, `c_steps`, `c_keys` and `c_schedules`, one C function. The header is `bindings/c/zigrunk.h`.
 #![tactic(auto)]
 
-ghost use Rattle.std.specs.Prelude.{◌≡◌, map};
+ghost use Rattle.std.specs.Prelude.{◌≡◌, length, map, replicate, slice_set};
 ghost use Rattle.c_keys.specs.KeyCalls.{key_outcome};
 ghost use Rattle.c_lines.specs.LineRecordCalls.{line_records};
 ghost use Rattle.c_lines.specs.LineRecords.{GivesLine};
@@ -12,6 +12,8 @@ ghost use Rattle.c_plans.specs.PlanRecords.{plan_records};
 ghost use Rattle.c_plans.specs.Planning.{plan_outcome};
 ghost use Rattle.c_plans.specs.Records.{GivesRecords};
 ghost use Rattle.c_plans.specs.Renaming.{remap_outcome};
+ghost use Rattle.c_schedules.specs.Answers as schedule_answers;
+ghost use Rattle.c_schedules.specs.Calls as schedules;
 ghost use Rattle.c_steps.specs.PlanSteps.{plan_steps};
 ghost use Rattle.c_steps.specs.StepBuffers.{GivesSteps};
 ghost use Rattle.c_texts.specs.Memory.{bytes_of};
@@ -23,6 +25,7 @@ ghost use Rattle.c_texts.specs.Version as version;
 use c_keys::KeyCall;
 use c_lines::{LineAnswer, LineCall, NvccLineCall, OutputRecord};
 use c_plans::{CommandRecord, GroupRecord, PlanCall, RecordsAnswer};
+use c_schedules::{ProgressAnswer, ScheduleAnswer, ScheduleCall, ToldAnswer};
 use c_steps::{StepRecord, StepsAnswer};
 use c_texts::{InputText, ListAnswer, Range, TextAnswer};
 use std::alloc::Global;
@@ -245,4 +248,75 @@ pub extern "C" fn zigrunk_remap(
     ensures { GivesList (remap_outcome (map bytes_of words.now) (map bytes_of suffixes.now)) result ranges.old ranges.new out.old out.new }
 {
     c_plans::remap(alloc, words, suffixes, ranges, out)
+}
+
+/// Makes the states of a schedule those of commands of which none has started.
+#[unsafe(no_mangle)]
+pub extern "C" fn zigrunk_schedule_begin(
+    call: &ScheduleCall<'_>,
+    states: &mut [u8],
+) -> ScheduleAnswer
+    ensures answer { result ≡ schedule_answers.noted (schedules.begun call.now states.old) }
+    ensures states { states.new ≡ schedules.if_accepted (schedules.begun call.now states.old) (replicate (length states.old) 0) states.old }
+{
+    c_schedules::begin(call, states)
+}
+
+/// Names the command of a schedule that may start next.
+#[unsafe(no_mangle)]
+pub extern "C" fn zigrunk_schedule_next(call: &ScheduleCall<'_>, states: &[u8]) -> ScheduleAnswer
+    ensures { result ≡ schedule_answers.next_answer call.now states.now }
+{
+    c_schedules::next(call, states)
+}
+
+/// Notes that a command of a schedule has started.
+#[unsafe(no_mangle)]
+pub extern "C" fn zigrunk_schedule_started(
+    call: &ScheduleCall<'_>,
+    states: &mut [u8],
+    command: usize,
+) -> ScheduleAnswer
+    ensures answer { result ≡ schedule_answers.noted (schedules.started call.now states.old command) }
+    ensures states { states.new ≡ schedules.if_accepted (schedules.started call.now states.old command) (slice_set states.old command 1) states.old }
+{
+    c_schedules::started(call, states, command)
+}
+
+/// Notes that a command of a schedule has ended.
+#[unsafe(no_mangle)]
+pub extern "C" fn zigrunk_schedule_ended(
+    call: &ScheduleCall<'_>,
+    states: &mut [u8],
+    command: usize,
+    outcome: u32,
+) -> ScheduleAnswer
+    ensures answer { result ≡ schedule_answers.noted (schedules.ended call.now states.old command outcome) }
+    ensures states { states.new ≡ schedules.if_accepted (schedules.ended call.now states.old command outcome) (slice_set states.old command outcome) states.old }
+{
+    c_schedules::ended(call, states, command, outcome)
+}
+
+/// Says how far a schedule is.
+#[unsafe(no_mangle)]
+pub extern "C" fn zigrunk_schedule_progress(
+    call: &ScheduleCall<'_>,
+    states: &[u8],
+) -> ProgressAnswer
+    ensures { result ≡ schedule_answers.progress_answer call.now states.now }
+{
+    c_schedules::progress(call, states)
+}
+
+/// Says which outputs of a schedule may be printed.
+#[unsafe(no_mangle)]
+pub extern "C" fn zigrunk_schedule_told(
+    call: &ScheduleCall<'_>,
+    states: &[u8],
+    first: usize,
+    end: usize,
+) -> ToldAnswer
+    ensures { result ≡ schedule_answers.told_answer call.now states.now first end }
+{
+    c_schedules::told(call, states, first, end)
 }

@@ -91,6 +91,15 @@ cases! {
     words_that_only_look_alike:
         "fn ensures(requires: u8) -> A {\n    ensures { a: ghosts }\n}\nmacro_rules! prove_all {\n    ($a:expr) => { prover!($a); };\n}\n"
         => "fn ensures(requires: u8) -> A {\n    ensures { a: ghosts }\n}\nmacro_rules! prove_all {\n    ($a:expr) => { prover!($a); };\n}\n";
+    what_contracts_see:
+        "/// A list. Contracts see it\n/// as a list.\nstruct A;\n\n/// Bytes, seen in contracts as numbers.\n///\n/// Contracts see it.\nstruct B;\n"
+        => "/// A list.\nstruct A;\n\n/// Bytes.\nstruct B;\n";
+    which_law_is_about_it:
+        "//! Alike (`laws::alike`). A\n//! text.\n\n/// Orders. `laws::orders` says more.\n///\n/// Variables (`specs/A` says which).\nfn a() {}\n"
+        => "//! Alike. A\n//! text.\n\n/// Orders.\n///\n/// Variables.\nfn a() {}\n";
+    documentation_that_goes_on:
+        "/// A. Contracts see it. B.\n/// Contracts see, as `a.b`\n\n// A. Contracts see it.\nstruct A;\n"
+        => "/// A. Contracts see it. B.\n/// Contracts see, as `a.b`\n\n// A. Contracts see it.\nstruct A;\n";
     types_of_functions:
         "type A = fn(u8) -> u8;\nfn a(f: fn(u8) -> (u8, [u8; 2])) -> fn() -> u8\n    ensures { b }\n{\n    f\n}\n"
         => "type A = fn(u8) -> u8;\nfn a(f: fn(u8) -> (u8, [u8; 2])) -> fn() -> u8 {\n    f\n}\n";
@@ -180,9 +189,13 @@ fn drawn_files() {
     }
 }
 
+/// The sources below a folder, without what the kit has built there.
 fn sources(folder: &Path, found: &mut Vec<PathBuf>) {
     for entry in fs::read_dir(folder).expect("a folder") {
         let path = entry.expect("an entry").path();
+        if path.ends_with("out") {
+            continue;
+        }
         if path.is_dir() {
             sources(&path, found);
         } else if path.extension().is_some_and(|it| it == "rt") {

@@ -50,6 +50,11 @@ pub fn erased(root: &Path, of: &Crate) -> Result<ErasedCrate, Error> {
 }
 
 impl ErasedCrate {
+    /// Whether no code is left of it: it had theorems alone.
+    pub fn is_empty(&self) -> bool {
+        self.words.is_empty()
+    }
+
     // Adds a file that erasing left.
     fn add(&mut self, folder: &Path, path: &Path, source: &Source<'_>) {
         let shown = folder.join(path);

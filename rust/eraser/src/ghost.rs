@@ -1,5 +1,6 @@
 //! Which tokens of a file only the prover reads.
 
+use crate::documentation::delete_of_documentation;
 use crate::imports::{delete_leaf, imports};
 use crate::signature::{Signature, signature};
 use crate::source::{Class, Fault, Source};
@@ -22,6 +23,7 @@ pub fn erase(source: &mut Source<'_>) -> Result<(), Fault> {
     delete_model_imports(source);
     delete_labels(source);
     delete_unread_imports(source);
+    delete_of_documentation(source);
     Ok(())
 }
 

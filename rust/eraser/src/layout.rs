@@ -9,7 +9,7 @@ pub fn text(source: &Source<'_>) -> String {
     let mut before = None;
     for place in (0..source.len()).filter(|it| source.is_kept(*it)) {
         text.push_str(&blanks(source, before, place));
-        text.push_str(source.word(place));
+        text.push_str(&source.kept_text(place));
         before = Some(place);
     }
     if !text.is_empty() {

@@ -6,6 +6,7 @@
 #[cfg(test)]
 mod cases;
 mod crates;
+mod documentation;
 mod erased;
 mod error;
 mod exports;

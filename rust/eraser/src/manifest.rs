@@ -30,7 +30,7 @@ pub fn manifest(of: &Crate, erased: &ErasedCrate, known: &Known) -> Result<Strin
          rust-version.workspace = true\nlicense.workspace = true\npublish = false\n\n",
         description(erased)
     );
-    text.push_str(target(of));
+    text.push_str(&target(of, erased));
     text.push_str(
         "[dependencies]\nstd = { package = \"rattle_std\", path = \"../../stand/std\" }\n",
     );
@@ -63,15 +63,24 @@ fn dependency(
     })
 }
 
-// What cargo builds of a crate, where that isn't what its name says.
-fn target(of: &Crate) -> &'static str {
-    match of.name.as_str() {
-        exports::CRATE => {
-            "[lib]\nname = \"zigrunk\"\ncrate-type = [\"cdylib\", \"staticlib\"]\ndoc = false\n\n"
-        }
-        PROGRAM => "[[bin]]\nname = \"zigrunk\"\npath = \"src/main.rs\"\ndoc = false\n\n",
-        _ => "",
+// What cargo builds of a crate. A program starts without Rust's `main`, and so it can't be a test of itself.
+fn target(of: &Crate, erased: &ErasedCrate) -> String {
+    if of.name == exports::CRATE {
+        return "[lib]\nname = \"zigrunk\"\ncrate-type = [\"cdylib\", \"staticlib\"]\ndoc = false\n\n".to_string();
     }
+    if !erased.files.contains_key(Path::new("src/main.rs")) {
+        return String::new();
+    }
+    // the crate for Rust has this name, and the page
+    let doc = if of.name == PROGRAM {
+        "doc = false\n"
+    } else {
+        ""
+    };
+    format!(
+        "[[bin]]\nname = \"{}\"\npath = \"src/main.rs\"\ntest = false\n{doc}\n",
+        of.name
+    )
 }
 
 // The first sentence of the crate's documentation, without its end.

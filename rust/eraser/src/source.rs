@@ -1,7 +1,7 @@
 //! A file of the proved sources, and which of its tokens go.
 
 use crate::tokens::{Kind, Token, Unended, tokens};
-use std::collections::BTreeSet;
+use std::collections::{BTreeMap, BTreeSet};
 use std::fmt;
 use std::ops::{Range, RangeInclusive};
 
@@ -32,6 +32,8 @@ pub enum Class {
     Label,
     /// The import of a module that nothing names any more.
     Import,
+    /// In documentation, what contracts see of a value, and which law is about it.
+    View,
 }
 
 impl Class {
@@ -50,6 +52,7 @@ impl Class {
             Class::Writer => "writer",
             Class::Label => "label",
             Class::Import => "import",
+            Class::View => "view",
         }
     }
 }
@@ -93,6 +96,8 @@ pub struct Source<'a> {
     tokens: Vec<Token<'a>>,
     partners: Vec<usize>,
     classes: Vec<Option<Class>>,
+    // Of tokens that stay, the bytes that don't.
+    cuts: BTreeMap<usize, Range<usize>>,
 }
 
 impl<'a> Source<'a> {
@@ -103,6 +108,7 @@ impl<'a> Source<'a> {
             text,
             partners: partners(&tokens)?,
             classes: vec![None; tokens.len()],
+            cuts: BTreeMap::new(),
             tokens,
         })
     }
@@ -120,6 +126,15 @@ impl<'a> Source<'a> {
     /// The text of a token, empty behind the last one.
     pub fn word(&self, place: usize) -> &'a str {
         self.token(place).map_or("", |it| it.text)
+    }
+
+    /// What stays of a token that does.
+    pub fn kept_text(&self, place: usize) -> String {
+        let mut text = self.word(place).to_string();
+        if let Some(cut) = self.cuts.get(&place) {
+            text.drain(cut.clone());
+        }
+        text
     }
 
     /// Whether a token is of a kind.
@@ -240,6 +255,11 @@ impl<'a> Source<'a> {
         }
     }
 
+    /// Deletes some bytes of a line of documentation.
+    pub fn cut(&mut self, place: usize, bytes: Range<usize>) {
+        self.cuts.insert(place, bytes);
+    }
+
     /// Deletes tokens, also those that go for another reason already.
     pub fn delete_whole(&mut self, places: RangeInclusive<usize>, class: Class) {
         self.classes[places].fill(Some(class));
@@ -261,12 +281,16 @@ impl<'a> Source<'a> {
         let mut spans: Vec<(Class, Range<usize>)> = Vec::new();
         let mut before = None;
         for (place, class) in self.classes.iter().enumerate() {
-            if let Some(class) = *class {
-                let token = &self.tokens[place];
-                match spans.last_mut() {
-                    Some((_, span)) if before == Some(class) => span.end = token.end(),
-                    _ => spans.push((class, token.start..token.end())),
+            let token = &self.tokens[place];
+            match (*class, spans.last_mut(), self.cuts.get(&place)) {
+                (Some(class), Some((_, span)), _) if before == Some(class) => {
+                    span.end = token.end()
                 }
+                (Some(class), _, _) => spans.push((class, token.start..token.end())),
+                (None, _, Some(cut)) => {
+                    spans.push((Class::View, token.start + cut.start..token.start + cut.end))
+                }
+                (None, _, None) => {}
             }
             before = *class;
         }

@@ -81,8 +81,13 @@ pub fn workspace_of(root: &Path, drivers: bool) -> Result<Workspace, Error> {
 }
 
 impl Workspace {
+    // Adds a crate of the proved sources. There is none of theorems alone.
     fn add_crate(&mut self, root: &Path, of: &Crate, known: &Known) -> Result<(), Error> {
         let mut erased = erased(root, of)?;
+        self.record.push_str(&erased.record);
+        if erased.is_empty() {
+            return Ok(());
+        }
         let folder = Path::new("crates").join(&of.name);
         if of.name == exports::CRATE {
             export(&mut erased)?;
@@ -96,7 +101,6 @@ impl Workspace {
             }
             self.tree.add(path, text);
         }
-        self.record.push_str(&erased.record);
         self.members.push(folder);
         Ok(())
     }

@@ -1,14 +1,21 @@
 //! Compares schedules with their definition: `schedules-test SEED RUNS` walks all that can happen to small plans, and makes so many
-//! random runs. `schedules-test cost COMMANDS` runs a plan of so many, to be counted by a profiler; with 0 events if a word follows.
+//! random runs. With the word `all`, it walks every kind of plan of seven commands. `schedules-test cost COMMANDS` runs a plan of so many, to be
+//! counted by a profiler; with 0 events if a word follows.
 
+mod interleavings;
 mod model;
+mod orders;
 mod products;
+mod states;
 mod walks;
 
 use crate::model::{Graph, Lot};
 use rattle_std::alloc::Global;
 use rattle_std::vec::Vec as List;
 use schedules::{AfterFailure, BadGraph, Outcome, Schedule};
+
+/// Of how many kinds of orders of seven commands a run walks all states, unless it's to walk all.
+const SEVENS: usize = 60;
 
 const SETTINGS: [AfterFailure; 3] = [AfterFailure::StartNothing, AfterFailure::StartEarlier, AfterFailure::GoOn];
 
@@ -28,51 +35,6 @@ impl Counts {
             }
         }
     }
-}
-
-/// All graphs of so many commands: each need is there or not.
-fn all_graphs(count: usize) -> Vec<Vec<Vec<usize>>> {
-    let pairs: Vec<(usize, usize)> = (0..count).flat_map(|later| (0..later).map(move |earlier| (earlier, later))).collect();
-    (0_usize..1 << pairs.len())
-        .map(|bits| {
-            let mut needs = vec![Vec::new(); count];
-            for (place, &(earlier, later)) in pairs.iter().enumerate() {
-                if bits >> place & 1 == 1 {
-                    needs[later].push(earlier);
-                }
-            }
-            needs
-        })
-        .collect()
-}
-
-/// Every path through all small plans, and through drawn ones of up to seven commands.
-fn interleavings(counts: &mut Counts, lot: &mut Lot) {
-    let mut paths = 0;
-    let mut walk = |graph: &Graph, any_start, outcomes: &[Outcome]| {
-        let walked = walks::all_paths(graph, any_start, outcomes);
-        paths += walked.as_ref().map_or(0, |it| *it);
-        counts.count("all paths", walked.map(drop));
-    };
-    for after_failure in SETTINGS {
-        for count in 0..=4 {
-            for needs in all_graphs(count) {
-                let priorities: Vec<usize> = (0..count).map(|_| lot.below(3)).collect();
-                let outcomes = [Outcome::Success, Outcome::Failure, Outcome::Cancelled];
-                for slots in 1..=2 {
-                    let graph = Graph { needs: needs.clone(), priorities: priorities.clone(), slots, after_failure };
-                    walk(&graph, count < 4, &outcomes[..if count < 4 { 3 } else { 2 }]);
-                }
-            }
-        }
-        for count in 5..=7 {
-            for _ in 0..4 {
-                let slots = 1 + lot.below(2);
-                walk(&walks::drawn_graph(lot, count, 2, slots, after_failure), false, &[Outcome::Success, Outcome::Failure]);
-            }
-        }
-    }
-    println!("{paths} paths");
 }
 
 fn numbers(items: &[usize]) -> List<usize> {
@@ -104,13 +66,35 @@ fn graphs(counts: &mut Counts) {
         ("no commands", made(&[], &[], 1), None),
         ("the same need twice", made(&[&[], &[0, 0]], &[1, 1], 1), None),
     ] {
-        counts.count(name, if model::alike(&bad, &wanted) { Ok(()) } else { Err(format!("{bad:?}, not {wanted:?}")) });
+        counts.count(name, if format!("{bad:?}") == format!("{wanted:?}") { Ok(()) } else { Err(format!("{bad:?}, not {wanted:?}")) });
     }
     let (one, other) = (rows(&[&[], &[0]]), rows(&[&[], &[], &[0, 1]]));
     let joined = schedules::joined_needs(Global, &[one.as_slice(), other.as_slice()]).ok().expect("there is memory");
     let shown: Vec<Vec<usize>> = joined.as_slice().iter().map(|it| it.as_slice().to_vec()).collect();
     let wanted: Vec<Vec<usize>> = vec![vec![], vec![0], vec![], vec![], vec![2, 3]];
     counts.count("two plans in one graph", if shown == wanted { Ok(()) } else { Err(format!("{shown:?}")) });
+}
+
+/// The weight of the heaviest chain that begins with a command, by a search through all chains.
+fn heaviest(needs: &[Vec<usize>], weights: &[usize], command: usize) -> usize {
+    let behind = (command + 1..needs.len()).filter(|it| needs[*it].contains(&command)).map(|it| heaviest(needs, weights, it)).max();
+    weights[command] + behind.unwrap_or(0)
+}
+
+/// The weights of chains, in all graphs of up to four commands and in drawn ones of up to ten.
+fn chains(counts: &mut Counts, lot: &mut Lot) {
+    let small = (0..=4).flat_map(orders::all_needs);
+    let drawn: Vec<Vec<Vec<usize>>> = (0..1000)
+        .map(|_| (0..lot.below(11)).map(|command| (0..command).filter(|_| lot.below(3) == 0).collect()).collect())
+        .collect();
+    for needs in small.chain(drawn) {
+        let weights: Vec<usize> = needs.iter().map(|_| lot.below(50)).collect();
+        let slices: Vec<&[usize]> = needs.iter().map(Vec::as_slice).collect();
+        let chains = schedules::chain_weights(Global, rows(&slices).as_slice(), numbers(&weights).as_slice()).ok().expect("a good graph");
+        let wanted: Vec<usize> = (0..needs.len()).map(|command| heaviest(&needs, &weights, command)).collect();
+        let same = chains.as_slice() == wanted.as_slice();
+        counts.count("chains", if same { Ok(()) } else { Err(format!("{needs:?} {weights:?}: {:?}, not {wanted:?}", chains.as_slice())) });
+    }
 }
 
 /// Runs a plan of so many commands in chains of five, eight at once, or only makes its schedule.
@@ -142,7 +126,10 @@ fn main() {
     let mut lot = Lot(seed.max(1));
     let mut counts = Counts::default();
     graphs(&mut counts);
-    interleavings(&mut counts, &mut lot);
+    chains(&mut counts, &mut lot);
+    let whole = words.get(2).is_some_and(|it| it == "all");
+    interleavings::paths(&mut counts, &mut lot);
+    interleavings::states(&mut counts, &mut lot, SEVENS, whole);
     for run in 0..runs {
         let setting = SETTINGS[lot.below(3)];
         counts.count(&format!("run {run} of seed {seed}"), walks::random_run(&mut lot, setting));

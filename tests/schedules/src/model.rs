@@ -1,6 +1,7 @@
 //! The definition of a schedule, as its documentation has it: every question is answered by a look at all commands.
 
 use schedules::{AfterFailure, CommandState, Outcome, PlanStatus, Refused, Schedule};
+use std::mem::discriminant;
 
 /// Sets a seed, and draws numbers by xorshift.
 pub struct Lot(pub u64);
@@ -23,7 +24,7 @@ pub struct Graph {
     pub after_failure: AfterFailure,
 }
 
-/// What a caller tells a schedule.
+/// What a caller notes.
 #[derive(Clone, Copy, Debug)]
 pub enum Event {
     Start(usize),
@@ -40,9 +41,9 @@ fn is_bad(state: CommandState) -> bool {
     matches!(state, CommandState::Failed | CommandState::Cancelled)
 }
 
-/// The same words for two values.
-pub fn alike<A: std::fmt::Debug, B: std::fmt::Debug>(a: A, b: B) -> bool {
-    format!("{a:?}") == format!("{b:?}")
+/// Whether two values of an enum without fields are the same, or both are missing.
+pub fn same<T>(a: Option<T>, b: Option<T>) -> bool {
+    a.map(|it| discriminant(&it)) == b.map(|it| discriminant(&it))
 }
 
 impl<'a> Model<'a> {
@@ -113,7 +114,7 @@ impl<'a> Model<'a> {
         self.states[command] = state;
     }
 
-    /// The end of what may be told of the commands from `first` up to `end`, and the status.
+    /// The end of what may be printed of the commands from `first` up to `end`, and the status.
     pub fn told(&self, first: usize, end: usize) -> (usize, PlanStatus) {
         for command in first..end.min(self.states.len()) {
             match self.states[command] {
@@ -135,14 +136,14 @@ impl<'a> Model<'a> {
             return Some(format!("{} run, over: {}", schedule.running(), schedule.over()));
         }
         for command in 0..count {
-            if !alike(schedule.state(command), Some(self.states[command])) {
+            if !same(schedule.state(command), Some(self.states[command])) {
                 return Some(format!("{command} is {:?}", schedule.state(command)));
             }
         }
         for (first, end) in [(0, count), (0, count / 2), (count / 2, count), (count, count + 3), (count + 1, 0)] {
-            let told = schedule.told(first, end);
-            if !alike((told.end, told.status), self.told(first, end)) {
-                return Some(format!("told of {first} to {end}: {told:?}, not {:?}", self.told(first, end)));
+            let (told, (last, status)) = (schedule.told(first, end), self.told(first, end));
+            if told.end != last || !same(Some(told.status), Some(status)) {
+                return Some(format!("printed of {first} to {end}: {told:?}, not {last} {status:?}"));
             }
         }
         schedule.state(count).map(|state| format!("a command too many is {state:?}"))

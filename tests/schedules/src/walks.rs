@@ -1,6 +1,6 @@
 //! Walks through everything that can happen to a schedule, each compared with the definition.
 
-use crate::model::{Event, Graph, Lot, Model, alike};
+use crate::model::{Event, Graph, Lot, Model, same};
 use rattle_std::alloc::Global;
 use rattle_std::vec::Vec as List;
 use schedules::{AfterFailure, Outcome, Schedule};
@@ -27,7 +27,7 @@ pub fn tell(schedule: &mut Schedule, model: &mut Model<'_>, event: Event) -> Res
         Event::Start(command) => schedule.started(command),
         Event::End(command, outcome) => schedule.ended(command, outcome),
     };
-    if !alike(answer.as_ref().err(), wanted.as_ref()) {
+    if !same(answer.err(), wanted) {
         return Err(format!("{event:?}: {answer:?}, not {wanted:?}"));
     }
     if wanted.is_none() {
@@ -37,7 +37,7 @@ pub fn tell(schedule: &mut Schedule, model: &mut Model<'_>, event: Event) -> Res
 }
 
 /// What can happen next: the command that is next starts, or each that may, and each that runs may end.
-fn choices(model: &Model<'_>, any_start: bool, outcomes: &[Outcome]) -> Vec<Event> {
+pub fn choices(model: &Model<'_>, any_start: bool, outcomes: &[Outcome]) -> Vec<Event> {
     let starts = if any_start { model.may_start() } else { model.next().into_iter().collect() };
     let running = (0..model.states.len()).filter(|&it| matches!(model.states[it], schedules::CommandState::Running));
     let ends = running.flat_map(|it| outcomes.iter().map(move |&outcome| Event::End(it, outcome)));

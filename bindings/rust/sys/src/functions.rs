@@ -2,8 +2,8 @@
 #![allow(missing_docs, reason = "zigrunk.h(3) has their pages")]
 
 use crate::records::{
-    Command, Group, KeyCall, LineAnswer, LineCall, ListAnswer, NvccCall, Output, PlanCall, Range, Step, StepsAnswer, Text,
-    TextAnswer,
+    Command, Group, KeyCall, LineAnswer, LineCall, ListAnswer, NvccCall, Output, PlanCall, ProgressAnswer, Range, ScheduleAnswer,
+    ScheduleCall, Step, StepsAnswer, Text, TextAnswer, ToldAnswer,
 };
 
 unsafe extern "C" {
@@ -95,4 +95,27 @@ unsafe extern "C" {
         out: *mut u8,
         out_size: usize,
     ) -> StepsAnswer;
+    pub fn zigrunk_schedule_begin(schedule: *const ScheduleCall<'_>, states: *mut u8, states_size: usize) -> ScheduleAnswer;
+    pub fn zigrunk_schedule_next(schedule: *const ScheduleCall<'_>, states: *const u8, states_size: usize) -> ScheduleAnswer;
+    pub fn zigrunk_schedule_started(
+        schedule: *const ScheduleCall<'_>,
+        states: *mut u8,
+        states_size: usize,
+        command: usize,
+    ) -> ScheduleAnswer;
+    pub fn zigrunk_schedule_ended(
+        schedule: *const ScheduleCall<'_>,
+        states: *mut u8,
+        states_size: usize,
+        command: usize,
+        outcome: u32,
+    ) -> ScheduleAnswer;
+    pub fn zigrunk_schedule_progress(schedule: *const ScheduleCall<'_>, states: *const u8, states_size: usize) -> ProgressAnswer;
+    pub fn zigrunk_schedule_told(
+        schedule: *const ScheduleCall<'_>,
+        states: *const u8,
+        states_size: usize,
+        first: usize,
+        end: usize,
+    ) -> ToldAnswer;
 }

@@ -6,7 +6,8 @@ use std::process;
 
 use crate::records::{
     Command, FoundProgram, Group, KeyCall, LineAnswer, LineCall, LineRecord, ListAnswer, NvccCall, Output, Place, PlanCall,
-    Range, Step, StepsAnswer, Text, TextAnswer, Variable,
+    ProgressAnswer, Range, ScheduleAnswer, ScheduleCall, ScheduledCommand, Step, StepsAnswer, Text, TextAnswer, ToldAnswer,
+    Variable,
 };
 
 /// The size of the field that a function takes.
@@ -91,6 +92,13 @@ records! {
         msvc_show_includes, profile_generate, suppress_rewrite_includes_only, uses_external_assembler
     }
     "zigrunk_output" Output { key, path, optional, reserved }
+    "zigrunk_scheduled_command" ScheduledCommand<'_> { needs = needs.first, needs_count = needs.count, first, priority }
+    "zigrunk_schedule" ScheduleCall<'_> {
+        commands = commands.first, commands_count = commands.count, slots, after_failure, reserved
+    }
+    "zigrunk_schedule_answer" ScheduleAnswer { status, reason, command }
+    "zigrunk_progress_answer" ProgressAnswer { status, over, running }
+    "zigrunk_told_answer" ToldAnswer { status, plan, end }
     "zigrunk_line_answer" LineAnswer { status, outputs, ranges, length, line }
 }
 

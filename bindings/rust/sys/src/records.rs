@@ -167,6 +167,68 @@ pub struct KeyCall<'a> {
     pub reserved: u32,
 }
 
+/// A command of a schedule.
+#[repr(C)]
+#[derive(Clone, Copy)]
+pub struct ScheduledCommand<'a> {
+    /// The numbers of the commands that it needs, counted from `first`.
+    pub needs: Slice<'a, usize>,
+    /// The number that the first command of its plan has in the schedule.
+    pub first: usize,
+    /// How urgent it is.
+    pub priority: usize,
+}
+
+/// A schedule, beside the states of its commands.
+#[repr(C)]
+#[derive(Clone, Copy)]
+pub struct ScheduleCall<'a> {
+    /// Its commands, each behind all that it needs.
+    pub commands: Slice<'a, ScheduledCommand<'a>>,
+    /// How many may run at once.
+    pub slots: usize,
+    /// The number of what may start after a failure.
+    pub after_failure: u32,
+    /// 0.
+    pub reserved: u32,
+}
+
+/// The answer of a call that names a command, or notes what happened to one.
+#[repr(C)]
+#[derive(Debug, Clone, Copy, Default, PartialEq, Eq)]
+pub struct ScheduleAnswer {
+    /// 0, or the number of a refusal.
+    pub status: i32,
+    /// 0, or the number of the reason of the refusal.
+    pub reason: u32,
+    /// The number of a command.
+    pub command: usize,
+}
+
+/// How far a schedule is.
+#[repr(C)]
+#[derive(Debug, Clone, Copy, Default, PartialEq, Eq)]
+pub struct ProgressAnswer {
+    /// 0, or the number of a refusal.
+    pub status: i32,
+    /// 1 if nothing runs and nothing may start, else 0.
+    pub over: u32,
+    /// How many commands run.
+    pub running: usize,
+}
+
+/// Which outputs may be printed.
+#[repr(C)]
+#[derive(Debug, Clone, Copy, Default, PartialEq, Eq)]
+pub struct ToldAnswer {
+    /// 0, or the number of a refusal.
+    pub status: i32,
+    /// The number of how the plan has come out.
+    pub plan: u32,
+    /// The number behind that of the last command whose output may be printed.
+    pub end: usize,
+}
+
 /// A part of an answer: bytes of its text, or elements of a list.
 #[repr(C)]
 #[derive(Debug, Clone, Copy, Default, PartialEq, Eq)]

@@ -14,7 +14,7 @@ follows (Err e) to p = p
 
 pub returns : goal.returns
 returns c =
-    let o = c.args.outline.now in
+    let o = c.args.texts.now in
     let jobs : List (List ℕ) = o.keep_dir ∷ [] in
     let flag : List (List ℕ) = o.jobs ∷ jobs in
     let second : List (List ℕ) = o.flag ∷ flag in
@@ -26,4 +26,4 @@ returns c =
     ∙ added c.push-3.new.self c.push-4.new.self (o.flag ∷ []) flag (one c.push-3.new.self c.push-4.new.self c.as_str-4.result.now o.flag c.in_ok-push-4.ensures c.as_str-4.ensures)
     ∙ added c.push-2.new.self c.push-3.new.self (o.second ∷ []) second (one c.push-2.new.self c.push-3.new.self c.as_str-3.result.now o.second c.in_ok-push-3.ensures c.as_str-3.ensures)
     ∙ added c.push.new.self c.push-2.new.self (o.first ∷ []) first (one c.push.new.self c.push-2.new.self c.as_str-2.result.now o.first c.in_ok-push-2.ensures c.as_str-2.ensures)
-    ∙ added c.args.texts.now c.push.new.self (o.dependencies ∷ []) dependencies (one c.args.texts.now c.push.new.self c.as_str.result.now o.dependencies c.in_ok-push.ensures c.as_str.ensures)) c.push-6.ensures
+    ∙ added c.args.outcome.now c.push.new.self (o.dependencies ∷ []) dependencies (one c.args.outcome.now c.push.new.self c.as_str.result.now o.dependencies c.in_ok-push.ensures c.as_str.ensures)) c.push-6.ensures

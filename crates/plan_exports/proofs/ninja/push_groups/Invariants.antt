@@ -4,5 +4,5 @@ use Rattle.plan_exports.proofs.ninja.push_groups.Given as goal
 
 abbrev pub invariant-loop-group : goal.invariant-loop-group
 invariant-loop-group l =
-    string_bytes l.text ++ group_edges l.tmp l.places l.last l.group (map vec_items l.rest) (map vec_items (drop l.group l.groups))
-    ≡ string_bytes l.fn.text ++ group_edges l.tmp l.places l.last 0 (map vec_items l.needs) (map vec_items l.groups)
+    string_bytes l.text ++ group_edges l.tmp l.places l.group (map vec_items l.rest) (map vec_items (drop l.group l.groups))
+    ≡ string_bytes l.fn.text ++ group_edges l.tmp l.places 0 (map vec_items l.needs) (map vec_items l.groups)

@@ -1,0 +1,3 @@
+pub mod EventLemmas
+pub mod GraphLemmas
+pub mod ReadyLemmas

@@ -1,0 +1,364 @@
+//! zigrunk-batch: makes many calls of nvcc as zigrunk-nvcc does, in one process.
+mod calls;
+mod databases;
+mod graph;
+mod lists;
+mod options;
+mod products;
+mod progress;
+mod records;
+mod turns;
+
+use crate::environments::Environment;
+use crate::folder::CallFolder;
+use crate::host::Host;
+use crate::jobserver::Make;
+use crate::places::{absolute, working_directory};
+use crate::rule::Refusals;
+use crate::settings::Settings;
+use crate::streams::{complain, say};
+use crate::system;
+use calls::{Asked, BatchCall, Context, Made};
+use graph::{Calls, Graph, Limits, Outcomes};
+use lists::Listed;
+use options::{HELP, Options, USAGE, Wanted};
+use progress::{Form, Progress};
+use records::Records;
+use std::collections::HashMap;
+use std::env;
+use std::ffi::{OsStr, OsString};
+use std::fs;
+use std::io::{self, IsTerminal, Read};
+use std::os::unix::ffi::{OsStrExt, OsStringExt};
+use std::path::{Path, PathBuf};
+use std::rc::Rc;
+use std::sync::Arc;
+use turns::Maker;
+
+/// A count as a number with fractions.
+#[allow(clippy::cast_precision_loss)]
+fn number(count: usize) -> f64 {
+    count as f64
+}
+
+/// The calls of a list, and what messages call one of them.
+struct List {
+    calls: Vec<BatchCall>,
+    unit: &'static str,
+    /// The folder that holds the list, or the working directory for standard input.
+    folder: PathBuf,
+}
+
+/// What a command asks for.
+fn asked(words: Vec<String>, settings: &Settings) -> Asked {
+    let first = words.first().map(String::as_str).unwrap_or_default();
+    let name = first.rsplit('/').next().unwrap_or_default();
+    let stem = name.rsplit_once('-').filter(|(_, version)| version.starts_with(|digit: char| digit.is_ascii_digit())).map_or(name, |(stem, _)| stem);
+    if name == "zigrunk-nvcc" {
+        Asked::Nvcc(words[1..].to_vec())
+    } else if first.starts_with('-') || first.ends_with("nvcc") || settings.nvcc == *first {
+        Asked::Nvcc(words)
+    } else if ["gcc", "++", "clang"].iter().any(|end| stem.ends_with(end)) || name == "cc" {
+        Asked::Compiler(words)
+    } else {
+        Asked::Program(words)
+    }
+}
+
+/// Bytes as a word of a shell that is UTF-8, whatever they are.
+fn encoded(bytes: &[u8]) -> String {
+    let octal: Vec<String> = bytes.iter().map(|byte| format!("\\{byte:03o}")).collect();
+    format!("\"$(printf '{}')\"", octal.concat())
+}
+
+/// What words ask for. A shell runs those that aren't UTF-8.
+fn asked_by(words: &[Vec<u8>], settings: &Settings) -> Asked {
+    let texts: Option<Vec<String>> = words.iter().map(|word| String::from_utf8(word.clone()).ok()).collect();
+    texts.map_or_else(|| Asked::Shell(words.iter().map(|word| encoded(word)).collect::<Vec<_>>().join(" ")), |texts| asked(texts, settings))
+}
+
+fn asked_by_line(call: lists::ListedCall, settings: &Settings) -> BatchCall {
+    let asked = match call.asks {
+        Listed::Words(words) => asked_by(&words, settings),
+        Listed::Whole => Asked::Shell(String::from_utf8(call.line.clone()).unwrap_or_else(|_| format!("eval {}", encoded(&call.line)))),
+    };
+    BatchCall { number: call.number, name: String::from_utf8_lossy(&call.line).trim().to_owned(), folder: String::new(), asked }
+}
+
+/// The calls that a text lists.
+///
+/// # Errors
+///
+/// Why the text is no `compile_commands.json`, if it begins as one.
+fn calls_of(text: &[u8], folder: &Path, cwd: &Path, settings: &Settings) -> Result<(Vec<BatchCall>, &'static str), String> {
+    let cwd = cwd.to_string_lossy();
+    if databases::is_object(text) {
+        return Err("it is a JSON object, not an array".into());
+    }
+    if !databases::is_database(text) {
+        let variable = |name: &[u8]| env::var_os(OsStr::from_bytes(name)).map(OsString::into_vec);
+        let calls = lists::calls(text, &variable).into_iter().map(|call| BatchCall { folder: cwd.to_string(), ..asked_by_line(call, settings) });
+        return Ok((calls.collect(), "line"));
+    }
+    let call = |(at, entry): (usize, databases::DatabaseEntry)| BatchCall {
+        number: at + 1,
+        name: String::from_utf8_lossy(&entry.file).into_owned(),
+        folder: absolute(&folder.join(OsStr::from_bytes(&entry.directory)), folder).to_string_lossy().into_owned(),
+        asked: asked_by(&entry.words, settings),
+    };
+    Ok((databases::entries(text)?.into_iter().enumerate().map(call).collect(), "entry"))
+}
+
+/// Reads a list.
+///
+/// # Errors
+///
+/// If it can't be read, or is no list.
+fn list(name: Option<&OsString>, settings: &Settings) -> Result<List, String> {
+    let cwd = working_directory().ok_or("there is no working directory")?;
+    let mut text = Vec::new();
+    let (read, shown) = match name {
+        Some(name) => (fs::File::open(name).and_then(|mut file| file.read_to_end(&mut text)), name.to_string_lossy().into_owned()),
+        None => (io::stdin().read_to_end(&mut text), "standard input".to_owned()),
+    };
+    read.map_err(|_| format!("cannot read {shown}"))?;
+    let folder = name.and_then(|name| Path::new(name).parent()).map_or_else(|| cwd.clone(), |above| absolute(&cwd.join(above), &cwd));
+    let (calls, unit) = calls_of(&text, &folder, &cwd, settings).map_err(|reason| format!("{shown} is no compile_commands.json: {reason}"))?;
+    Ok(List { calls, unit, folder })
+}
+
+/// Two calls that make one file, which would run at once, in words.
+fn made_twice(list: &List) -> Option<String> {
+    let mut makers: HashMap<PathBuf, usize> = HashMap::new();
+    for call in &list.calls {
+        for product in calls::products_of(call) {
+            if let Some(first) = makers.insert(product.path.clone(), call.number) {
+                let units = if list.unit == "entry" { "entries" } else { "lines" };
+                return Some(format!("{units} {first} and {} make one file: {}", call.number, product.path.display()));
+            }
+        }
+    }
+    None
+}
+
+/// The calls of a batch, and what is said of them.
+struct Told<'a> {
+    list: &'a List,
+    calls: Vec<Arc<BatchCall>>,
+    context: Arc<Context>,
+}
+
+impl Calls for Told<'_> {
+    fn name(&self, call: usize) -> String {
+        self.calls[call].name.clone()
+    }
+
+    fn begin(&self, call: usize) -> io::Result<Maker<Made>> {
+        let (call, context) = (Arc::clone(&self.calls[call]), Arc::clone(&self.context));
+        Maker::begin(move |turns| calls::make(&call, &context, turns))
+    }
+
+    fn told(&mut self, call: usize, made: &Made) {
+        for (is_error, text) in &made.said {
+            // A stream that is closed gets nothing.
+            let _ = say(if *is_error { 2 } else { 1 }, text);
+        }
+        if made.status != 0 {
+            let call = &self.calls[call];
+            complain(&format!("zigrunk-batch: {} {}: exit status {}: {}", self.list.unit, call.number, made.status, call.name));
+        }
+    }
+}
+
+/// This machine, for a batch with this directory.
+fn machine(settings: &Settings, folder: &Rc<CallFolder>) -> Result<Host, String> {
+    let environment = Environment::own().with("ZIGRUNK_INSIDE", &settings.inside).with("ZIGRUNK_BATCH", folder.path().as_os_str());
+    let host = Host::of_process(settings, Make::of_environment(), environment, Rc::clone(folder));
+    host.map_err(|lacks| format!("no {lacks} for the batch"))
+}
+
+/// How many commands run at once, and how many calls are planned, on this machine.
+fn limits(options: &Options, settings: &Settings) -> Limits {
+    let of_variable = env::var("ZIGRUNK_JOBS").ok().as_deref().and_then(options::positive);
+    let at_once = options.jobs.or(of_variable).unwrap_or_else(system::processors);
+    let planned_at_once = if settings.runner.is_empty() { at_once } else { system::processors() };
+    Limits { at_once, planned_at_once, failures: options.failures }
+}
+
+/// Makes the calls of a list. Says the status.
+///
+/// # Errors
+///
+/// What keeps it from making them.
+fn make(options: &Options) -> Result<i32, String> {
+    let settings = Settings::of_environment();
+    let list = list(options.list.as_ref(), &settings)?;
+    if list.calls.is_empty() {
+        return Ok(0);
+    }
+    if let Some(twice) = made_twice(&list) {
+        return Err(twice);
+    }
+    let folder_of_records = list.folder.join(records::FOLDER);
+    let opened = options.incremental.then(|| Records::open(folder_of_records.clone())).transpose();
+    let records = opened.map_err(|_| format!("cannot make {}", folder_of_records.display()))?;
+    let temporary = absolute(settings.plans(), &working_directory().unwrap_or_default());
+    let folder = Rc::new(CallFolder::take(&temporary, "batch").map_err(|error| format!("no temporary directory: {error}"))?);
+    let scratch = settings.shared.is_none().then(|| folder.path().join("tmp"));
+    let made = scratch.as_ref().map_or(Ok(()), fs::create_dir).map_err(|error| error.to_string());
+    let outcomes = made.and_then(|()| machine(&settings, &folder)).and_then(|mut host| {
+        let limits = limits(options, &settings);
+        let scratch = scratch.map(|path| path.to_string_lossy().into_owned());
+        let context = Context { settings, temporary, scratch, at_once: limits.at_once, records, refusals: Refusals::default() };
+        let outcomes = run(&mut host, list, context, limits, form(options));
+        host.leave();
+        outcomes
+    });
+    folder.remove();
+    outcomes.map(status_of)
+}
+
+fn form(options: &Options) -> Form {
+    if options.progress {
+        Form::Lines
+    } else if io::stderr().is_terminal() {
+        Form::Terminal
+    } else {
+        Form::Silent
+    }
+}
+
+/// Makes calls on this machine.
+fn run(host: &mut Host, mut list: List, context: Context, limits: Limits, form: Form) -> Result<Outcomes, String> {
+    let calls: Vec<Arc<BatchCall>> = std::mem::take(&mut list.calls).into_iter().map(Arc::new).collect();
+    let count = calls.len();
+    let mut told = Told { list: &list, calls, context: Arc::new(context) };
+    let graph = Graph::new(host, &mut told, count, limits, Progress::new(form, io::stderr())).ok_or("out of memory")?;
+    Ok(graph.run())
+}
+
+/// The status of a batch. Says how many calls were left.
+fn status_of(outcomes: Outcomes) -> i32 {
+    if outcomes.lost {
+        return 1;
+    }
+    if let Some(signal) = outcomes.signal {
+        return 128 + signal;
+    }
+    if outcomes.left > 0 {
+        complain(&format!("zigrunk-batch: stopped, {} of the calls not made", outcomes.left));
+    }
+    outcomes.status
+}
+
+/// Has the compiler make a call, unless a batch with `--incremental` made it in this directory and all its files are as they were. Then
+/// this writes the dependency file alone, which a build asks for beyond the words of its `compile_commands.json`.
+fn unless_made(words: &[OsString]) -> i32 {
+    let texts: Option<Vec<String>> = words.iter().map(|word| word.to_str().map(String::from)).collect();
+    if texts.and_then(|texts| made_before(&texts)).is_some() {
+        return 0;
+    }
+    let words: Vec<&OsStr> = words.iter().map(OsString::as_os_str).collect();
+    let [first, ..] = words.as_slice() else { return 2 };
+    let reason = crate::call::become_program(&words, &Environment::own());
+    complain(&format!("zigrunk-batch: cannot run {}: {reason}", first.to_string_lossy()));
+    127
+}
+
+/// Writes the dependency file of a call that a batch has made, if it asks for one.
+fn made_before(words: &[String]) -> Option<()> {
+    let settings = Settings::of_environment();
+    let cwd = working_directory()?;
+    let records = Records::at(cwd.join(records::FOLDER));
+    let call =
+        |words: Vec<String>| BatchCall { number: 1, name: String::new(), folder: cwd.to_string_lossy().into_owned(), asked: asked(words, &settings) };
+    let with_rule = call(words.to_vec());
+    let products = calls::products_of(&with_rule);
+    let target = products::outputs(&calls::words_of(&with_rule.asked)?).into_iter().next()?;
+    let rule = records.describe(&with_rule, &products, &settings)?.rule;
+    [call(records::without_rule(words)), with_rule]
+        .iter()
+        .find_map(|call| records.describe(call, &products, &settings)?.write_rule(rule.as_deref(), &target))
+}
+
+/// Makes the calls of the list that these words name. Says the exit status: that of the first call in the list that failed, 1 if the list
+/// can't be made, 2 for wrong usage, and after a signal 128 and its number.
+pub fn main(words: &[OsString]) -> i32 {
+    let print = |text: String| i32::from(say(1, text.as_bytes()).is_err());
+    match options::parse(words) {
+        Ok(Wanted::Help) => print(format!("{USAGE}\n{HELP}\n")),
+        Ok(Wanted::Version) => print(format!("zigrunk-batch {}\n", env!("CARGO_PKG_VERSION"))),
+        Ok(Wanted::UnlessMade(words)) => unless_made(&words),
+        Ok(Wanted::Batch(options)) => make(&options).unwrap_or_else(|complaint| {
+            complain(&format!("zigrunk-batch: {complaint}"));
+            1
+        }),
+        Err(complaint) => {
+            complain(&format!("zigrunk-batch: {complaint}\n{USAGE}"));
+            2
+        }
+    }
+}
+
+#[cfg(test)]
+mod tests {
+    use super::*;
+
+    #[test]
+    fn programs_are_told_by_their_names() {
+        let settings = Settings { nvcc: "my-compiler".into(), ..Settings::default() };
+        let kind = |line: &str| match asked(line.split(' ').map(String::from).collect(), &settings) {
+            Asked::Nvcc(words) => format!("nvcc {}", words.len()),
+            Asked::Compiler(words) => format!("compiler {}", words.len()),
+            Asked::Program(words) => format!("program {}", words.len()),
+            Asked::Shell(_) => "shell".into(),
+        };
+        for (line, wanted) in [
+            ("nvcc -c", "nvcc 2"),
+            ("/opt/nvcc -c", "nvcc 2"),
+            ("zigrunk-nvcc -c", "nvcc 1"),
+            ("/a/zigrunk-nvcc /opt/nvcc -c", "nvcc 2"),
+            ("-c a.cu", "nvcc 2"),
+            ("my-compiler -c", "nvcc 2"),
+            ("gcc -c", "compiler 2"),
+            ("/a/x86-gcc-12 -c", "compiler 2"),
+            ("g++ -c", "compiler 2"),
+            ("g++-12 -c", "compiler 2"),
+            ("clang++-14 -c", "compiler 2"),
+            ("clang -c", "compiler 2"),
+            ("/a/cc -c", "compiler 2"),
+            ("sh -c", "program 2"),
+            ("gcc-ar x", "program 2"),
+            ("scc x", "program 2"),
+        ] {
+            assert_eq!(kind(line), wanted, "{line}");
+        }
+    }
+
+    #[test]
+    fn a_signal_counts_more_than_a_call_that_failed() {
+        let failed = Outcomes { status: 7, ..Outcomes::default() };
+        let ended = Outcomes { signal: Some(system::TERM), ..failed };
+        assert_eq!([failed, ended, Outcomes { lost: true, ..ended }, Outcomes::default()].map(status_of), [7, 143, 1, 0]);
+    }
+
+    #[test]
+    fn lists_and_databases_give_calls() {
+        let settings = Settings { nvcc: "nvcc".into(), ..Settings::default() };
+        let (calls, unit) = calls_of(b"\n -c a.cu\na; b\n\xff x", Path::new("/far"), Path::new("/usr"), &settings).unwrap();
+        assert_eq!(unit, "line");
+        let found: Vec<(usize, &str, &Asked)> = calls.iter().map(|call| (call.number, call.name.as_str(), &call.asked)).collect();
+        let (nvcc, shell) = (Asked::Nvcc(vec!["-c".into(), "a.cu".into()]), Asked::Shell("a; b".into()));
+        let odd = Asked::Shell("\"$(printf '\\377')\" \"$(printf '\\170')\"".into());
+        assert_eq!(found, [(2, "-c a.cu", &nvcc), (3, "a; b", &shell), (4, "\u{fffd} x", &odd)]);
+        let (calls, unit) = calls_of(
+            br#"[{"directory": "bin", "file": "a", "command": "x"}, {"directory": "/a/../b", "file": "a", "command": "x"}]"#,
+            Path::new("/usr"),
+            Path::new("/"),
+            &settings,
+        )
+        .unwrap();
+        assert_eq!((unit, calls[0].folder.as_str(), calls[1].folder.as_str()), ("entry", "/usr/bin", "/b"));
+        assert_eq!(calls_of(b"{}", Path::new("/"), Path::new("/"), &settings), Err("it is a JSON object, not an array".into()));
+    }
+}

@@ -1,0 +1,101 @@
+//! What caches say of hits and misses. ccache says it of each command, and so does the example cache of the crate for Rust. sccache only counts
+//! what all its callers ask for.
+use crate::json_values::{self, Value};
+use crate::machine::{Job, Machine};
+use crate::run::{self, NoRule, Stopped, Task};
+use crate::settings::Settings;
+use crate::tasks::OWN;
+use std::env;
+use std::fs;
+
+/// The variables by which caches get a file for what came of a command.
+const FILES: [&str; 2] = ["CCACHE_STATSLOG", "CACHE_LOG"];
+
+/// The file for what comes of the command of this number in the cache, if a log wants to know and the caller has no such files.
+pub fn file_of(number: usize, settings: &Settings, tmp: &str) -> Option<String> {
+    let is_free = settings.log.is_some() && FILES.iter().all(|name| env::var_os(name).is_none());
+    is_free.then(|| format!("{tmp}/{OWN}/cache.{number}"))
+}
+
+/// The variables that give a cache this file.
+pub fn variables_of(file: Option<&String>) -> impl Iterator<Item = (String, Option<String>)> {
+    file.into_iter().flat_map(|file| FILES.map(|name| (name.to_owned(), Some(file.clone()))))
+}
+
+/// Whether the cache had what a command makes, if it has written that into this file.
+pub fn had(file: &str) -> Option<bool> {
+    fs::read_to_string(file).ok().and_then(|said| is_hit(&said))
+}
+
+/// The same of what is in the file: counters as ccache has them, or lines `hit PROGRAM` and `miss PROGRAM`.
+fn is_hit(said: &str) -> Option<bool> {
+    said.lines().find_map(|line| match line.split(' ').next().unwrap_or_default() {
+        "direct_cache_hit" | "preprocessed_cache_hit" | "hit" => Some(true),
+        "cache_miss" | "miss" => Some(false),
+        _ => None,
+    })
+}
+
+/// How many hits and misses a cache has counted.
+#[derive(Clone, Copy, PartialEq, Debug, Default)]
+pub struct Counts {
+    pub hits: f64,
+    pub misses: f64,
+}
+
+/// The counts in sccache's statistics.
+fn counts_in(statistics: &[u8]) -> Option<Counts> {
+    let value = json_values::parse(statistics).ok()?;
+    let sum = |name: &str| {
+        let Value::Object(counts) = value.get("stats")?.get(name)?.get("counts")? else { return None };
+        Some(counts.iter().filter_map(|(_, count)| count.number()).sum())
+    };
+    Some(Counts { hits: sum("cache_hits")?, misses: sum("cache_misses")? })
+}
+
+/// What sccache has counted until now, if the launcher is sccache and a log wants to know.
+///
+/// # Errors
+///
+/// If a signal comes.
+pub fn counts<M: Machine>(machine: &mut M, settings: &Settings) -> Result<Option<Counts>, Stopped> {
+    let Some(sccache) = settings.launcher.first().filter(|name| settings.log.is_some() && name.contains("sccache")) else { return Ok(None) };
+    let words = [sccache, "--show-stats", "--stats-format=json"].map(String::from);
+    let variables = vec![("TMPDIR".into(), Some(settings.temporary.to_string_lossy().into_owned()))];
+    let job = Job { words: words.into(), variables, ..Job::default() };
+    let done = run::run(machine, &mut NoRule, &[Task { job, ..Task::default() }], 1)?;
+    Ok(done.into_iter().find_map(|done| counts_in(&done.ended?.out)))
+}
+
+#[cfg(test)]
+mod tests {
+    use super::*;
+
+    #[test]
+    fn caches_say_hits_and_misses() {
+        let cases = [
+            ("# k.cu\ndirect_cache_hit\nlocal_storage_hit\n", Some(true)),
+            ("# k.cu\ndirect_cache_miss\npreprocessed_cache_hit\n", Some(true)),
+            ("# cache_miss\ncache_miss\ndirect_cache_miss\n", Some(false)),
+            ("# k.cu\nunsupported_compiler_option\n", None),
+            ("miss cicc\n", Some(false)),
+            ("hit ptxas\n", Some(true)),
+            ("run gcc\n", None),
+            ("", None),
+        ];
+        for (said, wanted) in cases {
+            assert_eq!(is_hit(said), wanted, "{said}");
+        }
+        assert_eq!(had("/missing"), None);
+    }
+
+    #[test]
+    fn sccache_counts_by_languages() {
+        let said = br#"{"stats":{"compile_requests":9,"cache_hits":{"counts":{"CUDA":2,"PTX":3},"adv_counts":{}},"cache_misses":{"counts":{"CUDA":1}}},"cache_location":"x"}"#;
+        assert_eq!(counts_in(said), Some(Counts { hits: 5.0, misses: 1.0 }));
+        for said in ["", "{}", r#"{"stats":{"cache_hits":{"counts":{}}}}"#, r#"{"stats":{"cache_hits":{"counts":[]},"cache_misses":{"counts":{}}}}"#]
+        {
+            assert_eq!(counts_in(said.as_bytes()), None, "{said}");
+        }
+    }
+}

@@ -1,0 +1,273 @@
+//! A log as a page for a browser. The page is one file: it takes nothing from elsewhere, and needs no scripts.
+use super::chains::{longest_chain, own_seconds, seconds_of};
+use super::log_lines::Call;
+use super::summary::{slowest, words_of};
+use super::timeline::{Phase, drawing, target};
+use super::{Log, number};
+use std::collections::BTreeMap;
+use std::fmt::Write;
+
+/// How many rows a table of commands or sources has at most.
+const ROWS: usize = 20;
+
+const HEAD: &str = include_str!("page.html");
+
+/// A text as the text of a page.
+pub fn escaped(text: &str) -> String {
+    text.replace('&', "&amp;").replace('<', "&lt;").replace('>', "&gt;").replace('"', "&quot;")
+}
+
+/// The file that a call compiles: the last of its words with a source's suffix.
+fn source(call: &Call) -> &str {
+    let suffixes = ["cu", "c", "cc", "cpp", "cxx", "ptx", "ii", "gpu"];
+    let is_source = |word: &&String| word.rsplit_once('.').is_some_and(|(_, suffix)| suffixes.contains(&suffix)) && !word.starts_with('-');
+    call.words.iter().rev().find(is_source).map_or("no source", String::as_str)
+}
+
+/// The page of a log.
+pub fn page(log: &Log) -> String {
+    let parts = [tiles(log), timeline(log), reasons(log), phases(log), sources(log), commands(log), own(log), chain(log), bad(log)];
+    format!("{HEAD}{}</main>\n</body>\n</html>\n", parts.concat())
+}
+
+fn section(title: &str, body: &str) -> String {
+    if body.is_empty() { String::new() } else { format!("<section>\n<h2>{title}</h2>\n{body}</section>\n") }
+}
+
+fn note(text: &str) -> String {
+    format!("<p class=\"note\">{}</p>\n", escaped(text))
+}
+
+/// A table with these heads, whose rows are cells of the page's text. Cells behind the first `texts` are numbers.
+fn table(heads: &[&str], texts: usize, rows: &[Vec<String>]) -> String {
+    let cells = |row: &[String], tag: &str| -> String {
+        let class = |at: usize| if at < texts { "" } else { " class=\"number\"" };
+        row.iter().enumerate().map(|(at, cell)| format!("<{tag}{}>{cell}</{tag}>", class(at))).collect::<Vec<_>>().concat()
+    };
+    let head: Vec<String> = heads.iter().map(|head| escaped(head)).collect();
+    let rows: Vec<String> = rows.iter().map(|row| format!("<tr>{}</tr>\n", cells(row, "td"))).collect();
+    format!("<div class=\"wide\"><table>\n<tr>{}</tr>\n{}</table></div>\n", cells(&head, "th"), rows.concat())
+}
+
+/// A bar that is a part of a whole.
+fn bar(part: f64, whole: f64) -> String {
+    let percent = if whole > 0.0 { 100.0 * part / whole } else { 0.0 };
+    format!("<span class=\"bar\"><span style=\"width:{percent:.1}%\"></span></span>")
+}
+
+fn seconds(seconds: f64) -> String {
+    format!("{seconds:.2}&nbsp;s")
+}
+
+fn percent(part: usize, whole: usize) -> String {
+    if whole == 0 { "none".into() } else { format!("{:.0} %", 100.0 * number(part) / number(whole)) }
+}
+
+fn tiles(log: &Log) -> String {
+    let (begin, end) = log.span();
+    let work: f64 = log.commands().map(|(command, _)| command.seconds()).sum();
+    let failed = log.calls.iter().filter(|call| call.status != 0).count();
+    let cache = log.hits().map_or_else(|| "not in the log".into(), |(hits, misses)| format!("{hits} / {misses}"));
+    let at_once = if end > begin { work / (end - begin) } else { 0.0 };
+    let tiles = [
+        (log.calls.len().to_string(), format!("calls, {failed} failed")),
+        (percent(log.split(), log.calls.len()), format!("of the calls were split: {} of {}", log.split(), log.calls.len())),
+        (log.commands().count().to_string(), "commands".into()),
+        (format!("{:.1} s", end - begin), "first begin to last end".into()),
+        (format!("{at_once:.1}"), "commands at once, on average".into()),
+        (cache, "cache hits / misses".into()),
+    ];
+    let tile = |(value, name): &(String, String)| format!("<div class=\"tile\"><b>{}</b><span>{}</span></div>\n", escaped(value), escaped(name));
+    format!("<div class=\"tiles\">\n{}</div>\n", tiles.iter().map(tile).collect::<String>())
+}
+
+fn timeline(log: &Log) -> String {
+    if log.calls.is_empty() {
+        return note("The log has no calls.");
+    }
+    let mut legend = String::new();
+    for phase in Phase::ALL {
+        let _ = write!(legend, "<span><i class=\"p{}\"></i>{}</span> ", phase as usize, phase.name());
+    }
+    section("Slots in time", &format!("<p class=\"legend\">{legend}<span><i class=\"bad\"></i>failed</span></p>\n{}", drawing(log, escaped)))
+}
+
+fn reasons(log: &Log) -> String {
+    let whole = log.calls.len() - log.split();
+    let row = |(reason, count): &(&str, usize)| vec![escaped(reason), bar(number(*count), number(whole)), count.to_string()];
+    let rows: Vec<Vec<String>> = log.reasons().iter().map(row).collect();
+    let hints: String = log.hints.iter().map(|hint| note(&format!("Hint: {hint}"))).collect();
+    if rows.is_empty() && hints.is_empty() {
+        return String::new();
+    }
+    section("Why nvcc made calls itself", &(table(&["Reason", "", "Calls"], 2, &rows) + &hints))
+}
+
+/// The seconds of each phase, for host code and for each target.
+fn phases(log: &Log) -> String {
+    let mut sums: BTreeMap<(u32, String), BTreeMap<Phase, f64>> = BTreeMap::new();
+    for (command, _) in log.commands() {
+        let name = target(&command.kind).unwrap_or_default();
+        let number = name.trim_end_matches(char::is_alphabetic).parse().unwrap_or_default();
+        *sums.entry((number, name)).or_default().entry(Phase::of(&command.kind)).or_default() += command.seconds();
+    }
+    let all: f64 = sums.values().flat_map(BTreeMap::values).sum();
+    let most = sums.values().flat_map(BTreeMap::values).copied().fold(0.0, f64::max);
+    let used: Vec<Phase> = Phase::ALL.into_iter().filter(|phase| sums.values().any(|row| row.contains_key(phase))).collect();
+    let cell = |took: Option<&f64>| {
+        took.map_or(String::new(), |&took| format!("<span class=\"heat\" style=\"--heat:{:.2}\">{}</span>", took / most.max(1e-9), seconds(took)))
+    };
+    let row = |((_, name), row): (&(u32, String), &BTreeMap<Phase, f64>)| {
+        let name = if name.is_empty() { "host and all targets".into() } else { format!("target {}", escaped(name)) };
+        let sum: f64 = row.values().sum();
+        let cells = used.iter().map(|phase| cell(row.get(phase)));
+        [name]
+            .into_iter()
+            .chain(cells)
+            .chain([format!("<b>{}</b>", seconds(sum)), format!("{:.0}&nbsp;%", 100.0 * sum / all.max(1e-9))])
+            .collect::<Vec<String>>()
+    };
+    let rows: Vec<Vec<String>> = sums.iter().map(row).collect();
+    let heads: Vec<&str> = [""].into_iter().chain(used.iter().map(|phase| phase.name())).chain(["All", "Share"]).collect();
+    if rows.is_empty() { String::new() } else { section("Preprocessing and each target", &table(&heads, 1, &rows)) }
+}
+
+/// The sources whose commands took longest.
+fn sources(log: &Log) -> String {
+    let mut sums: BTreeMap<&str, (usize, f64, f64)> = BTreeMap::new();
+    for call in &log.calls {
+        let work: f64 = if call.commands.is_empty() { call.seconds() } else { call.commands.iter().map(super::Command::seconds).sum() };
+        let sum = sums.entry(source(call)).or_default();
+        *sum = (sum.0 + 1, sum.1 + work, sum.2.max(call.seconds()));
+    }
+    let mut sums: Vec<_> = sums.into_iter().collect();
+    sums.sort_by(|one, other| other.1.1.total_cmp(&one.1.1));
+    let most = sums.first().map_or(0.0, |(_, sum)| sum.1);
+    let row = |(name, (count, work, longest)): &(&str, (usize, f64, f64))| {
+        vec![format!("<code>{}</code>", escaped(name)), bar(*work, most), count.to_string(), seconds(*work), seconds(*longest)]
+    };
+    let rows: Vec<Vec<String>> = sums.iter().take(ROWS).map(row).collect();
+    if rows.is_empty() {
+        String::new()
+    } else {
+        section("Sources that took longest", &table(&["Source", "", "Calls", "Commands, in sum", "Longest call"], 2, &rows))
+    }
+}
+
+fn commands(log: &Log) -> String {
+    let slowest = slowest(log, ROWS);
+    let most = slowest.first().map_or(0.0, |(command, _)| command.seconds());
+    let row = |(command, call): &(&super::Command, &Call)| {
+        let source = format!("<code title=\"{}\">{}</code>", escaped(&words_of(call, 400)), escaped(source(call)));
+        vec![source, escaped(&command.kind), bar(command.seconds(), most), seconds(command.seconds()), seconds(command.waited())]
+    };
+    let rows: Vec<Vec<String>> = slowest.iter().map(row).collect();
+    if rows.is_empty() {
+        String::new()
+    } else {
+        section("Slowest commands", &table(&["Source", "Command", "", "Ran", "Waited for a slot"], 3, &rows))
+    }
+}
+
+/// What zigrunk itself took of the calls that were split.
+fn own(log: &Log) -> String {
+    let mut times: Vec<f64> = log.calls.iter().filter_map(own_seconds).collect();
+    times.sort_by(f64::total_cmp);
+    let Some(&most) = times.last() else { return String::new() };
+    let split: f64 = log.calls.iter().filter(|call| call.reason.is_none()).map(Call::seconds).sum();
+    let (sum, waited): (f64, f64) = (times.iter().sum(), log.commands().map(|(command, _)| command.waited()).sum());
+    let rows = [
+        vec![
+            "no command of the call ran or waited: dry runs and their wait for a slot, planning, the end".into(),
+            seconds(sum),
+            seconds(times[times.len() / 2]),
+            seconds(most),
+            format!("{:.1}&nbsp;%", 100.0 * sum / split.max(1e-9)),
+        ],
+        vec!["commands waited for a slot, some at the same time".into(), seconds(waited), String::new(), String::new(), String::new()],
+    ];
+    section("What zigrunk itself took", &table(&["While", "In sum", "Median of a call", "Most of a call", "Of split calls' time"], 1, &rows))
+}
+
+/// The call that would take longest with a slot for each command.
+fn chain(log: &Log) -> String {
+    let split = log.calls.iter().filter(|call| !call.commands.is_empty());
+    let chains = split.filter_map(|call| longest_chain(call).map(|chain| (call, seconds_of(call, &chain), chain)));
+    let Some((call, length, chain)) = chains.max_by(|one, other| one.1.total_cmp(&other.1)) else {
+        return if log.commands().next().is_some() {
+            section("Longest chain", &note("The log doesn't say what commands need."))
+        } else {
+            String::new()
+        };
+    };
+    let row = |&number: &usize| {
+        let command = &call.commands[number];
+        vec![escaped(&command.kind), bar(command.seconds(), length), seconds(command.seconds()), seconds(command.waited())]
+    };
+    let rows: Vec<Vec<String>> = chain.iter().map(row).collect();
+    let text = format!(
+        "{} took {:.2} s. Its commands that wait for each other take {length:.2} s: with any number of slots, the build takes at least that.",
+        source(call),
+        call.seconds()
+    );
+    section("Longest chain", &(note(&text) + &table(&["Command", "", "Ran", "Waited for a slot"], 2, &rows)))
+}
+
+fn bad(log: &Log) -> String {
+    if log.bad == 0 { String::new() } else { note(&format!("{} lines are no entries of such a log.", log.bad)) }
+}
+
+#[cfg(test)]
+mod tests {
+    use super::*;
+    use crate::report::tests::{SMALL, small};
+
+    #[test]
+    fn a_page_says_what_the_log_says() {
+        let page = page(&small());
+        for part in [
+            "<b>4</b><span>calls, 1 failed",
+            "<b>50 %</b><span>of the calls were split: 2 of 4",
+            "<b>0 / 1</b><span>cache hits / misses",
+            "a dry run fails",
+            "Hint: do this",
+            "target 80",
+            "target 90",
+            "<code>a.cu</code>",
+            "1 lines are no entries",
+            "a.cu took 4.00 s. Its commands that wait for each other take 3.00 s",
+        ] {
+            assert!(page.contains(part), "{part} is not in {page}");
+        }
+        assert_eq!(
+            (page.matches("<rect").count(), page.matches("<svg").count(), page.matches("<section>").count()),
+            (5, 1, page.matches("</section>").count())
+        );
+        assert!(!page.contains("<script") && !page.contains("http"), "it needs nothing from elsewhere");
+    }
+
+    #[test]
+    fn texts_of_a_log_are_no_code_of_the_page() {
+        let mut log = Log::default();
+        log.add(SMALL.replace("a.cu", "<b>&amp;\\u0022.cu").replace("it links", "<script>").as_bytes());
+        let page = page(&log);
+        assert!(page.contains("&lt;b&gt;&amp;amp;&quot;.cu") && page.contains("&lt;script&gt;"));
+        assert!(!page.contains("<script") && !page.contains("<b>&"));
+    }
+
+    #[test]
+    fn sources_are_the_last_ones_named() {
+        let call = |words: &str| Call {
+            begin: 0.0,
+            end: 0.0,
+            status: 0,
+            reason: None,
+            commands: vec![],
+            counted: None,
+            words: words.split(' ').map(String::from).collect(),
+        };
+        for (words, wanted) in [("nvcc -c d/a.cu -o a.o", "d/a.cu"), ("nvcc -Ix.cu a.o", "no source"), ("nvcc -c a.cpp b.cu", "b.cu")] {
+            assert_eq!(source(&call(words)), wanted, "{words}");
+        }
+    }
+}

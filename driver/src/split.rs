@@ -1,0 +1,201 @@
+//! A call that is split, from its line to what its commands said. A call alone and one of a batch take these steps.
+use crate::caches::{self, Counts};
+use crate::dry_runs::{self, DryRuns, Failed};
+use crate::folder::CallFolder;
+use crate::log;
+use crate::machine::Machine;
+use crate::places::absolute;
+use crate::planner::{self, Line, Outline, ToPlan};
+use crate::products;
+use crate::rule::{Refusals, RuleMaker};
+use crate::run::{self, Done, NoRule, Stopped, Task};
+use crate::settings::Settings;
+use crate::tasks::{self, Surroundings};
+use dry_run_pairs::runs_devices_first;
+use std::env;
+use std::fs;
+use std::path::Path;
+
+/// Why a call doesn't come to its end here.
+#[derive(Clone, PartialEq, Eq, Debug)]
+pub enum Stop {
+    /// Why nvcc makes it.
+    ByNvcc(String),
+    /// The signal that ends it.
+    Signal(i32),
+}
+
+impl From<String> for Stop {
+    fn from(reason: String) -> Stop {
+        Stop::ByNvcc(reason)
+    }
+}
+
+impl From<Failed> for Stop {
+    fn from(failed: Failed) -> Stop {
+        match failed {
+            Failed::ByNvcc(reason) => Stop::ByNvcc(reason),
+            Failed::Signal(number) => Stop::Signal(number),
+        }
+    }
+}
+
+impl From<Stopped> for Stop {
+    fn from(stopped: Stopped) -> Stop {
+        match stopped {
+            Stopped::NoProcess(reason) => Stop::ByNvcc(reason),
+            Stopped::Signal(number) => Stop::Signal(number),
+        }
+    }
+}
+
+pub fn by_nvcc<T>(reason: &str) -> Result<T, Stop> {
+    Err(Stop::ByNvcc(reason.to_owned()))
+}
+
+/// The words of nvcc's variable, as it cuts its value. A call is split only if they have no quotes.
+fn flags(name: &str) -> Vec<String> {
+    env::var(name).unwrap_or_default().split_whitespace().map(String::from).collect()
+}
+
+/// The words of a call with those that nvcc's variables add.
+pub fn with_flags(words: &[String]) -> Vec<String> {
+    [&flags("NVCC_PREPEND_FLAGS"), words, &flags("NVCC_APPEND_FLAGS")].concat()
+}
+
+/// Texts for the two standard streams, each with whether it is for standard error.
+pub type Said = Vec<(bool, Vec<u8>)>;
+
+/// What has come of a call.
+#[derive(Clone, PartialEq, Debug, Default)]
+pub struct Outcome {
+    pub status: i32,
+    /// What nvcc and the commands said, in nvcc's order.
+    pub said: Said,
+    /// The commands as the log has them.
+    pub commands: Vec<String>,
+    /// What the cache had counted before and after.
+    pub counted: Option<[Counts; 2]>,
+}
+
+/// A call to split, whose files go to a directory.
+pub struct Call<'a> {
+    pub settings: &'a Settings,
+    pub line: &'a Line,
+    pub folder: &'a CallFolder,
+    /// How many commands run at once, if the line doesn't say it.
+    pub at_once: usize,
+    /// What the cache refuses.
+    pub refusals: &'a Refusals,
+}
+
+impl Call<'_> {
+    fn tmp(&self) -> Result<&str, Stop> {
+        self.folder.path().to_str().ok_or_else(|| "the temporary directory isn't UTF-8".to_owned().into())
+    }
+
+    /// What the line says of the call.
+    ///
+    /// # Errors
+    ///
+    /// Why nvcc makes the call.
+    pub fn outline(&self) -> Result<Outline, Stop> {
+        let outline = planner::outline_of(self.line, self.tmp()?)?;
+        check(&outline)?;
+        Ok(outline)
+    }
+
+    /// Makes the dry runs, plans the call and runs its commands.
+    ///
+    /// # Errors
+    ///
+    /// Why nvcc makes the call, or the signal that ends it.
+    pub fn run<M: Machine>(&self, machine: &mut M, outline: &Outline) -> Result<Outcome, Stop> {
+        let (line, tmp) = (self.line, self.tmp()?);
+        machine.plans(true);
+        let asked = dry_runs::Line { nvcc: &line.nvcc, words: &with_flags(&line.words), outline, tmp, cwd: &line.cwd };
+        let make_own = || fs::create_dir(Path::new(tmp).join(tasks::OWN)).map_err(|_| "no room for temporary files".into());
+        let dry_runs = dry_runs::make(machine, &asked, make_own)?;
+        machine.plans(false);
+        let keeps = outline.keep_dir.is_some();
+        let to_plan = ToPlan { dry_runs: [&dry_runs.first, &dry_runs.second], cwd: &line.cwd, tmp, flag: &outline.flag, keeps };
+        let commands = planner::plan(&to_plan)?;
+        let scratch = self.settings.scratch().map(|path| absolute(path, Path::new(&line.cwd)).to_string_lossy().into_owned());
+        let surroundings = Surroundings { settings: self.settings, tmp, scratch };
+        let tasks = tasks::tasks_of(&commands, outline.dependencies.as_ref(), &surroundings);
+        let launcher = self.settings.launcher.first().map(String::as_str).unwrap_or_default();
+        let mut maker = RuleMaker { commands: &commands, asked: outline.dependencies.as_ref(), launcher, refusals: self.refusals };
+        let before = caches::counts(machine, self.settings)?;
+        let mut done = run::run(machine, &mut maker, &tasks, outline.jobs.unwrap_or(self.at_once))?;
+        make_late_rule(machine, &mut done, &tasks)?;
+        check_end(self.folder.is_there(), &done, &tasks, &dry_runs)?;
+        let counted = before.zip(caches::counts(machine, self.settings)?).map(<[Counts; 2]>::from);
+        let commands = if self.settings.log.is_some() { log::commands(&tasks, &done) } else { Vec::new() };
+        let (status, said) = said(dry_runs.messages, &tasks, done, self.settings);
+        Ok(Outcome { status, said, commands, counted })
+    }
+}
+
+/// What of a line's outline nvcc has to make.
+fn check(outline: &Outline) -> Result<(), Stop> {
+    if outline.keep_dir.as_ref().is_some_and(|dir| !Path::new(dir).is_dir()) {
+        return by_nvcc("the keep directory is missing");
+    }
+    let mut words = outline.dependencies.iter().flat_map(|command| command.words.windows(2));
+    let is_error = |file: &str| matches!(file, "/dev/stderr" | "/dev/fd/2" | "/proc/self/fd/2");
+    if words.any(|pair| pair[0] == "-MF" && is_error(&pair[1])) {
+        return by_nvcc("its dependency file is standard error");
+    }
+    Ok(())
+}
+
+/// Has nvcc make the dependency file if a command failed before that was made: nvcc makes it before that command.
+fn make_late_rule<M: Machine>(machine: &mut M, done: &mut [Done], tasks: &[Task]) -> Result<(), Stop> {
+    let Some(at) = tasks.iter().position(|task| task.is_rule) else { return Ok(()) };
+    if done[at].has_ended() || !done.iter().any(Done::failed) {
+        return Ok(());
+    }
+    let task = Task { needs: Vec::new(), is_rule: false, ..tasks[at].clone() };
+    let mut late = run::run(machine, &mut NoRule, &[task], 1)?;
+    done[at] = late.pop().unwrap_or_default();
+    Ok(())
+}
+
+/// Whether the end of the commands is the call's, whose directory is there or not, or nvcc has to make it.
+fn check_end(is_there: bool, done: &[Done], tasks: &[Task], dry_runs: &DryRuns) -> Result<(), Stop> {
+    if !is_there {
+        return by_nvcc("its temporary directory is gone");
+    }
+    if !done.iter().any(Done::failed) {
+        return if done.iter().all(Done::has_ended) { Ok(()) } else { by_nvcc("a command didn't run") };
+    }
+    if done.iter().zip(tasks).any(|(done, task)| task.is_rule && done.failed()) {
+        return by_nvcc("its dependency file fails");
+    }
+    if runs_devices_first(&dry_runs.first) {
+        return by_nvcc("a command fails, and nvcc has them in another order");
+    }
+    Ok(())
+}
+
+/// The status of a call, and what nvcc and the commands said, in nvcc's order, up to the first command that failed.
+fn said(messages: Vec<u8>, tasks: &[Task], done: Vec<Done>, settings: &Settings) -> (i32, Said) {
+    let ended = done.into_iter().zip(tasks).filter_map(|(done, task)| Some((task.is_rule, done.ended?)));
+    let (rules, ended): (Vec<_>, Vec<_>) = ended.partition(|(is_rule, _)| *is_rule);
+    let mut said = vec![(true, messages)];
+    said.extend(rules.into_iter().map(|(_, rule)| (false, rule.out)));
+    let mut is_silent = true;
+    for (_, mut ended) in ended {
+        ended.errors.extend(tasks::words_of_death(ended.status).into_bytes());
+        is_silent &= ended.out.is_empty() && ended.errors.is_empty();
+        said.extend([(false, ended.out), (true, ended.errors)]);
+        let code = ended.status.code;
+        if code != 0 {
+            let room = if is_silent { products::lack_of_room(settings.plans()) } else { String::new() };
+            let text = format!("zigrunk-nvcc: a command failed with status {code} and without a message{room}\n");
+            said.extend(is_silent.then(|| (true, text.into_bytes())));
+            return (code, said);
+        }
+    }
+    (0, said)
+}

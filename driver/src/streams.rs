@@ -1,0 +1,113 @@
+//! Reading and writing whole files and streams. A call that a signal interrupts again and again ends with an error, and not never.
+use crate::system;
+use std::fs::File;
+use std::io::{self, ErrorKind, Write};
+use std::mem::ManuallyDrop;
+use std::os::fd::{AsRawFd, FromRawFd};
+use std::os::unix::fs::FileExt;
+use std::path::Path;
+
+/// How often a call that is interrupted is made again.
+const MOST_TRIES: usize = 1000;
+/// How many milliseconds to wait for the reader of a stream that takes no more just now.
+const PATIENCE: i32 = 1000;
+
+/// All that an open file holds, wherever it is read or written just now.
+///
+/// # Errors
+///
+/// Those of reading.
+pub fn content(file: &File) -> io::Result<Vec<u8>> {
+    let (mut text, mut size, mut tries) = (vec![0; 1 << 12], 0, 0);
+    loop {
+        match file.read_at(&mut text[size..], size as u64) {
+            Ok(0) => break,
+            Ok(more) => size += more,
+            Err(error) if error.kind() == ErrorKind::Interrupted && tries < MOST_TRIES => tries += 1,
+            Err(error) => return Err(error),
+        }
+        if size == text.len() {
+            text.resize(4 * size, 0);
+        }
+    }
+    text.truncate(size);
+    Ok(text)
+}
+
+/// All that the file of a path holds.
+///
+/// # Errors
+///
+/// Those of opening and reading.
+pub fn content_of(path: &Path) -> io::Result<Vec<u8>> {
+    content(&File::open(path)?)
+}
+
+/// Writes a whole text.
+///
+/// # Errors
+///
+/// Those of writing.
+pub fn write_all(mut file: &File, text: &[u8]) -> io::Result<()> {
+    let (mut rest, mut tries) = (text, 0);
+    while !rest.is_empty() {
+        match file.write(rest) {
+            Ok(0) => return Err(ErrorKind::WriteZero.into()),
+            Ok(size) => rest = &rest[size..],
+            Err(error) if tries >= MOST_TRIES => return Err(error),
+            Err(error) if error.kind() == ErrorKind::Interrupted => tries += 1,
+            Err(error) if error.kind() == ErrorKind::WouldBlock => {
+                system::wait_to_write(file.as_raw_fd(), PATIENCE);
+                tries += 1;
+            }
+            Err(error) => return Err(error),
+        }
+    }
+    Ok(())
+}
+
+/// Writes a text to a standard stream: 1 for output, 2 for messages.
+///
+/// # Errors
+///
+/// Those of writing.
+pub fn say(stream: i32, text: &[u8]) -> io::Result<()> {
+    // SAFETY: the standard streams are open, or this gives an error. They aren't closed here.
+    let file = ManuallyDrop::new(unsafe { File::from_raw_fd(stream) });
+    write_all(&file, text)
+}
+
+/// Says a line to the user. If that can't be done, there is nobody to tell.
+pub fn complain(line: &str) {
+    let _ = say(2, format!("{line}\n").as_bytes());
+}
+
+#[cfg(test)]
+mod tests {
+    use super::*;
+    use std::thread;
+
+    #[test]
+    fn a_file_is_read_whole() {
+        for size in [0, 1, 4095, 4096, 4097, 100_000] {
+            let file = system::memory_file().unwrap();
+            let text: Vec<u8> = (0..=250).cycle().take(size).collect();
+            write_all(&file, &text).unwrap();
+            assert_eq!(content(&file).unwrap(), text, "{size}");
+        }
+        assert!(content_of(Path::new("/")).is_err(), "a folder");
+    }
+
+    #[test]
+    fn a_slow_reader_gets_all() {
+        let (read, write) = system::pipe().unwrap();
+        let write = File::from(write);
+        system::set_unblocked(write.as_raw_fd()).unwrap();
+        let writer = thread::spawn(move || write_all(&write, &vec![7; 300_000]));
+        let mut text = Vec::new();
+        let mut read = File::from(read);
+        io::Read::read_to_end(&mut read, &mut text).unwrap();
+        assert!(writer.join().unwrap().is_ok());
+        assert_eq!(text.len(), 300_000);
+    }
+}

@@ -1,0 +1,168 @@
+#!/usr/bin/env python3
+"""Measures what a call of the driver costs beside its commands, with stand-ins for nvcc and its tools that cost little.
+
+    tests/driver_cost.py [--calls N] [--batch N] DRIVER
+
+Prints the processor's time of a call of seven commands, of those commands alone, and of what goes straight to nvcc beside nvcc alone; and how many
+processes such a call has. For a batch of N calls for ten targets, 60 unless you say so, it prints the processor's time and the memory of
+zigrunk-batch's own process for each call. All have to stay within the limits below. The last line is 'N passed, M failed'.
+
+With a real nvcc on PATH, it also prints how long after its begin a call starts its first compiler, beside what nvcc's dry run takes: both are
+times of the machine as it is, so neither has a limit.
+"""
+import argparse
+import json
+import os
+import resource
+import shutil
+import statistics
+import subprocess
+import sys
+import tempfile
+import time
+from pathlib import Path
+
+HERE = Path(__file__).resolve().parent
+DRY_RUNS = HERE / "drivers/test_plans/data/dry_runs"
+WORDS = "-c k.cu -o k.o -arch=sm_75".split()
+MOST_MILLISECONDS = 12.0  # of a call, its two dry runs included, beside its commands
+MOST_PROCESSES = 14
+MOST_PLAIN_MILLISECONDS = 1.0  # of what goes to nvcc at once, beside nvcc
+TARGETS = 10
+MOST_BATCH_MILLISECONDS = 10.0  # of a call of a batch for that many targets, in the batch's own process
+MOST_BATCH_KILOBYTES = 60.0
+
+
+def cpu(words: list[str], environment: dict[str, str], folder: Path, calls: int) -> float:
+    """The median of the milliseconds of processor's time that a command takes, with all that it waits for."""
+    taken = []
+    for _ in range(calls):
+        before = resource.getrusage(resource.RUSAGE_CHILDREN)
+        process = os.posix_spawn(words[0], words, environment, setsigdef=[])
+        if os.waitpid(process, 0)[1] != 0:
+            sys.exit(f"{words}: it fails, in {folder}")
+        after = resource.getrusage(resource.RUSAGE_CHILDREN)
+        taken.append(1000 * (after.ru_utime + after.ru_stime - before.ru_utime - before.ru_stime))
+    return statistics.median(taken)
+
+
+def toolkit(folder: Path) -> Path:
+    """A toolkit of stand-ins."""
+    cuda = folder / "cuda"
+    for name in ("bin", "nvvm/bin"):
+        (cuda / name).mkdir(parents=True)
+    for source, to in ((HERE / "faults/tool.c", folder / "tool"), (HERE / "driver/dry_run.c", cuda / "bin/nvcc")):
+        subprocess.run(["cc", "-O2", "-static", "-w", "-o", to, source], check=True)
+    for name in ("bin/gcc", "bin/cudafe++", "bin/ptxas", "bin/fatbinary", "nvvm/bin/cicc"):
+        (cuda / name).symlink_to(folder / "tool")
+    return cuda
+
+
+def processes(call: list[str], environment: dict[str, str]) -> int:
+    """How many processes a call has, itself included."""
+    tracer = ["strace", "-f", "-qq", "-e", "trace=clone,clone3,fork,vfork", "-e", "signal=none"]
+    trace = subprocess.run([*tracer, *call], env=environment, check=True, capture_output=True, text=True)
+    return 1 + sum(" = " in line and not line.rstrip().endswith("= -1") for line in trace.stderr.splitlines() if "clone" in line or "fork" in line)
+
+
+def ten_targets(line: str) -> str:
+    """A line of a recorded dry run for two targets, for ten of them: one of the first target's once for each of the others."""
+    numbers = [52, 60, 61, 62, 70, 72, 75, 86]
+    if line.startswith("#$ fatbinary "):
+        image = '"--image3=kind=elf,sm=80,file=/t/kernel.compute_80.cubin" '
+        image = image if image in line else image.replace("/t/", "")
+        return line.replace(image, "".join(image.replace("80", str(number)) for number in [80, *numbers]))
+    if "__CUDA_ARCH__=800 " not in line and "arch compute_80 " not in line and "arch=sm_80 " not in line:
+        return line
+    later = line.replace("--gen_module_id_file ", "")
+    others = [later.replace("ARCH__=800 ", f"ARCH__={number}0 ").replace("compute_80", f"compute_{number}").replace("sm_80", f"sm_{number}")
+              for number in numbers]
+    return "".join([line, *others])
+
+
+def of_batch(driver: list[str], environment: dict[str, str], calls: int) -> tuple[float, int]:
+    """The milliseconds of processor's time that a batch of so many calls takes in its own process, and the most KB of its memory."""
+    lines = [f"-c k{number}.cu -o k{number}.o -arch=sm_75\n" for number in range(calls)]
+    Path("list").write_text("".join(lines))
+    process = os.posix_spawn(driver[0], ["zigrunk-batch", "list"], environment, setsigdef=[])
+    os.waitid(os.P_PID, process, os.WEXITED | os.WNOWAIT)
+    own = Path(f"/proc/{process}/stat").read_text().rpartition(")")[2].split()
+    _, status, used = os.wait4(process, 0)
+    if status != 0:
+        sys.exit(f"a batch fails, in {Path.cwd()}")
+    return 1000 * (int(own[11]) + int(own[12])) / os.sysconf("SC_CLK_TCK"), used.ru_maxrss
+
+
+def batch_rows(driver: list[str], environment: dict[str, str], folder: Path, calls: int) -> list[tuple[str, float, float]]:
+    """What a call of a batch takes in the batch's own process."""
+    data = folder / "data"
+    data.mkdir()
+    for number in (1, 2):
+        recorded = (DRY_RUNS / f"two_targets.dry{number}").read_text().splitlines(keepends=True)
+        (data / f"one_target.dry{number}").write_text("".join(ten_targets(line) for line in recorded))
+    few, many = (of_batch(driver, {**environment, "DATA": str(data)}, count) for count in (calls // 6, calls))
+    more = calls - calls // 6
+    return [(f"ms of a call for {TARGETS} targets in a batch's process", (many[0] - few[0]) / more, MOST_BATCH_MILLISECONDS),
+            ("KB of such a call there", (many[1] - few[1]) / more, MOST_BATCH_KILOBYTES)]
+
+
+def print_first_compiler(driver: list[str], folder: Path, calls: int) -> None:
+    """How long after its begin a call starts its first compiler, if there is a real nvcc."""
+    nvcc = shutil.which("nvcc")
+    if nvcc is None:
+        return
+    environment = {**os.environ, "ZIGRUNK_LOG": str(folder / "log"), "TMPDIR": str(folder / "tmp"), "XDG_RUNTIME_DIR": str(folder / "run")}
+    taken, alone = [], []
+    for _ in range(calls):
+        begun = time.time()
+        subprocess.run([*driver, *WORDS], env=environment, check=True)
+        begins = json.loads((folder / "log").read_text().splitlines()[-1])["commands"]
+        taken.append(1000 * (min(command["begin"] for command in begins) - begun))
+        begun = time.time()
+        subprocess.run([nvcc, "--dryrun", *WORDS], check=True, capture_output=True)
+        alone.append(1000 * (time.time() - begun))
+    print(f"{min(taken):6.1f} ms until the first compiler starts at least, {statistics.median(taken):.1f} in the median; a dry run of nvcc alone "
+          f"{min(alone):.1f} and {statistics.median(alone):.1f}")
+
+
+def main() -> int:
+    parser = argparse.ArgumentParser(usage=__doc__)
+    parser.add_argument("driver", type=Path)
+    parser.add_argument("--calls", type=int, default=60)
+    parser.add_argument("--batch", type=int, default=60)
+    args = parser.parse_args()
+    if not shutil.which("cc") or not shutil.which("strace"):
+        print("cost: skipped, there is no C compiler or no strace\n0 passed, 0 failed, 1 skipped")
+        return 0
+    failed = 0
+    with tempfile.TemporaryDirectory(prefix="cost.") as name:
+        folder = Path(name)
+        cuda = toolkit(folder)
+        for made in ("work", "tmp", "run"):
+            (folder / made).mkdir(mode=0o700)
+        shutil.copy(args.driver, folder / "zigrunk-nvcc")
+        os.chdir(folder / "work")
+        Path("k.cu").write_text("__global__ void k() {}\n")
+        environment = {"PATH": f"{cuda}/bin:/usr/bin:/bin", "CUDA": str(cuda), "DATA": str(DRY_RUNS), "TMPDIR": str(folder / "tmp"),
+                       "XDG_RUNTIME_DIR": str(folder / "run"), "PAUSE": "0"}
+        driver = [str(folder / "zigrunk-nvcc")]
+        call = [*driver, *WORDS]
+        count = processes(call, environment)
+        tools = [[f"{folder}/tool", "-o", "out"]] * 7
+        bare = sum(cpu(tool, environment, folder, args.calls) for tool in tools)
+        whole = cpu(call, environment, folder, args.calls)
+        plain, alone = (cpu([*before, "--version"], environment, folder, args.calls) for before in (driver, [f"{cuda}/bin/nvcc"]))
+        rows = [("ms of a call beside its commands", whole - bare, MOST_MILLISECONDS),
+                ("processes of a call, its seven commands among them", count, MOST_PROCESSES),
+                ("ms of --version beside nvcc", plain - alone, MOST_PLAIN_MILLISECONDS),
+                *batch_rows(driver, environment, folder, args.batch)]
+        for what, value, most in rows:
+            failed += value > most
+            print(f"{value:6.1f} of {most:4.1f}  {what}")
+        print_first_compiler(driver, folder, args.calls // 4)
+    print(f"{len(rows) - failed} passed, {failed} failed")
+    return int(failed > 0)
+
+
+if __name__ == "__main__":
+    sys.exit(main())

@@ -1,0 +1,351 @@
+#!/usr/bin/env python3
+"""Edits by lot what no contract sees, and looks whether a test fails.
+
+    tests/mutants_by_lot.py [--seed S] [--count N] [--only N] [--kind KIND] [--lanes N] [--bound PERCENT] [--draw]
+
+An edit changes one line of code: it negates a condition, drops a call, and so on (RUST, SCRIPT). The seed and its number say which line and which
+operator, so --only makes one edit again. One that doesn't compile is drawn again, and so is one of tests/mutants_known.txt. Then the tests of its
+file run until one fails, the likeliest first. A part of a script counts if it fails twice. A test that takes too long counts as failed.
+
+An edited driver may send any signal, remove any file and take all memory. So tests run where they see no other process, can write only below the
+folder of their lane, and have 4 GB each. That takes root, or a kernel that lets users make namespaces.
+
+Prints each edit that no test finds as a diff, and 'caught N of M'. The last line is 'N passed, M failed': edits that got through are failures if
+fewer than --bound percent were caught.
+"""
+import argparse
+import difflib
+import json
+import os
+import random
+import re
+import shutil
+import subprocess
+import sys
+import tempfile
+import threading
+from collections import Counter
+from concurrent.futures import ThreadPoolExecutor
+from pathlib import Path
+from typing import NamedTuple
+
+ROOT = Path(__file__).resolve().parent.parent
+WORK = Path(os.environ.get("MUTANTS_WORK", ROOT / "out/mutants"))
+# How many seconds the unit tests or a part of a script may take, and how many parts a lane runs side by side: they mostly wait.
+LONGEST, SIDE_BY_SIDE = 240, 3
+# As in a release: sums that overflow don't panic.
+BUILD = {"CARGO_PROFILE_DEV_DEBUG": "0", "CARGO_PROFILE_DEV_OVERFLOW_CHECKS": "false", "CARGO_PROFILE_DEV_DEBUG_ASSERTIONS": "false"}
+
+# What runs a command as the first process of a namespace: all but the lane's folder can only be read, and all ends with the command.
+SANDBOX = ["unshare", *([] if os.geteuid() == 0 else ["--user", "--map-root-user"]), "--mount", "--pid", "--fork", "--kill-child", "--mount-proc",
+           "bash", "-c", 'mount --make-rprivate / && mount --bind "$1" /mnt && mount --bind "$2" /tmp && mkdir -p "$1" && mount --bind /mnt "$1" &&'
+           ' mount -o remount,bind,ro / && mount -o remount,bind,ro /dev && mount -t tmpfs tmpfs /dev/shm &&'
+           ' ulimit -v 4000000 && "${@:3}"; exit', "sandbox"]
+
+# The files of each kind, and the parts of its tests.
+DRIVER_PARTS = "driver: unit end_to_end folders compilers to_nvcc outputs products logs plans signals jobservers slots"
+BATCH_PARTS = "driver_batch: lists places failures products databases incremental reports stopped killed"
+KINDS = {
+    "driver": (["driver/src/**/*.rs"], f"{DRIVER_PARTS} {BATCH_PARTS}"),
+    "examples": (["examples/*/*.sh", "examples/*.bash", "examples/*/*.py"], "cluster_scripts: all"),
+}
+# The parts that come first for a file, by a part of its path: they are most likely to find an edit.
+FIRST = {
+    "src/batch/": BATCH_PARTS, "src/report/": "driver_batch: reports driver: logs", "src/plan_program": "driver: plans", "src/slots": "driver: slots",
+    "src/jobserver": "driver: jobservers", "src/guard": "driver: folders jobservers", "src/folder": "driver: folders", "src/log": "driver: logs",
+    "src/rule": "driver: products", "src/products": "driver: products", "src/programs": "driver: compilers", "src/dry_runs": "driver: to_nvcc",
+    "src/json_values": "driver_batch: databases reports", "src/entries": "driver: logs", "src/streams": "driver: outputs driver_batch: failures",
+    "src/system": "driver: end_to_end signals folders", "src/host": "driver: end_to_end signals logs", "src/call": "driver: end_to_end to_nvcc",
+}
+# No other parts run anything of these files.
+ALONE = ("src/batch/", "src/report/", "src/plan_program")
+
+
+# An edit: the file, the number of a line, what it is before and after, and the operator.
+Edit = NamedTuple("Edit", [("path", Path), ("line", int), ("old", str), ("new", str), ("operator", str)])
+
+
+def swaps(*pairs: str) -> "list[tuple[str, str]]":
+    """Patterns that put one text in place of another, and the other way round."""
+    return [(re.escape(old), new) for pair in pairs for old, new in (pair.split("~"), pair.split("~")[::-1])]
+
+
+# An operator is a name, and patterns with what takes the place of a match.
+RUST: dict[str, list[tuple[str, str]]] = {
+    "negate a condition": [(r"\b(if|while) (?!let\b)([^{}]+?) \{", r"\1 !(\2) {"), (r"\.filter\(\|(.+?)\| (.+)\)", r".filter(|\1| !(\2))")],
+    "drop a negation": [(r"(?<!\w)!(?=[a-z(*])", "")],
+    "swap equality": swaps(" == ~ != "),
+    "move a border": [(r" < ", " <= "), (r" <= ", " < "), (r" > ", " >= "), (r" >= ", " > "), (r"\.\.=", ".."), (r"(?<=[\w)])\.\.(?=[\w(])", "..=")],
+    "swap and, or": swaps(" && ~ || "),
+    "drop a call": [(r"^(\s*)(let _ = )?[a-z_][\w.:]*(?<!return)\(.*\)\??;$", r"\1")],
+    "return early": [(r"^(\s*(?:pub(?:\(crate\))? )?fn .*\{)$", r"\1 @RETURN@")],
+    "another number": [(r"(?<![\w.\"#'])(\d+)(?![\w.\"'])", "@MORE@"), (r"(?<![\w.\"#'])([1-9]\d*)(?![\w.\"'])", "@LESS@")],
+    "another text": [(r'"([^"{}\\]+)"', r'"\1x"'), (r'"([^"{}\\]+)"', '""')],
+    "swap arguments": [(r"(?<=\w)\((&?\w[\w.]*), (&?\w[\w.]*)", r"(\2, \1")],
+    "swap sum": [(r" \+ ", " - "), (r" - ", " + "), (r" \* ", " + "), (r" \+= ", " -= ")],
+    "empty a branch": [(r"^(\s*.+ => )(?!\{$)[^,]+,$", r"\1{}"), (r"^(\s*.+ => )(?!\{$)(.+),$", r"\1Default::default(),")],
+    "another flag": [*swaps("true~false", "TERM~KILL", "INT~HUP", "STOP~CONT", "::WouldBlock~::NotFound", "::AlreadyExists~::PermissionDenied",
+                            "Opening::Kept~Opening::Pipe", "Outcome::Success~Outcome::Failure"), (r" \| \d+\b", ""), (r"\bTSTP\b", "CHLD")],
+    "another method": swaps(".is_some()~.is_none()", ".is_ok()~.is_err()", ".any(~.all(", ".min(~.max(", ".is_some_and(~.is_none_or(",
+                            ".first()~.last()", ".starts_with(~.ends_with(", ".take_while(~.skip_while(", ".push_back(~.push_front("),
+    "drop a link of a chain": [(r"\.(rev|skip|filter|trim|min|max|take|chain|filter_map)\([^()]*\)", ""),
+                               (r"(?<!let )\bSome\([a-z_.]+\)(?! =)(?! \|)", "None")],
+    "break, continue": swaps("break;~continue;", "continue;~return;"),
+}
+SCRIPT: dict[str, list[tuple[str, str]]] = {
+    "drop a line": [(r"^(\s*)(?!(?:if|while|until|for|case|def|class|with|elif|return) |done|fi\b|esac|else|then|do\b|[})@\]])[^#]*[^\s:{(,&|\\]$",
+                     r"\1@NOTHING@")],
+    "negate a condition": [(r"^(\s*)(if|while|until|elif) (?!!)(.*[;:].*)$", r"\1\2 @NOT@ \3")],
+    "swap equality": swaps(" = ~ != ", " == ~ != ", " -eq ~ -ne ", " -n ~ -z "),
+    "move a border": swaps(" -lt ~ -le ", " -gt ~ -ge ", " < ~ <= ", " > ~ >= "),
+    "swap and, or": swaps(" && ~ || ", " and ~ or "),
+    "another number": [(r"(?<![\w.\"#'$>&/-])(\d+)(?![\w.\"'>])", "@MORE@")],
+    "another text": [(r"'([^'$\\]+)'", r"'\1x'"), (r'"([^"$\\{}]+)"', r'"\1x"')],
+    "swap sum": swaps(" + ~ - "),
+    "another flag": [*swaps("True~False", "TERM~KILL", "INT~HUP"), (r" --?[a-z][\w-]+(?= )", "")],
+    "return early": [(r"^(\s*\w+\(\) \{)$", r"\1 return 0")],
+    "swap words": [(r'("\$\w+") ("\$\w+")', r"\2 \1"), (r"(?<=\w)\((\w+), (\w+)\)", r"(\2, \1)")],
+}
+NO_CODE = re.compile(r"\s*(//|#\[|#!\[|#|use |pub use |pub\(crate\) use |mod |pub mod |import |from |extern |\"\"\"|[^\w]*$)")
+
+
+def returned(line: str) -> str:
+    """What a function returns early, by its first line."""
+    kind = found[1] if (found := re.search(r"-> (.+?) (?:where .*)?\{$", line)) else ""
+    values = {"io::Result<": "Ok(Default::default())", "Result<": "Ok(Default::default())", "Option<": "None"}
+    value = next((value for begin, value in values.items() if kind.startswith(begin)), "Default::default()")
+    return f"return {value};" if kind else "return;"
+
+
+def put(line: str, match: "re.Match[str]", by: str, is_python: bool) -> str:
+    """The line with something in place of a match."""
+    text = match.expand(by.replace("@RETURN@", returned(line).replace("\\", r"\\")))
+    if by in ("@MORE@", "@LESS@"):
+        text = str(int(match[1]) + (1 if by == "@MORE@" else -1))
+    text = text.replace("@NOTHING@", "pass" if is_python else ":").replace("@NOT@", "not" if is_python else "!")
+    return line[:match.start()] + text + line[match.end():]
+
+
+def code_lines(path: Path) -> list[int]:
+    """The numbers of the lines of code, without tests, comments, imports and borders of blocks."""
+    lines = path.read_text().splitlines()
+    found, in_tests, in_text = [], False, False
+    for number, line in enumerate(lines):
+        if line == "#[cfg(test)]" and number + 1 < len(lines) and lines[number + 1].endswith("{"):
+            in_tests = True
+        in_text ^= line.count('"""') % 2 == 1
+        if not in_tests and not in_text and not NO_CODE.match(line):
+            found.append(number)
+        in_tests &= line != "}"
+    return found
+
+
+def sources(kind: str) -> list[Path]:
+    """The files of a kind, without those that are compiled for tests only."""
+    files = sorted(path for pattern in KINDS[kind][0] for path in ROOT.glob(pattern))
+    only_tests = {path.parent / f"{name}.rs" for path in files for name in re.findall(r"#\[cfg\(test\)\]\nmod (\w+);", path.read_text())}
+    return [path for path in files if path not in only_tests]
+
+
+def known() -> set[tuple[str, str, str]]:
+    """The edits that change nothing: file, old and new line."""
+    text = (ROOT / "tests/mutants_known.txt").read_text()
+    blocks = [dict(re.findall(r"^(file|old|new|why): ?(.*)$", block, re.M)) for block in text.split("\n\n")]
+    return {(block["file"], block["old"].strip(), block["new"].strip()) for block in blocks if block.get("why")}
+
+
+def draw(chance: random.Random, lines: list[tuple[Path, int]]) -> Edit | None:
+    """An edit of a line, if the operator fits it."""
+    path, number = chance.choice(lines)
+    line = path.read_text().splitlines()[number]
+    operators = RUST if path.suffix == ".rs" else SCRIPT
+    fitting = [(name, by, match) for name, patterns in operators.items() for pattern, by in patterns for match in re.finditer(pattern, line)
+               if line[:match.start()].count('"') % 2 == 0]
+    if not fitting:
+        return None
+    operator = chance.choice(sorted({name for name, _, _ in fitting}))
+    _, by, match = chance.choice([one for one in fitting if one[0] == operator])
+    new = put(line, match, by, path.suffix == ".py")
+    return Edit(path.relative_to(ROOT), number, line, new, operator) if new != line else None
+
+
+class Lane:
+    """A copy of the sources in which edits are made, one after the other."""
+
+    def __init__(self, number: int, kind: str) -> None:
+        self.folder, self.kind = WORK / f"lane{number}", kind
+        self.program, self.tests, self.running = Path(), list[Path](), set[subprocess.Popen[str]]()
+        self.sources = self.folder / "out/rust" if kind == "driver" else self.folder
+        for old in self.folder.glob("tmp*"):
+            shutil.rmtree(old, ignore_errors=True)
+        for name in ("tests", "examples", "bindings"):
+            shutil.copytree(ROOT / name, self.folder / name, symlinks=True, dirs_exist_ok=True)
+        if kind == "driver":
+            others = shutil.ignore_patterns("target", "driver")
+            shutil.copytree(ROOT / "out/rust", self.sources, symlinks=True, dirs_exist_ok=True, ignore=others)
+            # An edit may have stayed here, so these files have to be newer.
+            shutil.rmtree(self.sources / "driver", ignore_errors=True)
+            shutil.copytree(ROOT / "driver", self.sources / "driver", copy_function=shutil.copy)
+
+    def build(self) -> bool:
+        """Builds the driver and its tests. Says whether they compile."""
+        if self.kind != "driver":
+            return True
+        words = ["cargo", "build", "--offline", "--quiet", "-p", "zigrunk-driver", "--bins", "--tests", "--message-format=json"]
+        made = subprocess.run(words, cwd=self.sources, env=os.environ | BUILD, capture_output=True, text=True, check=False)
+        found = [json.loads(line) for line in made.stdout.splitlines() if '"executable":"' in line]
+        self.tests = [Path(one["executable"]) for one in found if one["profile"]["test"]]
+        self.program = next((Path(one["executable"]) for one in found if not one["profile"]["test"]), self.program)
+        return made.returncode == 0
+
+    def run(self, words: list[str], **settings: str) -> tuple[int, str]:
+        """Runs a test where it can do no harm. Says its status and what it printed."""
+        own = tempfile.mkdtemp(prefix="tmp", dir=self.folder)
+        with subprocess.Popen([*SANDBOX, str(self.folder), own, *words], cwd=self.folder, env={**os.environ, **settings, "TMPDIR": "/tmp"}, text=True,
+                              errors="replace", stdin=subprocess.DEVNULL, stdout=subprocess.PIPE, stderr=subprocess.STDOUT) as process:
+            self.running.add(process)
+            try:
+                said, _ = process.communicate(timeout=LONGEST)
+            except subprocess.TimeoutExpired:
+                process.kill()
+                said = "it takes too long\n"
+        self.running.discard(process)
+        shutil.rmtree(own, ignore_errors=True)
+        return process.returncode, said
+
+    def fault(self, script: str, part: str) -> str:
+        """Runs a part of the tests. Says what fails first, or nothing."""
+        if part == "unit":
+            status, said = self.run(["sh", "-c", 'for tests; do "$tests" -q || exit; done', "unit", *map(str, self.tests)])
+            failures = re.findall(r"^    (\S+)$", said, re.M)
+        else:
+            words = [f"tests/{script}.sh", *([str(self.program)] if self.kind == "driver" else [])]
+            status, said = self.run(words, STOP_EARLY="1", **({"PARTS": part} if part != "all" else {}))
+            failures = [line for line in said.splitlines() if ": skipped, " not in line]
+        return f"{script} {part}: {(failures or [said[-150:]])[0][:150]}" if status != 0 else ""
+
+    def test(self, path: str) -> str:
+        """Runs the tests of a file until one fails. Says which, or nothing. A part of a script counts if it fails twice."""
+        parts = parts_of(path, self.kind)
+        if parts[0][1] == "unit" and (found := self.fault(*parts.pop(0))):
+            return found
+        caught: list[str] = []
+
+        def try_part(script_part: tuple[str, str]) -> None:
+            if caught or not self.fault(*script_part):
+                return
+            again = self.fault(*script_part)
+            if again and not caught:
+                caught.append(again)
+                for process in list(self.running):
+                    process.kill()
+
+        with ThreadPoolExecutor(SIDE_BY_SIDE) as pool:
+            list(pool.map(try_part, parts))
+        return caught[0] if caught else ""
+
+
+def parts_of(path: str, kind: str) -> list[tuple[str, str]]:
+    """The parts of the tests for a file, each once, in their order."""
+    first = next((parts for place, parts in FIRST.items() if place in path), "")
+    others = "" if any(place in path for place in ALONE) else KINDS[kind][1]
+    found: dict[tuple[str, str], None] = {}
+    script = ""
+    for word in ("driver: unit " * (kind == "driver") + f"{first} {others}").split():
+        if word.endswith(":"):
+            script = word[:-1]
+        else:
+            found[script, word] = None
+    return list(found)
+
+
+def difference(edit: Edit, text: str) -> str:
+    """An edit as a diff."""
+    before = text.splitlines(keepends=True)
+    after = before[:edit.line] + [edit.new + "\n"] + before[edit.line + 1:]
+    return "".join(difflib.unified_diff(before, after, str(edit.path), str(edit.path), n=1))
+
+
+class Lot:
+    """The edits of a seed, and what became of them."""
+
+    def __init__(self, args: argparse.Namespace) -> None:
+        self.args, self.known = args, known()
+        self.lines = [(path, number) for path in sources(args.kind) for number in code_lines(path)]
+        self.numbers = iter([args.only] if args.only else range(1, args.count + 1))
+        self.lock, self.counts, self.caught = threading.Lock(), Counter[str](), Counter[str]()
+
+    def edit(self, number: int, lane: Lane | None) -> Edit:
+        """The edit of a number, built in a lane."""
+        chance = random.Random(f"{self.args.seed}.{number}")
+        while True:
+            edit = draw(chance, self.lines)
+            if edit is None or (str(edit.path), edit.old.strip(), edit.new.strip()) in self.known:
+                self.counts["known"] += edit is not None
+                continue
+            if lane is None:
+                return edit
+            text = (ROOT / edit.path).read_text()
+            lines = text.splitlines()
+            lines[edit.line] = edit.new
+            (lane.sources / edit.path).write_text("\n".join(lines) + "\n")
+            if lane.build():
+                return edit
+            self.counts["not compiled"] += 1
+            (lane.sources / edit.path).write_text(text)
+
+    def work(self, lane: Lane) -> None:
+        """Makes edits as long as there are any."""
+        while (number := self.next_number()) is not None:
+            edit = self.edit(number, lane)
+            failure = lane.test(str(edit.path))
+            text = (ROOT / edit.path).read_text()
+            (lane.sources / edit.path).write_text(text)
+            self.caught[" ".join(failure.split()[:2]).rstrip(":")] += 1
+            what = f"caught by {failure}\n" if failure else f"no test fails\n{difference(edit, text)}"
+            print(f"edit {number}, {edit.path}:{edit.line + 1}, {edit.operator}: {what}", end="", flush=True)
+
+    def next_number(self) -> int | None:
+        with self.lock:
+            return next(self.numbers, None)
+
+
+def main() -> int:
+    parser = argparse.ArgumentParser(usage=__doc__)
+    parser.add_argument("--seed", default="1")
+    parser.add_argument("--count", type=int, default=100)
+    parser.add_argument("--only", type=int, help="the number of an edit")
+    parser.add_argument("--kind", choices=KINDS, default="driver")
+    parser.add_argument("--lanes", type=int, default=2)
+    parser.add_argument("--bound", type=float, default=95)
+    parser.add_argument("--draw", action="store_true", help="print the edits, and make none")
+    args = parser.parse_args()
+    lot = Lot(args)
+    for number in lot.numbers if args.draw else []:
+        edit = lot.edit(number, None)
+        print(f"edit {number}, {edit.operator}\n{difference(edit, (ROOT / edit.path).read_text())}", end="")
+    if args.draw:
+        return 0
+    lanes = [Lane(number, args.kind) for number in range(1, 1 + min(args.lanes, 1 if args.only else args.count))]
+    if not all([lane.build() for lane in lanes]):
+        sys.exit("without an edit: it does not build")
+    if failure := lanes[0].test(""):
+        sys.exit(f"without an edit: {failure}")
+    threads = [threading.Thread(target=lot.work, args=(lane,)) for lane in lanes]
+    for thread in threads:
+        thread.start()
+    for thread in threads:
+        thread.join()
+    survived = lot.caught.pop("", 0)
+    caught = lot.caught.total()
+    for what, count in lot.caught.most_common():
+        print(f"{count:5} by {what}")
+    print(f"{lot.counts['not compiled']} edits did not compile, {lot.counts['known']} are known to change nothing")
+    print(f"caught {caught} of {caught + survived}, seed {args.seed}")
+    failed = survived if 100 * caught < args.bound * (caught + survived) else 0
+    print(f"{caught} passed, {failed} failed")
+    return int(failed > 0)
+
+
+if __name__ == "__main__":
+    sys.exit(main())
