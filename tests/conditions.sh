@@ -230,7 +230,7 @@ few_files() {
 
 # few FILES COMMAND..: runs a command with so many open files.
 few() {
-    (ulimit -n "$1" && shift && exec "$@")
+    (limit_files "$1" && shift && exec "$@")
 }
 
 user=$(id -u)

@@ -120,6 +120,13 @@ by_nvcc() {
     same messages "$(cat "$room/err")" "zigrunk-nvcc: nvcc itself: $1"$'\nnvcc says'
 }
 
+# with_few_files N [NAME=VALUE..]: a call that may have N open files. Prints its status.
+with_few_files() (
+    limit_files "$1"
+    call "${@:2}" -c k.cu -o k.o
+    echo "$status"
+)
+
 # stamps: when the slots in use and those who wait for one were last touched, in seconds.
 stamps() { find "$slot_folder" \( -type f -o -name 'wait-*' \) -printf '%f %Ts\n' | sort; }
 
@@ -334,11 +341,9 @@ ROWS
         end
     fi
     if case_of 'few open files'; then
-        (ulimit -n 16 && call "${plain[@]}" -c k.cu -o k.o; echo "$status" > "$room/status")
-        status=$(cat "$room/status")
+        status=$(inherit 40 with_few_files 16 "${plain[@]}")
         by_nvcc 'it may open too few files'
-        (ulimit -n 40 && call -c k.cu -o k.o; echo "$status" > "$room/status")
-        status=$(cat "$room/status")
+        status=$(inherit 40 with_few_files 40)
         splits
         end
     fi
@@ -962,7 +967,7 @@ logs() {
         : > odd.rsp
         chmod 000 odd.rsp
         # A limit on files is one of this shell too.
-        ([ "$settings" != files ] || { ulimit -n 16 && settings=A=b; }
+        ([ "$settings" != files ] || { limit_files 16 && settings=A=b; }
         # shellcheck disable=SC2086 # several words
         call ZIGRUNK_LOG="$room/calls" ${settings//ROOM/$room} $words)
         same 'the hint' "$(grep '^{"hint"' "$room/calls")" "{\"hint\":\"$text\"}"

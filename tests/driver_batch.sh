@@ -65,6 +65,13 @@ batch() {
     status=$?
 }
 
+# with_few_files: a batch that may have 40 open files.
+with_few_files() (
+    limit_files 40
+    batch ZIGRUNK_SLOTS=0 -j 30
+    exit "$status"
+)
+
 # said TEXT: what standard output has, without what the stand-in for nvcc says.
 said() { grep -v '^nvcc sees' "$room/out"; }
 complained() { grep -v '^nvcc says' "$room/err"; }
@@ -373,7 +380,7 @@ HELP
     fi
     if case_of 'few files may be open'; then
         for number in 1 2 3; do write "$number.cu" ':' && list+="-c $number.cu -o $number.o"$'\n'; done
-        (ulimit -n 40 && batch ZIGRUNK_SLOTS=0 -j 30; exit "$status")
+        inherit 40 with_few_files
         same 'status and products' "$? $(cat ./*.o | sort -u)" '0 made'
         end
     fi

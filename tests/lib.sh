@@ -119,6 +119,21 @@ summary() {
     [ "$failed" -eq 0 ]
 }
 
+# limit_files N: from here on this subshell may have N open files. It closes those that whoever started the tests left open, since a
+# CI server may leave more than N.
+limit_files() {
+    local number
+    for number in $(seq 3 $(($1 - 1))); do eval "exec $number>&-"; done
+    ulimit -n "$1"
+}
+
+# inherit N COMMAND..: runs a command with N more open files.
+inherit() (
+    for _ in $(seq "$1"); do exec {_file}< /dev/null; done
+    shift
+    "$@"
+)
+
 # Tests of a shell script, which several shells run. A case has a folder of its own, $room.
 
 # by_shells FUNCTION: calls a function for each of dash, bash and busybox sh that is installed, side by side, and adds their counts. The
