@@ -92,6 +92,8 @@ within() {
     done
 }
 has_begun() { grep -q "^+ $1" "$room/log"; }
+# waits_for_cudafe: whether cudafe++ alone still runs of a call that $waits holds up.
+waits_for_cudafe() { has_begun cudafe++ && [ "$(grep -c '^- ptxas' "$room/log")" = 2 ]; }
 none_run() { ! pgrep -f "$room" > /dev/null; }
 
 has_ended() { [[ $(cut -d ' ' -f 3 "/proc/$process/stat" 2> /dev/null) != [A-Ya-y] ]]; }
@@ -272,7 +274,7 @@ ROWS
     fi
     if case_of 'two equal calls at once, and the next one'; then
         start TOOL_DOES="$notes; $waits" -c k.cu -o k.o
-        within 20 has_begun cudafe++
+        within 20 waits_for_cudafe
         cp "$room/log" "$room/log.first"
         call TOOL_DOES="$notes" -c k.cu -o k.o
         splits
@@ -333,7 +335,7 @@ ROWS
         end
     fi
     if case_of 'its directory vanishes'; then
-        start "${plain[@]}" TOOL_DOES='[ "$name" != cudafe++ ] || rm -rf "$TMPDIR/../../../zigrunk-"*' -c k.cu -o k.o
+        start "${plain[@]}" TOOL_DOES='[ "$name" != cudafe++ ] || until rm -rf "$TMPDIR/../../../zigrunk-"* 2> /dev/null; do :; done' -c k.cu -o k.o
         within 20 has_begun cudafe++
         { wait "$process"; } 2> /dev/null
         status=$?
@@ -575,18 +577,16 @@ products() {
 signals() {
     for signal in HUP:129 INT:130 TERM:143; do
         case_of "the signal ${signal%:*}" || continue
-        start TOOL_DOES='if [ "$name" = cudafe++ ]; then trap "sleep 0.3; echo stopped >> $LOG.stopped; exit 2" HUP INT TERM; sleep 300 & wait; fi' -c k.cu -o k.o
-        within 20 has_begun cudafe++
-        sleep 0.1
+        start TOOL_DOES='if [ "$name" = cudafe++ ]; then trap "sleep 0.3; echo stopped >> $LOG.stopped; exit 2" HUP INT TERM; echo "+ trap" >> "$LOG"; sleep 300 & wait; fi' -c k.cu -o k.o
+        within 20 has_begun trap
         kill -s "${signal%:*}" "$process"
         ended "${signal#*:}"
         same 'the command' "$(cat "$room/log.stopped")" stopped
         end
     done
     if case_of 'a command that ignores TERM'; then
-        start TOOL_DOES='if [ "$name" = cudafe++ ]; then trap "" TERM; sleep 300; sleep 300; fi' -c k.cu -o k.o
-        within 20 has_begun cudafe++
-        sleep 0.1
+        start TOOL_DOES='if [ "$name" = cudafe++ ]; then trap "" TERM; echo "+ trap" >> "$LOG"; sleep 300; sleep 300; fi' -c k.cu -o k.o
+        within 20 has_begun trap
         kill "$process"
         ended 143
         end
@@ -691,7 +691,7 @@ graph() {
 # many [NAME=VALUE..] WORD..: runs a program that makes many calls.
 many() {
     : > "$room/log"
-    env LOG="$room/log" TMPDIR="$room/tmp" XDG_RUNTIME_DIR="$room/run" TOOL_DOES='sleep 0.02' timeout $((120 * patience)) env "$@" > "$room/out" 2> "$room/err"
+    env LOG="$room/log" TMPDIR="$room/tmp" XDG_RUNTIME_DIR="$room/run" TOOL_DOES='sleep 0.02' timeout $((120 * patience)) env "$@" > "$room/out" 2> "$room/err" < /dev/null
     status=$?
     : > "$room/said"
     grep -i 'failed\|token\|jobserver' "$room/out" "$room/err" > "$room/said"
