@@ -12,6 +12,7 @@ mod guard;
 mod host;
 mod jobserver;
 mod json_values;
+mod late;
 mod log;
 mod machine;
 mod places;

@@ -1,4 +1,5 @@
 //! Runs the commands of a plan on a machine.
+use crate::late::Include;
 use crate::machine::{Ended, Event, Job, Machine};
 use rattle_std::alloc::{AllocError, Global};
 use rattle_std::vec::Vec as List;
@@ -21,6 +22,8 @@ pub struct Task {
     pub weight: usize,
     /// Where the cache says whether it had what the command makes, if it was asked to.
     pub statistics: Option<String>,
+    /// A file that is written right before it starts.
+    pub include: Option<Include>,
 }
 
 impl Task {
@@ -183,6 +186,7 @@ impl<M: Machine, W: Watch> Run<'_, M, W> {
     fn start(&mut self, next: Option<usize>) -> Result<bool, Stopped> {
         let Some(next) = next else { return Ok(false) };
         let task = &self.tasks[next];
+        task.include.as_ref().map_or(Ok(()), Include::write).map_err(Stopped::NoProcess)?;
         let bare = task.without_launcher.as_ref().filter(|_| self.watch.refuses(task.tool()));
         match self.machine.start(next, bare.unwrap_or(&task.job)) {
             Ok(()) => {

@@ -2,6 +2,7 @@
 use crate::caches::{self, Counts};
 use crate::dry_runs::{self, DryRuns, Failed};
 use crate::folder::CallFolder;
+use crate::late;
 use crate::log;
 use crate::machine::Machine;
 use crate::places::absolute;
@@ -119,15 +120,21 @@ impl Call<'_> {
         machine.plans(false);
         let keeps = outline.keep_dir.is_some();
         let to_plan = ToPlan { dry_runs: [&dry_runs.first, &dry_runs.second], cwd: &line.cwd, tmp, flag: &outline.flag, keeps };
-        let commands = planner::plan(&to_plan)?;
+        let mut commands = planner::plan(&to_plan)?;
+        let late = if late::is_on(self.settings) && !keeps { late::begin_early(&mut commands, tmp) } else { None };
         let scratch = self.settings.scratch().map(|path| absolute(path, Path::new(&line.cwd)).to_string_lossy().into_owned());
         let surroundings = Surroundings { settings: self.settings, tmp, scratch };
-        let tasks = tasks::tasks_of(&commands, outline.dependencies.as_ref(), &surroundings);
+        let mut tasks = tasks::tasks_of(&commands, outline.dependencies.as_ref(), &surroundings);
+        let is_late = late.is_some();
+        tasks.last_mut().into_iter().for_each(|last| last.include.clone_from(&late));
         let launcher = self.settings.launcher.first().map(String::as_str).unwrap_or_default();
         let mut maker = RuleMaker { commands: &commands, asked: outline.dependencies.as_ref(), launcher, refusals: self.refusals };
         let before = caches::counts(machine, self.settings)?;
         let mut done = run::run(machine, &mut maker, &tasks, outline.jobs.unwrap_or(self.at_once))?;
         make_late_rule(machine, &mut done, &tasks)?;
+        if is_late && late::went_wrong(&done) {
+            return by_nvcc("its assembler fails, or says something");
+        }
         check_end(self.folder.is_there(), &done, &tasks, &dry_runs)?;
         let counted = before.zip(caches::counts(machine, self.settings)?).map(<[Counts; 2]>::from);
         let commands = if self.settings.log.is_some() { log::commands(&tasks, &done) } else { Vec::new() };

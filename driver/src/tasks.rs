@@ -26,7 +26,7 @@ pub fn program_of(command: &PlannedCommand) -> &str {
 
 /// What a command is: its program's name, what a host compiler does, and for which target.
 fn kind_of(command: &PlannedCommand) -> String {
-    let does = command.words.iter().find(|word| *word == "-E" || *word == "-c").map(|word| format!(" {word}"));
+    let does = command.words.iter().find(|word| matches!(word.as_str(), "-E" | "-S" | "-c")).map(|word| format!(" {word}"));
     let target = target(command).map(|target| format!(" {target}"));
     format!("{}{}{}", program_of(command), does.unwrap_or_default(), target.unwrap_or_default())
 }
@@ -65,7 +65,8 @@ fn weight_of(command: &PlannedCommand) -> usize {
         "ptxas" => CommandKind::Ptxas,
         "fatbinary" => CommandKind::Other,
         "-E" => CommandKind::Preprocess,
-        _ if command.words.iter().any(|word| word == "-c") => CommandKind::HostCompile,
+        _ if command.words.iter().any(|word| word == "assembler") => CommandKind::Other,
+        _ if command.words.iter().any(|word| word == "-c" || word == "-S") => CommandKind::HostCompile,
         _ => CommandKind::Other,
     })
 }

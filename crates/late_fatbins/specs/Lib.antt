@@ -1,0 +1,2 @@
+pub mod LateTexts
+pub mod LateWords

@@ -1,0 +1,232 @@
+//! The generated file through which a host compiler reads a fatbin, and what takes its place.
+
+ghost use Rattle.std.specs.Prelude.{◌≡◌, ◌++◌, IfOk, OnOk, option_copied};
+ghost use Rattle.texts.specs.Lists.{rest_after};
+ghost use Rattle.late_fatbins.specs.LateTexts as spec;
+
+use std::alloc::{AllocError, Global};
+use texts::bytes::Bytes;
+use texts::text::Text;
+
+/// Where a byte stands in strings of C.
+#[derive(Clone, Copy, Debug)]
+pub enum State {
+    /// In no string.
+    Between,
+    /// In a string.
+    Inside,
+    /// Behind a backslash in a string.
+    Escaped,
+}
+
+// What stands in front of the assembler text.
+fn head(is_linked: bool) -> &'static str
+    ensures { result.now ≡ spec.head is_linked }
+{
+    if is_linked {
+        "#ifndef __SKIP_INTERNAL_FATBINARY_HEADERS\n#include \"fatbinary_section.h\"\n#endif\n#define __CUDAFATBINSECTION  \".nvFatBinSegment\"\n#define __CUDAFATBINDATASECTION  \"__nv_relfatbin\"\nasm(\n"
+    } else {
+        "#ifndef __SKIP_INTERNAL_FATBINARY_HEADERS\n#include \"fatbinary_section.h\"\n#endif\n#define __CUDAFATBINSECTION  \".nvFatBinSegment\"\n#define __CUDAFATBINDATASECTION  \".nv_fatbin\"\nasm(\n"
+    }
+}
+
+// What stands in a placeholder in front of the path that it includes, and behind it.
+fn opening() -> &'static str
+    ensures { result.now ≡ spec.opening }
+{
+    "\".include \\\""
+}
+
+fn closing() -> &'static str
+    ensures { result.now ≡ spec.closing }
+{
+    "\\\"\\n\"\n"
+}
+
+// What stands between that and the fatbin's count of numbers.
+fn middle() -> &'static str
+    ensures { result.now ≡ spec.middle }
+{
+    ");\n#ifdef __cplusplus\nextern \"C\" {\n#endif\nextern const unsigned long long fatbinData["
+}
+
+// What stands behind the count.
+fn tail(is_linked: bool) -> &'static str
+    ensures { result.now ≡ spec.tail is_linked }
+{
+    if is_linked {
+        "];\n#ifdef __cplusplus\n}\n#endif\n#ifdef __cplusplus\nextern \"C\" {\n#endif\n#undef __FATIDNAME_CORE\n#undef __FATIDNAME\n#define __FATIDNAME_CORE(x) __fatbinwrap##x\n#define __FATIDNAME(x) __FATIDNAME_CORE(x)\nextern const __fatBinC_Wrapper_t __FATIDNAME(__NV_MODULE_ID) __attribute__ ((aligned (8))) __attribute__ ((section (__CUDAFATBINSECTION)))= \n\t{ 0x466243b1, 1, fatbinData, 0 };\n#ifdef __cplusplus\n}\n#endif\n"
+    } else {
+        "];\n#ifdef __cplusplus\n}\n#endif\n#ifdef __cplusplus\nextern \"C\" {\n#endif\nstatic const __fatBinC_Wrapper_t __fatDeviceText __attribute__ ((aligned (8))) __attribute__ ((section (__CUDAFATBINSECTION)))= \n\t{ 0x466243b1, 1, fatbinData, 0 };\n#ifdef __cplusplus\n}\n#endif\n"
+    }
+}
+
+// Whether strings end at a byte.
+fn ends_strings(state: State, byte: u8) -> bool
+    ensures { result ≡ spec.ends_strings state byte }
+{
+    match state {
+        State::Between => byte == b')',
+        State::Inside | State::Escaped => false,
+    }
+}
+
+fn state_after(state: State, byte: u8) -> Option<State>
+    ensures { result ≡ spec.state_after state byte }
+{
+    match state {
+        State::Between => match byte {
+            b'"' => Some(State::Inside),
+            b'\n' => Some(State::Between),
+            _ => None,
+        },
+        State::Inside => match byte {
+            b'"' => Some(State::Between),
+            b'\\' => Some(State::Escaped),
+            b'\n' => None,
+            _ => Some(State::Inside),
+        },
+        State::Escaped => {
+            if byte == b'"' || byte == b'n' {
+                Some(State::Inside)
+            } else {
+                None
+            }
+        }
+    }
+}
+
+// The byte of the assembler text that a byte stands for.
+fn push_byte(text: &mut Vec<u8>, state: State, byte: u8) -> Result<(), AllocError>
+    ensures { OnOk result (text.new.items ≡ text.old.items ++ spec.bytes_of state byte) }
+{
+    match state {
+        State::Between => {}
+        State::Inside => {
+            if byte != b'"' && byte != b'\\' {
+                text.push(byte)?;
+            }
+        }
+        State::Escaped => text.push(if byte == b'n' { b'\n' } else { byte })?,
+    }
+    Ok(())
+}
+
+// The rest of a text from behind the strings that it begins with, which is a `)` and what follows it.
+fn behind_strings(text: &[u8]) -> Option<&[u8]>
+    ensures { option_copied result ≡ spec.behind_strings spec.between text.now }
+{
+    let mut state = State::Between;
+    let mut rest = text;
+    while let Some((byte, behind)) = rest.split_first() {
+        if ends_strings(state, *byte) {
+            return Some(rest);
+        }
+        let Some(next) = state_after(state, *byte) else {
+            return None;
+        };
+        state = next;
+        rest = behind;
+    }
+    None
+}
+
+// What these strings say.
+fn strings_of(alloc: Global, text: &[u8]) -> Result<Bytes, AllocError>
+    ensures { IfOk result (λ said. said ≡ spec.strings_of spec.between text.now) }
+{
+    let mut said = Vec::new(alloc);
+    let mut state = State::Between;
+    for byte in text {
+        if ends_strings(state, *byte) {
+            return Ok(Bytes::from_vec(said));
+        }
+        push_byte(&mut said, state, *byte)?;
+        let Some(next) = state_after(state, *byte) else {
+            return Ok(Bytes::from_vec(said));
+        };
+        state = next;
+    }
+    Ok(Bytes::from_vec(said))
+}
+
+// A text from behind the digits that it begins with.
+fn behind_digits(text: &[u8]) -> &[u8]
+    ensures { result.now ≡ spec.behind_digits text.now }
+{
+    let mut rest = text;
+    while let Some((byte, behind)) = rest.split_first() {
+        if !byte.is_ascii_digit() {
+            return rest;
+        }
+        rest = behind;
+    }
+    rest
+}
+
+// What follows a text in another that begins with it.
+fn behind<'a>(text: &'a [u8], beginning: &[u8]) -> Option<&'a [u8]>
+    ensures { option_copied result ≡ rest_after beginning.now text.now }
+{
+    text.strip_prefix(beginning)
+}
+
+// The strings of a file that fatbinary writes, and all that follows them.
+fn strings_in(is_linked: bool, text: &[u8]) -> Option<&[u8]>
+    ensures { option_copied result ≡ spec.strings_in is_linked text.now }
+{
+    let strings = behind(text, head(is_linked).as_bytes())?;
+    let count = behind(behind_strings(strings)?, middle().as_bytes())?;
+    if behind_digits(count) == tail(is_linked).as_bytes() {
+        Some(strings)
+    } else {
+        None
+    }
+}
+
+/// The assembler text in the file `text` that fatbinary writes for a host compiler (`--embedded-fatbin`): of one that is linked with others
+/// (`--device-c`) if `is_linked`. `None` if the file hasn't the form that fatbinary of nvcc 13 gives it.
+pub fn assembler_text(
+    alloc: Global,
+    is_linked: bool,
+    text: &[u8],
+) -> Result<Option<Bytes>, AllocError>
+    ensures { IfOk result (λ answer. answer ≡ spec.assembler_text is_linked text.now) }
+{
+    match strings_in(is_linked, text) {
+        None => Ok(None),
+        Some(strings) => Ok(Some(strings_of(alloc, strings)?)),
+    }
+}
+
+// Whether a path can be written in a string of C and in one of the assembler as it is.
+fn is_plain(path: &str) -> bool
+    ensures { result ≡ spec.is_plain path.now }
+{
+    for byte in path.as_bytes() {
+        if !(32..=126).contains(byte) || matches!(byte, b'"' | b'?' | b'\\') {
+            return false;
+        }
+    }
+    true
+}
+
+/// The file that a host compiler gets in place of fatbinary's, before that is there: all is as in fatbinary's, but its assembler text
+/// includes the file at `path`, and its array has one number. Only debugging information shows how many that are.
+///
+/// `None` if the path has quotes, `?`, `\` or bytes that aren't printable ASCII.
+pub fn placeholder(alloc: Global, is_linked: bool, path: &str) -> Result<Option<Text>, AllocError>
+    ensures { IfOk result (λ answer. answer ≡ spec.placeholder is_linked path.now) }
+{
+    if !is_plain(path) {
+        return Ok(None);
+    }
+    let mut text = String::from_str(alloc, head(is_linked))?;
+    text.push_str(opening())?;
+    text.push_str(path)?;
+    text.push_str(closing())?;
+    text.push_str(middle())?;
+    text.push_str("1")?;
+    text.push_str(tail(is_linked))?;
+    Ok(Some(Text::new(text)))
+}

@@ -1,0 +1,121 @@
+//! Begins a call's last host compile before its fatbin is there: gcc makes assembler text beside device commands, and the assembler waits.
+use crate::planner::{PlannedCommand, list_of};
+use crate::run::Done;
+use crate::settings::Settings;
+use crate::streams::content_of;
+use crate::tasks::{OWN, program_of};
+use late_fatbins::{Half, assembler_text, late_words, placeholder};
+use rattle_std::alloc::Global;
+use std::env;
+use std::fs;
+use std::path::{Path, PathBuf};
+
+/// The file that an assembler's command includes, to be written from fatbinary's right before it starts.
+#[derive(Clone, PartialEq, Eq, Debug, Default)]
+pub struct Include {
+    /// What fatbinary writes.
+    from: PathBuf,
+    to: PathBuf,
+    /// Whether the fatbin is linked with others.
+    is_linked: bool,
+}
+
+impl Include {
+    /// Writes the file.
+    ///
+    /// # Errors
+    ///
+    /// Why nvcc makes the call.
+    pub fn write(&self) -> Result<(), String> {
+        let text = content_of(&self.from).map_err(|_| "fatbinary's file is missing")?;
+        let text = assembler_text(Global, self.is_linked, &text).map_err(|_| "out of memory")?;
+        let text = text.ok_or("fatbinary's file has another form")?;
+        fs::write(&self.to, text.as_slice()).map_err(|_| "no room for temporary files".into())
+    }
+}
+
+/// Variables by which gcc does more than its words say.
+const ODD_VARIABLES: [&str; 3] = ["DEPENDENCIES_OUTPUT", "GCC_COMPARE_DEBUG", "SUNPRO_DEPENDENCIES"];
+
+/// Whether a call's commands may be begun so: a cache and a runner get the plan's own.
+pub fn is_on(settings: &Settings) -> bool {
+    let is_off = env::var_os("ZIGRUNK_LATE").is_some_and(|value| value == "0");
+    let is_odd = ODD_VARIABLES.iter().any(|name| env::var_os(name).is_some());
+    !is_off && !is_odd && settings.launcher.is_empty() && settings.runner.is_empty()
+}
+
+/// Whether a command is gcc's by its program's name, as `g++-12`.
+fn is_gcc(command: &PlannedCommand) -> bool {
+    let name = program_of(command);
+    let version = name.strip_prefix("gcc").or_else(|| name.strip_prefix("g++"));
+    version.is_some_and(|rest| rest.trim_start_matches('-').bytes().all(|byte| byte.is_ascii_digit() || byte == b'.'))
+}
+
+/// Whether these are commands of nvcc 13, whose fatbinary writes files of a known form.
+fn are_known(commands: &[PlannedCommand]) -> bool {
+    commands.iter().any(|command| command.words.iter().any(|word| word == "-D__CUDACC_VER_MAJOR__=13"))
+}
+
+/// The words of a half of a compile.
+fn half(half: Half, words: &[String], text_file: &str) -> Option<Vec<String>> {
+    let late = late_words(Global, half, &list_of(words).ok()?, text_file).ok()??;
+    Some(late.as_slice().iter().map(|word| word.as_str().to_owned()).collect())
+}
+
+/// The commands that the compiler's half of the last command waits for: those that write cudafe++'s file and the stub file that this one
+/// includes, which is cicc's. `None` if it isn't clear which they are.
+fn needs_of(commands: &[PlannedCommand], last: &PlannedCommand) -> Option<Vec<usize>> {
+    let source = last.words.iter().find(|word| word.ends_with(".cudafe1.cpp"))?;
+    let source = Path::new(&last.folder).join(source);
+    let stub = PathBuf::from(format!("{}.stub.c", source.to_str()?.strip_suffix(".cpp")?));
+    let writer = |path: &Path| commands.iter().position(|command| command.writes.iter().any(|written| Path::new(written) == path));
+    Some(vec![writer(&source)?, writer(&stub)?])
+}
+
+/// Where fatbinary's file is to go, in place of the one that the compiler reads.
+struct Moved {
+    fatbinary: usize,
+    words: Vec<String>,
+    from: PathBuf,
+    is_linked: bool,
+}
+
+fn moved(commands: &[PlannedCommand], to: &str) -> Option<(Moved, PathBuf)> {
+    const EMBEDDED: &str = "--embedded-fatbin=";
+    let fatbinary = commands.iter().position(|command| command.words.iter().any(|word| word.starts_with(EMBEDDED)))?;
+    let command = &commands[fatbinary];
+    let embedded = command.words.iter().find_map(|word| word.strip_prefix(EMBEDDED))?;
+    let read = Path::new(&command.folder).join(embedded);
+    let new = |word: &String| if word.starts_with(EMBEDDED) { format!("{EMBEDDED}{to}") } else { word.clone() };
+    let words = command.words.iter().map(new).collect();
+    let is_linked = command.words.iter().any(|word| word == "--device-c");
+    Some((Moved { fatbinary, words, from: to.into(), is_linked }, read))
+}
+
+/// Puts two commands in place of the last, a host compile. The first makes assembler text without the fatbin. Says what the second
+/// includes. `None` if the commands stay as they are: then the fatbin may show in the product, or in what a command says.
+pub fn begin_early(commands: &mut Vec<PlannedCommand>, tmp: &str) -> Option<Include> {
+    let (last, before) = commands.split_last()?;
+    if !is_gcc(last) || !are_known(before) {
+        return None;
+    }
+    let [text_file, included, file] = ["late.s", "fatbin.s", "fatbin.c"].map(|name| format!("{tmp}/{OWN}/{name}"));
+    let [compiler, assembler] = [Half::Compiler, Half::Assembler].map(|which| half(which, &last.words, &text_file));
+    let (moved, read) = moved(before, &file)?;
+    let needs = needs_of(before, last)?;
+    let compile = PlannedCommand { words: compiler?, needs, writes: vec![text_file], cacheable: false, ..last.clone() };
+    let mut assemble = PlannedCommand { words: assembler?, cacheable: false, ..last.clone() };
+    assemble.needs.push(before.len());
+    let text = placeholder(Global, moved.is_linked, &included).ok()??;
+    fs::write(read, text.as_bytes()).ok()?;
+    commands.pop();
+    commands[moved.fatbinary].words = moved.words;
+    commands.extend([compile, assemble]);
+    Some(Include { from: moved.from, to: included.into(), is_linked: moved.is_linked })
+}
+
+/// Whether the last of a call's commands, an assembler's, failed or said something: then it names files that nvcc's doesn't.
+pub fn went_wrong(done: &[Done]) -> bool {
+    let ended = done.last().and_then(|done| done.ended.as_ref());
+    ended.is_some_and(|ended| !ended.status.succeeded() || !ended.out.is_empty() || !ended.errors.is_empty())
+}
