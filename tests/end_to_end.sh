@@ -124,6 +124,7 @@ else
         start builds tests/builds.sh
     fi
     start needs tests/needs.sh
+    start late tests/late.sh
     start signals interrupts TERM INT HUP
     start isolated tests/isolated.py "${alone[@]}" "$program"
     start conditions tests/conditions.sh "$program"

@@ -27,10 +27,16 @@ echo 'int host() { return 3; }' > host.cu
 echo '__device__ int g(int x) { return x * 2; }' > device.cu
 echo '__global__ void k(int* p) { *p = 1; } int f(int x) { { int x = 2; (void)x; } return x; }' > shadow.cu
 echo '__global__ void k(int* p) { *p = 1; } void f() { asm("no such"); }' > assembly.cu
-echo '__global__ void k(int* p) { *p = 1; } asm(".globl mine\nmine: .incbin \"data\"\n");' > data.cu
+cat > data.cu << 'END_OF_SOURCE'
+__global__ void k(int* p) { *p = 1; }
+asm(".globl mine\nmine: .incbin \"data\"\n");
+END_OF_SOURCE
 mkdir inc
 echo here > inc/data
-echo '__global__ void k(int* p) { *p = 1; } asm(".warning \"odd\"\n");' > odd.cu
+cat > odd.cu << 'END_OF_SOURCE'
+__global__ void k(int* p) { *p = 1; }
+asm(".warning \"odd\"\n");
+END_OF_SOURCE
 
 # made LATE WORDS..: makes a call. What it says and its status become $said, the sums of all files $files, and $halves is set if a
 # compile was begun early. Names of temporary files don't count.
@@ -39,8 +45,7 @@ made() {
     mkdir work
     cp -p ./*.cu cuda_runtime.h work
     cp -pr inc work
-    said=$(cd work && ZIGRUNK_LATE=$1 "$wrapper" "${@:2}" 2>&1; echo "status $?")
-    said=$(sed 's|/[^ ]*/cc[A-Za-z0-9]*\.s:|x.s:|' <<< "$said")
+    said=$({ cd work && ZIGRUNK_LATE=$1 "$wrapper" "${@:2}" 2>&1; echo "status $?"; } | sed 's|/[^ ]*/cc[A-Za-z0-9]*\.s:|x.s:|')
     files=$(cd work && find . -type f -print0 | sort -z | xargs -0 cksum)
     halves=$(grep -o '"kind":"gcc -S' log)
 }
@@ -63,7 +68,7 @@ compare() {
     count "${*:2}" "$problem"
 }
 
-two=(-gencode arch=compute_75,code=sm_75 -gencode 'arch=compute_80,code=[sm_80,compute_80]')
+two=(-gencode 'arch=compute_75,code=sm_75' -gencode 'arch=compute_80,code=[sm_80,compute_80]')
 compare early -c k.cu -o k.o
 compare early "${two[@]}" -c k.cu -o k.o
 compare early "${two[@]}" -t 4 -dc k.cu -o k.o
@@ -97,8 +102,8 @@ if command -v clang++ > /dev/null; then
 else
     skip 'another compiler' 'no clang++'
 fi
-ZIGRUNK_LAUNCHER=env compare waits -c k.cu -o k.o
-ZIGRUNK_RUNNER=env compare waits -c k.cu -o k.o
+ZIGRUNK_LAUNCHER='env' compare waits -c k.cu -o k.o
+ZIGRUNK_RUNNER='env' compare waits -c k.cu -o k.o
 GCC_COMPARE_DEBUG='' compare waits -c k.cu -o k.o
 mkdir 'odd"path'
 TMPDIR=$scratch/odd\"path compare waits -c k.cu -o k.o

@@ -119,3 +119,53 @@ pub fn went_wrong(done: &[Done]) -> bool {
     let ended = done.last().and_then(|done| done.ended.as_ref());
     ended.is_some_and(|ended| !ended.status.succeeded() || !ended.out.is_empty() || !ended.errors.is_empty())
 }
+
+#[cfg(test)]
+mod tests {
+    use super::*;
+    use crate::machine::Ended;
+    use crate::system::Status;
+
+    fn command(words: &str, writes: &[&str]) -> PlannedCommand {
+        let (program, words) = words.split_once(' ').unwrap();
+        let words = words.split(' ').map(String::from).collect();
+        let writes = writes.iter().map(|file| (*file).to_owned()).collect();
+        PlannedCommand { program: program.into(), words, folder: "/w".into(), writes, ..PlannedCommand::default() }
+    }
+
+    #[test]
+    fn gcc_is_known_by_its_name() {
+        for (program, wanted) in [("/b/gcc", true), ("g++-12", true), ("g++-4.8", true), ("/b/clang++", false), ("gcc-ar", false), ("/gcc/x", false)]
+        {
+            assert_eq!(is_gcc(&command(&format!("{program} x"), &[])), wanted, "{program}");
+        }
+    }
+
+    #[test]
+    fn the_compiler_waits_for_its_two_files() {
+        let last = command("gcc -c -x c++ /t/x_0.cudafe1.cpp -o k.o", &[]);
+        let cudafe = command("cudafe++ x", &["/t/x_0.cudafe1.cpp", "/t/k.module_id"]);
+        let [cicc, other] = ["/t/x_0.cudafe1.stub.c", "/t/x_1.cudafe1.stub.c"].map(|stub| command("cicc x", &[stub]));
+        assert_eq!(needs_of(&[cudafe.clone(), other.clone(), cicc], &last), Some(vec![0, 2]));
+        assert_eq!(needs_of(&[cudafe, other], &last), None);
+    }
+
+    #[test]
+    fn commands_of_other_versions_stay() {
+        let compile = "gcc -c -x c++ /t/x_0.cudafe1.cpp -o k.o";
+        let mut commands = vec![command("gcc -E -D__CUDACC_VER_MAJOR__=12 k.cu", &[]), command(compile, &["/w/k.o"])];
+        assert_eq!(begin_early(&mut commands, "/t"), None);
+        assert_eq!(commands[1], command(compile, &["/w/k.o"]));
+    }
+
+    #[test]
+    fn an_assembler_that_speaks_went_wrong() {
+        let ended = |code, errors: &str| {
+            let status = Status { code, signal: None, dumped: false };
+            let ended = Ended { status, out: Vec::new(), errors: errors.into(), times: (0.0, 0.0) };
+            vec![Done { ended: Some(ended), ..Done::default() }]
+        };
+        let cases = [ended(0, ""), ended(0, "Warning"), ended(1, ""), vec![Done::default()]];
+        assert_eq!(cases.map(|done| went_wrong(&done)), [false, true, true, false]);
+    }
+}
