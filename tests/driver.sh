@@ -495,6 +495,16 @@ outputs() {
         same 'less than 1.5 s' "$(awk '{ print ($1 + $2 < 1.5) }' "$room/times")" 1
         end
     fi
+    if case_of 'a call that cannot wait takes little time of a processor'; then
+        if command -v strace > /dev/null; then
+            (before=(strace -D -o "$room/trace" -e trace=poll -e inject=poll:error=ENOMEM); start TOOL_DOES='[ "$name" != cudafe++ ] || sleep 2' -c k.cu -o k.o
+            ended 0; echo "$problems" > "$room/problems")
+            same 'in the case' "$(cat "$room/problems") $(cat k.o)" ' made'
+            tries=$(grep -c ENOMEM "$room/trace")
+            [ "$tries" -gt 20 ] && [ "$tries" -lt 9000 ] || problems+="  it looks $tries times"$'\n'
+        fi
+        end
+    fi
     if case_of "nvcc's warnings, and what commands say, in order"; then
         call WARNING='nvcc warns' TOOL_DOES='echo "out $name"; echo "err $name" >&2; case $name in *.80) sleep 0.3 ;; esac' -c k.cu -o k.o
         same status "$status" 0
@@ -631,6 +641,15 @@ signals() {
             wait "$process"
             same "status with $signal" "$?$(cat "$room/err")" 0
         done
+        end
+    fi
+    if case_of 'commands ignore what the caller ignores'; then
+        for signals in '' 'HUP INT TERM CONT TSTP'; do
+            printf '%s\n' '#!/bin/sh' "[ -z '$signals' ] || trap '' $signals" "exec $nvcc_driver \"\$@\"" > "$room/caller" && chmod +x "$room/caller"
+            as=$room/caller call TOOL_DOES='sed -n "s/^SigIgn:[[:blank:]]*//p" /proc/$$/status >> "$LOG.ignored"' -c k.cu -o k.o
+            splits "with '$signals'"
+        done
+        same 'signals' "$(while read -r set; do echo $((0x$set & 0xa4003)); done < "$room/log.ignored" | uniq -c | tr -s ' ' | paste -sd ,)" " 10 0, 10 $((0xa4003))"
         end
     fi
     if case_of 'TSTP and CONT, twice'; then
