@@ -65,9 +65,9 @@ batch() {
     status=$?
 }
 
-# with_few_files: a batch that may have 40 open files.
+# with_few_files N: a batch that may have N open files.
 with_few_files() (
-    limit_files 40
+    limit_files "$1"
     batch ZIGRUNK_SLOTS=0 -j 30
     exit "$status"
 )
@@ -380,8 +380,21 @@ HELP
     fi
     if case_of 'few files may be open'; then
         for number in 1 2 3; do write "$number.cu" ':' && list+="-c $number.cu -o $number.o"$'\n'; done
-        inherit 40 with_few_files
+        inherit 40 with_few_files 40
         same 'status and products' "$? $(cat ./*.o | sort -u)" '0 made'
+        end
+    fi
+    if case_of 'still fewer files may be open'; then
+        for number in 1 2 3; do write "$number.cu" ':' && list+="-c $number.cu -o $number.o"$'\n'; done
+        for number in $(seq 10 39); do
+            with_few_files "$number"
+            case $?,$(cat "$room/err") in
+            0,* | 1,*'zigrunk-batch: no process for '* | 1,*'zigrunk-batch: no temporary directory: '* | 1,*'Too many open files'*) ;;
+            *) problems+="  with $number files: $(head -c 300 "$room/err")"$'\n' ;;
+            esac
+            same "files left with $number" "$(find "$room/tmp" -type f)" ''
+            within 5 none_run || problems+="  processes with $number files"$'\n'
+        done
         end
     fi
 }
