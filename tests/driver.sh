@@ -138,8 +138,8 @@ splits() {
     same "commands${1:+ $1}" "$(grep -c '^+' "$room/log")" 10
 }
 
-# tmp_of NAME: the directory in which a tool ran, which notes it.
-notes='pwd > "$LOG.$name"; echo "$TMPDIR" > "$LOG.tmp"'
+# A tool notes where it runs, and the directory of the file that its last word names: the call's, if the file is generated.
+notes='pwd > "$LOG.in.$name"; eval "last=\${$#}"; case $last in /*) echo "${last%/*}" ;; *) pwd ;; esac > "$LOG.$name"; echo "$TMPDIR" > "$LOG.tmp"'
 
 end_to_end() {
     if case_of 'a call that is split'; then
@@ -168,10 +168,13 @@ end_to_end() {
     fi
     if case_of 'where commands run'; then
         call TOOL_DOES="$notes" -c k.cu -o k.o
-        same 'the host compiler' "$(cat "$room/log.gcc-c")" "$room/work"
-        same 'the device compiler' "$(sed 's/[0-9a-f]\{64\}$/NAME/' "$room/log.cicc.80")" "$room/tmp/zigrunk-$user/zigrunk-NAME"
+        same 'all of them' "$(cat "$room"/log.in.* | sort -u)" "$room/work"
+        same 'generated files' "$(sed 's/[0-9a-f]\{64\}$/NAME/' "$room/log.cicc.80")" "$room/tmp/zigrunk-$user/zigrunk-NAME"
         same 'TMPDIR of commands' "$(cat "$room/log.tmp")" "$(cat "$room/log.cicc.80")/zigrunk.tmp"
         same 'mode' "$(stat -c %a "$room/tmp/zigrunk-$user")" 700
+        call ZIGRUNK_LAUNCHER=env TOOL_DOES="$notes" -c k.cu -o k.o
+        same 'with a launcher' "$(cat "$room/log.in.gcc-c" "$room/log.in.cicc.80")" "$room/work"$'\n'"$(cat "$room/log.cicc.80")"
+        same 'its generated files' "$(grep -c "^$room/tmp/zigrunk-$user/" "$room/log.cicc.80")" 1
         end
     fi
     if case_of 'the working directory has its name in PWD'; then
