@@ -974,6 +974,8 @@ logs() {
             'gcc -E,cudafe++,gcc -E __CUDA_ARCH__=800,cicc compute_80,ptxas sm_80,gcc -E __CUDA_ARCH__=900,cicc compute_90,ptxas sm_90,fatbinary,gcc -c __CUDA_ARCH__=900'
         same 'statuses' "$(sed 's/.*\("status":[0-9]*\),"reason".*/\1/; s/.*"end":[0-9.]*,\("status":[0-9]*\),"commands".*/\1/' "$room/calls" | grep '^"st' | paste -sd ' ')" \
             '"status":0 "status":7 "status":6 "status":0 "status":0'
+        same 'times in order' "$(head -n 1 "$room/calls" | tr '{' '\n' | sed 's/"[a-z]*":\([0-9.]*\),/\1 /g; s/"kind":"[^"]*",//' |
+            awk 'NF && !call { call = $1; end = $2 } NF && call != $1 && (call > $1 || $1 > $2 || $2 > $3 || $3 > end) { print "odd" } END { print NR }')" 12
         same 'needs' "$(head -n 1 "$room/calls" | grep -o '"needs":[^]]*' | cut -d '[' -f 2 | paste -sd ' ')" ' 0 0 1,2 3 0 1,5 6 0,1,2,3,4,5,6,7 0,1,2,3,4,5,6,7,8'
         "$scratch/bin/zigrunk-report" "$room/calls" > "$room/report" 2>&1
         same 'the report' "$(sed -n 1,2p "$room/report")" $'calls: 5, failed: 2\nsplit: 2 of 5 (40 %)'
