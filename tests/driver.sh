@@ -453,6 +453,41 @@ ROWS
         same words "$(grep -c '^nvcc \[--dryrun\] \[-DA\] \[-DB\] \[-c\] \[k.cu\] \[-o\] \[k.o\] \[-DC\]$' "$room/log") $(cat "$room/log.flags")" '1 none none'
         end
     fi
+    if case_of 'no working directory'; then
+        mkdir gone && cd gone && rmdir "$room/work/gone"
+        call "${plain[@]}" -c k.cu -o k.o
+        same reason "$(head -n 1 "$room/err")" 'zigrunk-nvcc: nvcc itself: there is no working directory'
+        as=$scratch/bin/zigrunk-plan call json nvcc -c k.cu -o k.o
+        same 'of a plan' "$status $(cat "$room/err")" '1 zigrunk-plan: there is no working directory'
+        cd "$room/work" || return
+        end
+    fi
+    if case_of 'a temporary directory that is not UTF-8'; then
+        odd=$room/tmp/$'t\xff'
+        mkdir "$odd"
+        call "${plain[@]}" TMPDIR="$odd" -c k.cu -o k.o
+        same reason "$(head -n 1 "$room/err")" "zigrunk-nvcc: nvcc itself: the temporary directory isn't UTF-8"
+        as=$scratch/bin/zigrunk-plan call TMPDIR="$odd" json nvcc -c k.cu -o k.o
+        same 'of a plan' "$status $(cat "$room/err")" "1 zigrunk-plan: the temporary directory isn't UTF-8"
+        rmdir "$odd/zigrunk-$user" "$odd"
+        end
+    fi
+    while IFS='|' read -r refused reason; do
+        case_of "the kernel refuses $refused" || continue
+        if command -v strace > /dev/null; then
+            (before=(strace -D -o "$room/trace" -e "trace=${refused%%:*}" -e "inject=$refused"); start "${plain[@]}" DRY_RUN_DOES='sleep 0.2' -c k.cu -o k.o; ended 5; echo "$problems" > "$room/problems")
+            same 'in the case' "$(cat "$room/problems")" ''
+            same reason "$(grep zigrunk-nvcc "$room/err")" "zigrunk-nvcc: $reason"
+        fi
+        end
+    done << 'ROWS'
+signalfd4:error=EMFILE|nvcc itself: no signals for the call
+clone:error=EAGAIN:when=1|nvcc itself: no process for a dry run
+clone:error=EAGAIN:when=3|nvcc itself: no process for the call
+mkdir:error=ENOSPC|nvcc itself: no room for temporary files
+pread64:error=EIO:when=6|nvcc itself: what a command said is lost: Input/output error (os error 5)
+wait4:error=EINVAL:when=2|nvcc itself: the end of a command is unknown: Invalid argument (os error 22)
+ROWS
     while IFS='|' read -r what reason settings; do
         case_of "dry runs: $what" || continue
         eval "call \"\${plain[@]}\" $settings -c k.cu -o k.o"
@@ -525,6 +560,22 @@ the first of two, though the other ends first|6 bad ptxas.80|case $name in cicc.
 without a message|7 zigrunk-nvcc: a command failed with status 7 and without a message|[ $name != cudafe++ ] || exit 7
 by a signal|139 Segmentation fault|[ $name != cudafe++ ] || { ulimit -c 0; kill -SEGV $$; }
 ROWS
+    if case_of 'a command fails: each signal that a shell names'; then
+        for signal in '132 ILL Illegal instruction' '134 ABRT Aborted' '135 BUS Bus error' '136 FPE Floating point exception' '137 KILL Killed' '143 TERM Terminated'; do
+            read -r wanted number text <<< "$signal"
+            call TOOL_DOES="[ \$name != cudafe++ ] || { ulimit -c 0; kill -$number \$\$; }" -c k.cu -o k.o
+            same "status and messages, $number" "$status $(cat "$room/err")" "$wanted $text"
+        done
+        end
+    fi
+    if case_of 'programs that the kernel cannot run'; then
+        printf '%s\n' '#!/missing/interpreter' > "$room/odd" && chmod +x "$room/odd"
+        call ZIGRUNK_NVCC="$room/odd" -V
+        same 'nvcc' "$status $(cat "$room/err")" "127 zigrunk-nvcc: cannot run $room/odd: No such file or directory (os error 2)"
+        call ZIGRUNK_LAUNCHER="$room/odd" -c k.cu -o k.o
+        same 'a launcher' "$status $(cat "$room/err")" "127 zigrunk-nvcc: cannot run $room/odd"
+        end
+    fi
     if case_of 'a launcher that is missing'; then
         call ZIGRUNK_LAUNCHER=/missing/launcher -c k.cu -o k.o
         same 'status and messages' "$status $(cat "$room/err")" '127 zigrunk-nvcc: /missing/launcher: not found'
@@ -777,6 +828,15 @@ slots() {
         if command -v strace > /dev/null; then
             (before=(strace -D -o "$room/trace" -e trace=flock -e inject=flock:error=ENOLCK:when=3+); start -c k.cu -o k.o; ended 0; echo "$problems" > "$room/problems")
             same 'in the case' "$(cat "$room/problems") $(cat k.o)" ' made'
+        fi
+        end
+    fi
+    if case_of 'slots: no disk takes locks'; then
+        if command -v strace > /dev/null; then
+            (before=(strace -D -o "$room/trace" -e trace=flock -e inject=flock:error=ENOLCK); start ZIGRUNK_EXPLAIN=1 -c k.cu -o k.o; ended 0; echo "$problems" > "$room/problems")
+            same 'in the case' "$(cat "$room/problems") $(cat k.o)" ' made'
+            same 'messages' "$(cat "$room/err")" 'zigrunk-nvcc: no folder for slots takes locks, so nothing limits how many commands run at once'
+            rm -f "$room/tmp/zigrunk-$user"/*.lock
         fi
         end
     fi

@@ -194,7 +194,9 @@ impl<'a, M: Machine, C: Calls, W: Write> Graph<'a, M, C, W> {
             if let Some(at) = self.place(call).filter(|&at| self.start(at, number, job)) {
                 self.go_on(at);
             }
-            ends.into_iter().for_each(|end| self.tell_event(call, end));
+            for end in ends {
+                self.tell_event(call, end);
+            }
         } else if let Some(at) = self.wanting() {
             self.active[at].maker.tell(Event::Slot);
             self.go_on(at);
@@ -546,7 +548,8 @@ mod tests {
     fn a_call_that_waits_for_a_process_hears_later_of_jobs_that_end() {
         for most in 1..4 {
             let mut machine = Fake { most: Some(most), ..Fake::default() };
-            let chains = Chains { calls: vec![vec![("a", 0), ("b", 0), ("c", 0)], vec![("d", 0), ("e", 0)]], side_by_side: true, ..Chains::default() };
+            let chains =
+                Chains { calls: vec![vec![("a", 0), ("b", 0), ("c", 0)], vec![("d", 0), ("e", 0)]], side_by_side: true, ..Chains::default() };
             let (log, told, outcomes) = run_chains(&mut machine, chains, 9, None);
             assert_eq!((told.as_str(), machine.most_at_once, outcomes), ("0:0:abc 1:0:de", most, Outcomes::default()), "{log}");
         }
