@@ -9,6 +9,11 @@ pub fn json(text: &[u8]) -> Vec<u8> {
     [b"\"".to_vec(), text.iter().flat_map(escaped).collect(), b"\"".to_vec()].concat()
 }
 
+/// The same of a text that is UTF-8.
+pub fn json_text(text: &str) -> String {
+    String::from_utf8_lossy(&json(text.as_bytes())).into_owned()
+}
+
 /// What a user can do about a reason for which nvcc makes calls.
 pub fn hint(reason: &str) -> Option<&'static str> {
     let hints: [(&str, &str); 6] = [

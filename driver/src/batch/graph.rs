@@ -568,6 +568,16 @@ mod tests {
     }
 
     #[test]
+    fn a_terminals_line_goes_with_the_batch() {
+        let (mut machine, mut said) = (Fake::default(), Vec::new());
+        let mut chains = Chains { calls: vec![vec![("", 0)]], ..Chains::default() };
+        let limits = Limits { at_once: 1, planned_at_once: 1, failures: None };
+        let outcomes = Graph::new(&mut machine, &mut chains, 1, limits, Progress::new(Form::Terminal, &mut said)).unwrap().run();
+        let text = String::from_utf8(said).unwrap();
+        assert!(outcomes == Outcomes::default() && text.contains("1 of 1 calls") && text.ends_with("\r\x1b[K"), "{text:?}");
+    }
+
+    #[test]
     fn nothing_is_an_empty_batch() {
         assert_eq!(run_all(&mut Fake::default(), &[], 3, None).2, Outcomes::default());
     }
