@@ -65,10 +65,10 @@ batch() {
     status=$?
 }
 
-# with_few_files N [NAME=VALUE..] [WORD..]: a batch that may have N open files.
+# with_few_files N: a batch that may have N open files.
 with_few_files() (
     limit_files "$1"
-    batch "${@:2}"
+    batch ZIGRUNK_SLOTS=0 -j 30
     exit "$status"
 )
 
@@ -380,21 +380,21 @@ HELP
     fi
     if case_of 'few files may be open'; then
         for number in 1 2 3; do write "$number.cu" ':' && list+="-c $number.cu -o $number.o"$'\n'; done
-        inherit 40 with_few_files 40 ZIGRUNK_SLOTS=0 -j 30
+        inherit 40 with_few_files 40
         same 'status and products' "$? $(cat ./*.o | sort -u)" '0 made'
         end
     fi
-    if case_of 'too few files may be open, anywhere'; then
-        write a.cu ':' && list='-c a.cu -o a.o'
-        for files in $(seq 8 28); do
-            rm -f a.o
-            with_few_files "$files"
-            same "status and product with $files" "$(case $?$(cat a.o 2> /dev/null) in 0made* | [12] | [12]made* | 12[67]*) ;; *) head -c 300 "$room/err" ;; esac)" ''
+    if case_of 'still fewer files may be open'; then
+        for number in 1 2 3; do write "$number.cu" ':' && list+="-c $number.cu -o $number.o"$'\n'; done
+        for number in $(seq 10 39); do
+            with_few_files "$number"
+            case $?,$(cat "$room/err") in
+            0,* | 1,*'zigrunk-batch: no process for '* | 1,*'zigrunk-batch: no temporary directory: '* | 1,*'Too many open files'*) ;;
+            *) problems+="  with $number files: $(head -c 300 "$room/err")"$'\n' ;;
+            esac
+            same "files left with $number" "$(find "$room/tmp" -type f)" ''
+            within 5 none_run || problems+="  processes with $number files"$'\n'
         done
-        # Without a file to look into it, a directory can't be removed. It has its lock then, by which a later call removes it.
-        same 'directories, or locks, alone' "$(ls "$room/tmp/zigrunk-$user" | sed 's/\.lock$//' | sort | uniq -u)" ''
-        find "$room/tmp/zigrunk-$user" -mindepth 1 -maxdepth 1 -exec touch -d '11 minutes ago' {} +
-        batch
         end
     fi
 }

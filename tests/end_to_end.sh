@@ -1,7 +1,8 @@
 #!/usr/bin/env bash
 # Tests zigrunk-nvcc, and what examples/ has (tests/cluster_scripts.sh), by stand-ins, of which tests/driver.sh has more, by calls that nvcc makes
-# too (tests/compare_calls.py), by the installed nvcc's list of options (tests/nvcc_options.sh), by commands that have only their own files
-# (tests/isolated.py), where the machine refuses something (tests/conditions.sh), and by signals in the middle of a build. It tests too that such tests fail if they show nothing (tests/runners.sh).
+# too (tests/compare_calls.py), by the commands that nvcc starts for them (tests/own_commands.py), by the installed nvcc's list of options
+# (tests/nvcc_options.sh), by commands that have only their own files (tests/isolated.py), where the machine refuses something
+# (tests/conditions.sh), and by signals in the middle of a build. It tests too that such tests fail if they show nothing (tests/runners.sh).
 # Prints a line for each failure, then for each part how long it took and how many seconds of processor, and last
 # 'N passed, M failed'; the status is 1 if one failed. All parts start at once. The calls take what the others leave of the
 # processors, so that none of these, each a chain of steps, is still running at the end.
@@ -126,6 +127,7 @@ else
     start signals interrupts TERM INT HUP
     start isolated tests/isolated.py "${alone[@]}" "$program"
     start conditions tests/conditions.sh "$program"
+    start own_commands nice tests/own_commands.py "${calls[@]}"
     start calls nice tests/compare_calls.py --scratch "$scratch" --jobs "$(nproc)" "${calls[@]}"
 fi
 for part in "${started[@]}"; do finish "$part"; done

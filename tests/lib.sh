@@ -122,8 +122,10 @@ summary() {
 # limit_files N: from here on this subshell may have N open files. It closes those that whoever started the tests left open, since a
 # CI server may leave more than N.
 limit_files() {
-    local number
-    for number in $(seq 3 $(($1 - 1))); do eval "exec $number>&-"; done
+    local file
+    for file in "/proc/$BASHPID/fd"/*; do
+        case ${file##*/} in [012] | 255) ;; *) eval "exec ${file##*/}>&-" ;; esac
+    done
     ulimit -n "$1"
 }
 

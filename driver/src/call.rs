@@ -19,8 +19,10 @@ use std::path::Path;
 use std::rc::Rc;
 use std::time::SystemTime;
 
-/// With fewer open files, nvcc makes the call.
-const FEWEST_FILES: u64 = 30;
+/// With fewer files that it may still open, nvcc makes the call.
+pub const FEWEST_FILES: u64 = 27;
+/// Why a call goes to nvcc that may have fewer.
+pub const TOO_FEW_FILES: &str = "it may open too few files";
 
 /// How many milliseconds a call that waits for nvcc sleeps at most, until it looks again.
 const LOOK: i32 = 1000;
@@ -73,8 +75,8 @@ impl Call<'_> {
         if let Some(reason) = plain_reason(self.words) {
             return by_nvcc(reason);
         }
-        if system::most_files() < FEWEST_FILES {
-            return by_nvcc("it may open too few files");
+        if system::spare_files() < FEWEST_FILES {
+            return by_nvcc(TOO_FEW_FILES);
         }
         let make = Make::of_environment();
         let cwd = working_directory().ok_or_else(|| "there is no working directory".to_owned())?;

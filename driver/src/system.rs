@@ -126,10 +126,15 @@ pub fn processors() -> usize {
     if size < 0 { 1 } else { mask.iter().map(|byte| byte.count_ones() as usize).sum() }
 }
 
-/// How many files this process may have open.
-pub fn most_files() -> u64 {
+/// How many more files this process may open. Its caller may have left some open.
+pub fn spare_files() -> u64 {
     let mut limit = [0; 2];
-    if unsafe { getrlimit(7, &raw mut limit) } < 0 { u64::MAX } else { limit[0] }
+    if unsafe { getrlimit(7, &raw mut limit) } < 0 {
+        return u64::MAX;
+    }
+    // The folder itself is open while it is read.
+    let open = std::fs::read_dir("/proc/self/fd").map_or(3, |files| files.count().saturating_sub(1));
+    limit[0].saturating_sub(open as u64)
 }
 
 /// A file in memory, which no program that is run inherits by itself.

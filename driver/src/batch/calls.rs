@@ -2,6 +2,7 @@
 use super::products::{Product, outputs};
 use super::records::{Described, Reads, Records};
 use super::turns::Turns;
+use crate::call::TOO_FEW_FILES;
 use crate::folder::CallFolder;
 use crate::host;
 use crate::log::{self, LoggedCall};
@@ -69,6 +70,8 @@ pub struct Context {
     pub at_once: usize,
     pub records: Option<Records>,
     pub refusals: Refusals,
+    /// Whether it may open too few files to split calls.
+    pub has_few_files: bool,
 }
 
 /// The words that count for the products of a call: nvcc's variables have some too.
@@ -202,6 +205,9 @@ impl Making<'_> {
 
     /// Makes a call by its plan.
     fn split(&mut self, compiler: &Compiler, words: Vec<String>) -> Result<Outcome, Stop> {
+        if self.context.has_few_files {
+            return by_nvcc(TOO_FEW_FILES);
+        }
         let variable = |name: &str| Some((name.to_owned(), env::var(name).ok()?));
         let variables = ["NVCC_PREPEND_FLAGS", "NVCC_APPEND_FLAGS", "ZIGRUNK_JOBS"].into_iter().filter_map(variable).collect();
         let line = Line { cwd: self.call.folder.clone(), nvcc: compiler.name.to_string_lossy().into_owned(), words, variables };

@@ -9,6 +9,7 @@ mod progress;
 mod records;
 mod turns;
 
+use crate::call::FEWEST_FILES;
 use crate::environments::Environment;
 use crate::folder::CallFolder;
 use crate::host::Host;
@@ -185,6 +186,7 @@ fn limits(options: &Options, settings: &Settings) -> Limits {
 ///
 /// What keeps it from making them.
 fn make(options: &Options) -> Result<i32, String> {
+    let has_few_files = system::spare_files() < FEWEST_FILES;
     let settings = Settings::of_environment();
     let list = list(options.list.as_ref(), &settings)?;
     if list.calls.is_empty() {
@@ -203,7 +205,7 @@ fn make(options: &Options) -> Result<i32, String> {
     let outcomes = made.and_then(|()| machine(&settings, &folder)).and_then(|mut host| {
         let limits = limits(options, &settings);
         let scratch = scratch.map(|path| path.to_string_lossy().into_owned());
-        let context = Context { settings, temporary, scratch, at_once: limits.at_once, records, refusals: Refusals::default() };
+        let context = Context { settings, temporary, scratch, at_once: limits.at_once, records, refusals: Refusals::default(), has_few_files };
         let outcomes = run(&mut host, list, context, limits, form(options));
         host.leave();
         outcomes
