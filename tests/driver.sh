@@ -722,6 +722,25 @@ signals() {
         ended 0
         end
     fi
+    if case_of 'TSTP while the call waits for a slot'; then
+        mkdir -m 700 "$room/run/zigrunk-slots-$user"
+        exec 5> "$room/run/zigrunk-slots-$user/1" && flock 5
+        set -m
+        (exec 5>&-; exec env --default-signal=HUP,INT,TERM LOG="$room/log" TMPDIR="$room/tmp" XDG_RUNTIME_DIR="$room/run" ZIGRUNK_SLOTS=1 "$nvcc_driver" -c k.cu -o k.o) > "$room/out" 2> "$room/err" &
+        process=$!
+        set +m
+        waiting() { ls "$room/run/zigrunk-slots-$user" | grep -q ^wait; }
+        within 20 waiting || problems+='  it does not wait'$'\n'
+        kill -TSTP "$process"
+        within 5 eval '[ "$(cut -d " " -f 3 "/proc/$process/stat")" = T ]' || problems+='  it does not stop'$'\n'
+        ! waiting || problems+='  others wait for it'$'\n'
+        kill -CONT "$process"
+        within 20 waiting || problems+='  it does not wait again'$'\n'
+        exec 5>&-
+        ended 0
+        same product "$(cat k.o)" made
+        end
+    fi
     if case_of 'CONT while the call is about to stop'; then
         if command -v strace > /dev/null; then
             # It sends STOP to a command first, and that takes a while here.
