@@ -602,6 +602,20 @@ places() {
         same 'status, and what the runner saw' "$status $(sort "$room/log.batch" | uniq -c | tr -s ' ')" "0  11 $room/tmp/zigrunk-$user/batch"
         end
     fi
+    if case_of 'no directory, and no nvcc'; then
+        write a.cu ':' && list='-c a.cu -o a.o'
+        batch TMPDIR="$room/missing"
+        same 'no temporary directory' "$status $(cat "$room/err")" '1 zigrunk-batch: no temporary directory: No such file or directory (os error 2)'
+        "$scratch/bin/zigrunk-batch" --unless-made missing-nvcc -c a.cu > said 2>&1
+        same 'no nvcc' "$? $(cat said)" '127 zigrunk-batch: cannot run missing-nvcc: not found'
+        "$scratch/bin/zigrunk-batch" --unless-made > said 2>&1
+        same 'no words' "$?$(cat said)" 2
+        mkdir gone && cd gone && rmdir "$room/work/gone"
+        batch PWD="$room/work/gone"
+        same 'no working directory' "$status $(grep zigrunk "$room/err")" '1 zigrunk-batch: there is no working directory'
+        cd "$room/work" || return
+        end
+    fi
     if case_of 'few calls are under way at once'; then
         for number in 1 2 3 4 5 6; do write "$number.cu" 'ls "$TMPDIR/../.." | grep -c "^zigrunk-[0-9a-f]*$" >> many' && list+="-c $number.cu -o $number.o"$'\n'; done
         batch -j 1
@@ -686,7 +700,11 @@ reports() {
         "$scratch/bin/zigrunk-report" - > report 2>&1
         same 'a log of the name -' "$? $(cat report)" '1 zigrunk-report: cannot read -: No such file or directory'
         "$scratch/bin/zigrunk-report" --odd short > report 2>&1
-        same 'wrong usage' "$? $(head -n 1 report)" '2 zigrunk-report: unexpected option --odd'
+        same 'wrong usage' "$? $(cat report)" $'2 zigrunk-report: unexpected option --odd\nusage: zigrunk-report [--trace OUT] [--html OUT] FILE..'
+        "$scratch/bin/zigrunk-report" --help > report 2>&1
+        same 'help' "$? $(head -n 3 report; grep -c '^--trace OUT .*\|^--html OUT .*' report)" $'0 usage: zigrunk-report [--trace OUT] [--html OUT] FILE..\n\nSummarises logs of ZIGRUNK_LOG.\n2'
+        "$scratch/bin/zigrunk-report" short 2> report > /dev/full
+        same 'a full disk' "$? $(cat report)" '1 zigrunk-report: cannot write: No space left on device'
         end
     fi
 }

@@ -194,7 +194,9 @@ impl<'a, M: Machine, C: Calls, W: Write> Graph<'a, M, C, W> {
             if let Some(at) = self.place(call).filter(|&at| self.start(at, number, job)) {
                 self.go_on(at);
             }
-            ends.into_iter().for_each(|end| self.tell_event(call, end));
+            for end in ends {
+                self.tell_event(call, end);
+            }
         } else if let Some(at) = self.wanting() {
             self.active[at].maker.tell(Event::Slot);
             self.go_on(at);
@@ -379,6 +381,7 @@ mod tests {
     use crate::batch::progress::Form;
     use crate::run::{self, Done, NoRule, Task};
     use crate::system::{INT, Status};
+    use std::cell::Cell;
     use std::io;
 
     /// A machine whose jobs end in the order in which they start. A job's words are its name and its status.
@@ -444,6 +447,8 @@ mod tests {
     struct Chains {
         calls: Vec<Vec<(&'static str, i32)>>,
         side_by_side: bool,
+        /// The call for which there is no thread, and how often.
+        without_thread: Cell<(usize, usize)>,
         told: Vec<String>,
     }
 
@@ -453,6 +458,11 @@ mod tests {
         }
 
         fn begin(&self, call: usize) -> io::Result<Maker<Made>> {
+            let (of, times) = self.without_thread.get();
+            if of == call && times > 0 {
+                self.without_thread.set((of, times - 1));
+                return Err(io::ErrorKind::WouldBlock.into());
+            }
             let (commands, side_by_side) = (self.calls[call].clone(), self.side_by_side);
             Maker::begin(move |turns| {
                 let task = |(at, (name, status)): (usize, &(&str, i32))| Task {
@@ -538,10 +548,33 @@ mod tests {
     fn a_call_that_waits_for_a_process_hears_later_of_jobs_that_end() {
         for most in 1..4 {
             let mut machine = Fake { most: Some(most), ..Fake::default() };
-            let chains = Chains { calls: vec![vec![("a", 0), ("b", 0), ("c", 0)], vec![("d", 0), ("e", 0)]], side_by_side: true, ..Chains::default() };
+            let chains =
+                Chains { calls: vec![vec![("a", 0), ("b", 0), ("c", 0)], vec![("d", 0), ("e", 0)]], side_by_side: true, ..Chains::default() };
             let (log, told, outcomes) = run_chains(&mut machine, chains, 9, None);
             assert_eq!((told.as_str(), machine.most_at_once, outcomes), ("0:0:abc 1:0:de", most, Outcomes::default()), "{log}");
         }
+    }
+
+    #[test]
+    fn a_call_without_a_thread_waits_for_the_end_of_a_job() {
+        let calls = || vec![vec![("a", 0)], vec![("b", 0), ("c", 0)], vec![("d", 0)]];
+        let chains = Chains { calls: calls(), without_thread: Cell::new((2, 1)), ..Chains::default() };
+        let (log, told, outcomes) = run_chains(&mut Fake::default(), chains, 2, None);
+        assert_eq!((log.as_str(), told.as_str()), ("+a +b -a -b +c +d -c -d", "0:0:a 1:0:bc 2:0:d"));
+        assert_eq!(outcomes, Outcomes::default());
+        let chains = Chains { calls: calls(), without_thread: Cell::new((0, 1)), ..Chains::default() };
+        let (_, told, outcomes) = run_chains(&mut Fake::default(), chains, 2, None);
+        assert_eq!((told.split('\n').next(), outcomes.status), (Some("0:1:zigrunk-batch: no thread for a call: operation would block"), 1));
+    }
+
+    #[test]
+    fn a_terminals_line_goes_with_the_batch() {
+        let (mut machine, mut said) = (Fake::default(), Vec::new());
+        let mut chains = Chains { calls: vec![vec![("", 0)]], ..Chains::default() };
+        let limits = Limits { at_once: 1, planned_at_once: 1, failures: None };
+        let outcomes = Graph::new(&mut machine, &mut chains, 1, limits, Progress::new(Form::Terminal, &mut said)).unwrap().run();
+        let text = String::from_utf8(said).unwrap();
+        assert!(outcomes == Outcomes::default() && text.contains("1 of 1 calls") && text.ends_with("\r\x1b[K"), "{text:?}");
     }
 
     #[test]
