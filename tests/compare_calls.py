@@ -28,7 +28,7 @@ A line of FILE is the words of a call, quoted as for bash; nothing is globbed. W
     @instead=WORDS      what it gets in their place
     @headers=toolkit    the call gets the toolkit's cuda_runtime.h, else a small one
     @how=split          the call is split; @how=nvcc: it goes to nvcc unchanged
-    @launched=TEXT      the commands that go through the launcher, as 'cicc:2 ptxas:2'
+    @launched=TEXT      the commands that go through a launcher, as 'cicc:2 ptxas:2'; without it there is no launcher
     @differs=KIND,..    the kinds of differences that docs/DIFFERENCES.md lists
     @differs-VERSION=KIND,..  further ones with such an nvcc, as 11 or 11.2; docs/VERSIONS.md lists them
 
@@ -78,6 +78,8 @@ SOURCES = {
     "int main(){int*a=nullptr,*b=nullptr;add<<<1,32>>>(a,b);return 0;}\n",
     "dev.cu": 'extern "C" __device__ int g(int x){return x*2;}\n',
     "sub/k2.cu": "__global__ void mul(float*a){a[threadIdx.x]*=2.f;}\nvoid run(float*p){mul<<<1,1>>>(p);}\n",
+    "sub/file.cu": '#include "a.h"\n__device__ const char*where=__FILE__;\n__global__ void f(int*p){int unused;*p=where[0]+from_b;}\n'
+    "const char*name(){return __FILE__;}\nvoid h(int*p){f<<<1,1>>>(p);}\n",
     "sp ace.cu": "__global__ void one(int*a){*a=1;}\n",
     "host.cpp": "int host(){return 3;}\n",
     "host.c": "int chost(void){return 4;}\n",
@@ -226,7 +228,9 @@ def normal(text: str, base: Path) -> str:
 def environment(call: Call, base: Path, log: Path) -> dict[str, str]:
     env = {name: value for name, value in os.environ.items() if not name.startswith("NVCC_")}
     env.update(TMPDIR=str(base / "work" / call.tmp if call.tmp else base / "tmp"), WORK=str(base / "work"))
-    env.update(ZIGRUNK_EXPLAIN="1", ZIGRUNK_LAUNCHER=str(base / "launcher"), COMPARE_LOG=str(log))
+    env.update(ZIGRUNK_EXPLAIN="1", COMPARE_LOG=str(log))
+    if call.launched:
+        env["ZIGRUNK_LAUNCHER"] = str(base / "launcher")
     env.update({name: value.replace("@WORK@", str(base / "work")) for name, value in call.env.items()})
     for name in call.unset:
         env.pop(name, None)
@@ -474,7 +478,7 @@ def compare(call: Call, args: argparse.Namespace) -> Compared:
 
 def show(verdict: str, compared: Compared) -> None:
     call, want, got, found, noise = compared
-    how = f"nvcc: {got['reason'][:90]}" if got["reason"] else f"split: {got['launched']}"
+    how = f"nvcc: {got['reason'][:90]}" if got["reason"] else f"split {got['launched']}".rstrip()
     print(f"{call.number:3} {verdict} {want['seconds']:.2f} s, {got['seconds']:.2f} s  {call.line[:150]}  [{how}]")
     for kind, text in found:
         print(f"      {kind}: {text}"[:700])

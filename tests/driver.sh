@@ -138,8 +138,8 @@ splits() {
     same "commands${1:+ $1}" "$(grep -c '^+' "$room/log")" 10
 }
 
-# tmp_of NAME: the directory in which a tool ran, which notes it.
-notes='pwd > "$LOG.$name"; echo "$TMPDIR" > "$LOG.tmp"'
+# A tool notes where it runs, and the directory of the file that its last word names: the call's, if the file is generated.
+notes='pwd > "$LOG.in.$name"; eval "last=\${$#}"; case $last in /*) echo "${last%/*}" ;; *) pwd ;; esac > "$LOG.$name"; echo "$TMPDIR" > "$LOG.tmp"'
 
 end_to_end() {
     if case_of 'a call that is split'; then
@@ -168,10 +168,13 @@ end_to_end() {
     fi
     if case_of 'where commands run'; then
         call TOOL_DOES="$notes" -c k.cu -o k.o
-        same 'the host compiler' "$(cat "$room/log.gcc-c")" "$room/work"
-        same 'the device compiler' "$(sed 's/[0-9a-f]\{64\}$/NAME/' "$room/log.cicc.80")" "$room/tmp/zigrunk-$user/zigrunk-NAME"
+        same 'all of them' "$(cat "$room"/log.in.* | sort -u)" "$room/work"
+        same 'generated files' "$(sed 's/[0-9a-f]\{64\}$/NAME/' "$room/log.cicc.80")" "$room/tmp/zigrunk-$user/zigrunk-NAME"
         same 'TMPDIR of commands' "$(cat "$room/log.tmp")" "$(cat "$room/log.cicc.80")/zigrunk.tmp"
         same 'mode' "$(stat -c %a "$room/tmp/zigrunk-$user")" 700
+        call ZIGRUNK_LAUNCHER=env TOOL_DOES="$notes" -c k.cu -o k.o
+        same 'with a launcher' "$(cat "$room/log.in.gcc-c" "$room/log.in.cicc.80")" "$room/work"$'\n'"$(cat "$room/log.cicc.80")"
+        same 'its generated files' "$(grep -c "^$room/tmp/zigrunk-$user/" "$room/log.cicc.80")" 1
         end
     fi
     if case_of 'the working directory has its name in PWD'; then
@@ -453,6 +456,41 @@ ROWS
         same words "$(grep -c '^nvcc \[--dryrun\] \[-DA\] \[-DB\] \[-c\] \[k.cu\] \[-o\] \[k.o\] \[-DC\]$' "$room/log") $(cat "$room/log.flags")" '1 none none'
         end
     fi
+    if case_of 'no working directory'; then
+        mkdir gone && cd gone && rmdir "$room/work/gone"
+        call "${plain[@]}" -c k.cu -o k.o
+        same reason "$(head -n 1 "$room/err")" 'zigrunk-nvcc: nvcc itself: there is no working directory'
+        as=$scratch/bin/zigrunk-plan call json nvcc -c k.cu -o k.o
+        same 'of a plan' "$status $(cat "$room/err")" '1 zigrunk-plan: there is no working directory'
+        cd "$room/work" || return
+        end
+    fi
+    if case_of 'a temporary directory that is not UTF-8'; then
+        odd=$room/tmp/$'t\xff'
+        mkdir "$odd"
+        call "${plain[@]}" TMPDIR="$odd" -c k.cu -o k.o
+        same reason "$(head -n 1 "$room/err")" "zigrunk-nvcc: nvcc itself: the temporary directory isn't UTF-8"
+        as=$scratch/bin/zigrunk-plan call TMPDIR="$odd" json nvcc -c k.cu -o k.o
+        same 'of a plan' "$status $(cat "$room/err")" "1 zigrunk-plan: the temporary directory isn't UTF-8"
+        rmdir "$odd/zigrunk-$user" "$odd"
+        end
+    fi
+    while IFS='|' read -r refused reason; do
+        case_of "the kernel refuses $refused" || continue
+        if command -v strace > /dev/null; then
+            (before=(strace -D -o "$room/trace" -e "trace=${refused%%:*}" -e "inject=$refused"); start "${plain[@]}" DRY_RUN_DOES='sleep 0.2' -c k.cu -o k.o; ended 5; echo "$problems" > "$room/problems")
+            same 'in the case' "$(cat "$room/problems")" ''
+            same reason "$(grep zigrunk-nvcc "$room/err")" "zigrunk-nvcc: $reason"
+        fi
+        end
+    done << 'ROWS'
+signalfd4:error=EMFILE|nvcc itself: no signals for the call
+clone:error=EAGAIN:when=1|nvcc itself: no process for a dry run
+clone:error=EAGAIN:when=3|nvcc itself: no process for the call
+mkdir:error=ENOSPC|nvcc itself: no room for temporary files
+pread64:error=EIO:when=6|nvcc itself: what a command said is lost: Input/output error (os error 5)
+wait4:error=EINVAL:when=2|nvcc itself: the end of a command is unknown: Invalid argument (os error 22)
+ROWS
     while IFS='|' read -r what reason settings; do
         case_of "dry runs: $what" || continue
         eval "call \"\${plain[@]}\" $settings -c k.cu -o k.o"
@@ -495,6 +533,16 @@ outputs() {
         same 'less than 1.5 s' "$(awk '{ print ($1 + $2 < 1.5) }' "$room/times")" 1
         end
     fi
+    if case_of 'a call that cannot wait takes little time of a processor'; then
+        if command -v strace > /dev/null; then
+            (before=(strace -D -o "$room/trace" -e trace=poll -e inject=poll:error=ENOMEM); start TOOL_DOES='[ "$name" != cudafe++ ] || sleep 2' -c k.cu -o k.o
+            ended 0; echo "$problems" > "$room/problems")
+            same 'in the case' "$(cat "$room/problems") $(cat k.o)" ' made'
+            tries=$(grep -c ENOMEM "$room/trace")
+            [ "$tries" -gt 20 ] && [ "$tries" -lt 9000 ] || problems+="  it looks $tries times"$'\n'
+        fi
+        end
+    fi
     if case_of "nvcc's warnings, and what commands say, in order"; then
         call WARNING='nvcc warns' TOOL_DOES='echo "out $name"; echo "err $name" >&2; case $name in *.80) sleep 0.3 ;; esac' -c k.cu -o k.o
         same status "$status" 0
@@ -515,6 +563,22 @@ the first of two, though the other ends first|6 bad ptxas.80|case $name in cicc.
 without a message|7 zigrunk-nvcc: a command failed with status 7 and without a message|[ $name != cudafe++ ] || exit 7
 by a signal|139 Segmentation fault|[ $name != cudafe++ ] || { ulimit -c 0; kill -SEGV $$; }
 ROWS
+    if case_of 'a command fails: each signal that a shell names'; then
+        for signal in '132 ILL Illegal instruction' '134 ABRT Aborted' '135 BUS Bus error' '136 FPE Floating point exception' '137 KILL Killed' '143 TERM Terminated'; do
+            read -r wanted number text <<< "$signal"
+            call TOOL_DOES="[ \$name != cudafe++ ] || { ulimit -c 0; kill -$number \$\$; }" -c k.cu -o k.o
+            same "status and messages, $number" "$status $(cat "$room/err")" "$wanted $text"
+        done
+        end
+    fi
+    if case_of 'programs that the kernel cannot run'; then
+        printf '%s\n' '#!/missing/interpreter' > "$room/odd" && chmod +x "$room/odd"
+        call ZIGRUNK_NVCC="$room/odd" -V
+        same 'nvcc' "$status $(cat "$room/err")" "127 zigrunk-nvcc: cannot run $room/odd: No such file or directory (os error 2)"
+        call ZIGRUNK_LAUNCHER="$room/odd" -c k.cu -o k.o
+        same 'a launcher' "$status $(cat "$room/err")" "127 zigrunk-nvcc: cannot run $room/odd"
+        end
+    fi
     if case_of 'a launcher that is missing'; then
         call ZIGRUNK_LAUNCHER=/missing/launcher -c k.cu -o k.o
         same 'status and messages' "$status $(cat "$room/err")" '127 zigrunk-nvcc: /missing/launcher: not found'
@@ -633,6 +697,15 @@ signals() {
         done
         end
     fi
+    if case_of 'commands ignore what the caller ignores'; then
+        for signals in '' 'HUP INT TERM CONT TSTP'; do
+            printf '%s\n' '#!/bin/sh' "[ -z '$signals' ] || trap '' $signals" "exec $nvcc_driver \"\$@\"" > "$room/caller" && chmod +x "$room/caller"
+            as=$room/caller call TOOL_DOES='sed -n "s/^SigIgn:[[:blank:]]*//p" /proc/$$/status >> "$LOG.ignored"' -c k.cu -o k.o
+            splits "with '$signals'"
+        done
+        same 'signals' "$(while read -r set; do echo $((0x$set & 0xa4003)); done < "$room/log.ignored" | uniq -c | tr -s ' ' | paste -sd ,)" " 10 0, 10 $((0xa4003))"
+        end
+    fi
     if case_of 'TSTP and CONT, twice'; then
         # As a job of its own: in a group whose shell is gone, as this script's is if something starts it in the background, TSTP stops nobody.
         set -m
@@ -650,6 +723,25 @@ signals() {
         done
         : > "$room/log.go"
         ended 0
+        end
+    fi
+    if case_of 'TSTP while the call waits for a slot'; then
+        mkdir -m 700 "$room/run/zigrunk-slots-$user"
+        exec 5> "$room/run/zigrunk-slots-$user/1" && flock 5
+        set -m
+        (exec 5>&-; exec env --default-signal=HUP,INT,TERM LOG="$room/log" TMPDIR="$room/tmp" XDG_RUNTIME_DIR="$room/run" ZIGRUNK_SLOTS=1 "$nvcc_driver" -c k.cu -o k.o) > "$room/out" 2> "$room/err" &
+        process=$!
+        set +m
+        waiting() { ls "$room/run/zigrunk-slots-$user" | grep -q ^wait; }
+        within 20 waiting || problems+='  it does not wait'$'\n'
+        kill -TSTP "$process"
+        within 5 eval '[ "$(cut -d " " -f 3 "/proc/$process/stat")" = T ]' || problems+='  it does not stop'$'\n'
+        ! waiting || problems+='  others wait for it'$'\n'
+        kill -CONT "$process"
+        within 20 waiting || problems+='  it does not wait again'$'\n'
+        exec 5>&-
+        ended 0
+        same product "$(cat k.o)" made
         end
     fi
     if case_of 'CONT while the call is about to stop'; then
@@ -758,6 +850,15 @@ slots() {
         if command -v strace > /dev/null; then
             (before=(strace -D -o "$room/trace" -e trace=flock -e inject=flock:error=ENOLCK:when=3+); start -c k.cu -o k.o; ended 0; echo "$problems" > "$room/problems")
             same 'in the case' "$(cat "$room/problems") $(cat k.o)" ' made'
+        fi
+        end
+    fi
+    if case_of 'slots: no disk takes locks'; then
+        if command -v strace > /dev/null; then
+            (before=(strace -D -o "$room/trace" -e trace=flock -e inject=flock:error=ENOLCK); start ZIGRUNK_EXPLAIN=1 -c k.cu -o k.o; ended 0; echo "$problems" > "$room/problems")
+            same 'in the case' "$(cat "$room/problems") $(cat k.o)" ' made'
+            same 'messages' "$(cat "$room/err")" 'zigrunk-nvcc: no folder for slots takes locks, so nothing limits how many commands run at once'
+            rm -f "$room/tmp/zigrunk-$user"/*.lock
         fi
         end
     fi
@@ -955,6 +1056,8 @@ logs() {
             'gcc -E,cudafe++,gcc -E __CUDA_ARCH__=800,cicc compute_80,ptxas sm_80,gcc -E __CUDA_ARCH__=900,cicc compute_90,ptxas sm_90,fatbinary,gcc -c __CUDA_ARCH__=900'
         same 'statuses' "$(sed 's/.*\("status":[0-9]*\),"reason".*/\1/; s/.*"end":[0-9.]*,\("status":[0-9]*\),"commands".*/\1/' "$room/calls" | grep '^"st' | paste -sd ' ')" \
             '"status":0 "status":7 "status":6 "status":0 "status":0'
+        same 'times in order' "$(head -n 1 "$room/calls" | tr '{' '\n' | sed 's/"[a-z]*":\([0-9.]*\),/\1 /g; s/"kind":"[^"]*",//' |
+            awk 'NF && !call { call = $1; end = $2 } NF && call != $1 && (call > $1 || $1 > $2 || $2 > $3 || $3 > end) { print "odd" } END { print NR }')" 12
         same 'needs' "$(head -n 1 "$room/calls" | grep -o '"needs":[^]]*' | cut -d '[' -f 2 | paste -sd ' ')" ' 0 0 1,2 3 0 1,5 6 0,1,2,3,4,5,6,7 0,1,2,3,4,5,6,7,8'
         "$scratch/bin/zigrunk-report" "$room/calls" > "$room/report" 2>&1
         same 'the report' "$(sed -n 1,2p "$room/report")" $'calls: 5, failed: 2\nsplit: 2 of 5 (40 %)'

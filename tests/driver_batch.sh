@@ -65,10 +65,10 @@ batch() {
     status=$?
 }
 
-# with_few_files N: a batch that may have N open files.
+# with_few_files N [NAME=VALUE..] [WORD..]: a batch that may have N open files.
 with_few_files() (
     limit_files "$1"
-    batch ZIGRUNK_SLOTS=0 -j 30
+    batch "${@:2}"
     exit "$status"
 )
 
@@ -380,21 +380,35 @@ HELP
     fi
     if case_of 'few files may be open'; then
         for number in 1 2 3; do write "$number.cu" ':' && list+="-c $number.cu -o $number.o"$'\n'; done
-        inherit 40 with_few_files 40
+        inherit 40 with_few_files 40 ZIGRUNK_SLOTS=0 -j 30
         same 'status and products' "$? $(cat ./*.o | sort -u)" '0 made'
         end
     fi
-    if case_of 'still fewer files may be open'; then
+    if case_of 'several calls with still fewer files'; then
         for number in 1 2 3; do write "$number.cu" ':' && list+="-c $number.cu -o $number.o"$'\n'; done
         for number in $(seq 10 39); do
-            with_few_files "$number"
+            with_few_files "$number" ZIGRUNK_SLOTS=0 -j 30
             case $?,$(cat "$room/err") in
             0,* | 1,*'zigrunk-batch: no process for '* | 1,*'zigrunk-batch: no temporary directory: '* | 1,*'Too many open files'*) ;;
             *) problems+="  with $number files: $(head -c 300 "$room/err")"$'\n' ;;
             esac
-            same "files left with $number" "$(find "$room/tmp" -type f)" ''
             within 5 none_run || problems+="  processes with $number files"$'\n'
         done
+        find "$room/tmp/zigrunk-$user" -mindepth 1 -maxdepth 1 -exec touch -d '11 minutes ago' {} +
+        batch
+        end
+    fi
+    if case_of 'too few files may be open, anywhere'; then
+        write a.cu ':' && list='-c a.cu -o a.o'
+        for files in $(seq 8 28); do
+            rm -f a.o
+            with_few_files "$files"
+            same "status and product with $files" "$(case $?$(cat a.o 2> /dev/null) in 0made* | [12] | [12]made* | 12[67]*) ;; *) head -c 300 "$room/err" ;; esac)" ''
+        done
+        # Without a file to look into it, a directory can't be removed. It has its lock then, by which a later call removes it.
+        same 'directories, or locks, alone' "$(ls "$room/tmp/zigrunk-$user" | sed 's/\.lock$//' | sort | uniq -u)" ''
+        find "$room/tmp/zigrunk-$user" -mindepth 1 -maxdepth 1 -exec touch -d '11 minutes ago' {} +
+        batch
         end
     fi
 }
@@ -588,6 +602,20 @@ places() {
         same 'status, and what the runner saw' "$status $(sort "$room/log.batch" | uniq -c | tr -s ' ')" "0  11 $room/tmp/zigrunk-$user/batch"
         end
     fi
+    if case_of 'no directory, and no nvcc'; then
+        write a.cu ':' && list='-c a.cu -o a.o'
+        batch TMPDIR="$room/missing"
+        same 'no temporary directory' "$status $(cat "$room/err")" '1 zigrunk-batch: no temporary directory: No such file or directory (os error 2)'
+        "$scratch/bin/zigrunk-batch" --unless-made missing-nvcc -c a.cu > said 2>&1
+        same 'no nvcc' "$? $(cat said)" '127 zigrunk-batch: cannot run missing-nvcc: not found'
+        "$scratch/bin/zigrunk-batch" --unless-made > said 2>&1
+        same 'no words' "$?$(cat said)" 2
+        mkdir gone && cd gone && rmdir "$room/work/gone"
+        batch PWD="$room/work/gone"
+        same 'no working directory' "$status $(grep zigrunk "$room/err")" '1 zigrunk-batch: there is no working directory'
+        cd "$room/work" || return
+        end
+    fi
     if case_of 'few calls are under way at once'; then
         for number in 1 2 3 4 5 6; do write "$number.cu" 'ls "$TMPDIR/../.." | grep -c "^zigrunk-[0-9a-f]*$" >> many' && list+="-c $number.cu -o $number.o"$'\n'; done
         batch -j 1
@@ -672,7 +700,11 @@ reports() {
         "$scratch/bin/zigrunk-report" - > report 2>&1
         same 'a log of the name -' "$? $(cat report)" '1 zigrunk-report: cannot read -: No such file or directory'
         "$scratch/bin/zigrunk-report" --odd short > report 2>&1
-        same 'wrong usage' "$? $(head -n 1 report)" '2 zigrunk-report: unexpected option --odd'
+        same 'wrong usage' "$? $(cat report)" $'2 zigrunk-report: unexpected option --odd\nusage: zigrunk-report [--trace OUT] [--html OUT] FILE..'
+        "$scratch/bin/zigrunk-report" --help > report 2>&1
+        same 'help' "$? $(head -n 3 report; grep -c '^--trace OUT .*\|^--html OUT .*' report)" $'0 usage: zigrunk-report [--trace OUT] [--html OUT] FILE..\n\nSummarises logs of ZIGRUNK_LOG.\n2'
+        "$scratch/bin/zigrunk-report" short 2> report > /dev/full
+        same 'a full disk' "$? $(cat report)" '1 zigrunk-report: cannot write: No space left on device'
         end
     fi
 }

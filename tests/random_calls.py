@@ -21,6 +21,7 @@ import json
 import random
 import re
 import shlex
+import struct
 import sys
 from collections.abc import Callable, Iterator
 from pathlib import Path
@@ -233,20 +234,36 @@ def is_directory_of_ptxas(line: str, want: Ran, got: Ran, found: Difference) -> 
     return found[0] == "SAID" and "keep-dir" in line and re.sub(r"ptxas \S*/", "ptxas ", want["err"]) == got["err"]
 
 
+def parts_of_code(product: bytes) -> list[bytes]:
+    """The lines of PTX that aren't comments. A fatbin packs its PTX, so of that it's all but the PTX."""
+    if not product.startswith(b"\x50\xed\x55\xba"):
+        return [row for row in product.splitlines() if row and not row.startswith(b"//")]
+    at, parts = 16, []
+    while at < len(product):
+        kind, head, size = struct.unpack_from("<HxxIQ", product, at)
+        parts += [product[at:at + head + size]] if kind != 1 else [b"PTX"]
+        at += head + size
+    return parts
+
+
 def is_source_in_ptx(line: str, want: Ran, got: Ran, found: Difference) -> bool:
     """--source-in-ptx: cicc doesn't find a relative source. All else is the same."""
     if found[0] != "CONTENT" or re.search(r"source-in-ptx|-src-in-ptx", line) is None:
         return False
-    wanted, given = ([row for row in made["made"][found[1]].splitlines() if row and not row.startswith(b"//")] for made in (want, got))
-    return wanted == given
+    return parts_of_code(want["made"][found[1]]) == parts_of_code(got["made"][found[1]])
 
 
 def is_host_code_of_dependencies(line: str, want: Ran, got: Ran, found: Difference) -> bool:
     """-MD without host code, or of a C or C++ source: the same lines, some more often, and a kept file more."""
     if re.search(r"-MM?D|with-compile", line) is None:
         return False
+    kept = (".cpp4.ii", "host.ii", "host.i")
+    if found[0] == "GONE":
+        # A folder that was empty isn't any more, since the file is in it.
+        folders = tuple(set(want["gone"]) - set(got["gone"]))
+        return set(got["gone"]) < set(want["gone"]) and all(name.endswith(kept) for name in want["made"] if name.startswith(folders))
     says_nothing_more = found[0] == "SAID" and found[1].startswith("lacks [], has []")
-    return says_nothing_more or (found[0] == "FILE-LACKS" and found[1].endswith((".cpp4.ii", "host.ii", "host.i")))
+    return says_nothing_more or (found[0] == "FILE-LACKS" and found[1].endswith(kept))
 
 
 def is_name_of_generated(line: str, want: Ran, got: Ran, found: Difference) -> bool:

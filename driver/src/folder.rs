@@ -15,6 +15,12 @@ const MOST_EQUAL_CALLS: usize = 64;
 /// How long what a killed call left stays, if no equal call takes it.
 const LEFT_ALONE: Duration = Duration::new(600, 0);
 
+/// Whether an open file is the one of a path.
+fn is_at(path: &Path, file: &File) -> bool {
+    let place = |status: Metadata| (status.dev(), status.ino());
+    matches!((fs::symlink_metadata(path).map(place), file.metadata().map(place)), (Ok(named), Ok(opened)) if named == opened)
+}
+
 /// An open folder.
 #[derive(Debug)]
 pub struct Folder {
@@ -46,15 +52,12 @@ impl Folder {
 
     /// Whether the folder is still where it was opened.
     pub fn is_there(&self) -> bool {
-        let place = |status: Metadata| (status.dev(), status.ino());
-        let (opened, named) = (self.file.metadata().map(place), fs::symlink_metadata(&self.path).map(place));
-        matches!((opened, named), (Ok(opened), Ok(named)) if opened == named)
+        is_at(&self.path, &self.file)
     }
 
-    /// Whether an open file is still the one of this name.
+    /// Whether an open file is still the one of this name. It opens no file, of which there may be too many.
     pub fn names(&self, name: &str, file: &File) -> bool {
-        let named = system::open_below(self.as_fd(), name, Opening::Pipe).map(File::from).and_then(|it| it.metadata());
-        matches!((named, file.metadata()), (Ok(named), Ok(own)) if (named.dev(), named.ino()) == (own.dev(), own.ino()))
+        is_at(&self.path.join(name), file)
     }
 
     /// Makes a folder in this one. What was there under its name goes.
@@ -68,6 +71,14 @@ impl Folder {
     fn clear(&self, name: &str) {
         if self.is_there() {
             let _ = fs::remove_dir_all(self.path.join(name));
+        }
+    }
+
+    /// Removes a call's folder in this one, and its lock. If something stays, so does the lock, by which a later call finds it.
+    fn remove_call(&self, name: &str) {
+        self.clear(name);
+        if fs::symlink_metadata(self.path.join(name)).is_err() {
+            let _ = system::remove_below(self.as_fd(), &lock_name(name));
         }
     }
 }
@@ -84,7 +95,8 @@ pub struct CallFolder {
 struct Place {
     user: Folder,
     name: String,
-    lock: OwnedFd,
+    /// Held as long as this is.
+    _lock: OwnedFd,
 }
 
 impl CallFolder {
@@ -100,8 +112,8 @@ impl CallFolder {
                 let name = if number == 1 { name.to_owned() } else { format!("{name}-{number}") };
                 match lock(&user, &name) {
                     Ok(Some(lock)) => {
-                        let made = user.make_anew(&name).inspect_err(|_| drop(system::remove_below(user.as_fd(), &lock_name(&name))));
-                        return Ok(CallFolder { folder: made?, place: Some(Place { user, name, lock }) });
+                        let made = user.make_anew(&name).inspect_err(|_| user.remove_call(&name));
+                        return Ok(CallFolder { folder: made?, place: Some(Place { user, name, _lock: lock }) });
                     }
                     Ok(None) => {}
                     Err(_) => break,
@@ -130,9 +142,7 @@ impl CallFolder {
         match &self.place {
             None => drop(fs::remove_dir_all(self.path())),
             Some(place) => {
-                place.user.clear(&place.name);
-                let _ = system::remove_below(place.user.as_fd(), &lock_name(&place.name));
-                system::unlock(place.lock.as_fd());
+                place.user.remove_call(&place.name);
                 remove_left(&place.user);
             }
         }
@@ -192,10 +202,8 @@ fn remove_left(user: &Folder) {
         if !entry.metadata().is_ok_and(is_old) {
             continue;
         }
-        if let Ok(Some(lock)) = lock(user, name) {
-            user.clear(name);
-            let _ = system::remove_below(user.as_fd(), &lock_name(name));
-            system::unlock(lock.as_fd());
+        if let Ok(Some(_lock)) = lock(user, name) {
+            user.remove_call(name);
         }
     }
 }

@@ -127,3 +127,31 @@ fn end_groups(shared: Shared) {
         }
     }
 }
+
+#[cfg(test)]
+mod tests {
+    use super::*;
+
+    #[test]
+    fn no_two_places_are_one() {
+        let shared = Shared::new().unwrap();
+        let begin = shared.group(0).addr();
+        let mut ends: Vec<(usize, usize)> = (0..MOST_GROUPS).map(|number| (shared.group(number).addr(), size_of::<i32>())).collect();
+        ends.extend((0..MOST_TOKENS).map(|number| (shared.token(number).addr(), 1)));
+        ends.push((shared.done().addr(), 1));
+        ends.sort_unstable();
+        assert!(ends.windows(2).all(|pair| pair[0].0 + pair[0].1 <= pair[1].0));
+        assert!(ends.iter().all(|(at, size)| at + size <= begin + 4096), "the page ends earlier");
+    }
+
+    #[test]
+    fn the_guard_sees_the_groups_that_run() {
+        let shared = Shared::new().unwrap();
+        assert_eq!(shared.groups().count(), 0);
+        for (number, group) in [(0, 7), (MOST_GROUPS - 1, 9)] {
+            // SAFETY: nobody else has this page.
+            unsafe { ptr::write_volatile(shared.group(number), group) };
+        }
+        assert_eq!(shared.groups().collect::<Vec<_>>(), [7, 9]);
+    }
+}

@@ -447,3 +447,15 @@ impl Machine for Host {
         now()
     }
 }
+
+#[cfg(test)]
+mod tests {
+    use super::*;
+
+    #[test]
+    fn nanoseconds_are_the_time() {
+        #[allow(clippy::cast_precision_loss)]
+        let seconds = nanoseconds() as f64 / 1e9;
+        assert!((now() - seconds).abs() < 60.0, "{seconds}");
+    }
+}

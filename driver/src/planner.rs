@@ -8,8 +8,9 @@ use compilers::command::{Cacheable, SingleCompileCommand};
 use compilers::compiler::NvccHostCompiler;
 use dry_runs::Which;
 use nvcc_calls::{Answer, directory_name, file_names, read_call};
+use placed_commands::placed_command;
 use plan_scripts::Format;
-use plans::{NvccGeneratedSubcommand, PlanWithOrigins};
+use plans::{NvccGeneratedSubcommand as Command, PlanWithOrigins};
 use program_calls::{DirectoryCall, NvccCall};
 use rattle_std::alloc::{AllocError, Global};
 use rattle_std::string::String as Text;
@@ -204,17 +205,28 @@ fn planned(of: &ToPlan<'_>) -> Result<PlanWithOrigins, String> {
     if is_empty { Err("the plan has no command".into()) } else { Ok(planned) }
 }
 
-/// The commands of a call, in plan order.
+/// The plan of a call, if it runs all commands.
+fn whole_plan(of: &ToPlan<'_>) -> Result<PlanWithOrigins, String> {
+    let planned = planned(of)?;
+    if planned.plan.dropped.as_slice().is_empty() { Ok(planned) } else { Err("the plan dropped a command".into()) }
+}
+
+/// The commands of a call, in plan order, each in the directory that the plan says.
 ///
 /// # Errors
 ///
 /// Why there is no plan, or none that runs all commands.
 pub fn plan(of: &ToPlan<'_>) -> Result<Vec<PlannedCommand>, String> {
-    let planned = planned(of)?;
-    if !planned.plan.dropped.as_slice().is_empty() {
-        return Err("the plan dropped a command".into());
-    }
-    commands_of(&planned)
+    commands_of(&whole_plan(of)?, |command| command.try_clone(Global))
+}
+
+/// The same, with nvcc's tools in the call's own directory. There the words of a user mean what they mean to nvcc.
+///
+/// # Errors
+///
+/// Why there is no plan, or none that runs all commands.
+pub fn plan_in_place(of: &ToPlan<'_>) -> Result<Vec<PlannedCommand>, String> {
+    commands_of(&whole_plan(of)?, |command| placed_command(Global, command, of.tmp, of.cwd))
 }
 
 /// The plan of a call in the format of a name, as people type it, with its commands.
@@ -226,23 +238,26 @@ pub fn plan_file(format: &str, of: &ToPlan<'_>) -> Result<(String, Vec<PlannedCo
     let format = Format::named(format).ok_or("unknown format")?;
     let planned = planned(of)?;
     let file = plan_formats::plan_file(Global, format, of.cwd, of.tmp, of.flag, &planned).map_err(|refusal| refusal.to_string())?;
-    Ok((string(&file), commands_of(&planned)?))
+    Ok((string(&file), commands_of(&planned, |command| command.try_clone(Global))?))
 }
 
-/// The commands of a plan, with what each needs and writes.
-fn commands_of(planned: &PlanWithOrigins) -> Result<Vec<PlannedCommand>, String> {
+/// The commands of a plan as they run, with what each needs and writes. That is the same wherever a command runs.
+fn commands_of(planned: &PlanWithOrigins, as_it_runs: impl Fn(&Command) -> Result<Command, AllocError>) -> Result<Vec<PlannedCommand>, String> {
     let both = files_and_needs(Global, &planned.plan).map_err(out_of_memory)?;
     let commands = planned.plan.groups.as_slice().iter().flat_map(List::as_slice);
     let facts = both.files.as_slice().iter().zip(both.needs.as_slice());
-    let command = |(command, (files, needs)): (&NvccGeneratedSubcommand, (&command_files::CommandFiles, &List<usize>))| PlannedCommand {
-        program: command.exe.as_str().to_owned(),
-        words: strings(command.args.as_slice()),
-        folder: command.cwd.as_str().to_owned(),
-        variables: command.env_vars.as_slice().iter().map(|(name, value)| (string(name), string(value))).collect(),
-        cacheable: matches!(command.cacheable, Cacheable::Yes),
-        preprocesses: preprocesses(command.args.as_slice()),
-        needs: needs.as_slice().to_vec(),
-        writes: strings(files.writes.as_slice()),
+    let command = |(command, (files, needs)): (&Command, (&command_files::CommandFiles, &List<usize>))| {
+        let command = as_it_runs(command).map_err(out_of_memory)?;
+        Ok(PlannedCommand {
+            program: command.exe.as_str().to_owned(),
+            words: strings(command.args.as_slice()),
+            folder: command.cwd.as_str().to_owned(),
+            variables: command.env_vars.as_slice().iter().map(|(name, value)| (string(name), string(value))).collect(),
+            cacheable: matches!(command.cacheable, Cacheable::Yes),
+            preprocesses: preprocesses(command.args.as_slice()),
+            needs: needs.as_slice().to_vec(),
+            writes: strings(files.writes.as_slice()),
+        })
     };
-    Ok(commands.zip(facts).map(command).collect())
+    commands.zip(facts).map(command).collect()
 }

@@ -210,7 +210,6 @@ impl Slots {
     pub fn end_to_wait(&mut self) {
         let Some(ticket) = self.ticket.take() else { return };
         let _ = system::remove_below(self.folder.as_fd(), &ticket.name);
-        drop(ticket);
         let next = self.waiters().into_iter().find(|&waiter| self.is_alive(waiter));
         if let Some(waiter) = next {
             self.wake(waiter);

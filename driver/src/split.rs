@@ -95,13 +95,21 @@ impl Call<'_> {
         self.folder.path().to_str().ok_or_else(|| "the temporary directory isn't UTF-8".to_owned().into())
     }
 
+    /// Whether nvcc's tools run in the call's own directory. A cache may look an answer up by a command's words, so it gets those of the
+    /// plan, which name no directory.
+    fn runs_in_place(&self) -> bool {
+        self.settings.launcher.is_empty()
+    }
+
     /// What the line says of the call.
     ///
     /// # Errors
     ///
     /// Why nvcc makes the call.
     pub fn outline(&self) -> Result<Outline, Stop> {
-        let outline = planner::outline_of(self.line, self.tmp()?)?;
+        let mut line = self.line.clone();
+        line.variables.extend(self.runs_in_place().then(|| ("ZIGRUNK_IN_PLACE".to_owned(), "1".to_owned())));
+        let outline = planner::outline_of(&line, self.tmp()?)?;
         check(&outline)?;
         Ok(outline)
     }
@@ -120,7 +128,7 @@ impl Call<'_> {
         machine.plans(false);
         let keeps = outline.keep_dir.is_some();
         let to_plan = ToPlan { dry_runs: [&dry_runs.first, &dry_runs.second], cwd: &line.cwd, tmp, flag: &outline.flag, keeps };
-        let mut commands = planner::plan(&to_plan)?;
+        let mut commands = if self.runs_in_place() { planner::plan_in_place(&to_plan)? } else { planner::plan(&to_plan)? };
         let late = if late::is_on(self.settings) && !keeps { late::begin_early(&mut commands, tmp) } else { None };
         let scratch = self.settings.scratch().map(|path| absolute(path, Path::new(&line.cwd)).to_string_lossy().into_owned());
         let surroundings = Surroundings { settings: self.settings, tmp, scratch };
@@ -136,6 +144,9 @@ impl Call<'_> {
             return by_nvcc("its assembler fails, or says something");
         }
         check_end(self.folder.is_there(), &done, &tasks, &dry_runs)?;
+        if let Some(keep_dir) = &outline.keep_dir {
+            name_stubs(tmp, &kept_folder(keep_dir, &line.cwd));
+        }
         let counted = before.zip(caches::counts(machine, self.settings)?).map(<[Counts; 2]>::from);
         let commands = if self.settings.log.is_some() { log::commands(&tasks, &done) } else { Vec::new() };
         let (status, said) = said(dry_runs.messages, &tasks, done, self.settings);
@@ -185,6 +196,22 @@ fn check_end(is_there: bool, done: &[Done], tasks: &[Task], dry_runs: &DryRuns) 
     Ok(())
 }
 
+/// The directory that keeps generated files, as nvcc names it in front of theirs: seen from the working directory if it is below that.
+fn kept_folder(keep_dir: &str, cwd: &str) -> String {
+    let seen = Path::new(keep_dir).strip_prefix(cwd).unwrap_or(Path::new(keep_dir));
+    if seen.as_os_str().is_empty() { String::new() } else { format!("{}/", seen.display()) }
+}
+
+/// Gives the stub files in a directory the names by which they are kept: cicc writes a stub file's name into it.
+fn name_stubs(tmp: &str, folder: &str) {
+    for entry in fs::read_dir(tmp).into_iter().flatten().flatten() {
+        let is_stub = entry.file_name().to_str().is_some_and(|name| name.ends_with(".cudafe1.stub.c"));
+        if let Some(text) = is_stub.then(|| fs::read_to_string(entry.path()).ok()).flatten() {
+            let _ = fs::write(entry.path(), text.replacen(&format!("\n# 1 \"{tmp}/"), &format!("\n# 1 \"{folder}"), 1));
+        }
+    }
+}
+
 /// The status of a call, and what nvcc and the commands said, in nvcc's order, up to the first command that failed.
 fn said(messages: Vec<u8>, tasks: &[Task], done: Vec<Done>, settings: &Settings) -> (i32, Said) {
     let ended = done.into_iter().zip(tasks).filter_map(|(done, task)| Some((task.is_rule, done.ended?)));
@@ -205,4 +232,31 @@ fn said(messages: Vec<u8>, tasks: &[Task], done: Vec<Done>, settings: &Settings)
         }
     }
     (0, said)
+}
+
+#[cfg(test)]
+mod tests {
+    use super::*;
+
+    #[test]
+    fn kept_files_are_named_from_the_working_directory() {
+        let cases = [("/w", "/w", ""), ("/w/a/b", "/w", "a/b/"), ("/wa", "/w", "/wa/"), ("/k", "/w", "/k/")];
+        for (keep_dir, cwd, wanted) in cases {
+            assert_eq!(kept_folder(keep_dir, cwd), wanted, "{keep_dir} {cwd}");
+        }
+    }
+
+    #[test]
+    fn a_kept_stub_file_has_its_name() {
+        let room = env::temp_dir().join(format!("stubs-{}", std::process::id()));
+        fs::create_dir_all(&room).unwrap();
+        let tmp = room.to_str().unwrap();
+        let text = |folder: &str| format!("#define A \"{tmp}/\"\n# 1 \"{folder}k.cudafe1.stub.c\"\n");
+        for (name, wanted) in [("k.cudafe1.stub.c", "kd/"), ("k.cudafe1.cpp", &format!("{tmp}/"))] {
+            fs::write(room.join(name), text(&format!("{tmp}/"))).unwrap();
+            name_stubs(tmp, "kd/");
+            assert_eq!(fs::read_to_string(room.join(name)).unwrap(), text(wanted), "{name}");
+        }
+        fs::remove_dir_all(room).unwrap();
+    }
 }

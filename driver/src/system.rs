@@ -224,11 +224,6 @@ pub fn try_lock(file: BorrowedFd<'_>) -> io::Result<bool> {
     }
 }
 
-/// Gives back the lock of an open file, in all processes that have it.
-pub fn unlock(file: BorrowedFd<'_>) {
-    unsafe { flock(file.as_raw_fd(), 8) };
-}
-
 /// Waits until one of these files can be read, at most so many milliseconds; -1 is for ever. Says which can be. If a signal or a lack of memory
 /// ends it early, it has waited for a moment all the same.
 pub fn wait_for(files: &[RawFd], milliseconds: i32) -> Vec<bool> {

@@ -38,7 +38,26 @@ fn a_log_has_a_summary_a_page_and_a_trace() {
 #[test]
 fn a_log_whose_calls_take_no_time_has_numbers() {
     let line = r#"{"begin":5.0,"end":5.0,"status":0,"commands":[{"kind":"gcc -E","asked":5.0,"begin":5.0,"end":5.0,"status":0,"needs":[]}],"words":["nvcc"]}"#;
-    for text in made_of(&format!("{line}\n{line}\n"), "short") {
+    let texts = made_of(&format!("{line}\n{line}\n"), "short");
+    for text in &texts {
         assert!(!text.contains("NaN") && !text.contains("inf"), "{text}");
     }
+    assert!(!texts[0].contains("hits") && texts[1].contains("<b>not in the log</b><span>cache hits / misses"), "{texts:?}");
+}
+
+#[test]
+fn a_log_may_lack_calls_or_needs() {
+    let [summary, page, _] = made_of("", "empty");
+    assert_eq!(summary, "calls: 0, failed: 0\nsplit: 0 of 0\n");
+    assert!(page.contains("<p class=\"note\">The log has no calls.</p>"), "{page}");
+    let line = r#"{"begin":5.0,"end":6.0,"status":0,"commands":[{"kind":"gcc -E","asked":5.0,"begin":5.0,"end":5.5,"status":0}],"words":["nvcc"]}"#;
+    let [_, page, _] = made_of(line, "needless");
+    assert!(page.contains("<p class=\"note\">The log doesn't say what commands need.</p>"), "{page}");
+}
+
+#[test]
+fn a_cache_that_nobody_has_asked_has_no_hits() {
+    let line = r#"{"begin":5.0,"end":6.0,"status":0,"commands":[],"counted":[3,4,3,4],"words":["nvcc"]}"#;
+    let [summary, page, _] = made_of(line, "unasked");
+    assert!(summary.contains("hits: 0 of 0 (0 %)\n") && page.contains("<b>0 / 0</b><span>cache hits / misses"), "{summary}");
 }

@@ -1,6 +1,8 @@
 -- What the arguments of an nvcc line say: the commands that a plan of the line begins with.
-use Rattle.std.specs.Prelude.{◌≡◌, ℕ, List, [], ◌∷◌, length, ◌==◌, Bool, ◌||◌, if◌then◌else◌, Option, Some, None, Result, Ok, codes, refl, bytes_eq}
+use Rattle.std.specs.Prelude.{◌≡◌, ℕ, List, [], ◌∷◌, length, ◌==◌, Bool, not, ◌&&◌, ◌||◌, if◌then◌else◌, Option, Some, None, Result, Ok, codes, refl, bytes_eq}
 use Rattle.std.specs.List.{list_any}
+use Rattle.std.specs.Option.{is_some}
+use Rattle.texts.specs.Variables.{first_value}
 use Rattle.texts.specs.declared.fault.Fault.{Fault}
 use Rattle.texts.specs.declared.language.Language.TheVariants.{Cuda}
 use Rattle.texts.specs.Path.{joined}
@@ -27,14 +29,18 @@ is_lines_word word =
 abbrev pub asks_lines : List (List ℕ) → Bool
 asks_lines words = list_any is_lines_word words
 
+-- whether the caller runs nvcc's tools in the call's own directory, and not in the temporary one, as plans have it
+abbrev pub runs_in_place : List (List ℕ × List ℕ) → Bool
+runs_in_place variables = is_some (first_value (codes "ZIGRUNK_IN_PLACE") variables)
+
 -- the input's path: as the line gives it, or absolute if the line asks for the source's lines. cicc would resolve a relative
--- path from its own directory, which is the temporary one
-abbrev pub input_of : List ℕ → ParsedArguments → List ℕ
-input_of cwd p = if asks_lines p.common_args then joined cwd p.input else p.input
+-- path from its own directory, unless that is the call's
+abbrev pub input_of : List ℕ → ParsedArguments → List (List ℕ × List ℕ) → List ℕ
+input_of cwd p variables = if asks_lines p.common_args && not (runs_in_place variables) then joined cwd p.input else p.input
 
 -- the places of a line
-abbrev pub places_of : NvccOf → ParsedArguments → Places
-places_of call p = record { temp_dir = call.tmp; canonical_input = input_of call.cwd p }
+abbrev pub places_of : NvccOf → ParsedArguments → List (List ℕ × List ℕ) → Places
+places_of call p variables = record { temp_dir = call.tmp; canonical_input = input_of call.cwd p variables }
 
 abbrev pub first_command : List SingleCompileCommand → Option SingleCompileCommand
 first_command [] = None
@@ -71,7 +77,7 @@ outline_with c dependencies jobs = record {
 -- the nvcc command of a line's arguments
 abbrev pub command_of : NvccOf → ParsedArguments → List (List ℕ × List ℕ) → Result NvccCompileCommand Fault
 command_of call p variables =
-    and_then (nvcc_written call.nvcc p call.cwd variables Gcc (places_of call p)) (λ made. Ok made.0)
+    and_then (nvcc_written call.nvcc p call.cwd variables Gcc (places_of call p variables)) (λ made. Ok made.0)
 
 -- what a line's arguments say, given their command. A fault of the line comes before a fault of its language
 abbrev pub outline_of : NvccOf → ParsedArguments → List (List ℕ × List ℕ) → NvccCompileCommand → Result Outline Fault
@@ -80,6 +86,12 @@ outline_of call p variables command =
     and_then (jobs_of_line call p variables) (λ jobs.
     Ok (outline_with command dependencies jobs)))
 
--- a worked example
-pub input_of_lines : input_of (codes "/w") (record (plain_arguments (codes "k.cu") Cuda []) { common_args = spaced "-lineinfo -c" }) ≡ codes "/w/k.cu"
+-- worked examples
+abbrev lines_line : ParsedArguments
+lines_line = record (plain_arguments (codes "k.cu") Cuda []) { common_args = spaced "-lineinfo -c" }
+
+pub input_of_lines : input_of (codes "/w") lines_line [] ≡ codes "/w/k.cu"
 input_of_lines = refl
+
+pub input_in_place : input_of (codes "/w") lines_line ((codes "ZIGRUNK_IN_PLACE", codes "1") ∷ []) ≡ codes "k.cu"
+input_in_place = refl

@@ -135,7 +135,7 @@ fn answer_to_normal(
 }
 
 /// Reads an nvcc line as nvcc does, at the call's working directory, with `variables`, those of the environment that nvcc and
-/// Ninja's jobs depend on, and `files`, the options files by name and text. `file_names` names them. A call that compiles one source
+/// Ninja's jobs depend on, `ZIGRUNK_IN_PLACE` if the caller runs nvcc's tools in the call's own directory, and `files`, the options files by name and text. `file_names` names them. A call that compiles one source
 /// is split, unless a plan of it would make something else; any other goes to nvcc.
 ///
 /// Fails if `generate_compile_commands` or `preprocess` of nvcc does.

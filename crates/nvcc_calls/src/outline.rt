@@ -15,6 +15,7 @@ use program_calls::NvccCall;
 use std::alloc::{AllocError, Global};
 use texts::fault::Fault;
 use texts::text::{Text, join};
+use texts::variables::first_value;
 
 /// What an nvcc line says: the commands to run before there is a plan, and how to run it.
 ///
@@ -108,11 +109,23 @@ fn asks_lines(words: &[String]) -> bool
     false
 }
 
-// The input's path, as nvcc's command names it.
-fn input(alloc: Global, cwd: &str, parsed: &ParsedArguments) -> Result<Text, AllocError>
-    ensures { IfOk result (λ path. path ≡ spec.input_of cwd.now parsed.now) }
+// Whether the caller runs nvcc's tools in the call's own directory.
+fn runs_in_place(variables: &[(String, String)]) -> bool
+    ensures { result ≡ spec.runs_in_place (map pair_of variables.now) }
 {
-    if asks_lines(parsed.common_args.as_slice()) {
+    first_value(variables, "ZIGRUNK_IN_PLACE").is_some()
+}
+
+// The input's path, as nvcc's command names it.
+fn input(
+    alloc: Global,
+    cwd: &str,
+    parsed: &ParsedArguments,
+    variables: &[(String, String)],
+) -> Result<Text, AllocError>
+    ensures { IfOk result (λ path. path ≡ spec.input_of cwd.now parsed.now (map pair_of variables.now)) }
+{
+    if asks_lines(parsed.common_args.as_slice()) && !runs_in_place(variables) {
         Ok(Text::new(join(alloc, cwd, parsed.input.as_str())?))
     } else {
         parsed.input.try_clone(alloc)
@@ -124,12 +137,13 @@ fn places(
     alloc: Global,
     call: &NvccCall<'_>,
     parsed: &ParsedArguments,
+    variables: &[(String, String)],
 ) -> Result<Places, AllocError>
-    ensures { IfOk result (λ places. places ≡ spec.places_of (nvcc_of call.now) parsed.now) }
+    ensures { IfOk result (λ places. places ≡ spec.places_of (nvcc_of call.now) parsed.now (map pair_of variables.now)) }
 {
     Ok(Places {
         temp_dir: Text::copy_of(alloc, call.tmp)?,
-        canonical_input: input(alloc, call.cwd, parsed)?,
+        canonical_input: input(alloc, call.cwd, parsed, variables)?,
     })
 }
 
@@ -142,7 +156,7 @@ pub fn command(
 ) -> Result<NvccCompileCommand, Fault>
     ensures { UnlessMemory result (spec.command_of (nvcc_of call.now) parsed.now (map pair_of variables.now)) }
 {
-    let places = places(alloc, call, parsed)?;
+    let places = places(alloc, call, parsed, variables)?;
     let (command, _) = Nvcc::gcc().generate_compile_commands(
         alloc, call.nvcc, parsed, call.cwd, variables, &places,
     )?;

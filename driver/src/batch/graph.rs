@@ -65,11 +65,12 @@ struct Running {
     has_slot: bool,
 }
 
-/// A job for which there was no process, until another has ended.
+/// A job for which there was no process, until another has ended. Its call waits to hear of it, and hears of its jobs that end meanwhile later.
 struct Held {
     call: usize,
     number: usize,
     job: Job,
+    ends: Vec<Event>,
 }
 
 /// A batch while it runs.
@@ -189,9 +190,12 @@ impl<'a, M: Machine, C: Calls, W: Write> Graph<'a, M, C, W> {
 
     /// Uses a slot: for a job that waits for a process, for the first call that has one, or for the next call.
     fn take_slot(&mut self) {
-        if let Some(Held { call, number, job }) = self.held.pop_front() {
+        if let Some(Held { call, number, job, ends }) = self.held.pop_front() {
             if let Some(at) = self.place(call).filter(|&at| self.start(at, number, job)) {
                 self.go_on(at);
+            }
+            for end in ends {
+                self.tell_event(call, end);
             }
         } else if let Some(at) = self.wanting() {
             self.active[at].maker.tell(Event::Slot);
@@ -257,13 +261,23 @@ impl<'a, M: Machine, C: Calls, W: Write> Graph<'a, M, C, W> {
                 self.active[at].maker.tell_started(Ok(()));
             }
             Err(_) if self.running.iter().any(Option::is_some) => {
-                self.held.push_back(Held { call, number, job });
+                self.held.push_back(Held { call, number, job, ends: Vec::new() });
                 (self.active[at].wish, self.is_full) = (Wish::default(), true);
                 return false;
             }
             Err(error) => self.active[at].maker.tell_started(Err(error)),
         }
         true
+    }
+
+    /// Tells a call of an event, and has it go on. If it waits to hear of a job, it hears of that first.
+    fn tell_event(&mut self, call: usize, event: Event) {
+        if let Some(held) = self.held.iter_mut().find(|held| held.call == call) {
+            held.ends.push(event);
+        } else if let Some(at) = self.place(call) {
+            self.active[at].maker.tell(event);
+            self.go_on(at);
+        }
     }
 
     fn take_end(&mut self, place: usize, ended: Ended) {
@@ -273,8 +287,7 @@ impl<'a, M: Machine, C: Calls, W: Write> Graph<'a, M, C, W> {
         let active = &mut self.active[at];
         active.running -= 1;
         self.count.commands += usize::from(!active.wish.plans);
-        active.maker.tell(Event::Ended(running.number, ended));
-        self.go_on(at);
+        self.tell_event(running.call, Event::Ended(running.number, ended));
         self.progress.update(&self.count, &self.calls.name(self.latest), false);
     }
 
@@ -368,6 +381,7 @@ mod tests {
     use crate::batch::progress::Form;
     use crate::run::{self, Done, NoRule, Task};
     use crate::system::{INT, Status};
+    use std::cell::Cell;
     use std::io;
 
     /// A machine whose jobs end in the order in which they start. A job's words are its name and its status.
@@ -428,9 +442,13 @@ mod tests {
         }
     }
 
-    /// Calls whose commands run one after the other: names and statuses.
+    /// Calls whose commands run one after the other, or side by side: names and statuses.
+    #[derive(Default)]
     struct Chains {
         calls: Vec<Vec<(&'static str, i32)>>,
+        side_by_side: bool,
+        /// The call for which there is no thread, and how often.
+        without_thread: Cell<(usize, usize)>,
         told: Vec<String>,
     }
 
@@ -440,11 +458,16 @@ mod tests {
         }
 
         fn begin(&self, call: usize) -> io::Result<Maker<Made>> {
-            let commands = self.calls[call].clone();
+            let (of, times) = self.without_thread.get();
+            if of == call && times > 0 {
+                self.without_thread.set((of, times - 1));
+                return Err(io::ErrorKind::WouldBlock.into());
+            }
+            let (commands, side_by_side) = (self.calls[call].clone(), self.side_by_side);
             Maker::begin(move |turns| {
                 let task = |(at, (name, status)): (usize, &(&str, i32))| Task {
                     job: Job { words: vec![(*name).to_owned(), status.to_string()], ..Job::default() },
-                    needs: (0..at).collect(),
+                    needs: (0..if side_by_side { 0 } else { at }).collect(),
                     ..Task::default()
                 };
                 let tasks: Vec<Task> = commands.iter().enumerate().map(task).collect();
@@ -463,9 +486,14 @@ mod tests {
 
     /// What comes of calls: what the machine did, what is told, and the outcomes.
     fn run_all(machine: &mut Fake, calls: &[&[(&'static str, i32)]], at_once: usize, failures: Option<usize>) -> (String, String, Outcomes) {
-        let mut chains = Chains { calls: calls.iter().map(|call| call.to_vec()).collect(), told: Vec::new() };
+        let chains = Chains { calls: calls.iter().map(|call| call.to_vec()).collect(), ..Chains::default() };
+        run_chains(machine, chains, at_once, failures)
+    }
+
+    fn run_chains(machine: &mut Fake, mut chains: Chains, at_once: usize, failures: Option<usize>) -> (String, String, Outcomes) {
+        let count = chains.calls.len();
         let limits = Limits { at_once, planned_at_once: at_once, failures };
-        let outcomes = Graph::new(machine, &mut chains, calls.len(), limits, Progress::new(Form::Silent, io::sink())).unwrap().run();
+        let outcomes = Graph::new(machine, &mut chains, count, limits, Progress::new(Form::Silent, io::sink())).unwrap().run();
         (machine.log.join(" "), chains.told.join(" "), outcomes)
     }
 
@@ -514,6 +542,39 @@ mod tests {
         let mut machine = Fake { most: Some(1), ..Fake::default() };
         let (log, told, _) = run_all(&mut machine, &[&[("a", 0), ("b", 0)], &[("c", 0)], &[("d", 0)]], 3, None);
         assert_eq!((machine.most_at_once, told.as_str()), (1, "0:0:ab 1:0:c 2:0:d"), "{log}");
+    }
+
+    #[test]
+    fn a_call_that_waits_for_a_process_hears_later_of_jobs_that_end() {
+        for most in 1..4 {
+            let mut machine = Fake { most: Some(most), ..Fake::default() };
+            let chains =
+                Chains { calls: vec![vec![("a", 0), ("b", 0), ("c", 0)], vec![("d", 0), ("e", 0)]], side_by_side: true, ..Chains::default() };
+            let (log, told, outcomes) = run_chains(&mut machine, chains, 9, None);
+            assert_eq!((told.as_str(), machine.most_at_once, outcomes), ("0:0:abc 1:0:de", most, Outcomes::default()), "{log}");
+        }
+    }
+
+    #[test]
+    fn a_call_without_a_thread_waits_for_the_end_of_a_job() {
+        let calls = || vec![vec![("a", 0)], vec![("b", 0), ("c", 0)], vec![("d", 0)]];
+        let chains = Chains { calls: calls(), without_thread: Cell::new((2, 1)), ..Chains::default() };
+        let (log, told, outcomes) = run_chains(&mut Fake::default(), chains, 2, None);
+        assert_eq!((log.as_str(), told.as_str()), ("+a +b -a -b +c +d -c -d", "0:0:a 1:0:bc 2:0:d"));
+        assert_eq!(outcomes, Outcomes::default());
+        let chains = Chains { calls: calls(), without_thread: Cell::new((0, 1)), ..Chains::default() };
+        let (_, told, outcomes) = run_chains(&mut Fake::default(), chains, 2, None);
+        assert_eq!((told.split('\n').next(), outcomes.status), (Some("0:1:zigrunk-batch: no thread for a call: operation would block"), 1));
+    }
+
+    #[test]
+    fn a_terminals_line_goes_with_the_batch() {
+        let (mut machine, mut said) = (Fake::default(), Vec::new());
+        let mut chains = Chains { calls: vec![vec![("", 0)]], ..Chains::default() };
+        let limits = Limits { at_once: 1, planned_at_once: 1, failures: None };
+        let outcomes = Graph::new(&mut machine, &mut chains, 1, limits, Progress::new(Form::Terminal, &mut said)).unwrap().run();
+        let text = String::from_utf8(said).unwrap();
+        assert!(outcomes == Outcomes::default() && text.contains("1 of 1 calls") && text.ends_with("\r\x1b[K"), "{text:?}");
     }
 
     #[test]

@@ -36,12 +36,6 @@ use std::rc::Rc;
 use std::sync::Arc;
 use turns::Maker;
 
-/// A count as a number with fractions.
-#[allow(clippy::cast_precision_loss)]
-fn number(count: usize) -> f64 {
-    count as f64
-}
-
 /// The calls of a list, and what messages call one of them.
 struct List {
     calls: Vec<BatchCall>,

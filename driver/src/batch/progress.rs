@@ -39,7 +39,7 @@ pub struct Progress<W> {
 /// How far a batch is, in words. `name` is the call whose command started last.
 fn line(count: &Count, seconds: f64, name: &str) -> String {
     let failed = if count.failed > 0 { format!(", {} failed", count.failed) } else { String::new() };
-    let rate = if seconds >= 1.0 { format!(", {:.1} a second", crate::batch::number(count.commands) / seconds) } else { String::new() };
+    let rate = if seconds >= 1.0 { format!(", {:.1} a second", crate::report::number(count.commands) / seconds) } else { String::new() };
     format!("zigrunk-batch: {} of {} calls{failed}, {} commands{rate}: {name}", count.ended, count.calls, count.commands)
 }
 

@@ -1,6 +1,8 @@
 //! Records of `--incremental`: what a call was, what it read and what it made. A call is up to date if all of that is as it was.
 use super::calls::{BatchCall, words_of};
 use super::products::Product;
+use crate::entries::json_text;
+use crate::json_values;
 use crate::programs;
 use crate::settings::Settings;
 use std::collections::BTreeSet;
@@ -79,30 +81,14 @@ pub struct Described {
 
 /// The line of a file's state.
 fn state(folder: &Path, file: &str) -> Option<String> {
-    let of = |status: Metadata| format!("@ {} {}.{:09} {}\n", status.size(), status.mtime(), status.mtime_nsec(), file.escape_default());
+    let of = |status: Metadata| format!("@ {} {}.{:09} {}\n", status.size(), status.mtime(), status.mtime_nsec(), json_text(file));
     fs::metadata(folder.join(file)).ok().map(of)
 }
 
 /// The file of such a line.
 fn file_of(line: &str) -> Option<String> {
-    let escaped = line.strip_prefix("@ ")?.splitn(3, ' ').nth(2)?;
-    let mut characters = escaped.chars();
-    let mut file = String::new();
-    while let Some(one) = characters.next() {
-        let escape = if one == '\\' { characters.next()? } else { '\0' };
-        file.push(match escape {
-            '\0' => one,
-            'n' => '\n',
-            't' => '\t',
-            'r' => '\r',
-            'u' => char::from_u32(
-                u32::from_str_radix(characters.by_ref().skip_while(|one| *one == '{').take_while(|one| *one != '}').collect::<String>().as_str(), 16)
-                    .ok()?,
-            )?,
-            other => other,
-        });
-    }
-    Some(file)
+    let name = line.strip_prefix("@ ")?.splitn(3, ' ').nth(2)?;
+    String::from_utf8(json_values::parse(name.as_bytes()).ok()?.text()?.to_vec()).ok()
 }
 
 /// The dependency file that words ask for.
@@ -149,7 +135,7 @@ impl Records {
                 && !products.iter().any(|product| fs::canonicalize(folder.join(file)).is_ok_and(|path| path == product.path))
         };
         let named = parts.filter(is_read).map(String::from).chain([program.clone()]).collect();
-        let lines = [&call.folder, &program].into_iter().chain(words).map(|word| format!("= {}\n", word.escape_default()));
+        let lines = [&call.folder, &program].into_iter().chain(words).map(|word| format!("= {}\n", json_text(word)));
         let record = self.0.join(format!("{:016x}", digest(first.as_bytes())));
         Some(Described { record, folder: folder.clone(), head: lines.collect(), products: products.to_vec(), named, rule })
     }
@@ -267,6 +253,6 @@ mod tests {
             assert_eq!((line.lines().count(), file_of(line.trim_end_matches('\n')).as_deref()), (1, Some(name)));
             fs::remove_file(folder.join(name)).unwrap();
         }
-        assert_eq!((state(&folder, "missing/x"), file_of("= x"), file_of("@ 1")), (None, None, None));
+        assert_eq!((state(&folder, "missing/x"), file_of("= x"), file_of("@ 1"), file_of("@ 1 2 x")), (None, None, None, None));
     }
 }

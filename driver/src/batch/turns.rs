@@ -193,6 +193,22 @@ mod tests {
     }
 
     #[test]
+    fn jobs_get_what_is_given_and_their_own_variables() {
+        let variable = |name: &str, value: &str| (name.to_owned(), Some(value.to_owned()));
+        let mut maker = Maker::begin(move |turns| {
+            turns.start(0, &Job { variables: vec![variable("OWN", "1")], ..Job::default() }).unwrap();
+            turns.give("GIVEN", "2");
+            turns.start(1, &Job { variables: vec![variable("OWN", "1")], ..Job::default() }).unwrap();
+        })
+        .unwrap();
+        for wanted in [vec![variable("OWN", "1")], vec![variable("OWN", "1"), variable("GIVEN", "2")]] {
+            assert!(matches!(maker.step(), Step::Start(_, job) if job.variables == wanted));
+            maker.tell_started(Ok(()));
+        }
+        assert!(matches!(maker.step(), Step::End(Some(()))));
+    }
+
+    #[test]
     fn a_panic_ends_only_its_call() {
         let mut maker = Maker::<()>::begin(|_| panic!("as the test wants")).unwrap();
         assert!(matches!(maker.step(), Step::End(None)));

@@ -96,7 +96,7 @@ fn share(part: usize, whole: usize) -> String {
 
 /// A count as a number with fractions.
 #[allow(clippy::cast_precision_loss)]
-fn number(count: usize) -> f64 {
+pub(crate) fn number(count: usize) -> f64 {
     count as f64
 }
 

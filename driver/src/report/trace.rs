@@ -1,15 +1,10 @@
 //! A log as a trace for Chrome's viewer and Perfetto.
 use super::Log;
 use super::timeline::{Bar, bars};
-use crate::entries::json;
-
-/// A text in JSON.
-fn text(text: &str) -> String {
-    String::from_utf8_lossy(&json(text.as_bytes())).into_owned()
-}
+use crate::entries::json_text;
 
 fn event(bar: &Bar<'_>) -> String {
-    let (name, call) = (text(bar.kind), text(&bar.call.words.join(" ")));
+    let (name, call) = (json_text(bar.kind), json_text(&bar.call.words.join(" ")));
     let (begin, took) = (bar.begin * 1e6, bar.seconds() * 1e6);
     format!(
         r#"{{"name":{name},"ph":"X","pid":1,"tid":{},"ts":{begin:.1},"dur":{took:.1},"args":{{"call":{call},"status":{}}}}}"#,
