@@ -95,14 +95,14 @@ def step(command: Command) -> tuple[str, ...]:
 
 
 def paired(planned: list[Command], commands: list[Command]) -> tuple[list[tuple[Command, Command]], list[Command]]:
-    """Planned commands with nvcc's that make the same step, and those that nvcc starts besides. The preprocessor for a dependency file alone
-    isn't one: no plan has it."""
+    """Planned commands with nvcc's that make the same step, and those that nvcc starts besides, but for what no plan has: the preprocessor
+    for a dependency file alone, and what asks for the machine's GPU."""
     pairs, left = [], list(commands)
     for one in planned:
         if other := next((it for it in left if step(it) == step(one)), None):
             left.remove(other)
             pairs.append((one, other))
-    return pairs, [it for it in left if "-E" not in it.words]
+    return pairs, [it for it in left if "-E" not in it.words and Path(it.program).name != "__nvcc_device_query"]
 
 
 def renamed(commands: list[Command], generated: Callable[[Command], re.Pattern[str]]) -> list[list[str]]:
@@ -134,7 +134,8 @@ class Both:
     def generated(self, folder: str, bare: str) -> re.Pattern[str]:
         """The names of generated files: with the folder that they are in, or with one of the endings `bare` as a whole value. A plan gives
         some of them numbers."""
-        name = rf"(?:{re.escape(Path(self.source).stem)}|x_\d+)\.(?:[\w.]+\.)?"
+        source = Path(self.source)
+        name = rf"(?!{re.escape(source.name)}(?![\w.]))(?:{re.escape(source.stem)}|x_\d+)\.(?:[\w.]+\.)?"
         return re.compile(rf"{re.escape(folder)}/{name}(?:{ENDINGS})(?![\w.])|(?<![^=, ]){name}(?:{bare})(?![^, ])")
 
     def differences(self, status: int) -> list[str]:
@@ -160,14 +161,16 @@ class Both:
         return [f"{' '.join(step(planned))}: {it}" for it in found]
 
     def named_by_nvcc(self, planned: Command, words: list[str], others: list[str]) -> list[str]:
-        """The words of a planned command, with the relative names that nvcc has where the plan has whole paths."""
+        """The words of a planned command, with the names that nvcc has where the plan has whole paths."""
         whole = {it for it in self.files if it.startswith(f"{self.cwd}/") and planned.cwd == self.plan["tmp"]}
         if WHOLE_NAMES & set(self.call.words):
             whole.add(self.source)
-        for path in whole:
-            relative = [it.replace(path, os.path.relpath(path, self.cwd)) for it in words]
-            words = [one if one == other else short for one, short, other in zip(words, relative, others)] + words[len(others):]
-        return words
+        return [other if self.is_named(one, other, whole) else one for one, other in zip(words, others)] + words[len(others):]
+
+    def is_named(self, word: str, other: str, whole: set[str]) -> bool:
+        """Whether a word, or its end behind an `=`, is one of the paths `whole`, and the other word names that file too."""
+        (option, _, path), (other_option, _, name) = word.rpartition("="), other.rpartition("=")
+        return path in whole and option == other_option and os.path.normpath(os.path.join(self.cwd, name)) == os.path.normpath(path)
 
 
 def compared(call: Call, base: Path) -> tuple[list[str], int] | None:
