@@ -169,8 +169,12 @@ class Both:
 
     def is_named(self, word: str, other: str, whole: set[str]) -> bool:
         """Whether a word, or its end behind an `=`, is one of the paths `whole`, and the other word names that file too."""
-        (option, _, path), (other_option, _, name) = word.rpartition("="), other.rpartition("=")
-        return path in whole and option == other_option and os.path.normpath(os.path.join(self.cwd, name)) == os.path.normpath(path)
+        for path in whole:
+            option = word.removesuffix(path)
+            is_end = word.endswith(path) and (not option or option.endswith("=")) and other.startswith(option)
+            if is_end and os.path.normpath(os.path.join(self.cwd, other.removeprefix(option))) == os.path.normpath(path):
+                return True
+        return False
 
 
 def compared(call: Call, base: Path) -> tuple[list[str], int] | None:
