@@ -20,7 +20,7 @@ use std::rc::Rc;
 use std::time::SystemTime;
 
 /// With fewer files that it may still open, nvcc makes the call.
-pub const FEWEST_FILES: u64 = 27;
+pub const FEWEST_FILES: usize = 27;
 /// Why a call goes to nvcc that may have fewer.
 pub const TOO_FEW_FILES: &str = "it may open too few files";
 

@@ -127,14 +127,14 @@ pub fn processors() -> usize {
 }
 
 /// How many more files this process may open. Its caller may have left some open.
-pub fn spare_files() -> u64 {
+pub fn spare_files() -> usize {
     let mut limit = [0; 2];
     if unsafe { getrlimit(7, &raw mut limit) } < 0 {
-        return u64::MAX;
+        return usize::MAX;
     }
     // The folder itself is open while it is read.
     let open = std::fs::read_dir("/proc/self/fd").map_or(3, |files| files.count().saturating_sub(1));
-    limit[0].saturating_sub(open as u64)
+    usize::try_from(limit[0]).unwrap_or(usize::MAX).saturating_sub(open)
 }
 
 /// A file in memory, which no program that is run inherits by itself.
