@@ -110,6 +110,7 @@ package() {
     cp "$2" "$root/root"
     check "$1: the package installs" inside apt-get install -y --no-install-recommends "/root/${2##*/}"
     programs "$1"
+    check "$1: Ninja" inside apt-get install -y --no-install-recommends ninja-build
     check "$1: a plan that Ninja runs" inside sh -c 'zigrunk ninja /root /root/t -c one_target.dry1 one_target.dry2 > build.ninja && ninja'
     check "$1: zigrunk-nvcc, for a call that isn't split" prints '--preprocess k.cu' inside env ZIGRUNK_NVCC=echo zigrunk-nvcc --preprocess k.cu
     check "$1: what the library needs" all_found inside ldd -r /usr/lib/libzigrunk.so.1
