@@ -224,6 +224,8 @@ def main() -> int:
     for tool in ("nvcc", "strace"):
         if not shutil.which(tool):
             return skip_all("nvcc's own commands", f"{tool} is not on the path")
+    if subprocess.run(["strace", "-o", os.devnull, "true"], capture_output=True, check=False).returncode != 0:
+        return skip_all("nvcc's own commands", "strace may not trace here")
     counts, made, own = Counts(), 0, 0
     with concurrent.futures.ThreadPoolExecutor(options.jobs) as pool:
         for call, result in pool.map(tried, calls_of(options.files, options.only)):
