@@ -21,7 +21,6 @@ import json
 import random
 import re
 import shlex
-import struct
 import sys
 from collections.abc import Callable, Iterator
 from pathlib import Path
@@ -198,16 +197,9 @@ def both_fail(want: Ran, got: Ran) -> bool:
     return want["status"] != 0 and got["status"] not in (0, "timeout")
 
 
-def is_lto(line: str, want: Ran, got: Ran, found: Difference) -> bool:
-    """-dlto, -optix-ir and code=lto_80: bytes depend on TMPDIR."""
-    return found[0] == "CONTENT" and re.search(r"dlink-time-opt|-dlto|lto_80|optix-ir|--lto|-lto|gen-opt-lto", line) is not None
-
-
 def is_debug(line: str, want: Ran, got: Ran, found: Difference) -> bool:
-    """-lineinfo and -G: cicc gets the source's whole path, which it also writes into its messages."""
-    if re.search(r"lineinfo|generate-line-info|-G\b|device-debug", line) is None:
-        return False
-    return found[0] == "CONTENT" or (found[0] == "SAID" and want["err"].replace("BASE/work/", "") == got["err"].replace("BASE/work/", ""))
+    """-G: a cubin, and what packs it, holds ptxas's line with the name of a temporary file. PTX alone has none."""
+    return found[0] == "CONTENT" and re.search(r"-G\b|device-debug", line) is not None and not found[1].endswith(".ptx")
 
 
 def is_kept_stub(line: str, want: Ran, got: Ran, found: Difference) -> bool:
@@ -232,25 +224,6 @@ def is_failure_of_threads(line: str, want: Ran, got: Ran, found: Difference) -> 
 def is_directory_of_ptxas(line: str, want: Ran, got: Ran, found: Difference) -> bool:
     """--keep-dir: ptxas's messages name no directory."""
     return found[0] == "SAID" and "keep-dir" in line and re.sub(r"ptxas \S*/", "ptxas ", want["err"]) == got["err"]
-
-
-def parts_of_code(product: bytes) -> list[bytes]:
-    """The lines of PTX that aren't comments. A fatbin packs its PTX, so of that it's all but the PTX."""
-    if not product.startswith(b"\x50\xed\x55\xba"):
-        return [row for row in product.splitlines() if row and not row.startswith(b"//")]
-    at, parts = 16, []
-    while at < len(product):
-        kind, head, size = struct.unpack_from("<HxxIQ", product, at)
-        parts += [product[at:at + head + size]] if kind != 1 else [b"PTX"]
-        at += head + size
-    return parts
-
-
-def is_source_in_ptx(line: str, want: Ran, got: Ran, found: Difference) -> bool:
-    """--source-in-ptx: cicc doesn't find a relative source. All else is the same."""
-    if found[0] != "CONTENT" or re.search(r"source-in-ptx|-src-in-ptx", line) is None:
-        return False
-    return parts_of_code(want["made"][found[1]]) == parts_of_code(got["made"][found[1]])
 
 
 def is_host_code_of_dependencies(line: str, want: Ran, got: Ran, found: Difference) -> bool:
@@ -281,7 +254,7 @@ def is_left_by_nvcc(line: str, want: Ran, got: Ran, found: Difference) -> bool:
 
 # The rows of docs/DIFFERENCES.md, "From nvcc", that such calls can show.
 KNOWN: list[Callable[[str, Ran, Ran, Difference], bool]] = [
-    is_lto, is_debug, is_kept_stub, is_later_failure, is_failure_of_threads, is_directory_of_ptxas, is_source_in_ptx, is_host_code_of_dependencies,
+    is_debug, is_kept_stub, is_later_failure, is_failure_of_threads, is_directory_of_ptxas, is_host_code_of_dependencies,
     is_name_of_generated, is_left_by_nvcc,
 ]
 
