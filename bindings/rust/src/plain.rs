@@ -4,7 +4,7 @@ use std::ffi::OsStr;
 
 use c_lines::NvccLineCall;
 use c_plans::FoundProgram;
-use c_texts::{InputText, Outcome, Status};
+use c_texts::{InputText, Outcome, Refused, Status};
 use command_keys::{KeyTool, MOST_ROOTS};
 use rattle_std::alloc::{AllocError, Global};
 
@@ -15,6 +15,12 @@ pub(crate) use c_texts::{Range, abi_version};
 
 use crate::call::number_of_limit;
 use crate::{CommandTool, Error, Form, KeyCall, Line, LineCall, NvccCall, Plan, PlanCall, Texts, Variable};
+
+impl From<Refused> for Error {
+    fn from(why: Refused) -> Self {
+        Error::new(why.status().number(), why.text().to_owned())
+    }
+}
 
 impl From<AllocError> for Error {
     fn from(_: AllocError) -> Self {
@@ -66,11 +72,11 @@ pub(crate) fn message(status: i32) -> Result<String, Error> {
 }
 
 pub(crate) fn split(text: &str) -> Result<Texts, Error> {
-    texts_of(&c_texts::split_outcome(Global, text.as_bytes())?)
+    texts_of(&c_texts::split_words(Global, text.as_bytes())?)
 }
 
 pub(crate) fn quote<S: AsRef<str>>(words: &[S]) -> Result<String, Error> {
-    text_of(&c_texts::quote_outcome(Global, &inputs(words))?)
+    Ok(c_texts::quoted_text(Global, &inputs(words))?.as_str().to_owned())
 }
 
 pub(crate) fn remap<S: AsRef<str>, T: AsRef<str>>(words: &[S], suffixes: &[T]) -> Result<Texts, Error> {

@@ -1,10 +1,13 @@
 -- What a caller passes for the key of a command, and what it gets.
-use Rattle.std.specs.Prelude.{ℕ, List, ◌==◌, ◌&&◌, nat_le, if◌then◌else◌, length, map, Option, Some, None, codes}
+use Rattle.std.specs.Prelude.{ℕ, List, ◌==◌, ◌&&◌, nat_le, if◌then◌else◌, length, map, Option, Some, None, ok_or, Result, codes}
+use Rattle.texts.specs.Results.{and_then}
 use Rattle.c_keys.specs.declared.key_call.KeyCall.{KeyCall}
-use Rattle.c_texts.specs.declared.status.Status.TheVariants.{BadLine}
-use Rattle.c_texts.specs.Failures.{if_number}
+use Rattle.c_texts.specs.declared.refusal.Refused.{Refused}
+use Rattle.c_texts.specs.declared.refusal.Refused.TheVariants.{Told}
+use Rattle.c_texts.specs.declared.status.Status.TheVariants.{BadLine, BadNumber}
 use Rattle.c_texts.specs.Memory.{bytes_of}
-use Rattle.c_texts.specs.Outcomes.{Outcome, of_text, refused_with}
+use Rattle.c_texts.specs.Outcomes.{Outcome}
+use Rattle.c_texts.specs.Refusals.{ended_text, or_plain}
 use Rattle.c_texts.specs.Variables.{pair_of}
 use Rattle.command_keys.specs.declared.environment.KeyTool.{KeyTool}
 use Rattle.command_keys.specs.declared.environment.KeyTool.TheVariants.{Cicc, Ptxas, CudaFe, Fatbinary, Nvlink, Host}
@@ -30,11 +33,10 @@ tool_in call = if (call.reserved == 0) && nat_le (length call.roots.now) most_ro
 abbrev pub key_by : KeyTool → KeyCall → Option (List ℕ)
 key_by tool call = key_of (map bytes_of call.roots.now) (map bytes_of call.words.now, tool_variables tool (map pair_of call.variables.now))
 
--- a key that the caller asked for, or the refusal of a command that no process can have
-abbrev pub key_told : Option (List ℕ) → Outcome
-key_told (Some key) = of_text key
-key_told None = refused_with BadLine (codes "a text contains NUL")
+-- the key of a call's command. A number without a meaning comes first, then a text with NUL: no process can have such a command
+abbrev pub key_in : KeyCall → Result (List ℕ) Refused
+key_in call = and_then (or_plain BadNumber (tool_in call)) (λ tool. ok_or (key_by tool call) (Told BadLine (codes "a text contains NUL")))
 
--- what the call ends with: a number without a meaning comes first, then a text with NUL
+-- what the call ends with
 abbrev pub key_outcome : KeyCall → Outcome
-key_outcome call = if_number (tool_in call) (λ tool. key_told (key_by tool call))
+key_outcome call = ended_text (key_in call)

@@ -1,16 +1,19 @@
 //! The key of a command, as a call.
 
-ghost use Rattle.std.specs.Prelude.{◌≡◌, [], map, IfOk, option_map};
+ghost use Rattle.std.specs.Prelude.{◌≡◌, map, IfOk, option_map};
 ghost use Rattle.c_texts.specs.Memory.{bytes_of};
-ghost use Rattle.c_texts.specs.Outcomes.{GivesText, TellsText, of_text, refused};
+ghost use Rattle.c_texts.specs.Outcomes.{GivesText};
+ghost use Rattle.c_texts.specs.Refusals.{Answers};
 ghost use Rattle.c_texts.specs.Variables.{pair_of};
 ghost use Rattle.command_keys.specs.Keys.{shown, shown_variable};
 ghost use Rattle.c_keys.specs.KeyCalls as spec;
 
 use crate::key_call::{KeyCall, tool_in};
-use c_texts::{InputText, Status, TextAnswer, Variable, tell_text};
+use c_texts::{InputText, Refused, Status, TextAnswer, Variable, tell_text};
 use command_keys::{KeyTool, tool_variables};
 use std::alloc::{AllocError, Global};
+use texts::bytes::Bytes;
+use texts::text::Text;
 
 // Texts of the caller.
 fn texts_of<'a>(alloc: Global, texts: &[InputText<'a>]) -> Result<Vec<&'a [u8]>, AllocError>
@@ -53,36 +56,26 @@ fn key_by(alloc: Global, tool: KeyTool, call: &KeyCall<'_>) -> Result<Option<Vec
     )
 }
 
-// Writes a key into memory of the caller, if it fits.
-fn tell_key(key: &[u8], out: &mut [u8]) -> TextAnswer
-    ensures { TellsText (of_text key.now) result out.old out.new }
+// The key of a call's command, or why it has none.
+fn key_in(alloc: Global, call: &KeyCall<'_>) -> Result<Bytes, Refused>
+    ensures { Answers result (spec.key_in call.now) }
 {
-    if key.len() <= out.len() {
-        out[..key.len()].copy_from_slice(key);
+    let tool = tool_in(call).ok_or(Refused::Plain(Status::BadNumber))?;
+    match key_by(alloc, tool, call)? {
+        Some(key) => Ok(Bytes::from_vec(key)),
+        None => {
+            let why = Text::copy_of(alloc, "a text contains NUL")?;
+            Err(Refused::Told(Status::BadLine, why))
+        }
     }
-    TextAnswer {
-        status: Status::Success.number(),
-        length: key.len(),
-    }
-}
-
-// Writes a refusal, with its text.
-fn tell_refusal(status: Status, out: &mut [u8]) -> TextAnswer
-    ensures { TellsText (refused status) result out.old out.new }
-{
-    tell_text(status.number(), status.text(), out)
 }
 
 /// Writes the key of a command, as `command_keys::command_key`, with the variables that its tool reads.
 pub fn command_key(alloc: Global, call: &KeyCall<'_>, out: &mut [u8]) -> TextAnswer
     ensures { GivesText (spec.key_outcome call.now) result out.old out.new }
 {
-    let Some(tool) = tool_in(call) else {
-        return tell_refusal(Status::BadNumber, out);
-    };
-    match key_by(alloc, tool, call) {
-        Ok(Some(key)) => tell_key(key.as_slice(), out),
-        Ok(None) => tell_text(Status::BadLine.number(), "a text contains NUL", out),
-        Err(_) => tell_refusal(Status::Memory, out),
+    match key_in(alloc, call) {
+        Ok(key) => tell_text(0, key.as_slice(), out),
+        Err(refused) => refused.tell_text(out),
     }
 }

@@ -8,7 +8,7 @@ ghost use Rattle.c_texts.specs.Statuses.{text};
 ghost use Rattle.c_lines.specs.LineRecords as spec;
 
 use crate::line_record::{LineAnswer, LineRecord, OutputRecord};
-use c_texts::{Outcome, Range, Status, tell_text};
+use c_texts::{Outcome, Range, Refused};
 use compilers::arguments::{ColorMode, ParsedArguments};
 use compilers::outputs::{ArtifactDescriptor, Outputs};
 use std::alloc::{AllocError, Global};
@@ -277,7 +277,7 @@ fn tell_memory(out: &mut [u8]) -> LineAnswer
     ensures answer { result ≡ spec.answer_of (spec.without_records (refused Memory)) }
     ensures text { out.new ≡ filled (fits (text Memory) out.old) (text Memory) out.old }
 {
-    let told = tell_text(Status::Memory.number(), Status::Memory.text(), out);
+    let told = Refused::Memory.tell_text(out);
     LineAnswer {
         status: told.status,
         outputs: 0,

@@ -10,7 +10,7 @@ ghost use Rattle.c_plans.specs.Records as spec;
 
 use crate::record::{CommandRecord, GroupRecord, RecordsAnswer};
 use crate::room::Room;
-use c_texts::{Outcome, Range, Status, tell_text};
+use c_texts::{Outcome, Range, Refused};
 use std::alloc::{AllocError, Global};
 use std::marker::Model;
 
@@ -208,7 +208,7 @@ fn tell_memory(out: &mut [u8]) -> RecordsAnswer
     ensures answer { result ≡ spec.sizes_of (spec.without_records (refused Memory)) }
     ensures text { out.new ≡ filled (fits (text Memory) out.old) (text Memory) out.old }
 {
-    let told = tell_text(Status::Memory.number(), Status::Memory.text(), out);
+    let told = Refused::Memory.tell_text(out);
     RecordsAnswer {
         status: told.status,
         groups: 0,

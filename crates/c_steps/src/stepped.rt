@@ -12,7 +12,7 @@ ghost use Rattle.c_steps.specs.StepBuffers as buffers;
 use crate::place::nowhere;
 use crate::step_record::{PlaceRecord, StepRecord, StepsAnswer};
 use c_plans::{CommandRecord, GroupRecord, Recorded};
-use c_texts::{Outcome, Range, Status, tell_text};
+use c_texts::{Outcome, Range, Refused};
 use command_files::CommandFiles;
 use std::alloc::{AllocError, Global};
 use std::marker::Model;
@@ -201,7 +201,7 @@ fn tell_memory(out: &mut [u8]) -> StepsAnswer
     ensures answer { result ≡ buffers.sizes_of (spec.refused_at nowhere (refused Memory)) }
     ensures text { out.new ≡ filled (fits (text Memory) out.old) (text Memory) out.old }
 {
-    let told = tell_text(Status::Memory.number(), Status::Memory.text(), out);
+    let told = Refused::Memory.tell_text(out);
     StepsAnswer {
         status: told.status,
         place: nowhere(),

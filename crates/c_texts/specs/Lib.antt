@@ -2,6 +2,7 @@ pub mod Failures
 pub mod Laws
 pub mod Memory
 pub mod Outcomes
+pub mod Refusals
 pub mod Shell
 pub mod Statuses
 pub mod Variables

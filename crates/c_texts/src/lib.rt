@@ -13,6 +13,7 @@ mod failure;
 pub mod laws;
 mod memory;
 mod outcome;
+mod refusal;
 mod shell;
 mod status;
 mod variables;
@@ -20,8 +21,11 @@ mod versions;
 
 pub use failure::{answered, failed, status_of};
 pub use memory::{InputText, ListAnswer, Range, TextAnswer, text_of, words_of};
-pub use outcome::{Outcome, give_list, give_text, refused, refused_with, tell_text};
-pub use shell::{quote, quote_outcome, split, split_outcome};
+pub use outcome::{
+    Outcome, give_list, give_text, refused, refused_with, tell_text, write_list, write_text,
+};
+pub use refusal::Refused;
+pub use shell::{quote, quoted_text, split, split_words};
 pub use status::{Status, message};
 pub use variables::{Variable, variables_of};
 pub use versions::{abi_version, version};

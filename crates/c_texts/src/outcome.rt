@@ -1,14 +1,18 @@
 //! What calls end with, and how they tell the caller.
 
-ghost use Rattle.std.specs.Prelude.{◌≡◌, ◌++◌, [], ◌∷◌, map, IfOk, OnOk, length, string_bytes};
+ghost use Rattle.std.specs.Prelude.{◌≡◌, ◌++◌, [], ◌∷◌, List, ℕ, map, IfOk, OnOk, Result, length, string_bytes};
 ghost use Rattle.std.specs.List.{concat};
 ghost use Rattle.c_texts.specs.Memory as memory;
+ghost use Rattle.c_texts.specs.declared.refusal.Refused.{Refused};
 ghost use Rattle.c_texts.specs.Outcomes as spec;
+ghost use Rattle.c_texts.specs.Refusals.{Answers, ended, ended_text};
 
 use crate::memory::{ListAnswer, Range, TextAnswer};
+use crate::refusal::Refused;
 use crate::status::Status;
 use std::alloc::{AllocError, Global};
 use std::marker::Model;
+use texts::text::Text;
 
 /// A status, and texts one behind the other.
 #[derive(Drop)]
@@ -48,6 +52,15 @@ impl Outcome {
             ranges: Vec::new(alloc),
             text,
         }
+    }
+
+    /// Success, with these texts.
+    pub fn of_texts(alloc: Global, texts: &[String]) -> Result<Outcome, AllocError>
+        ensures { IfOk result (λ outcome. outcome ≡ spec.of_texts (map string_bytes texts.now)) }
+    {
+        let mut outcome = Outcome::new(alloc);
+        outcome.push_all(texts)?;
+        Ok(outcome)
     }
 
     /// The status.
@@ -143,10 +156,9 @@ pub fn refused(alloc: Global, status: Status) -> Result<Outcome, AllocError>
 }
 
 /// Writes one text into memory of the caller, if it fits.
-pub fn tell_text(status: i32, text: &str, out: &mut [u8]) -> TextAnswer
+pub fn tell_text(status: i32, text: &[u8], out: &mut [u8]) -> TextAnswer
     ensures { spec.TellsText (status, ([], text.now)) result out.old out.new }
 {
-    let text = text.as_bytes();
     if text.len() <= out.len() {
         out[..text.len()].copy_from_slice(text);
     }
@@ -156,8 +168,8 @@ pub fn tell_text(status: i32, text: &str, out: &mut [u8]) -> TextAnswer
     }
 }
 
-// Writes ranges and bytes into memory of the caller, if both fit.
-fn tell_list(
+/// Writes ranges and bytes into memory of the caller, if both fit.
+pub(crate) fn tell_list(
     status: i32,
     places: &[Range],
     text: &str,
@@ -184,8 +196,8 @@ pub fn give_text(outcome: Result<Outcome, AllocError>, out: &mut [u8]) -> TextAn
         → spec.GivesText expected result out.old out.new }
 {
     match outcome {
-        Ok(outcome) => tell_text(outcome.status, outcome.text.as_str(), out),
-        Err(_) => tell_text(Status::Memory.number(), Status::Memory.text(), out),
+        Ok(outcome) => tell_text(outcome.status, outcome.text.as_bytes(), out),
+        Err(_) => Refused::Memory.tell_text(out),
     }
 }
 
@@ -206,12 +218,38 @@ pub fn give_list(
             ranges,
             out,
         ),
-        Err(_) => tell_list(
-            Status::Memory.number(),
-            &[],
-            Status::Memory.text(),
+        Err(_) => Refused::Memory.tell_list(ranges, out),
+    }
+}
+
+/// Tells the caller a text, or why there is none.
+pub fn write_text(answer: Result<Text, Refused>, out: &mut [u8]) -> TextAnswer
+    ensures { (expected : Result (List ℕ) Refused) → Answers answer expected
+        → spec.GivesText (ended_text expected) result out.old out.new }
+{
+    match answer {
+        Ok(text) => tell_text(0, text.as_bytes(), out),
+        Err(refused) => refused.tell_text(out),
+    }
+}
+
+/// Tells the caller texts, or why there are none.
+pub fn write_list(
+    answer: Result<Outcome, Refused>,
+    ranges: &mut [Range],
+    out: &mut [u8],
+) -> ListAnswer
+    ensures { (expected : Result spec.Outcome Refused) → Answers answer expected
+        → spec.GivesList (ended expected) result ranges.old ranges.new out.old out.new }
+{
+    match answer {
+        Ok(outcome) => tell_list(
+            outcome.status,
+            outcome.ranges.as_slice(),
+            outcome.text.as_str(),
             ranges,
             out,
         ),
+        Err(refused) => refused.tell_list(ranges, out),
     }
 }

@@ -1,12 +1,12 @@
 //! The statuses of calls: their numbers and texts.
 
-ghost use Rattle.std.specs.Prelude.{◌≡◌, IfOk};
+ghost use Rattle.std.specs.Prelude.{◌≡◌};
 ghost use Rattle.c_texts.specs.Statuses as spec;
-ghost use Rattle.c_texts.specs.Outcomes.{GivesText, described};
+ghost use Rattle.c_texts.specs.Outcomes.{TellsText, described};
 
 use crate::memory::TextAnswer;
-use crate::outcome::{Outcome, give_text, refused};
-use std::alloc::{AllocError, Global};
+use crate::outcome::tell_text;
+use crate::refusal::Refused;
 
 /// How a call ended. The numbers never change: a new status takes a new one.
 #[derive(Clone, Copy, Debug)]
@@ -110,22 +110,12 @@ impl Status {
     }
 }
 
-// The text of a number, or the refusal of a number without one.
-fn described(alloc: Global, number: i32) -> Result<Outcome, AllocError>
-    ensures { IfOk result (λ outcome. outcome ≡ described (spec.with_number number)) }
+/// Writes the text of the status with this number.
+pub fn message(number: i32, out: &mut [u8]) -> TextAnswer
+    ensures { TellsText (described (spec.with_number number)) result out.old out.new }
 {
     match Status::with_number(number) {
-        Some(status) => {
-            let text = String::from_str(alloc, status.text())?;
-            Ok(Outcome::of_text(text, alloc))
-        }
-        None => refused(alloc, Status::BadNumber),
+        Some(status) => tell_text(0, status.text().as_bytes(), out),
+        None => Refused::Plain(Status::BadNumber).tell_text(out),
     }
-}
-
-/// Writes the text of the status with this number.
-pub fn message(alloc: Global, number: i32, out: &mut [u8]) -> TextAnswer
-    ensures { GivesText (described (spec.with_number number)) result out.old out.new }
-{
-    give_text(described(alloc, number), out)
 }

@@ -25,5 +25,5 @@ fn version_text() -> &'static str
 pub fn version(out: &mut [u8]) -> TextAnswer
     ensures { TellsText (of_text spec.version_text) result out.old out.new }
 {
-    tell_text(0, version_text(), out)
+    tell_text(0, version_text().as_bytes(), out)
 }

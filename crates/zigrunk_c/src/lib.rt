@@ -48,10 +48,10 @@ pub extern "C" fn zigrunk_version(out: &mut [u8]) -> TextAnswer
 
 /// Writes the text of a status.
 #[unsafe(no_mangle)]
-pub extern "C" fn zigrunk_message(alloc: Global, status: i32, out: &mut [u8]) -> TextAnswer
-    ensures { GivesText (described (with_number status)) result out.old out.new }
+pub extern "C" fn zigrunk_message(status: i32, out: &mut [u8]) -> TextAnswer
+    ensures { TellsText (described (with_number status)) result out.old out.new }
 {
-    c_texts::message(alloc, status, out)
+    c_texts::message(status, out)
 }
 
 /// Splits a text into the words that a shell reads.
