@@ -105,6 +105,15 @@ static void try_all(const char *name, tried *call) {
     failing = -1;
 }
 
+/* Tries a call that asks for no memory, so that it works without any. */
+static void try_none(const char *name, tried *call) {
+    zigrunk_list_answer right = right_answer(call);
+    failing = 0;
+    CHECK(!is_told(call, right) && asked == 0);
+    failing = -1;
+    printf("%s: no allocation\n", name);
+}
+
 /* Tries a call until so many more of its allocations have failed by lot: one of few, or one of about as many as it makes. */
 static void try_by_lot(const char *name, tried *call, long more) {
     long until = refused + more, calls = 0, told = 0;
@@ -344,7 +353,7 @@ static const struct {
     const char *name;
     tried *call;
 } calls[] = {
-    {"split", try_split}, {"refused split", try_refused_split}, {"quote", try_quote}, {"message", try_message}, {"JSON", try_json},
+    {"split", try_split}, {"refused split", try_refused_split}, {"quote", try_quote}, {"JSON", try_json},
     {"Ninja", try_ninja}, {"refused plan", try_refused_plan}, {"plan within a limit", try_limited_plan},
     {"plan over a limit", try_exceeding_plan}, {"records", try_records}, {"refused records", try_refused_records},
     {"records over a limit", try_exceeding_records}, {"steps", try_steps}, {"refused steps", try_refused_steps},
@@ -359,6 +368,7 @@ static const struct {
 int main(int count, char **arguments) {
     long refusals = count > 1 ? atol(arguments[1]) : 0;
     size_t all = sizeof calls / sizeof *calls, named = count > 3 ? (size_t)count - 3 : 0;
+    try_none("message", try_message);
     for (size_t i = 0; i < all; i++) {
         try_all(calls[i].name, calls[i].call);
     }
