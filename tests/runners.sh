@@ -107,7 +107,7 @@ draws() {
     ends "random calls, $1" "$2" "$3" env PYTHONDONTWRITEBYTECODE=1 tests/random_calls.py --seed 5 --count 9 --nvcc "$scratch/makes" --ours "$scratch/$1"
 }
 
-# random_calls: the same seed draws the same calls, each of which is that of its number, and another seed draws others. One of the calls
+# random_calls: the same seed draws the same calls, each of which is that of its number, and another seed draws others. None of the calls
 # below has an option that lets bytes differ.
 random_calls() {
     local first
@@ -121,7 +121,7 @@ random_calls() {
     same 'one call of a seed' "$(tests/random_calls.py --list --seed 5 --first 7 --count 1)" "$(sed -n 7p <<< "$first")"
     same 'another seed' "$(tests/random_calls.py --list --seed 6 --count 9 | sed 's/random-6/random-5/' | grep -cxF "$first")" 0
     draws makes 0 $'wrong products with status 0: 0\n9 passed, 0 failed'
-    draws worse 1 $'wrong products with status 0: 8\n1 passed, 8 failed'
+    draws worse 1 $'wrong products with status 0: 9\n0 passed, 9 failed'
     draws whole 1 $'no call is split\n9 passed, 1 failed'
     draws fails 1 $'wrong products with status 0: 0\n0 passed, 9 failed'
 }
