@@ -125,6 +125,7 @@ else
     fi
     start needs tests/needs.sh
     start late tests/late.sh
+    start early tests/early.sh
     start signals interrupts TERM INT HUP
     start isolated tests/isolated.py "${alone[@]}" "$program"
     start conditions tests/conditions.sh "$program"

@@ -382,6 +382,10 @@ impl Machine for Host {
         self.wants = wants;
     }
 
+    fn has_spare_slot(&mut self) -> bool {
+        self.has_permit() && !self.slots.as_ref().is_some_and(Slots::are_wanted)
+    }
+
     fn next(&mut self) -> Event {
         loop {
             self.take_signals();

@@ -5,6 +5,7 @@ mod batch;
 mod caches;
 mod call;
 mod dry_runs;
+mod early;
 mod entries;
 mod environments;
 mod folder;
@@ -31,6 +32,7 @@ mod system;
 mod tasks;
 #[cfg(test)]
 mod whole_call;
+mod withheld;
 
 pub use system::open_standard_streams;
 

@@ -43,6 +43,11 @@ pub trait Machine {
     /// Says whether the call has a job to start, so that it waits for a slot or not.
     fn want(&mut self, wants: bool);
 
+    /// Whether a job that isn't wanted yet may start: a slot is free, and no other call waits for one.
+    fn has_spare_slot(&mut self) -> bool {
+        false
+    }
+
     /// Says whether what follows is part of planning the call.
     fn plans(&mut self, _: bool) {}
 

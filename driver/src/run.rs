@@ -1,10 +1,15 @@
 //! Runs the commands of a plan on a machine.
+use crate::early::HeadStart;
 use crate::late::Include;
 use crate::machine::{Ended, Event, Job, Machine};
+use crate::streams::content_of;
+use crate::withheld::Withheld;
 use rattle_std::alloc::{AllocError, Global};
 use rattle_std::vec::Vec as List;
 use schedules::{AfterFailure, BadGraph, Outcome, Refused, Schedule, chain_weights};
+use std::collections::BTreeMap;
 use std::io;
+use std::mem;
 
 /// A command of a plan, or what writes the dependency file.
 #[derive(Clone, Debug, Default)]
@@ -24,6 +29,8 @@ pub struct Task {
     pub statistics: Option<String>,
     /// A file that is written right before it starts.
     pub include: Option<Include>,
+    /// How it may begin before all that it needs has ended.
+    pub head_start: Option<HeadStart>,
 }
 
 impl Task {
@@ -99,15 +106,28 @@ impl Watch for NoRule {
 /// The words with which a cache says that it doesn't know a compiler.
 const REFUSAL: &[u8] = b"Compiler not supported";
 
+/// A task that runs before what it needs has ended.
+struct Early {
+    /// What it reads late.
+    withheld: Withheld,
+    ended: Option<Ended>,
+}
+
 /// A plan while it runs.
 struct Run<'a, M, W> {
     machine: &'a mut M,
     watch: &'a mut W,
     tasks: &'a [Task],
     schedule: Schedule,
+    at_once: usize,
     done: Vec<Done>,
-    /// Tasks that run once more, without the cache.
+    /// Tasks that run once more: without the cache, or since they may have begun too early.
     again: Vec<usize>,
+    /// Whether each task was started.
+    started: Vec<bool>,
+    early: BTreeMap<usize, Early>,
+    /// Whether each task has to run once more after it has begun early.
+    is_void: Vec<bool>,
     /// Whether each task was started through the cache.
     launched: Vec<bool>,
 }
@@ -129,9 +149,12 @@ fn schedule_of(tasks: &[Task], at_once: usize) -> Result<Schedule, BadGraph> {
 ///
 /// If a signal comes, or no process can be started though none runs. Then no task runs any more.
 pub fn run<M: Machine, W: Watch>(machine: &mut M, watch: &mut W, tasks: &[Task], at_once: usize) -> Result<Vec<Done>, Stopped> {
-    let schedule = schedule_of(tasks, at_once.max(1)).map_err(|_| Stopped::NoProcess("the commands have no schedule".into()))?;
+    let at_once = at_once.max(1);
+    let schedule = schedule_of(tasks, at_once).map_err(|_| Stopped::NoProcess("the commands have no schedule".into()))?;
+    let [started, is_void, launched] = [(); 3].map(|()| vec![false; tasks.len()]);
     let done = vec![Done::default(); tasks.len()];
-    let mut run = Run { machine, watch, tasks, schedule, done, again: Vec::new(), launched: vec![false; tasks.len()] };
+    let (again, early) = (Vec::new(), BTreeMap::new());
+    let mut run = Run { machine, watch, tasks, schedule, at_once, done, again, started, early, is_void, launched };
     let ended = run.run_all();
     if let Err(stopped) = &ended {
         run.machine.end_all(if let Stopped::Signal(number) = stopped { *number } else { crate::system::TERM });
@@ -139,16 +162,18 @@ pub fn run<M: Machine, W: Watch>(machine: &mut M, watch: &mut W, tasks: &[Task],
     ended.map(|()| run.done)
 }
 
-impl<M: Machine, W: Watch> Run<'_, M, W> {
+impl<'a, M: Machine, W: Watch> Run<'a, M, W> {
     fn run_all(&mut self) -> Result<(), Stopped> {
         let mut is_held_back = false;
         loop {
-            self.make_rules()?;
+            while self.make_rules()? || self.take_up()? {}
             if self.schedule.over() {
                 self.machine.want(false);
+                self.end_early();
                 return Ok(());
             }
-            let next = self.again.last().copied().or_else(|| self.schedule.next());
+            let next = self.again.last().copied().or_else(|| self.schedule.next().filter(|_| self.has_room()));
+            while next.is_none() && self.begin_early() {}
             self.note_asked(next);
             self.machine.want(next.is_some() && !is_held_back);
             match self.machine.next() {
@@ -163,17 +188,63 @@ impl<M: Machine, W: Watch> Run<'_, M, W> {
         }
     }
 
-    /// Does what needs no process.
-    fn make_rules(&mut self) -> Result<(), Stopped> {
-        while let Some(next) = self.schedule.next().filter(|&next| self.tasks[next].is_rule) {
-            if !self.watch.make_rule() {
-                break;
-            }
-            self.schedule.started(next)?;
-            self.schedule.ended(next, Outcome::Success)?;
-            self.done[next].by_driver = true;
+    /// Does what needs no process, if that is next. Says whether it was.
+    fn make_rules(&mut self) -> Result<bool, Stopped> {
+        let next = self.schedule.next().filter(|&next| self.tasks[next].is_rule);
+        let Some(next) = next.filter(|_| self.watch.make_rule()) else { return Ok(false) };
+        self.schedule.started(next)?;
+        self.schedule.ended(next, Outcome::Success)?;
+        self.done[next].by_driver = true;
+        Ok(true)
+    }
+
+    /// Whether the call may have one more process.
+    fn has_room(&self) -> bool {
+        let early = self.early.values().filter(|early| early.ended.is_none()).count();
+        self.schedule.running() + early < self.at_once
+    }
+
+    /// The task that may begin beside one that it needs, if all else that it needs has ended.
+    fn next_early(&self) -> Option<(usize, &'a HeadStart)> {
+        let may_begin = |(number, task): (usize, &'a Task)| -> Option<(usize, &'a HeadStart)> {
+            let start = task.head_start.as_ref()?;
+            let runs = self.started[start.beside] && !self.done[start.beside].has_ended();
+            let others_ended = task.needs.iter().all(|&need| need == start.beside || self.done[need].has_ended());
+            (!self.started[number] && runs && others_ended).then_some((number, start))
+        };
+        let has_failed = self.done.iter().any(Done::failed);
+        self.tasks.iter().enumerate().filter(|_| !has_failed).find_map(may_begin)
+    }
+
+    /// Starts a task beside one that it needs, if a slot is to spare. Says whether it runs.
+    fn begin_early(&mut self) -> bool {
+        let next = self.next_early().filter(|_| self.has_room());
+        let Some((number, start)) = next.filter(|_| self.machine.has_spare_slot()) else { return false };
+        self.note_asked(Some(number));
+        let Ok(withheld) = Withheld::new(&start.withheld) else { return false };
+        let runs = self.machine.start(number, &start.job).is_ok();
+        if runs {
+            self.started[number] = true;
+            self.early.insert(number, Early { withheld, ended: None });
         }
-        Ok(())
+        runs
+    }
+
+    /// Takes a task up that has begun early, if it is next. Says whether it was. One that may have read too early runs once more.
+    fn take_up(&mut self) -> Result<bool, Stopped> {
+        let Some((number, early)) = self.schedule.next().and_then(|next| Some((next, self.early.remove(&next)?))) else { return Ok(false) };
+        self.schedule.started(number)?;
+        let content = self.tasks[number].head_start.as_ref().and_then(|start| content_of(&start.file).ok());
+        self.is_void[number] = !content.is_some_and(|content| early.withheld.give(&content));
+        early.ended.map_or(Ok(()), |ended| self.ended(number, ended))?;
+        Ok(true)
+    }
+
+    /// Ends what has begun early and isn't to run, since an earlier command failed.
+    fn end_early(&mut self) {
+        if self.early.values().any(|early| early.ended.is_none()) {
+            self.machine.end_all(crate::system::TERM);
+        }
     }
 
     fn note_asked(&mut self, next: Option<usize>) {
@@ -191,6 +262,7 @@ impl<M: Machine, W: Watch> Run<'_, M, W> {
         match self.machine.start(next, bare.unwrap_or(&task.job)) {
             Ok(()) => {
                 self.launched[next] = task.without_launcher.is_some() && bare.is_none();
+                self.started[next] = true;
                 if self.again.pop().is_none() {
                     self.schedule.started(next)?;
                 }
@@ -202,6 +274,14 @@ impl<M: Machine, W: Watch> Run<'_, M, W> {
     }
 
     fn ended(&mut self, number: usize, ended: Ended) -> Result<(), Stopped> {
+        if let Some(early) = self.early.get_mut(&number) {
+            early.ended = Some(ended);
+            return Ok(());
+        }
+        if mem::take(&mut self.is_void[number]) {
+            self.again.push(number);
+            return Ok(());
+        }
         let task = &self.tasks[number];
         let is_refusal = !ended.status.succeeded() && contains(&ended.errors, REFUSAL);
         if is_refusal && self.launched[number] {
@@ -233,7 +313,7 @@ mod tests {
     use crate::system::{INT, Status, TERM};
     use std::collections::VecDeque;
 
-    /// A machine whose jobs end in the order in which they start. A job's words are its name, its status and what it says.
+    /// A machine whose jobs end in the order in which they start, or in the other. A job's words are its name, its status and what it says.
     #[derive(Default)]
     struct Fake {
         wants: bool,
@@ -245,9 +325,17 @@ mod tests {
         signal: Option<(usize, i32)>,
         ended_by: Option<i32>,
         most_at_once: usize,
+        /// Whether no other call waits for a slot.
+        is_idle: bool,
+        /// Whether the job that started last ends first.
+        backwards: bool,
     }
 
     impl Machine for Fake {
+        fn has_spare_slot(&mut self) -> bool {
+            self.is_idle
+        }
+
         fn want(&mut self, wants: bool) {
             self.wants = wants;
         }
@@ -259,7 +347,8 @@ mod tests {
             if self.wants {
                 return Event::Slot;
             }
-            let (number, job) = self.running.pop_front().expect("something runs");
+            let ended = if self.backwards { self.running.pop_back() } else { self.running.pop_front() };
+            let (number, job) = ended.expect("something runs");
             let code = job.words[1].parse().unwrap();
             let errors = job.words.get(2).map(|text| text.clone().into_bytes()).unwrap_or_default();
             Event::Ended(number, Ended { status: Status { code, signal: None, dumped: false }, out: Vec::new(), errors, times: (1.0, 2.0) })
@@ -393,5 +482,86 @@ mod tests {
         assert_eq!(heard.refused, ["cicc"]);
         assert_eq!(machine.started, ["cicc", "cicc", "cicc-bare", "cicc-bare", "gcc", "cicc-bare"]);
         assert_eq!(done.iter().map(Done::failed).collect::<Vec<_>>(), [false, false, true, true], "only what goes through the cache runs again");
+    }
+
+    /// Two tasks, of which the second may begin beside the first, in a folder of a test. The status of the first and whether it writes its
+    /// file are the test's.
+    fn with_head_start(name: &str, status: i32, writes: bool) -> [Task; 2] {
+        let folder = std::env::temp_dir().join(format!("early-{name}-{}", std::process::id()));
+        let _ = std::fs::remove_dir_all(&folder);
+        std::fs::create_dir(&folder).unwrap();
+        let start = HeadStart { beside: 0, file: folder.join("id"), withheld: folder.join("withheld"), job: job("early 0") };
+        if writes {
+            std::fs::write(&start.file, "id").unwrap();
+        }
+        [task(&format!("first {status}"), &[]), Task { head_start: Some(start), ..task("second 0", &[0]) }]
+    }
+
+    /// What is in the file that the second of these tasks reads late, which goes.
+    fn read_late(tasks: &[Task; 2]) -> Option<String> {
+        let withheld = &tasks[1].head_start.as_ref().unwrap().withheld;
+        let text = std::fs::read_to_string(withheld).ok();
+        std::fs::remove_dir_all(withheld.parent().unwrap()).unwrap();
+        text
+    }
+
+    #[test]
+    fn a_task_begins_beside_one_that_it_needs() {
+        let tasks = with_head_start("begins", 0, true);
+        let mut machine = Fake { is_idle: true, ..Fake::default() };
+        assert_eq!(run_all(&mut machine, &tasks, 2), ("firstearly".into(), vec![Some(0); 2]));
+        assert_eq!(read_late(&tasks).unwrap(), "id");
+    }
+
+    #[test]
+    fn no_task_begins_early_without_a_slot() {
+        for (at_once, is_idle) in [(1, true), (2, false)] {
+            let tasks = with_head_start("waits", 0, true);
+            let mut machine = Fake { is_idle, ..Fake::default() };
+            assert_eq!(run_all(&mut machine, &tasks, at_once), ("firstsecond".into(), vec![Some(0); 2]));
+            assert_eq!(read_late(&tasks), None);
+        }
+    }
+
+    #[test]
+    fn a_task_that_read_too_early_runs_once_more() {
+        let tasks = with_head_start("again", 0, false);
+        let mut machine = Fake { is_idle: true, ..Fake::default() };
+        assert_eq!(run_all(&mut machine, &tasks, 2), ("firstearlysecond".into(), vec![Some(0); 2]));
+        read_late(&tasks);
+    }
+
+    #[test]
+    fn what_began_early_ends_if_nothing_comes_of_it() {
+        let tasks = with_head_start("ends", 3, true);
+        let mut machine = Fake { is_idle: true, ..Fake::default() };
+        assert_eq!(run_all(&mut machine, &tasks, 2), ("firstearly".into(), vec![Some(3), None]));
+        assert_eq!((machine.ended_by, machine.running.len()), (Some(TERM), 0));
+        read_late(&tasks);
+    }
+
+    #[test]
+    fn what_began_early_takes_a_place_of_the_call() {
+        let tasks = with_head_start("place", 0, true);
+        let [first, second] = tasks.clone();
+        let all = [task("long 0", &[]), Task { needs: Vec::new(), ..first }, second, task("third 0", &[0])];
+        let mut all = all;
+        all[2].needs = vec![1];
+        all[2].head_start.as_mut().unwrap().beside = 1;
+        let mut machine = Fake { is_idle: true, ..Fake::default() };
+        assert_eq!(run_all(&mut machine, &all, 3).1, vec![Some(0); 4]);
+        assert_eq!((machine.started.concat(), machine.most_at_once), ("longfirstearlythird".into(), 3));
+        read_late(&tasks);
+    }
+
+    #[test]
+    fn an_early_end_counts_once_its_turn_comes() {
+        let tasks = with_head_start("end", 0, true);
+        let [first, second] = tasks.clone();
+        let all = [first, second, task("other 0", &[])];
+        // The other one starts first, so that what begins early ends before the first.
+        let mut machine = Fake { is_idle: true, backwards: true, ..Fake::default() };
+        assert_eq!(run_all(&mut machine, &all, 3), ("firstotherearly".into(), vec![Some(0); 3]));
+        assert_eq!(read_late(&tasks).unwrap(), "id");
     }
 }

@@ -170,6 +170,11 @@ impl Slots {
         slot.number > self.own.count || self.taken_by_older() >= slot.number
     }
 
+    /// Whether another call waits for a slot.
+    pub fn are_wanted(&self) -> bool {
+        self.waiters().into_iter().any(|waiter| waiter != self.own && self.is_alive(waiter))
+    }
+
     /// Gives a slot back, and wakes the oldest call that waits for it.
     pub fn give_back(&self, slot: Slot) {
         let number = slot.number;

@@ -1,6 +1,7 @@
 //! A call that is split, from its line to what its commands said. A call alone and one of a batch take these steps.
 use crate::caches::{self, Counts};
 use crate::dry_runs::{self, DryRuns, Failed};
+use crate::early;
 use crate::folder::CallFolder;
 use crate::late;
 use crate::log;
@@ -133,6 +134,9 @@ impl Call<'_> {
         let scratch = self.settings.scratch().map(|path| absolute(path, Path::new(&line.cwd)).to_string_lossy().into_owned());
         let surroundings = Surroundings { settings: self.settings, tmp, scratch };
         let mut tasks = tasks::tasks_of(&commands, outline.dependencies.as_ref(), &surroundings);
+        if early::is_on(self.settings) && !keeps {
+            early::allow(&mut tasks, &commands, tmp);
+        }
         let is_late = late.is_some();
         tasks.last_mut().into_iter().for_each(|last| last.include.clone_from(&late));
         let launcher = self.settings.launcher.first().map(String::as_str).unwrap_or_default();

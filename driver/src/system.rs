@@ -27,6 +27,10 @@ pub const CHLD: i32 = 17;
 pub const CONT: i32 = 18;
 pub const STOP: i32 = 19;
 pub const TSTP: i32 = 20;
+const URG: i32 = 23;
+
+const SET_SIGNAL: c_int = 10;
+const SET_LEASE: c_int = 1024;
 
 /// The error of a file that is no program.
 const NO_FORMAT: i32 = 8;
@@ -222,6 +226,26 @@ pub fn try_lock(file: BorrowedFd<'_>) -> io::Result<bool> {
         Err(error) if error.kind() == io::ErrorKind::WouldBlock => Ok(false),
         Err(error) => Err(error),
     }
+}
+
+/// Has whoever opens a file wait, which nobody but this process has open. The kernel's word for this is a lease.
+///
+/// # Errors
+///
+/// Those of `fcntl`: the disk has no leases, or somebody else has the file open.
+pub fn withhold(file: BorrowedFd<'_>) -> io::Result<()> {
+    // Without another signal the kernel would end this process by IO once somebody waits.
+    checked(unsafe { fcntl(file.as_raw_fd(), SET_SIGNAL, URG) })?;
+    checked(unsafe { fcntl(file.as_raw_fd(), SET_LEASE, 1) }).map(|_| ())
+}
+
+/// Lets those go on that wait for a file.
+///
+/// # Errors
+///
+/// Those of `fcntl`: this process doesn't withhold it.
+pub fn give(file: BorrowedFd<'_>) -> io::Result<()> {
+    checked(unsafe { fcntl(file.as_raw_fd(), SET_LEASE, 2) }).map(|_| ())
 }
 
 /// Waits until one of these files can be read, at most so many milliseconds; -1 is for ever. Says which can be. If a signal or a lack of memory

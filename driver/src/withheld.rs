@@ -1,0 +1,99 @@
+//! A file whose readers wait until its content is there.
+use crate::system;
+use std::fs::{self, File};
+use std::io::{self, Write};
+use std::os::fd::AsFd;
+use std::path::Path;
+use std::time::{Duration, Instant};
+
+/// How much earlier than the kernel lets readers go on a file has to be given.
+const MARGIN: Duration = Duration::from_secs(2);
+
+/// A file that nobody can open. Who tries waits.
+#[derive(Debug)]
+pub struct Withheld {
+    file: File,
+    begun: Instant,
+    longest: Duration,
+}
+
+/// How long the kernel has readers wait.
+fn longest_wait() -> io::Result<Duration> {
+    let text = fs::read_to_string("/proc/sys/fs/lease-break-time")?;
+    let seconds = text.trim().parse().map_err(|_| io::ErrorKind::InvalidData)?;
+    Ok(Duration::from_secs(seconds))
+}
+
+impl Withheld {
+    /// A new file of this path.
+    ///
+    /// # Errors
+    ///
+    /// If there is such a file, or its disk or the kernel can't have readers wait long enough.
+    pub fn new(path: &Path) -> io::Result<Withheld> {
+        let longest = longest_wait()?.checked_sub(MARGIN).ok_or(io::ErrorKind::Unsupported)?;
+        let file = File::options().read(true).write(true).create_new(true).open(path)?;
+        system::withhold(file.as_fd())?;
+        Ok(Withheld { file, begun: Instant::now(), longest })
+    }
+
+    /// Writes the content and lets readers go on. Says whether all of them see it: not if the disk is full, or if the kernel may have
+    /// lost patience.
+    pub fn give(mut self, content: &[u8]) -> bool {
+        let is_written = self.file.write_all(content).is_ok();
+        let is_in_time = self.begun.elapsed() < self.longest;
+        is_written & is_in_time & system::give(self.file.as_fd()).is_ok()
+    }
+}
+
+#[cfg(test)]
+mod tests {
+    use super::*;
+    use std::sync::mpsc;
+    use std::thread;
+
+    /// A path in the folder for temporary files that no other test has.
+    fn path_of(name: &str) -> std::path::PathBuf {
+        let path = std::env::temp_dir().join(format!("withheld-{name}-{}", std::process::id()));
+        let _ = fs::remove_file(&path);
+        path
+    }
+
+    #[test]
+    fn readers_wait_for_the_content() {
+        let path = path_of("wait");
+        let withheld = Withheld::new(&path).unwrap();
+        let (sender, read) = mpsc::channel();
+        let other = path.clone();
+        let reader = thread::spawn(move || sender.send(fs::read(other).unwrap()).unwrap());
+        assert!(read.recv_timeout(Duration::from_millis(100)).is_err(), "it reads before the content is there");
+        assert!(withheld.give(b"content"));
+        assert_eq!(read.recv().unwrap(), b"content");
+        reader.join().unwrap();
+        fs::remove_file(path).unwrap();
+    }
+
+    #[test]
+    fn what_comes_late_is_told() {
+        let path = path_of("late");
+        let withheld = Withheld { longest: Duration::ZERO, ..Withheld::new(&path).unwrap() };
+        assert!(!withheld.give(b"content"));
+        fs::remove_file(path).unwrap();
+    }
+
+    #[test]
+    fn a_file_that_is_there_stays() {
+        let path = path_of("there");
+        fs::write(&path, "old").unwrap();
+        assert!(Withheld::new(&path).is_err());
+        assert_eq!(fs::read(&path).unwrap(), b"old");
+        fs::remove_file(path).unwrap();
+    }
+
+    #[test]
+    fn a_full_disk_is_told() {
+        let file = File::options().write(true).open("/dev/full").unwrap();
+        let withheld = Withheld { file, begun: Instant::now(), longest: Duration::from_secs(9) };
+        assert!(!withheld.give(b"content"));
+    }
+}
