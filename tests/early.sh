@@ -28,72 +28,88 @@ printf '#ifndef __CUDA_ARCH__\nint f() { return no_such; }\n#endif\n__global__ v
 echo '#include "no_such.h"' > header.cu
 printf '#if __CUDA_ARCH__ == 800\n#include "no_such.h"\n#endif\n__global__ void k() {}\n' > header_80.cu
 
-# begins_early: whether a cicc of the logged call began before its cudafe++ had ended, and a device's preprocessor before the host's had.
-begins_early() {
+# begun_early: what of the logged call began before something that it needs, by the plan, had ended: -E for a device's preprocessor, cicc, or
+# -S for the compiler's half of the last compile.
+begun_early() {
     python3 - log << 'END_OF_PROGRAM'
 import json, sys
 with open(sys.argv[1]) as log:
     commands = [command for line in log for command in json.loads(line).get("commands", [])]
-def of(kind): return [command for command in commands if command["kind"].startswith(kind)]
-pairs = [("gcc -E __CUDA", [command for command in commands if command["kind"] == "gcc -E"]), ("cicc", of("cudafe++"))]
-sys.exit(not any(late["begin"] < early["end"] for kind, before in pairs for late in of(kind) for early in before))
+begun = set()
+for command in commands:
+    early = [need for need in command["needs"] if command["begin"] < commands[need]["end"]]
+    kind = command["kind"].split()
+    begun |= {kind[1] if kind[0] == "gcc" else kind[0]} if early else set()
+front = [command for command in commands if command["kind"] == "gcc -E"]
+if any(command["begin"] < front[0]["end"] for command in commands if front and command["kind"].startswith("gcc -E __CUDA")):
+    begun.add("-E")
+print(*sorted(begun))
 END_OF_PROGRAM
 }
 
-# made EARLY WORDS..: makes a call. What it says and its status become $said, the sums of all files $files, and $early is set if one of
-# its commands began early.
+# made EARLY WORDS..: makes a call. What it says and its status become $said, the sums of all files $files, and what began early $early.
 made() {
     rm -rf work log
     mkdir work
     cp -p ./*.cu cuda_runtime.h work
     said=$(cd work && ZIGRUNK_EARLY=$1 "$wrapper" "${@:2}" 2>&1; echo "status $?")
     files=$(cd work && find . -type f -print0 | sort -z | xargs -0 cksum)
-    early=''
-    ! begins_early || early=yes
+    early=$(begun_early)
 }
 
-# compare BEGINS WORDS..: a case. BEGINS says whether a command begins 'early', or all 'wait'.
+# compare MAY WORDS..: a case. MAY says what may begin early, or is empty. What does depends on the load, so the last case looks at all.
 compare() {
-    local problem='' wanted_said wanted_files
+    local problem='' wanted_said wanted_files one
     made 0 "${@:2}"
     wanted_said=$said wanted_files=$files
-    [ -z "$early" ] || problem='a command begins early though that is off; '
+    [ -z "$early" ] || problem="$early begins early though that is off; "
     made '' "${@:2}"
-    case $1 in
-        early) [ -n "$early" ] || problem+='all commands wait; ' ;;
-        wait) [ -z "$early" ] || problem+='a command begins early; ' ;;
-    esac
+    for one in $early; do
+        [[ " $1 " == *" $one "* ]] || problem+="$one begins early; "
+        all_early[$one]=yes
+    done
     [ "$said" = "$wanted_said" ] || problem+="it says '$said', not '$wanted_said'; "
     [ "$files" = "$wanted_files" ] || problem+='it makes other files; '
     [ -z "$(ls -A tmp/*)" ] || problem+="it leaves $(ls tmp/*)"
     count "${*:2}" "$problem"
 }
 
+declare -A all_early=()
 two=(-gencode 'arch=compute_75,code=sm_75' -gencode 'arch=compute_80,code=[sm_80,compute_80]')
-compare early -c k.cu -o k.o
-compare early "${two[@]}" -c k.cu -o k.o
-compare early "${two[@]}" -t 4 -dc k.cu -o k.o
-compare early -rdc=true -c k.cu
-compare early -std=c++20 -G -g -c k.cu -o k.o
-compare early -lineinfo -c k.cu -o k.o
-compare early -arch=sm_80 -dlto -c k.cu -o k.o
-compare early -MD -MF k.d -c k.cu -o k.o
-compare wait "${two[@]}" -fatbin k.cu
-compare early "${two[@]}" -c warns.cu
-compare early "${two[@]}" -c fails.cu
-compare early "${two[@]}" -c device.cu
-compare early "${two[@]}" -c host.cu
-compare early "${two[@]}" -c header_80.cu
-ZIGRUNK_LATE=1 compare early "${two[@]}" -c k.cu -o k.o
+compare '-E cicc' -c k.cu -o k.o
+compare '-E cicc' "${two[@]}" -c k.cu -o k.o
+compare '-E cicc' "${two[@]}" -t 4 -dc k.cu -o k.o
+compare '-E cicc' -rdc=true -c k.cu
+compare '-E cicc' -std=c++20 -G -g -c k.cu -o k.o
+compare '-E cicc' -lineinfo -c k.cu -o k.o
+compare '-E cicc' -arch=sm_80 -dlto -c k.cu -o k.o
+compare '-E cicc' -MD -MF k.d -c k.cu -o k.o
+compare '' "${two[@]}" -fatbin k.cu
+compare '-E cicc' "${two[@]}" -c warns.cu
+compare -E "${two[@]}" -c fails.cu
+compare '-E cicc' "${two[@]}" -c device.cu
+compare '-E cicc' "${two[@]}" -c host.cu
+compare '-E cicc' "${two[@]}" -c header_80.cu
+export ZIGRUNK_LATE=1
+compare '-E cicc -S' -c k.cu -o k.o
+compare '-E cicc -S' "${two[@]}" -dc k.cu -o k.o
+compare '-E cicc -S' -Xcompiler -Wshadow -G "${two[@]}" -c k.cu -o k.o
+compare '-E cicc -S' "${two[@]}" -c warns.cu
+compare '-E cicc -S' "${two[@]}" -c device.cu
+compare '-E cicc' "${two[@]}" -g -c k.cu -o k.o
+ZIGRUNK_SLOTS=1 XDG_RUNTIME_DIR=$scratch compare '' "${two[@]}" -c k.cu -o k.o
+unset ZIGRUNK_LATE
 
 # A header that is missing for host and device is missed once.
 made '' "${two[@]}" -c header.cu
 same 'a missing header' "$(grep -c 'no_such.h: No such file' <<< "$said") $(tail -n 1 <<< "$said")" '1 status 1'
 
-compare wait --keep "${two[@]}" -c k.cu -o k.o
-compare wait -t 1 -c k.cu -o k.o
-ZIGRUNK_LAUNCHER='env' compare wait "${two[@]}" -c k.cu -o k.o
-ZIGRUNK_RUNNER='env' compare wait "${two[@]}" -c k.cu -o k.o
-ZIGRUNK_SLOTS=1 XDG_RUNTIME_DIR=$scratch compare wait "${two[@]}" -c k.cu -o k.o
+compare '' --keep "${two[@]}" -c k.cu -o k.o
+compare '' -t 1 -c k.cu -o k.o
+ZIGRUNK_LAUNCHER='env' compare '' "${two[@]}" -c k.cu -o k.o
+ZIGRUNK_RUNNER='env' compare '' "${two[@]}" -c k.cu -o k.o
+ZIGRUNK_SLOTS=1 XDG_RUNTIME_DIR=$scratch compare '' "${two[@]}" -c k.cu -o k.o
+
+same 'what begins early in some call' "$(printf '%s\n' "${!all_early[@]}" | sort | paste -sd ' ')" '-E -S cicc'
 
 summary

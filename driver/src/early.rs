@@ -1,17 +1,22 @@
 //! Which commands may begin before one that they need has ended.
 //!
-//! cicc reads cudafe++'s module id once it has parsed its input, so it may parse while cudafe++ runs. A preprocessor for a device needs the
-//! host's only by the plan's rule that a missing header shows once, and a call prints nothing behind its first failure anyway.
+//! cicc reads cudafe++'s module id once it has parsed its input, so it may parse while cudafe++ runs. The last host compile reads cicc's stub
+//! file at the end of its input, so it may parse beside cicc. A preprocessor for a device needs the host's only by the plan's rule that a
+//! missing header shows once, and a call prints nothing behind its first failure anyway.
 use crate::machine::Job;
 use crate::planner::PlannedCommand;
 use crate::run::Task;
 use crate::settings::Settings;
 use crate::tasks::{OWN, program_of};
+use crate::streams::content_of;
 use std::env;
+use std::fs;
+use std::io;
 use std::path::{Path, PathBuf};
 
-/// The word behind which cicc and cudafe++ name the module id's file.
+/// The words behind which cicc and cudafe++ name the module id's file, and the stub file.
 const MODULE_ID: &str = "--module_id_file_name";
+const STUB: &str = "--stub_file_name";
 
 /// How a task may begin before one that it needs has ended.
 #[derive(Clone, PartialEq, Eq, Debug, Default)]
@@ -24,6 +29,35 @@ pub struct HeadStart {
     pub withheld: PathBuf,
     /// The task's job with this name.
     pub job: Job,
+    /// Whether the task always reads the file by this name, which the file's own line marker then has.
+    pub has_one_name: bool,
+}
+
+impl HeadStart {
+    /// What the task is to read.
+    ///
+    /// # Errors
+    ///
+    /// If the file can't be read, or its name isn't UTF-8.
+    pub fn content(&self) -> io::Result<Vec<u8>> {
+        let content = content_of(&self.file)?;
+        if !self.has_one_name {
+            return Ok(content);
+        }
+        let text = String::from_utf8(content).map_err(|_| io::ErrorKind::InvalidData)?;
+        let [own, other] = [&self.file, &self.withheld].map(|path| format!("\n# 1 \"{}\"\n", path.display()));
+        Ok(text.replacen(&own, &other, 1).into_bytes())
+    }
+
+    /// Writes what the task reads, if it reads it by the other name though all that it needs has ended.
+    ///
+    /// # Errors
+    ///
+    /// Why nvcc makes the call.
+    pub fn write(&self) -> Result<(), String> {
+        let written = if self.has_one_name { self.content().and_then(|content| fs::write(&self.withheld, content)) } else { Ok(()) };
+        written.map_err(|_| "a stub file is missing, or there is no room for it".into())
+    }
 }
 
 /// Whether commands of a call may begin so. A cache and a runner get the plan's own commands.
@@ -32,9 +66,9 @@ pub fn is_on(settings: &Settings) -> bool {
     !is_off && settings.launcher.is_empty() && settings.runner.is_empty()
 }
 
-/// The place of the module id's name among the words of a command of this program.
-fn module_id(command: &PlannedCommand, program: &str) -> Option<usize> {
-    let at = command.words.iter().position(|word| word == MODULE_ID)? + 1;
+/// The place behind an option among the words of a command of this program.
+fn place_behind(option: &str, command: &PlannedCommand, program: &str) -> Option<usize> {
+    let at = command.words.iter().position(|word| word == option)? + 1;
     (program_of(command) == program && at < command.words.len()).then_some(at)
 }
 
@@ -46,11 +80,11 @@ fn named(command: &PlannedCommand, word: &str) -> PathBuf {
 /// The command beside which one may begin, and the place of the word that names what it reads late.
 fn beside(commands: &[PlannedCommand], number: usize) -> Option<(usize, usize)> {
     let command = &commands[number];
-    let at = module_id(command, "cicc")?;
+    let at = place_behind(MODULE_ID, command, "cicc")?;
     let file = named(command, &command.words[at]);
     let writes = |other: &PlannedCommand| other.writes.iter().any(|written| Path::new(written) == file);
     let beside = command.needs.iter().copied().find(|&need| writes(&commands[need]))?;
-    module_id(&commands[beside], "cudafe++")?;
+    place_behind(MODULE_ID, &commands[beside], "cudafe++")?;
     let others = || command.words.iter().enumerate().filter(|&(place, _)| place != at).map(|(_, word)| named(command, word));
     let reads_more = commands[beside].writes.iter().any(|written| others().any(|other| other == Path::new(written)));
     (!reads_more).then_some((beside, at))
@@ -75,7 +109,37 @@ fn head_start(commands: &[PlannedCommand], number: usize, job: &Job, tmp: &str) 
     let mut job = job.clone();
     let before = job.words.len().checked_sub(command.words.len())?;
     job.words[before + at].clone_from(&withheld);
-    Some(HeadStart { beside, file: named(command, &command.words[at]), withheld: withheld.into(), job })
+    Some(HeadStart { beside, file: named(command, &command.words[at]), withheld: withheld.into(), job, has_one_name: false })
+}
+
+/// A stub file that cicc writes under another name.
+pub struct MovedStub {
+    /// Who reads it, and who writes it.
+    compile: usize,
+    writer: usize,
+    from: String,
+    to: String,
+}
+
+/// Has cicc write the stub file, which a command of this number includes, under another name. `None` if no cicc names it by its path.
+pub fn move_stub(commands: &mut [PlannedCommand], compile: usize, tmp: &str) -> Option<MovedStub> {
+    let from = format!("{tmp}/{OWN}/stub.c");
+    let source = commands[compile].words.iter().find_map(|word| word.strip_suffix(".cudafe1.cpp"))?;
+    let to = format!("{source}.cudafe1.stub.c");
+    let writes = |&need: &usize| Some((need, place_behind(STUB, &commands[need], "cicc").filter(|&at| commands[need].words[at] == to)?));
+    let (writer, at) = commands[compile].needs.iter().find_map(writes)?;
+    commands[writer].words[at].clone_from(&from);
+    commands[writer].writes.iter_mut().filter(|file| **file == to).for_each(|file| file.clone_from(&from));
+    Path::new(&to).is_absolute().then_some(MovedStub { compile, writer, from, to })
+}
+
+impl MovedStub {
+    /// Lets the task that reads the file begin beside the one that writes it.
+    pub fn allow(self, tasks: &mut [Task]) {
+        let task = &mut tasks[self.compile];
+        let (beside, job) = (self.writer, task.job.clone());
+        task.head_start = Some(HeadStart { beside, file: self.from.into(), withheld: self.to.into(), job, has_one_name: true });
+    }
 }
 
 /// Lets tasks begin before one that they need has ended. `tasks` are those of `commands`, but that others may follow the last but one.
@@ -124,6 +188,46 @@ mod tests {
         let writer = command("cicc --module_id_file_name /t/k.module_id", &[], &["/t/k.module_id"]);
         let cicc = command("cicc --module_id_file_name /t/k.module_id", &[0], &[]);
         assert_eq!(of_last(&[writer, cicc]), None);
+    }
+
+    #[test]
+    fn the_compile_begins_beside_the_writer_of_its_stub_file() {
+        let cicc = |stub: &str, file: &str| command(&format!("cicc {STUB} {stub} k.ii"), &[], &[file, "/t/k.ptx"]);
+        let compile = command("gcc -S /t/k.cudafe1.cpp -o k.s", &[0, 1, 2], &["k.s"]);
+        let cudafe = command(&format!("cudafe++ {STUB} /t/k.cudafe1.stub.c k.ii"), &[], &["/t/k.cudafe1.cpp"]);
+        let [other, own] = ["/t/k_1.cudafe1.stub.c", "/t/k.cudafe1.stub.c"].map(|stub| cicc(stub, stub));
+        let mut commands = vec![cudafe.clone(), other.clone(), own, compile.clone()];
+        let moved = move_stub(&mut commands, 3, "/t").unwrap();
+        assert_eq!((commands[2].words[1].as_str(), commands[2].writes[0].as_str()), ("/t/zigrunk.tmp/stub.c", "/t/zigrunk.tmp/stub.c"));
+        assert_eq!((&commands[0], &commands[1]), (&cudafe, &other));
+        let mut tasks = vec![Task::default(); 4];
+        moved.allow(&mut tasks);
+        let start = tasks[3].head_start.clone().unwrap();
+        assert_eq!((start.beside, start.has_one_name), (2, true));
+        assert_eq!([start.file, start.withheld], ["/t/zigrunk.tmp/stub.c", "/t/k.cudafe1.stub.c"].map(PathBuf::from));
+        assert!(move_stub(&mut [cudafe, other, compile], 2, "/t").is_none(), "no cicc names the file");
+    }
+
+    #[test]
+    fn a_stub_file_has_the_name_by_which_it_is_read() {
+        let folder = env::temp_dir().join(format!("early-stub-{}", std::process::id()));
+        fs::create_dir_all(&folder).unwrap();
+        let [file, withheld] = ["own.c", "other.c"].map(|name| folder.join(name));
+        let text = |path: &Path| format!("#define A\n# 4 \"k.cu\"\n# 1 \"{}\"\nx\n", path.display());
+        fs::write(&file, text(&file)).unwrap();
+        let mut start = HeadStart { file: file.clone(), withheld: withheld.clone(), has_one_name: true, ..HeadStart::default() };
+        assert_eq!(start.content().unwrap(), text(&withheld).into_bytes());
+        start.write().unwrap();
+        assert_eq!(fs::read_to_string(&withheld).unwrap(), text(&withheld));
+        start.has_one_name = false;
+        assert_eq!(start.content().unwrap(), text(&file).into_bytes());
+        fs::remove_file(&withheld).unwrap();
+        start.write().unwrap();
+        assert!(!withheld.exists(), "a task with a name of its own for the file needs no other");
+        fs::remove_file(&file).unwrap();
+        start.has_one_name = true;
+        assert!(start.content().is_err() && start.write().is_err());
+        fs::remove_dir_all(folder).unwrap();
     }
 
     #[test]

@@ -2,7 +2,6 @@
 use crate::early::HeadStart;
 use crate::late::Include;
 use crate::machine::{Ended, Event, Job, Machine};
-use crate::streams::content_of;
 use crate::withheld::Withheld;
 use rattle_std::alloc::{AllocError, Global};
 use rattle_std::vec::Vec as List;
@@ -234,7 +233,7 @@ impl<'a, M: Machine, W: Watch> Run<'a, M, W> {
     fn take_up(&mut self) -> Result<bool, Stopped> {
         let Some((number, early)) = self.schedule.next().and_then(|next| Some((next, self.early.remove(&next)?))) else { return Ok(false) };
         self.schedule.started(number)?;
-        let content = self.tasks[number].head_start.as_ref().and_then(|start| content_of(&start.file).ok());
+        let content = self.tasks[number].head_start.as_ref().and_then(|start| start.content().ok());
         self.is_void[number] = !content.is_some_and(|content| early.withheld.give(&content));
         early.ended.map_or(Ok(()), |ended| self.ended(number, ended))?;
         Ok(true)
@@ -258,6 +257,7 @@ impl<'a, M: Machine, W: Watch> Run<'a, M, W> {
         let Some(next) = next else { return Ok(false) };
         let task = &self.tasks[next];
         task.include.as_ref().map_or(Ok(()), Include::write).map_err(Stopped::NoProcess)?;
+        task.head_start.as_ref().map_or(Ok(()), HeadStart::write).map_err(Stopped::NoProcess)?;
         let bare = task.without_launcher.as_ref().filter(|_| self.watch.refuses(task.tool()));
         match self.machine.start(next, bare.unwrap_or(&task.job)) {
             Ok(()) => {
@@ -490,7 +490,7 @@ mod tests {
         let folder = std::env::temp_dir().join(format!("early-{name}-{}", std::process::id()));
         let _ = std::fs::remove_dir_all(&folder);
         std::fs::create_dir(&folder).unwrap();
-        let start = HeadStart { beside: 0, file: folder.join("id"), withheld: folder.join("withheld"), job: job("early 0") };
+        let start = HeadStart { beside: 0, file: folder.join("id"), withheld: folder.join("withheld"), job: job("early 0"), has_one_name: false };
         if writes {
             std::fs::write(&start.file, "id").unwrap();
         }

@@ -131,12 +131,16 @@ impl Call<'_> {
         let to_plan = ToPlan { dry_runs: [&dry_runs.first, &dry_runs.second], cwd: &line.cwd, tmp, flag: &outline.flag, keeps };
         let mut commands = if self.runs_in_place() { planner::plan_in_place(&to_plan)? } else { planner::plan(&to_plan)? };
         let late = if late::is_on(self.settings) && !keeps { late::begin_early(&mut commands, tmp) } else { None };
+        let is_early = early::is_on(self.settings) && !keeps;
+        let compile = commands.len().checked_sub(2).filter(|_| is_early && late.is_some());
+        let moved = compile.and_then(|compile| early::move_stub(&mut commands, compile, tmp));
         let scratch = self.settings.scratch().map(|path| absolute(path, Path::new(&line.cwd)).to_string_lossy().into_owned());
         let surroundings = Surroundings { settings: self.settings, tmp, scratch };
         let mut tasks = tasks::tasks_of(&commands, outline.dependencies.as_ref(), &surroundings);
-        if early::is_on(self.settings) && !keeps {
+        if is_early {
             early::allow(&mut tasks, &commands, tmp);
         }
+        moved.into_iter().for_each(|stub| stub.allow(&mut tasks));
         let is_late = late.is_some();
         tasks.last_mut().into_iter().for_each(|last| last.include.clone_from(&late));
         let launcher = self.settings.launcher.first().map(String::as_str).unwrap_or_default();
