@@ -7,8 +7,8 @@ use crate::machine::Job;
 use crate::planner::PlannedCommand;
 use crate::run::Task;
 use crate::settings::Settings;
-use crate::tasks::{OWN, program_of};
 use crate::streams::content_of;
+use crate::tasks::{OWN, program_of};
 use std::env;
 use std::fs;
 use std::io;
@@ -126,8 +126,8 @@ pub fn move_stub(commands: &mut [PlannedCommand], compile: usize, tmp: &str) -> 
     let from = format!("{tmp}/{OWN}/stub.c");
     let source = commands[compile].words.iter().find_map(|word| word.strip_suffix(".cudafe1.cpp"))?;
     let to = format!("{source}.cudafe1.stub.c");
-    let writes = |&need: &usize| Some((need, place_behind(STUB, &commands[need], "cicc").filter(|&at| commands[need].words[at] == to)?));
-    let (writer, at) = commands[compile].needs.iter().find_map(writes)?;
+    let place = |&need: &usize| Some((need, place_behind(STUB, &commands[need], "cicc").filter(|&at| commands[need].words[at] == to)?));
+    let (writer, at) = commands[compile].needs.iter().find_map(place)?;
     commands[writer].words[at].clone_from(&from);
     commands[writer].writes.iter_mut().filter(|file| **file == to).for_each(|file| file.clone_from(&from));
     Path::new(&to).is_absolute().then_some(MovedStub { compile, writer, from, to })

@@ -140,7 +140,9 @@ impl Call<'_> {
         if is_early {
             early::allow(&mut tasks, &commands, tmp);
         }
-        moved.into_iter().for_each(|stub| stub.allow(&mut tasks));
+        if let Some(stub) = moved {
+            stub.allow(&mut tasks);
+        }
         let is_late = late.is_some();
         tasks.last_mut().into_iter().for_each(|last| last.include.clone_from(&late));
         let launcher = self.settings.launcher.first().map(String::as_str).unwrap_or_default();
