@@ -7,7 +7,7 @@ use crate::late;
 use crate::log;
 use crate::machine::Machine;
 use crate::places::absolute;
-use crate::planner::{self, Line, Outline, ToPlan};
+use crate::planner::{self, Line, Outline, PlannedCommand, ToPlan};
 use crate::products;
 use crate::rule::{Refusals, RuleMaker};
 use crate::run::{self, Done, NoRule, Stopped, Task};
@@ -91,6 +91,14 @@ pub struct Call<'a> {
     pub refusals: &'a Refusals,
 }
 
+/// The commands of a call, and the tasks that run them.
+struct Planned {
+    commands: Vec<PlannedCommand>,
+    tasks: Vec<Task>,
+    /// Whether its last host compile begins before the fatbin is there.
+    is_late: bool,
+}
+
 impl Call<'_> {
     fn tmp(&self) -> Result<&str, Stop> {
         self.folder.path().to_str().ok_or_else(|| "the temporary directory isn't UTF-8".to_owned().into())
@@ -115,19 +123,9 @@ impl Call<'_> {
         Ok(outline)
     }
 
-    /// Makes the dry runs, plans the call and runs its commands.
-    ///
-    /// # Errors
-    ///
-    /// Why nvcc makes the call, or the signal that ends it.
-    pub fn run<M: Machine>(&self, machine: &mut M, outline: &Outline) -> Result<Outcome, Stop> {
-        let (line, tmp) = (self.line, self.tmp()?);
-        machine.plans(true);
-        let asked = dry_runs::Line { nvcc: &line.nvcc, words: &with_flags(&line.words), outline, tmp, cwd: &line.cwd };
-        let make_own = || fs::create_dir(Path::new(tmp).join(tasks::OWN)).map_err(|_| "no room for temporary files".into());
-        let dry_runs = dry_runs::make(machine, &asked, make_own)?;
-        machine.plans(false);
-        let keeps = outline.keep_dir.is_some();
+    /// Plans the call.
+    fn planned(&self, outline: &Outline, dry_runs: &DryRuns) -> Result<Planned, Stop> {
+        let (line, tmp, keeps) = (self.line, self.tmp()?, outline.keep_dir.is_some());
         let to_plan = ToPlan { dry_runs: [&dry_runs.first, &dry_runs.second], cwd: &line.cwd, tmp, flag: &outline.flag, keeps };
         let mut commands = if self.runs_in_place() { planner::plan_in_place(&to_plan)? } else { planner::plan(&to_plan)? };
         let late = if late::is_on(self.settings) && !keeps { late::begin_early(&mut commands, tmp) } else { None };
@@ -145,6 +143,22 @@ impl Call<'_> {
         }
         let is_late = late.is_some();
         tasks.last_mut().into_iter().for_each(|last| last.include.clone_from(&late));
+        Ok(Planned { commands, tasks, is_late })
+    }
+
+    /// Makes the dry runs, plans the call and runs its commands.
+    ///
+    /// # Errors
+    ///
+    /// Why nvcc makes the call, or the signal that ends it.
+    pub fn run<M: Machine>(&self, machine: &mut M, outline: &Outline) -> Result<Outcome, Stop> {
+        let (line, tmp) = (self.line, self.tmp()?);
+        machine.plans(true);
+        let asked = dry_runs::Line { nvcc: &line.nvcc, words: &with_flags(&line.words), outline, tmp, cwd: &line.cwd };
+        let make_own = || fs::create_dir(Path::new(tmp).join(tasks::OWN)).map_err(|_| "no room for temporary files".into());
+        let dry_runs = dry_runs::make(machine, &asked, make_own)?;
+        machine.plans(false);
+        let Planned { commands, tasks, is_late } = self.planned(outline, &dry_runs)?;
         let launcher = self.settings.launcher.first().map(String::as_str).unwrap_or_default();
         let mut maker = RuleMaker { commands: &commands, asked: outline.dependencies.as_ref(), launcher, refusals: self.refusals };
         let before = caches::counts(machine, self.settings)?;
