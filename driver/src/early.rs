@@ -77,6 +77,14 @@ fn named(command: &PlannedCommand, word: &str) -> PathBuf {
     Path::new(&command.folder).join(word)
 }
 
+/// Whether by their records two commands touch a file that one of them writes, other than this one that the first writes and the second reads.
+fn touch_more(first: &PlannedCommand, second: &PlannedCommand, file: Option<&Path>) -> bool {
+    let written = |by: &PlannedCommand| by.writes.iter().chain(&by.may_write).map(PathBuf::from).collect::<Vec<_>>();
+    let (of_first, of_second) = (written(first), written(second));
+    let is_read = |files: &[PathBuf], by: &PlannedCommand| by.reads.iter().any(|read| Some(Path::new(read)) != file && files.contains(&read.into()));
+    is_read(&of_first, second) || is_read(&of_second, first) || of_first.iter().any(|written| of_second.contains(written))
+}
+
 /// The command beside which one may begin, and the place of the word that names what it reads late.
 fn beside(commands: &[PlannedCommand], number: usize) -> Option<(usize, usize)> {
     let command = &commands[number];
@@ -85,20 +93,12 @@ fn beside(commands: &[PlannedCommand], number: usize) -> Option<(usize, usize)> 
     let writes = |other: &PlannedCommand| other.writes.iter().any(|written| Path::new(written) == file);
     let beside = command.needs.iter().copied().find(|&need| writes(&commands[need]))?;
     place_behind(MODULE_ID, &commands[beside], "cudafe++")?;
-    let others = || command.words.iter().enumerate().filter(|&(place, _)| place != at).map(|(_, word)| named(command, word));
-    let reads_more = commands[beside].writes.iter().any(|written| others().any(|other| other == Path::new(written)));
-    (!reads_more).then_some((beside, at))
-}
-
-/// Whether a command names a file that another one writes.
-fn reads_from(command: &PlannedCommand, other: &PlannedCommand) -> bool {
-    let names = |written: &String| command.words.iter().any(|word| named(command, word) == Path::new(written));
-    other.writes.iter().any(names)
+    (!touch_more(&commands[beside], command, Some(&file))).then_some((beside, at))
 }
 
 /// Whether a command needs another one only since both preprocess.
 fn may_go_ahead(command: &PlannedCommand, other: &PlannedCommand) -> bool {
-    command.preprocesses && other.preprocesses && !reads_from(command, other) && !reads_from(other, command)
+    command.preprocesses && other.preprocesses && !touch_more(other, command, None)
 }
 
 /// How the command of a number, with this job, may begin beside one that it needs.
@@ -154,11 +154,11 @@ pub fn allow(tasks: &mut [Task], commands: &[PlannedCommand], tmp: &str) {
 mod tests {
     use super::*;
 
-    fn command(words: &str, needs: &[usize], writes: &[&str]) -> PlannedCommand {
+    fn command(words: &str, needs: &[usize], reads: &[&str], writes: &[&str]) -> PlannedCommand {
         let (program, words) = words.split_once(' ').unwrap();
         let words = words.split(' ').map(String::from).collect();
-        let writes = writes.iter().map(|file| (*file).to_owned()).collect();
-        PlannedCommand { program: program.into(), words, folder: "/w".into(), needs: needs.to_vec(), writes, ..PlannedCommand::default() }
+        let [reads, writes] = [reads, writes].map(|files| files.iter().map(|file| (*file).to_owned()).collect());
+        PlannedCommand { program: program.into(), words, folder: "/w".into(), needs: needs.to_vec(), reads, writes, ..PlannedCommand::default() }
     }
 
     const CUDAFE: &str = "/b/cudafe++ --gen_module_id_file --module_id_file_name /t/k.module_id /t/k.ii";
@@ -171,31 +171,37 @@ mod tests {
     #[test]
     fn cicc_begins_beside_the_writer_of_its_module_id() {
         let written = ["/t/k.cpp", "/t/k.module_id"];
-        let front = [command("gcc -E k.cu", &[], &["/t/k.ii"]), command(CUDAFE, &[0], &written)];
+        let front = [command("gcc -E k.cu", &[], &[], &["/t/k.ii"]), command(CUDAFE, &[0], &["/t/k.ii"], &written)];
         let with = |cicc: PlannedCommand| [&front[..], &[cicc]].concat();
-        let cicc = "/n/cicc --module_id_file_name /t/k.module_id /t/k1.ii -o /t/k.ptx";
-        assert_eq!(of_last(&with(command(cicc, &[0, 1], &[]))), Some((1, 1)));
-        assert_eq!(of_last(&with(command(cicc, &[0], &[]))), None, "it doesn't need that command");
-        assert_eq!(of_last(&with(command("/n/cicc /t/k1.ii --module_id_file_name", &[1], &[]))), None, "no file is named");
-        assert_eq!(of_last(&with(command("/n/tool --module_id_file_name /t/k.module_id", &[1], &[]))), None, "it isn't cicc");
-        assert_eq!(of_last(&with(command(&format!("{cicc} /t/k.cpp"), &[1], &[]))), None, "it reads another file too");
-        let relative = PlannedCommand { folder: "/t".into(), ..command("cicc --module_id_file_name k.module_id", &[1], &[]) };
+        let words = "/n/cicc --module_id_file_name /t/k.module_id /t/k1.ii -o /t/k.ptx";
+        let cicc = command(words, &[0, 1], &["/t/k1.ii", "/t/k.module_id"], &["/t/k.ptx"]);
+        assert_eq!(of_last(&with(cicc.clone())), Some((1, 1)));
+        assert_eq!(of_last(&with(PlannedCommand { needs: vec![0], ..cicc.clone() })), None, "it doesn't need that command");
+        assert_eq!(of_last(&with(command("/n/cicc /t/k1.ii --module_id_file_name", &[1], &[], &[]))), None, "no file is named");
+        assert_eq!(of_last(&with(PlannedCommand { program: "/n/tool".into(), ..cicc.clone() })), None, "it isn't cicc");
+        for (reads, writes, may_write) in [("/t/k.cpp", "/t/k.ptx", "x"), ("x", "/t/k.ii", "x"), ("x", "/t/k.cpp", "x"), ("x", "x", "/t/k.module_id")]
+        {
+            let [reads, writes, may_write] = [reads, writes, may_write].map(|file| vec![file.to_owned()]);
+            let touches = PlannedCommand { reads, writes, may_write, ..cicc.clone() };
+            assert_eq!(of_last(&with(touches)), None, "it touches another file too");
+        }
+        let relative = PlannedCommand { folder: "/t".into(), ..command("cicc --module_id_file_name k.module_id", &[1], &[], &[]) };
         assert_eq!(of_last(&with(relative)), Some((1, 1)));
     }
 
     #[test]
     fn the_writer_is_cudafe() {
-        let writer = command("cicc --module_id_file_name /t/k.module_id", &[], &["/t/k.module_id"]);
-        let cicc = command("cicc --module_id_file_name /t/k.module_id", &[0], &[]);
+        let writer = command("cicc --module_id_file_name /t/k.module_id", &[], &[], &["/t/k.module_id"]);
+        let cicc = command("cicc --module_id_file_name /t/k.module_id", &[0], &[], &[]);
         assert_eq!(of_last(&[writer, cicc]), None);
     }
 
     #[test]
     fn the_compile_begins_beside_the_writer_of_its_stub_file() {
-        let cicc = |stub: &str, file: &str| command(&format!("cicc {STUB} {stub} k.ii"), &[], &[file, "/t/k.ptx"]);
-        let compile = command("gcc -S /t/k.cudafe1.cpp -o k.s", &[0, 1, 2], &["k.s"]);
-        let cudafe = command(&format!("cudafe++ {STUB} /t/k.cudafe1.stub.c k.ii"), &[], &["/t/k.cudafe1.cpp"]);
-        let [other, own] = ["/t/k_1.cudafe1.stub.c", "/t/k.cudafe1.stub.c"].map(|stub| cicc(stub, stub));
+        let cicc = |stub: &str| command(&format!("cicc {STUB} {stub} k.ii"), &[], &[], &[stub, "/t/k.ptx"]);
+        let compile = command("gcc -S /t/k.cudafe1.cpp -o k.s", &[0, 1, 2], &[], &["k.s"]);
+        let cudafe = command(&format!("cudafe++ {STUB} /t/k.cudafe1.stub.c k.ii"), &[], &[], &["/t/k.cudafe1.cpp"]);
+        let [other, own] = ["/t/k_1.cudafe1.stub.c", "/t/k.cudafe1.stub.c"].map(cicc);
         let mut commands = vec![cudafe.clone(), other.clone(), own, compile.clone()];
         let moved = move_stub(&mut commands, 3, "/t").unwrap();
         assert_eq!((commands[2].words[1].as_str(), commands[2].writes[0].as_str()), ("/t/zigrunk.tmp/stub.c", "/t/zigrunk.tmp/stub.c"));
@@ -232,14 +238,15 @@ mod tests {
 
     #[test]
     fn preprocessors_do_not_wait_for_each_other() {
-        let preprocess = |words: &str, needs: &[usize], file: &str| PlannedCommand { preprocesses: true, ..command(words, needs, &[file]) };
+        let preprocess =
+            |needs: &[usize], reads: &str, writes: &str| PlannedCommand { preprocesses: true, ..command("gcc -E", needs, &[reads], &[writes]) };
         let commands = [
-            preprocess("gcc -E k.cu -o /t/k.ii", &[], "/t/k.ii"),
-            preprocess("gcc -E k.cu -o /t/k1.ii", &[0], "/t/k1.ii"),
-            preprocess("gcc -E /t/k.ii -o /t/k2.ii", &[0, 1], "/t/k2.ii"),
-            preprocess("gcc -E k.cu -o /t/k.ii", &[0, 1], "/t/k.ii"),
-            command("cicc /t/k1.ii", &[1], &["/t/k.ptx"]),
-            command("gcc -c k.cpp", &[4], &[]),
+            preprocess(&[], "/w/k.cu", "/t/k.ii"),
+            preprocess(&[0], "/w/k.cu", "/t/k1.ii"),
+            preprocess(&[0, 1], "/t/k.ii", "/t/k2.ii"),
+            preprocess(&[0, 1], "/w/k.cu", "/t/k.ii"),
+            command("cicc -x", &[1], &[], &["/t/k.ptx"]),
+            command("gcc -c k.cpp", &[4], &[], &[]),
         ];
         let mut tasks: Vec<Task> = commands.iter().map(|command| Task { needs: command.needs.clone(), ..Task::default() }).collect();
         allow(&mut tasks, &commands, "/t");
@@ -249,8 +256,8 @@ mod tests {
 
     #[test]
     fn the_job_names_another_file() {
-        let cicc = command("cicc -x --module_id_file_name /t/k.module_id k.ii", &[0], &[]);
-        let commands = [command(CUDAFE, &[], &["/t/k.module_id"]), cicc, command("gcc -c k.cpp", &[1], &[])];
+        let cicc = command("cicc -x --module_id_file_name /t/k.module_id k.ii", &[0], &[], &[]);
+        let commands = [command(CUDAFE, &[], &[], &["/t/k.module_id"]), cicc, command("gcc -c k.cpp", &[1], &[], &[])];
         let job = |command: &PlannedCommand| Job { words: [std::slice::from_ref(&command.program), &command.words[..]].concat(), ..Job::default() };
         let mut tasks: Vec<Task> = commands.iter().map(|command| Task { job: job(command), ..Task::default() }).collect();
         allow(&mut tasks, &commands, "/t");

@@ -74,8 +74,10 @@ pub struct PlannedCommand {
     pub preprocesses: bool,
     /// The earlier commands that have to end before it starts.
     pub needs: Vec<usize>,
-    /// The files that it writes.
+    /// The files of its record: those that it reads, writes, and may write.
+    pub reads: Vec<String>,
     pub writes: Vec<String>,
+    pub may_write: Vec<String>,
 }
 
 fn text(text: &str) -> Result<Text, AllocError> {
@@ -256,7 +258,9 @@ fn commands_of(planned: &PlanWithOrigins, as_it_runs: impl Fn(&Command) -> Resul
             cacheable: matches!(command.cacheable, Cacheable::Yes),
             preprocesses: preprocesses(command.args.as_slice()),
             needs: needs.as_slice().to_vec(),
+            reads: strings(files.reads.as_slice()),
             writes: strings(files.writes.as_slice()),
+            may_write: strings(files.may_write.as_slice()),
         })
     };
     commands.zip(facts).map(command).collect()

@@ -68,6 +68,11 @@ static int is_needed(const char *path) {
     return 0;
 }
 
+static void fail(void) {
+    perror("tool");
+    exit(4);
+}
+
 // Reads an input into the sum. A source that nobody made needs no mark.
 static void read_input(const char *path) {
     struct stat status;
@@ -78,8 +83,12 @@ static void read_input(const char *path) {
     if (is_output(path) || stat(path, &status) != 0 || !S_ISREG(status.st_mode)) {
         return;
     }
-    char *text = malloc((size_t)status.st_size + 1);
+    // A file that comes late has its size once it can be opened.
     FILE *file = fopen(path, "r");
+    if (!file || fstat(fileno(file), &status) != 0) {
+        fail();
+    }
+    char *text = malloc((size_t)status.st_size + 1);
     size_t size = file && text ? fread(text, 1, (size_t)status.st_size, file) : 0;
     int is_made = !strstr(path, ".cu") || strstr(path, "cudafe");
     if (is_made && (size < 4 || memcmp(text + size - 4, mark, 4) != 0)) {
@@ -97,11 +106,6 @@ static void remove_outputs(int number) {
     }
     signal(number, SIG_DFL);
     raise(number);
-}
-
-static void fail(void) {
-    perror("tool");
-    exit(4);
 }
 
 int main(int count, char **words) {
