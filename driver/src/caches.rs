@@ -70,6 +70,9 @@ pub fn counts<M: Machine>(machine: &mut M, settings: &Settings) -> Result<Option
 #[cfg(test)]
 mod tests {
     use super::*;
+    use crate::machine::{Ended, Event};
+    use crate::system::Status;
+    use std::io;
 
     #[test]
     fn caches_say_hits_and_misses() {
@@ -87,6 +90,73 @@ mod tests {
             assert_eq!(is_hit(said), wanted, "{said}");
         }
         assert_eq!(had("/missing"), None);
+    }
+
+    /// A machine whose jobs print a text and end with a status.
+    struct Fake {
+        said: &'static str,
+        code: i32,
+        started: Vec<Job>,
+        wants: bool,
+    }
+
+    impl Machine for Fake {
+        fn want(&mut self, wants: bool) {
+            self.wants = wants;
+        }
+
+        fn next(&mut self) -> Event {
+            if self.wants {
+                return Event::Slot;
+            }
+            let status = Status { code: self.code, signal: None, dumped: false };
+            Event::Ended(0, Ended { status, out: self.said.into(), errors: Vec::new(), times: (0.0, 0.0) })
+        }
+
+        fn start(&mut self, _: usize, job: &Job) -> io::Result<()> {
+            self.started.push(job.clone());
+            Ok(())
+        }
+
+        fn end_all(&mut self, _: i32) {}
+
+        fn now(&self) -> f64 {
+            0.0
+        }
+    }
+
+    #[test]
+    fn a_log_asks_for_what_the_cache_says() {
+        let logs = Settings { log: Some("log".into()), ..Settings::default() };
+        assert_eq!(file_of(3, &logs, "/t").as_deref(), Some("/t/zigrunk.tmp/cache.3"));
+        assert_eq!(file_of(3, &Settings::default(), "/t"), None);
+        let file = "f".to_owned();
+        let given = |name: &str| (name.to_owned(), Some("f".to_owned()));
+        assert_eq!(variables_of(Some(&file)).collect::<Vec<_>>(), [given("CCACHE_STATSLOG"), given("CACHE_LOG")]);
+        assert_eq!(variables_of(None).count(), 0);
+    }
+
+    #[test]
+    fn sccache_is_asked_for_its_counts_if_there_is_a_log() {
+        let said = r#"{"stats":{"cache_hits":{"counts":{"CUDA":2}},"cache_misses":{"counts":{}}}}"#;
+        let settings = |launcher: &str, log: Option<&str>| Settings {
+            launcher: vec![launcher.into(), "x".into()],
+            log: log.map(Into::into),
+            temporary: "/t".into(),
+            ..Settings::default()
+        };
+        let asked = |settings: &Settings, said| {
+            let mut machine = Fake { said, code: 0, started: Vec::new(), wants: false };
+            (counts(&mut machine, settings).unwrap(), machine.started)
+        };
+        let (counted, started) = asked(&settings("/b/sccache", Some("log")), said);
+        assert_eq!(counted, Some(Counts { hits: 2.0, misses: 0.0 }));
+        assert_eq!(started[0].words, ["/b/sccache", "--show-stats", "--stats-format=json"]);
+        assert_eq!((started.len(), started[0].variables.as_slice()), (1, &[("TMPDIR".to_owned(), Some("/t".to_owned()))][..]));
+        assert_eq!(asked(&settings("/b/sccache", Some("log")), "no").0, None);
+        for (launcher, log) in [("/b/sccache", None), ("ccache", Some("log"))] {
+            assert_eq!(asked(&settings(launcher, log), said), (None, vec![]), "{launcher} {log:?}");
+        }
     }
 
     #[test]

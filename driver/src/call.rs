@@ -241,3 +241,24 @@ pub(crate) fn become_program(words: &[&OsStr], environment: &Environment) -> Str
     let image = environment.changed(&[]).and_then(|variables| host::image(program.as_os_str(), words.iter().copied(), variables, ""));
     image.map_or_else(|error| error.to_string(), |image| image.become_it().to_string())
 }
+
+#[cfg(test)]
+mod tests {
+    use super::*;
+
+    #[test]
+    fn some_words_make_a_call_nvccs() {
+        let cases = [
+            ("-c k.cu", None),
+            ("-c k.cu -E", Some("its phase isn't split")),
+            ("--preprocess", Some("its phase isn't split")),
+            ("--version -E", Some("it prints something")),
+            ("-V", Some("it prints something")),
+            ("-Ex --Version", None),
+        ];
+        for (line, wanted) in cases {
+            let words: Vec<OsString> = line.split(' ').map(OsString::from).collect();
+            assert_eq!(plain_reason(&words), wanted, "{line}");
+        }
+    }
+}

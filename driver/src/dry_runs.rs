@@ -160,3 +160,160 @@ fn first_by_nvcc<M: Machine>(machine: &mut M, outline: &Outline) -> Result<Vec<u
     let run = one(machine, planned_job(&outline.first_dry_run))?;
     if run.status.succeeded() { Ok(run.errors) } else { Err(fails()) }
 }
+
+#[cfg(test)]
+mod tests {
+    use super::*;
+    use crate::system::Status;
+    use std::io;
+
+    const COMMANDS: &str = "#$ cicc \"k.ii\" -o \"k.ptx\"\n";
+    const OTHERS: &str = "#$ cicc \"k.ii\" -o \"other.ptx\"\n";
+    /// What an nvcc before 13 says with `--threads`.
+    const THREADS: &str = "Could not open input file /t/x_stdout\n";
+
+    /// An nvcc that prints these texts, one for each of its calls, and ends with these statuses.
+    #[derive(Default)]
+    struct Fake {
+        says: Vec<(i32, String)>,
+        started: Vec<Job>,
+        ended: usize,
+        wants: bool,
+        ended_by: Option<i32>,
+        lost: bool,
+    }
+
+    impl Machine for Fake {
+        fn want(&mut self, wants: bool) {
+            self.wants = wants;
+        }
+
+        fn next(&mut self) -> Event {
+            if self.lost {
+                return Event::Lost("it is lost".into());
+            }
+            if self.wants {
+                return Event::Slot;
+            }
+            let (code, text) = &self.says[self.ended];
+            let begun = (0..self.started.len()).rev().find(|&at| !self.started[at].shares_slot).unwrap();
+            self.ended += 1;
+            let ended = Ended {
+                status: Status { code: *code, signal: None, dumped: false },
+                out: b"no".into(),
+                errors: text.clone().into(),
+                times: (0.0, 0.0),
+            };
+            Event::Ended(self.ended - 1 - begun, ended)
+        }
+
+        fn start(&mut self, number: usize, job: &Job) -> io::Result<()> {
+            assert_eq!(job.shares_slot, number > 0);
+            self.started.push(job.clone());
+            Ok(())
+        }
+
+        fn end_all(&mut self, signal: i32) {
+            self.ended_by = Some(signal);
+        }
+
+        fn now(&self) -> f64 {
+            0.0
+        }
+    }
+
+    fn fake(says: &[(i32, &str)]) -> Fake {
+        Fake { says: says.iter().map(|&(code, text)| (code, text.to_owned())).collect(), ..Fake::default() }
+    }
+
+    fn outline(keep_dir: Option<&str>) -> Outline {
+        let words = |line: &str| Words { folder: "/w".into(), words: line.split(' ').map(String::from).collect() };
+        Outline {
+            dependencies: None,
+            first_dry_run: words("nvcc first"),
+            second_dry_run: words("nvcc second"),
+            flag: "-c".into(),
+            jobs: None,
+            keep_dir: keep_dir.map(String::from),
+        }
+    }
+
+    /// What comes of a line whose nvcc prints these texts, and the words of nvcc's calls.
+    fn made(machine: &mut Fake, keep_dir: Option<&str>) -> (Result<DryRuns, Failed>, String) {
+        let words = ["-c", "k.cu"].map(String::from);
+        let made = make(machine, &Line { nvcc: "nvcc", words: &words, outline: &outline(keep_dir), tmp: "/t", cwd: "/w" }, || Ok(()));
+        let calls: Vec<String> = machine.started.iter().map(|job| job.words.join(" ")).collect();
+        (made, calls.join("; "))
+    }
+
+    fn runs(first: &str, second: &str, messages: &str) -> DryRuns {
+        DryRuns { first: first.into(), second: second.into(), messages: messages.into() }
+    }
+
+    fn to_nvcc(reason: &str) -> Result<DryRuns, Failed> {
+        Err(Failed::ByNvcc(reason.into()))
+    }
+
+    const TWO: &str = "nvcc --dryrun -c k.cu; nvcc second";
+
+    #[test]
+    fn the_first_is_what_the_second_says_without_the_folder() {
+        let [line, plan] = ["", "/t/"].map(|folder| format!("#$ cicc \"{folder}k.ii\" -o \"k.ptx\"\n"));
+        let mut machine = fake(&[(0, &format!("nvcc warning : x\n{line}")), (0, &plan)]);
+        let wanted = runs(&line, &plan, "nvcc warning : x\n");
+        assert_eq!(made(&mut machine, None), (Ok(wanted), TWO.into()));
+        let none = |name: &str| (name.to_owned(), None);
+        assert!(machine.started.iter().all(|job| job.variables == [none("NVCC_PREPEND_FLAGS"), none("NVCC_APPEND_FLAGS")] && job.folder == "/w"));
+    }
+
+    #[test]
+    fn nvcc_makes_the_first_if_that_has_other_commands() {
+        let asked = format!("{TWO}; nvcc first");
+        let mut machine = fake(&[(0, COMMANDS), (0, OTHERS), (0, COMMANDS)]);
+        assert_eq!(made(&mut machine, None), (Ok(runs(COMMANDS, OTHERS, "")), asked.clone()));
+        let mut machine = fake(&[(0, COMMANDS), (0, OTHERS), (0, OTHERS)]);
+        assert_eq!(made(&mut machine, None), (to_nvcc("nvcc reads the line otherwise"), asked.clone()));
+        let mut machine = fake(&[(0, COMMANDS), (0, OTHERS), (1, COMMANDS)]);
+        assert_eq!(made(&mut machine, None), (to_nvcc("a dry run fails"), asked));
+    }
+
+    #[test]
+    fn a_call_that_keeps_files_has_three() {
+        let three = format!("{TWO}; nvcc first");
+        let mut machine = fake(&[(0, COMMANDS), (0, OTHERS), (0, COMMANDS)]);
+        assert_eq!(made(&mut machine, Some("/w/kept")), (Ok(runs(COMMANDS, OTHERS, "")), three.clone()));
+        let mut machine = fake(&[(0, COMMANDS), (0, COMMANDS), (0, OTHERS)]);
+        assert_eq!(made(&mut machine, Some("/w/kept")), (to_nvcc("nvcc reads the line otherwise"), three.clone()));
+        let mut machine = fake(&[(0, COMMANDS), (0, COMMANDS), (1, COMMANDS)]);
+        assert_eq!(made(&mut machine, Some("/w/kept")), (to_nvcc("a dry run fails"), three));
+    }
+
+    #[test]
+    fn a_dry_run_that_fails_by_threads_is_made_again() {
+        let threads = format!("{THREADS}nvcc warning : x\n");
+        let again = format!("{TWO}; nvcc --dryrun -c k.cu --threads 1");
+        let mut machine = fake(&[(1, &threads), (0, COMMANDS), (0, COMMANDS)]);
+        let (made_of, calls) = made(&mut machine, None);
+        assert_eq!((made_of.map(|runs| runs.messages), calls), (Ok(b"nvcc warning : x\n".to_vec()), again.clone()));
+        let mut machine = fake(&[(1, &threads), (0, COMMANDS), (1, COMMANDS)]);
+        assert_eq!(made(&mut machine, None), (to_nvcc("a dry run fails"), again));
+    }
+
+    #[test]
+    fn a_dry_run_that_fails_makes_the_call_nvccs() {
+        for says in [[(1, "error\n"), (0, COMMANDS)], [(0, COMMANDS), (1, COMMANDS)]] {
+            assert_eq!(made(&mut fake(&says), None), (to_nvcc("a dry run fails"), TWO.into()), "{says:?}");
+        }
+        let mut machine = Fake { lost: true, ..fake(&[]) };
+        assert_eq!(made(&mut machine, None), (to_nvcc("it is lost"), String::new()));
+        assert_eq!(machine.ended_by, Some(TERM));
+    }
+
+    #[test]
+    fn the_dry_runs_of_a_plan_are_made_as_they_are() {
+        let mut machine = fake(&[(0, "a"), (3, "b")]);
+        let ended = make_planned(&mut machine, &outline(None)).unwrap();
+        assert_eq!(ended.iter().map(|run| (run.status.code, run.errors.as_slice())).collect::<Vec<_>>(), [(0, &b"a"[..]), (3, b"b")]);
+        assert_eq!(machine.started.iter().map(|job| job.words.join(" ")).collect::<Vec<_>>(), ["nvcc first", "nvcc second"]);
+    }
+}

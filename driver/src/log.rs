@@ -60,3 +60,80 @@ pub fn append(file: &Path, call: &LoggedCall<'_>) {
         complain(&format!("zigrunk-nvcc: cannot write {}: {error}", file.display()));
     }
 }
+
+#[cfg(test)]
+mod tests {
+    use super::*;
+    use crate::machine::Ended;
+    use crate::system::Status;
+    use std::fs;
+    use std::path::PathBuf;
+
+    /// A file for a test, which goes with it.
+    struct Scratch(PathBuf);
+
+    impl Scratch {
+        fn new(name: &str) -> Scratch {
+            Scratch(std::env::temp_dir().join(format!("log-{name}-{}", std::process::id())))
+        }
+    }
+
+    impl Drop for Scratch {
+        fn drop(&mut self) {
+            let _ = fs::remove_file(&self.0);
+        }
+    }
+
+    fn done(code: i32, asked: f64, times: (f64, f64)) -> Done {
+        let status = Status { code, signal: None, dumped: false };
+        Done { asked, ended: Some(Ended { status, out: Vec::new(), errors: Vec::new(), times }), by_driver: false }
+    }
+
+    #[test]
+    fn commands_that_ran_are_logged() {
+        let hit = Scratch::new("hit");
+        fs::write(&hit.0, "hit cicc\n").unwrap();
+        let task = |kind: &str, needs: &[usize]| Task { kind: kind.into(), needs: needs.to_vec(), ..Task::default() };
+        let tasks = [
+            task("gcc -E", &[]),
+            task("nvcc -M", &[0]),
+            Task { statistics: hit.0.to_str().map(String::from), ..task("cicc \"", &[0, 1]) },
+            Task { statistics: Some("/missing".into()), ..task("gcc -c", &[0, 1, 2]) },
+            task("left", &[3]),
+        ];
+        let by_driver = Done { by_driver: true, ..Done::default() };
+        let done = [done(0, 1.0, (2.0, 3.5)), by_driver, done(7, 3.0, (3.25, 4.0)), done(0, 4.0, (4.0, 5.0)), Done::default()];
+        assert_eq!(
+            commands(&tasks, &done),
+            [
+                r#"{"kind":"gcc -E","asked":1.0000,"begin":2.0000,"end":3.5000,"status":0,"needs":[]}"#,
+                r#"{"kind":"cicc \u0022","asked":3.0000,"begin":3.2500,"end":4.0000,"status":7,"hit":true,"needs":[0]}"#,
+                r#"{"kind":"gcc -c","asked":4.0000,"begin":4.0000,"end":5.0000,"status":0,"needs":[0,1]}"#,
+            ]
+        );
+    }
+
+    #[test]
+    fn a_log_gets_a_line_for_each_call_and_a_hint_once() {
+        let file = Scratch::new("calls");
+        let words = ["nvcc", "a b"].map(OsStr::new);
+        let counted = Some([Counts { hits: 1.0, misses: 2.0 }, Counts { hits: 3.0, misses: 4.0 }]);
+        let commands = ["{1}".to_owned(), "{2}".to_owned()];
+        let split = LoggedCall { begun: 5.0, status: 3, reason: None, hint_on: None, commands: &commands, counted, words: &words };
+        let whole = LoggedCall { reason: Some("it \"links\""), hint_on: Some("no temporary directory"), commands: &[], counted: None, ..split };
+        append(&file.0, &split);
+        append(&file.0, &whole);
+        append(&file.0, &whole);
+        let text = fs::read_to_string(&file.0).unwrap();
+        let lines: Vec<&str> = text.lines().collect();
+        let end_of = |line: &str| line.split_once(",\"status\"").unwrap().1.to_owned();
+        assert!(lines.len() == 4 && text.ends_with("}\n"), "{text}");
+        assert!(lines[0].starts_with("{\"begin\":5.0000,\"end\":"));
+        assert_eq!(end_of(lines[0]), r#":3,"counted":[1,2,3,4],"commands":[{1},{2}],"words":["nvcc","a b"]}"#);
+        assert_eq!(end_of(lines[1]), r#":3,"reason":"it \u0022links\u0022","commands":[],"words":["nvcc","a b"]}"#);
+        assert_eq!(lines[2], r#"{"hint":"make room for temporary files, or set TMPDIR"}"#);
+        assert_eq!(end_of(lines[3]), end_of(lines[1]));
+        append(&file.0, &LoggedCall { hint_on: Some("a random name"), ..split });
+        assert_eq!(fs::read_to_string(&file.0).unwrap().matches("{\"hint\"").count(), 2, "another hint");
+    }
+}

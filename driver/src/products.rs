@@ -26,3 +26,74 @@ pub fn lack_of_room(temporary: &Path) -> String {
     let _ = fs::remove_file(&path);
     if has_room { String::new() } else { format!(": there is no room in {}", temporary.display()) }
 }
+
+#[cfg(test)]
+mod tests {
+    use super::*;
+    use std::path::PathBuf;
+    use std::time::Duration;
+
+    /// A folder for a test, which goes with it.
+    struct Scratch(PathBuf);
+
+    impl Scratch {
+        fn new(name: &str) -> Scratch {
+            let path = std::env::temp_dir().join(format!("products-{name}-{}", std::process::id()));
+            fs::create_dir_all(path.join("tmp").join(OWN)).unwrap();
+            fs::create_dir_all(path.join("keep")).unwrap();
+            Scratch(path)
+        }
+
+        fn write(&self, name: &str, text: &str, time: SystemTime) {
+            fs::write(self.0.join(name), text).unwrap();
+            fs::File::options().write(true).open(self.0.join(name)).unwrap().set_modified(time).unwrap();
+        }
+
+        fn has(&self, name: &str) -> Option<String> {
+            fs::read_to_string(self.0.join(name)).ok()
+        }
+    }
+
+    impl Drop for Scratch {
+        fn drop(&mut self) {
+            let _ = fs::remove_dir_all(&self.0);
+        }
+    }
+
+    #[test]
+    fn generated_files_are_kept_unless_a_product_has_their_name() {
+        let scratch = Scratch::new("keep");
+        let begun = SystemTime::now();
+        let [before, later] = [begun - Duration::from_secs(9), begun + Duration::from_secs(9)];
+        for name in ["new", "old", "product"] {
+            scratch.write(&format!("tmp/{name}"), "generated", later);
+        }
+        scratch.write("keep/old", "of another call", before);
+        scratch.write("keep/product", "of this call", later);
+        keep(&scratch.0.join("tmp"), &scratch.0.join("keep"), begun);
+        let kept = ["new", "old", "product"].map(|name| scratch.has(&format!("keep/{name}")));
+        assert_eq!(kept.each_ref().map(Option::as_deref), [Some("generated"), Some("generated"), Some("of this call")]);
+        assert_eq!((scratch.has("tmp/new"), scratch.has("tmp/product").as_deref()), (None, Some("generated")));
+        assert!(scratch.0.join("tmp").join(OWN).is_dir() && !scratch.0.join("keep").join(OWN).exists());
+    }
+
+    #[test]
+    fn files_are_kept_on_another_disk() {
+        let (scratch, shared) = (Scratch::new("copy"), Path::new("/dev/shm"));
+        let name = format!("products-{}", std::process::id());
+        scratch.write(&format!("tmp/{name}"), "generated", SystemTime::now());
+        fs::write(shared.join(&name), "of another call, and longer").unwrap();
+        keep(&scratch.0.join("tmp"), shared, SystemTime::now() + Duration::from_secs(9));
+        let kept = fs::read_to_string(shared.join(&name));
+        fs::remove_file(shared.join(&name)).unwrap();
+        assert_eq!(kept.unwrap(), "generated");
+    }
+
+    #[test]
+    fn a_folder_has_room_or_not() {
+        let scratch = Scratch::new("room");
+        assert_eq!(lack_of_room(&scratch.0), "");
+        assert_eq!(fs::read_dir(&scratch.0).unwrap().count(), 2, "nothing stays");
+        assert_eq!(lack_of_room(Path::new("/missing")), ": there is no room in /missing");
+    }
+}

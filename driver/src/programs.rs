@@ -126,6 +126,113 @@ mod tests {
         }
     }
 
+    /// A folder with folders `a` to `d`, each with an nvcc, and `own`, whose nvcc is this program. It goes with the test.
+    struct Room(PathBuf);
+
+    impl Room {
+        fn new(name: &str) -> Room {
+            let room = Room(env::temp_dir().join(format!("programs-{name}-{}", std::process::id())));
+            for folder in ["a", "b", "c", "own"] {
+                fs::create_dir_all(room.0.join(folder)).unwrap();
+                fs::write(room.nvcc(folder), "").unwrap();
+                fs::set_permissions(room.nvcc(folder), PermissionsExt::from_mode(0o755)).unwrap();
+            }
+            room
+        }
+
+        fn nvcc(&self, folder: &str) -> PathBuf {
+            self.0.join(folder).join("nvcc")
+        }
+
+        /// This program, called through the nvccs of these folders.
+        fn own(&self, inside: &[&str]) -> Own {
+            let parts: Vec<String> = inside.iter().map(|folder| format!("{}:", self.nvcc(folder).display())).collect();
+            Own { file: fs::metadata(self.nvcc("own")).ok(), inside: format!(":{}", parts.concat()).into() }
+        }
+    }
+
+    impl Drop for Room {
+        fn drop(&mut self) {
+            let _ = fs::remove_dir_all(&self.0);
+        }
+    }
+
+    #[test]
+    fn the_next_nvcc_is_behind_this_program_or_before_it() {
+        let room = Room::new("next");
+        let next = |path: &str, inside: &[&str]| {
+            let found = room.own(inside).next_nvcc(OsStr::new(path), &room.0)?;
+            Some(found.strip_prefix(&room.0).unwrap().to_str().unwrap().to_owned())
+        };
+        let cases: [(&str, &[&str], Option<&str>); 12] = [
+            ("a:own:b:c", &[], Some("b/nvcc")),
+            ("a:b:own", &[], Some("a/nvcc")),
+            ("own:missing:a", &[], Some("a/nvcc")),
+            ("a:own:b:own:c", &[], Some("c/nvcc")),
+            ("a:own:b:own", &[], Some("a/nvcc")),
+            ("b:a", &[], Some("b/nvcc")),
+            ("own", &[], None),
+            ("", &[], None),
+            ("own:a:b", &["a"], Some("b/nvcc")),
+            ("own:a:b", &["c", "a"], Some("b/nvcc")),
+            ("own:a:b", &["b"], Some("a/nvcc")),
+            ("own:a", &["a"], None),
+        ];
+        for (path, inside, wanted) in cases {
+            assert_eq!(next(path, inside).as_deref(), wanted, "{path} {inside:?}");
+        }
+    }
+
+    #[test]
+    fn this_program_knows_itself_and_who_called_it() {
+        let room = Room::new("own");
+        fs::hard_link(room.nvcc("own"), room.0.join("link")).unwrap();
+        let own = room.own(&["a"]);
+        let is = ["own", "a", "b"].map(|folder| (own.is(&room.nvcc(folder)), own.includes(&room.nvcc(folder))));
+        assert_eq!(is, [(true, true), (false, true), (false, false)]);
+        assert!(own.is(&room.0.join("link")) && !own.is(&room.0.join("missing")));
+        let unknown = Own { file: None, inside: OsString::new() };
+        assert!(!unknown.is(&room.nvcc("own")) && !unknown.includes(&room.nvcc("a")));
+    }
+
+    #[test]
+    fn programs_hear_through_which_nvccs_they_are_called() {
+        let room = Room::new("compiler");
+        let named = |nvcc: &Path, inside: &str| Settings { nvcc: nvcc.into(), inside: inside.into(), ..Settings::default() };
+        let (words, path) = ([OsString::from("-c")], room.nvcc("a"));
+        let of = |settings: &Settings| compiler(settings, OsStr::new("zigrunk-nvcc"), &words).map(|(found, rest)| (found, rest.len()));
+        let (found, rest) = of(&named(&path, "")).unwrap();
+        assert_eq!((found.name.as_os_str(), found.path.as_ref(), rest), (path.as_os_str(), Some(&path), 1));
+        assert_eq!(found.inside.to_str().unwrap(), format!(":{}:", path.display()));
+        assert_eq!(of(&named(&path, ":/x:")).unwrap().0.inside.to_str().unwrap(), format!(":/x:{}:", path.display()));
+        let missing = of(&named(&room.0.join("missing"), "")).unwrap().0;
+        assert_eq!((missing.path, missing.inside.to_str()), (None, Some("::")));
+    }
+
+    #[test]
+    fn a_call_that_names_this_program_means_another() {
+        let exe = env::current_exe().unwrap();
+        let own = Own { file: fs::metadata(&exe).ok(), inside: OsString::new() };
+        let next = own.next_nvcc(&env::var_os("PATH").unwrap_or_default(), Path::new(""));
+        for (nvcc, own_name) in [(exe.as_os_str(), "zigrunk-nvcc"), (OsStr::new("nvcc"), "nvcc")] {
+            let settings = Settings { nvcc: nvcc.to_owned(), ..Settings::default() };
+            let found = compiler(&settings, OsStr::new(own_name), &[]).map(|(found, _)| (found.name.clone(), found.path));
+            let lacking = format!("{} is zigrunk-nvcc itself, and PATH has no other nvcc", nvcc.to_string_lossy());
+            assert_eq!(found, next.clone().ok_or(lacking).map(|path| (path.clone().into(), Some(path))));
+        }
+    }
+
+    #[test]
+    fn programs_are_files_that_can_be_run() {
+        let room = Room::new("files");
+        let is = |mode| {
+            fs::set_permissions(room.nvcc("a"), PermissionsExt::from_mode(mode)).unwrap();
+            is_program(&room.nvcc("a"))
+        };
+        assert_eq!([0o755, 0o700, 0o070, 0o001, 0o644, 0o600].map(is), [true, true, true, true, false, false]);
+        assert!(!is_program(&room.0) && !is_program(&room.0.join("missing")));
+    }
+
     #[test]
     fn a_program_is_found_as_a_shell_finds_it() {
         assert_eq!(find("sh".as_ref(), "/missing:/bin".as_ref(), Path::new("/")), Some("/bin/sh".into()));

@@ -345,6 +345,123 @@ mod tests {
         assert!(other.try_take().is_none());
     }
 
+    /// Whether a call's ticket says that it may look again.
+    fn is_awake(slots: &Slots) -> bool {
+        slots.file().is_some_and(|file| system::wait_for(&[file], 0) == [true])
+    }
+
+    fn age(file: &File) {
+        file.set_times(fs::FileTimes::new().set_modified(SystemTime::now() - 2 * STALE)).unwrap();
+    }
+
+    #[test]
+    fn the_first_folder_that_takes_locks_has_the_slots() {
+        let room = Room::new();
+        let place = room.0.as_ref().unwrap().path().to_owned();
+        let slots = Slots::open(1, 1, &["/missing".into(), place.clone(), std::env::temp_dir()]).unwrap();
+        assert_eq!(slots.folder.path, place.join(format!("zigrunk-slots-{}", system::user())));
+        assert!(Slots::open(1, 1, &["/missing".into()]).is_none() && Slots::open(1, 1, &[]).is_none());
+    }
+
+    #[test]
+    fn an_older_call_keeps_only_the_slots_that_it_shares() {
+        let room = Room::new();
+        let (mut one, mut two, mut last) = (room.slots(1, 1), room.slots(2, 2), room.slots(4, 9));
+        let young = room.slots(4, 3);
+        assert!(one.begin_to_wait() && two.begin_to_wait() && last.begin_to_wait());
+        assert_eq!([one.taken_by_older(), two.taken_by_older(), young.taken_by_older(), last.taken_by_older()], [0, 1, 2, 2]);
+        let taken: Vec<Slot> = std::iter::from_fn(|| young.try_take()).collect();
+        assert_eq!(taken.iter().map(|slot| slot.number).collect::<Vec<_>>(), [4, 3]);
+        let of_number = |number| Slot { number, file: File::open("/").unwrap() };
+        assert_eq!([1, 2, 3, 4, 5].map(|number| young.is_wanted(&of_number(number))), [true, true, false, false, true]);
+        two.end_to_wait();
+        assert_eq!(young.try_take().map(|slot| slot.number), Some(2), "the first is left");
+    }
+
+    #[test]
+    fn as_many_more_slots_are_taken_as_are_stale() {
+        let room = Room::new();
+        let (stopped, other) = (room.slots(3, 1), room.slots(3, 2));
+        let slots: Vec<Slot> = std::iter::from_fn(|| stopped.try_take()).collect();
+        slots[..2].iter().for_each(|slot| age(&slot.file));
+        let more: Vec<Slot> = std::iter::from_fn(|| other.try_take()).collect();
+        assert_eq!(more.iter().map(|slot| slot.number).collect::<Vec<_>>(), [4, 5]);
+        assert!(more.iter().all(|slot| other.is_wanted(slot)) && !other.is_wanted(&slots[0]), "they go back soon");
+        drop(more);
+        let mut oldest = room.slots(1, 0);
+        assert!(oldest.begin_to_wait() && other.try_take().is_none(), "an older call comes first");
+    }
+
+    #[test]
+    fn the_oldest_call_that_can_use_a_slot_is_told_of_it() {
+        let room = Room::new();
+        let mut waiting = [(1, 1), (2, 2), (2, 3), (2, 4)].map(|(count, age)| room.slots(count, age));
+        let slot = waiting[3].try_take().unwrap();
+        assert!(waiting.iter_mut().all(Slots::begin_to_wait));
+        age(&File::from(waiting[1].ticket.as_ref().unwrap().file.try_clone().unwrap()));
+        let own = room.slots(2, 0);
+        assert_eq!(slot.number, 2);
+        own.give_back(slot);
+        assert_eq!(waiting.each_ref().map(is_awake), [false, false, true, false], "one has too few slots, one is stopped");
+        waiting[2].awake();
+        assert!(!is_awake(&waiting[2]));
+        let slot = waiting[0].try_take().unwrap();
+        waiting[0].give_back(slot);
+        assert_eq!(waiting.each_ref().map(is_awake), [false, false, true, false], "it doesn't tell itself");
+    }
+
+    #[test]
+    fn a_call_that_ends_to_wait_has_no_ticket() {
+        let room = Room::new();
+        let (mut slots, mut next) = (room.slots(1, 1), room.slots(1, 2));
+        let names = |slots: &Slots| slots.waiters().iter().map(|waiter| waiter.age).collect::<Vec<_>>();
+        assert!(next.begin_to_wait() && slots.begin_to_wait());
+        assert_eq!(names(&slots), [1, 2], "oldest first");
+        slots.end_to_wait();
+        assert_eq!((names(&slots), slots.file(), is_awake(&next)), (vec![2], None, true));
+        next.awake();
+        slots.end_to_wait();
+        assert!(!is_awake(&next), "once is enough");
+        drop(next);
+        assert_eq!(names(&slots), []);
+    }
+
+    #[test]
+    fn slots_are_lost_with_their_folder() {
+        let room = Room::new();
+        let slots = room.slots(1, 1);
+        assert!(!slots.are_lost());
+        let first = slots.folder.path.join("1");
+        fs::remove_file(&first).unwrap();
+        fs::create_dir(&first).unwrap();
+        assert!(slots.are_lost(), "no file can be made");
+        fs::remove_dir(&first).unwrap();
+        assert!(!slots.are_lost());
+        slots.is_without_locks.set(true);
+        assert!(slots.are_lost());
+        slots.is_without_locks.set(false);
+        fs::rename(&slots.folder.path, slots.folder.path.with_extension("moved")).unwrap();
+        assert!(slots.are_lost());
+    }
+
+    #[test]
+    fn a_call_that_runs_touches_what_it_has() {
+        let room = Room::new();
+        let mut slots = room.slots(1, 1);
+        let slot = slots.try_take().unwrap();
+        assert!(slots.begin_to_wait());
+        let ticket = File::from(slots.ticket.as_ref().unwrap().file.try_clone().unwrap());
+        age(&slot.file);
+        age(&ticket);
+        assert!(!is_fresh(&slot.file) && !is_fresh(&ticket));
+        slots.beat([&slot].into_iter());
+        assert!(is_fresh(&slot.file) && is_fresh(&ticket));
+        age(&slot.file);
+        drop(slot);
+        let slot = slots.try_take().unwrap();
+        assert!(is_fresh(&slot.file), "taken now");
+    }
+
     #[test]
     fn the_ticket_of_a_dead_call_goes() {
         let room = Room::new();

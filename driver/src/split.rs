@@ -261,6 +261,108 @@ fn said(messages: Vec<u8>, tasks: &[Task], done: Vec<Done>, settings: &Settings)
 #[cfg(test)]
 mod tests {
     use super::*;
+    use crate::machine::Ended;
+    use crate::planner::Words;
+    use crate::system::Status;
+
+    fn words(line: &str) -> Words {
+        Words { folder: "/w".into(), words: line.split(' ').map(String::from).collect() }
+    }
+
+    fn ended(code: i32, out: &str, errors: &str) -> Done {
+        let status = Status { code, signal: None, dumped: false };
+        Done { ended: Some(Ended { status, out: out.into(), errors: errors.into(), times: (0.0, 0.0) }), ..Done::default() }
+    }
+
+    fn tasks(rules: &[bool]) -> Vec<Task> {
+        rules.iter().map(|&is_rule| Task { is_rule, ..Task::default() }).collect()
+    }
+
+    fn to_nvcc(reason: &str) -> Result<(), Stop> {
+        by_nvcc(reason)
+    }
+
+    #[test]
+    fn some_outlines_go_to_nvcc() {
+        let outline = |dependencies: Option<&str>, keep_dir: Option<&str>| Outline {
+            dependencies: dependencies.map(words),
+            first_dry_run: words("nvcc"),
+            second_dry_run: words("nvcc"),
+            flag: "-c".into(),
+            jobs: None,
+            keep_dir: keep_dir.map(String::from),
+        };
+        let error = "its dependency file is standard error";
+        let cases = [
+            (outline(None, None), Ok(())),
+            (outline(Some("nvcc -M -MF k.d"), Some("/")), Ok(())),
+            (outline(Some("nvcc -M /dev/stderr -MF k.d"), None), Ok(())),
+            (outline(None, Some("/missing")), to_nvcc("the keep directory is missing")),
+            (outline(None, Some("/dev/null")), to_nvcc("the keep directory is missing")),
+            (outline(Some("nvcc -M -MF /dev/stderr -MT k.o"), None), to_nvcc(error)),
+            (outline(Some("nvcc -M -MF /dev/fd/2"), None), to_nvcc(error)),
+            (outline(Some("nvcc -MF /proc/self/fd/2"), None), to_nvcc(error)),
+        ];
+        for (outline, wanted) in cases {
+            assert_eq!(check(&outline), wanted, "{outline:?}");
+        }
+    }
+
+    #[test]
+    fn some_ends_are_not_the_calls() {
+        let dry = |commands: &str| DryRuns { first: commands.into(), ..DryRuns::default() };
+        let usual = dry("#$ cudafe++ k.cu\n#$ cicc k.ii\n#$ gcc -c k.cpp\n");
+        let (by_driver, left) = (Done { by_driver: true, ..Done::default() }, Done::default());
+        let cases = [
+            (true, vec![ended(0, "", ""), by_driver.clone()], vec![false, true], Ok(())),
+            (true, vec![ended(0, "", ""), ended(0, "", "")], vec![false, true], Ok(())),
+            (true, vec![ended(0, "", ""), left.clone()], vec![false, false], to_nvcc("a command didn't run")),
+            (true, vec![ended(2, "", ""), left.clone()], vec![false, false], Ok(())),
+            (true, vec![ended(2, "", ""), by_driver], vec![false, true], Ok(())),
+            (true, vec![ended(0, "", ""), ended(2, "", "")], vec![false, true], to_nvcc("its dependency file fails")),
+            (false, vec![ended(0, "", "")], vec![false], to_nvcc("its temporary directory is gone")),
+            (false, vec![ended(2, "", "")], vec![false], to_nvcc("its temporary directory is gone")),
+        ];
+        for (is_there, done, rules, wanted) in cases {
+            assert_eq!(check_end(is_there, &done, &tasks(&rules), &usual), wanted, "{is_there} {done:?} {rules:?}");
+        }
+        let older = dry("#$ cicc k.ii\n#$ cudafe++ k.cu\n#$ gcc -c k.cpp\n");
+        let ends = [0, 2].map(|code| check_end(true, &[ended(code, "", "")], &tasks(&[false]), &older));
+        assert_eq!(ends, [Ok(()), to_nvcc("a command fails, and nvcc has them in another order")]);
+    }
+
+    #[test]
+    fn what_is_said_ends_with_the_first_failure() {
+        let settings = Settings { temporary: env::temp_dir(), ..Settings::default() };
+        let texts = |done: Vec<Done>, rules: &[bool]| {
+            let (status, said) = said(b"warning\n".to_vec(), &tasks(rules), done, &settings);
+            let text = |(is_error, text): (bool, Vec<u8>)| format!("{}{}", u8::from(is_error), String::from_utf8(text).unwrap());
+            (status, said.into_iter().map(text).collect::<Vec<_>>().join("|"))
+        };
+        let rule = ended(0, "rule\n", "not said\n");
+        let all = vec![ended(0, "a\n", "b\n"), rule, ended(0, "", "c\n")];
+        assert_eq!(texts(all, &[false, true, false]), (0, "1warning\n|0rule\n|0a\n|1b\n|0|1c\n".into()));
+        let failed = vec![ended(0, "", ""), ended(3, "", "bad\n"), ended(4, "x", "y")];
+        assert_eq!(texts(failed, &[false; 3]), (3, "1warning\n|0|1|0|1bad\n".into()));
+        let said_out = vec![ended(5, "out", "")];
+        assert_eq!(texts(said_out, &[false]), (5, "1warning\n|0out|1".into()));
+        let silent = "1zigrunk-nvcc: a command failed with status 5 and without a message\n";
+        assert_eq!(texts(vec![ended(5, "", "")], &[false]), (5, format!("1warning\n|0|1|{silent}")));
+        assert_eq!(texts(vec![ended(0, "", "a"), Done::default(), ended(5, "", "")], &[false; 3]), (5, "1warning\n|0|1a|0|1".into()));
+        let mut killed = ended(139, "", "");
+        killed.ended.as_mut().unwrap().status = Status { code: 139, signal: Some(11), dumped: true };
+        assert_eq!(texts(vec![killed], &[false]), (139, "1warning\n|0|1Segmentation fault (core dumped)\n".into()));
+    }
+
+    #[test]
+    fn ends_keep_their_meaning() {
+        assert_eq!(Stop::from(Failed::Signal(2)), Stop::Signal(2));
+        assert_eq!(Stop::from(Stopped::Signal(15)), Stop::Signal(15));
+        assert_eq!(
+            [Stop::from(Failed::ByNvcc("a".into())), Stopped::NoProcess("b".into()).into()],
+            [Stop::ByNvcc("a".into()), Stop::ByNvcc("b".into())]
+        );
+    }
 
     #[test]
     fn kept_files_are_named_from_the_working_directory() {

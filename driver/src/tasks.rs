@@ -135,3 +135,145 @@ pub fn words_of_death(status: Status) -> String {
     };
     format!("{name}{}\n", if status.dumped { " (core dumped)" } else { "" })
 }
+
+#[cfg(test)]
+mod tests {
+    use super::*;
+
+    fn command(line: &str) -> PlannedCommand {
+        let mut words = line.split(' ').map(String::from);
+        PlannedCommand { program: words.next().unwrap(), words: words.collect(), folder: "/w".into(), ..PlannedCommand::default() }
+    }
+
+    fn preprocessor(line: &str) -> PlannedCommand {
+        PlannedCommand { preprocesses: true, ..command(line) }
+    }
+
+    fn around(settings: &Settings) -> Surroundings<'_> {
+        Surroundings { settings, tmp: "/t", scratch: None }
+    }
+
+    fn value<'a>(job: &'a Job, name: &str) -> Vec<Option<&'a str>> {
+        job.variables.iter().filter(|(other, _)| other == name).map(|(_, value)| value.as_deref()).collect()
+    }
+
+    #[test]
+    fn kinds_name_program_phase_and_target() {
+        let cases = [
+            ("/b/gcc -E -D__CUDA_ARCH__=800 k.cu", "gcc -E __CUDA_ARCH__=800", Some("__CUDA_ARCH__=800")),
+            ("g++-12 -c k.cpp -E", "g++-12 -c", None),
+            ("gcc -S k.cpp", "gcc -S", None),
+            ("/n/cicc -arch compute_80 k.ii", "cicc compute_80", Some("compute_80")),
+            ("ptxas -arch=sm_100a k.ptx", "ptxas sm_100a", Some("sm_100a")),
+            ("nvlink --arch=lto_90 k.o", "nvlink lto_90", Some("lto_90")),
+            ("ptxas -arch=native -arch=sm_75", "ptxas sm_75", Some("sm_75")),
+            ("cicc k.ii -arch", "cicc", None),
+            ("cicc sm_80 -o -arch", "cicc", None),
+            ("fatbinary --image=x", "fatbinary", None),
+        ];
+        for (line, kind, named) in cases {
+            assert_eq!((kind_of(&command(line)).as_str(), target(&command(line)).as_deref()), (kind, named), "{line}");
+        }
+    }
+
+    #[test]
+    fn commands_weigh_what_their_kind_does() {
+        let cases = [
+            (command("/b/cudafe++ x"), "cudafe++", CommandKind::CudaFe),
+            (command("cicc x"), "cicc", CommandKind::Cicc),
+            (command("ptxas x"), "ptxas", CommandKind::Ptxas),
+            (command("fatbinary x"), "fatbinary", CommandKind::Other),
+            (preprocessor("gcc -E k.cu"), "-E", CommandKind::Preprocess),
+            (command("gcc -c -x c++ k.cpp"), "-c", CommandKind::HostCompile),
+            (command("gcc -S k.cpp"), "-c", CommandKind::HostCompile),
+            (command("gcc -c -x assembler k.s"), "-c", CommandKind::Other),
+            (command("nvlink k.o"), "-c", CommandKind::Other),
+        ];
+        for (command, name, kind) in cases {
+            assert_eq!((launched_as(&command), weight_of(&command)), (name, usual_weight(kind)), "{command:?}");
+        }
+        let heavier = [CommandKind::Cicc, CommandKind::Other].map(usual_weight);
+        assert!(heavier[0] > heavier[1], "kinds differ");
+    }
+
+    #[test]
+    fn the_cache_gets_what_the_plan_or_the_caller_says() {
+        let cacheable = |line: &str| PlannedCommand { cacheable: true, ..command(line) };
+        let settings = |launcher: &str, launched: &[&str]| Settings {
+            launcher: launcher.split_whitespace().map(String::from).collect(),
+            launched: launched.iter().map(|kind| (*kind).to_owned()).collect(),
+            ..Settings::default()
+        };
+        let cases = [
+            ("", vec![], cacheable("cicc x"), false),
+            ("", vec!["cicc"], cacheable("cicc x"), false),
+            ("ccache", vec![], cacheable("cicc x"), true),
+            ("ccache", vec![], command("cicc x"), false),
+            ("ccache", vec!["ptxas", "cicc"], command("cicc x"), true),
+            ("ccache", vec!["ptxas", "-c"], cacheable("cicc x"), false),
+            ("ccache", vec!["-E"], preprocessor("gcc -E x"), true),
+        ];
+        for (launcher, launched, command, wanted) in cases {
+            assert_eq!(is_launched(&command, &settings(launcher, &launched)), wanted, "{launcher} {launched:?} {command:?}");
+        }
+    }
+
+    #[test]
+    fn jobs_have_words_folders_and_variables() {
+        let settings = Settings { runner: vec!["srun".into(), "-n1".into()], launcher: vec!["ccache".into(), "-x".into()], ..Settings::default() };
+        let of_plan = vec![("PWD".to_owned(), "/p".to_owned()), ("A".into(), "1".into())];
+        let plain = PlannedCommand { variables: of_plan, needs: vec![3], ..command("gcc -c k.cpp") };
+        let task = task_of(0, &plain, &around(&settings));
+        assert_eq!(task.job.words, ["srun", "-n1", "gcc", "-c", "k.cpp"]);
+        assert_eq!((task.job.folder.as_str(), task.job.shares_slot, task.kind.as_str(), task.needs), ("/w", false, "gcc -c", vec![3]));
+        assert_eq!(["TMPDIR", "PWD", "A"].map(|name| value(&task.job, name)), [vec![Some("/t/zigrunk.tmp")], vec![Some("/p")], vec![Some("1")]]);
+        assert_eq!((task.without_launcher, task.statistics), (None, None));
+
+        let task = task_of(0, &PlannedCommand { cacheable: true, ..command("cicc -arch=sm_80 x") }, &around(&settings));
+        assert_eq!(task.job.words, ["srun", "-n1", "ccache", "-x", "cicc", "-arch=sm_80", "x"]);
+        assert_eq!(task.without_launcher.map(|job| job.words), Some(["srun", "-n1", "cicc", "-arch=sm_80", "x"].map(String::from).to_vec()));
+        assert_eq!((value(&task.job, "PWD"), task.weight), (vec![Some("/w")], usual_weight(CommandKind::Cicc)));
+
+        let elsewhere = Surroundings { scratch: Some("/s".into()), ..around(&settings) };
+        assert_eq!(value(&task_of(0, &plain, &elsewhere).job, "TMPDIR"), [Some("/s")]);
+    }
+
+    #[test]
+    fn the_rule_comes_before_the_last_command_which_waits_for_it() {
+        let settings = Settings::default();
+        let last = PlannedCommand { needs: vec![1], ..preprocessor("gcc -c k.cpp") };
+        let commands = [preprocessor("gcc -E a"), command("cicc b"), preprocessor("gcc -E c"), last];
+        let words = Words { folder: "/f".into(), words: vec!["nvcc".into(), "-M".into()] };
+        let tasks = tasks_of(&commands, Some(&words), &around(&settings));
+        assert_eq!(
+            tasks.iter().map(|task| (task.is_rule, task.needs.clone())).collect::<Vec<_>>(),
+            [(false, vec![]), (false, vec![]), (false, vec![]), (true, vec![0, 2]), (false, vec![1, 3]),]
+        );
+        let rule = &tasks[3];
+        assert_eq!((rule.job.words.as_slice(), rule.job.folder.as_str(), rule.kind.as_str()), (&words.words[..], "/f", "nvcc -M"));
+        assert_eq!(["NVCC_PREPEND_FLAGS", "NVCC_APPEND_FLAGS"].map(|name| value(&rule.job, name)), [[None], [None]]);
+        assert!(!rule.job.shares_slot && rule.without_launcher.is_none());
+
+        assert_eq!(tasks_of(&commands, None, &around(&settings)).len(), 4);
+        assert!(tasks_of(&[], Some(&words), &around(&settings)).is_empty());
+    }
+
+    #[test]
+    fn a_shell_names_the_signals_that_end_commands() {
+        let words = |signal, dumped| words_of_death(Status { code: 128, signal, dumped });
+        let named = [
+            (4, "Illegal instruction"),
+            (6, "Aborted"),
+            (7, "Bus error"),
+            (8, "Floating point exception"),
+            (9, "Killed"),
+            (11, "Segmentation fault"),
+            (15, "Terminated"),
+        ];
+        for (signal, name) in named {
+            assert_eq!(words(Some(signal), false), format!("{name}\n"));
+        }
+        assert_eq!(words(Some(11), true), "Segmentation fault (core dumped)\n");
+        assert_eq!([words(None, false), words(None, true), words(Some(2), true)], ["", "", ""]);
+    }
+}

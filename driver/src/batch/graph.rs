@@ -395,6 +395,8 @@ mod tests {
         most: Option<usize>,
         /// The signal that comes once so many jobs have started.
         signal: Option<(usize, i32)>,
+        /// Whether it can't go on once a job runs.
+        is_lost: bool,
     }
 
     impl Machine for Fake {
@@ -405,6 +407,9 @@ mod tests {
         fn next(&mut self) -> Event {
             if let Some((_, number)) = self.signal.take_if(|(count, _)| self.log.iter().filter(|line| line.starts_with('+')).count() >= *count) {
                 return Event::Signal(number);
+            }
+            if self.is_lost && !self.running.is_empty() {
+                return Event::Lost("as the test wants".into());
             }
             if self.wants {
                 return Event::Slot;
@@ -447,6 +452,10 @@ mod tests {
     struct Chains {
         calls: Vec<Vec<(&'static str, i32)>>,
         side_by_side: bool,
+        /// Whether each call is planned first, by a job `p`.
+        are_planned: bool,
+        /// The call whose thread panics once its first job runs.
+        panics: Option<usize>,
         /// The call for which there is no thread, and how often.
         without_thread: Cell<(usize, usize)>,
         told: Vec<String>,
@@ -463,8 +472,20 @@ mod tests {
                 self.without_thread.set((of, times - 1));
                 return Err(io::ErrorKind::WouldBlock.into());
             }
-            let (commands, side_by_side) = (self.calls[call].clone(), self.side_by_side);
+            let (commands, side_by_side, is_planned, panics) =
+                (self.calls[call].clone(), self.side_by_side, self.are_planned, self.panics == Some(call));
             Maker::begin(move |turns| {
+                if panics {
+                    let job = Job { words: vec!["x".into(), "0".into()], ..Job::default() };
+                    turns.want(true);
+                    assert!(!matches!(turns.next(), Event::Slot) || turns.start(0, &job).is_err(), "as the test wants");
+                }
+                if is_planned {
+                    turns.plans(true);
+                    let job = Job { words: vec!["p".into(), "0".into()], ..Job::default() };
+                    drop(run::run(turns, &mut NoRule, &[Task { job, ..Task::default() }], 1));
+                    turns.plans(false);
+                }
                 let task = |(at, (name, status)): (usize, &(&str, i32))| Task {
                     job: Job { words: vec![(*name).to_owned(), status.to_string()], ..Job::default() },
                     needs: (0..if side_by_side { 0 } else { at }).collect(),
@@ -575,6 +596,36 @@ mod tests {
         let outcomes = Graph::new(&mut machine, &mut chains, 1, limits, Progress::new(Form::Terminal, &mut said)).unwrap().run();
         let text = String::from_utf8(said).unwrap();
         assert!(outcomes == Outcomes::default() && text.contains("1 of 1 calls") && text.ends_with("\r\x1b[K"), "{text:?}");
+    }
+
+    #[test]
+    fn so_many_calls_are_planned_at_once() {
+        let planned = |planned_at_once| {
+            let (mut machine, mut said) = (Fake::default(), Vec::new());
+            let mut chains = Chains { calls: vec![vec![("a", 0)], vec![("b", 0)], vec![("c", 0)]], are_planned: true, ..Chains::default() };
+            let limits = Limits { at_once: 4, planned_at_once, failures: None };
+            let outcomes = Graph::new(&mut machine, &mut chains, 3, limits, Progress::new(Form::Lines, &mut said)).unwrap().run();
+            let said = String::from_utf8(said).unwrap();
+            assert!(outcomes == Outcomes::default() && said.ends_with("zigrunk-batch: 3 of 3 calls, 3 commands: 2\n"), "{said}");
+            machine.log.join(" ")
+        };
+        assert_eq!([1, 2].map(planned), ["+p -p +a +p -a -p +b +p -b -p +c -c", "+p +p -p +a +p -p +b -a -p +c -b -c"]);
+    }
+
+    #[test]
+    fn a_call_whose_thread_panics_fails_alone() {
+        let calls = || vec![vec![("a", 0)], vec![("b", 0)], vec![("c", 0)]];
+        let chains = Chains { calls: calls(), panics: Some(1), ..Chains::default() };
+        let (log, told, outcomes) = run_chains(&mut Fake::default(), chains, 2, None);
+        assert_eq!((log.as_str(), told.as_str(), outcomes.status), ("+a +x -a +c -x -c", "0:0:a 1:1: 2:0:c", 1));
+    }
+
+    #[test]
+    fn a_batch_ends_with_its_machine() {
+        let mut machine = Fake { is_lost: true, ..Fake::default() };
+        let (log, told, outcomes) = run_all(&mut machine, &[&[("a", 0)], &[("b", 0)]], 2, None);
+        assert_eq!((log.as_str(), told.as_str()), ("+a signal 15", ""));
+        assert_eq!(outcomes, Outcomes { signal: Some(TERM), lost: true, ..Outcomes::default() });
     }
 
     #[test]
