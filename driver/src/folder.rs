@@ -14,6 +14,8 @@ use std::time::Duration;
 const MOST_EQUAL_CALLS: usize = 64;
 /// How long what a killed call left stays, if no equal call takes it.
 const LEFT_ALONE: Duration = Duration::new(600, 0);
+/// The same if it's an empty directory: the call was killed before it had a guard.
+const EMPTY_LEFT_ALONE: Duration = Duration::new(10, 0);
 
 /// Whether an open file is the one of a path.
 fn is_at(path: &Path, file: &File) -> bool {
@@ -74,9 +76,21 @@ impl Folder {
         }
     }
 
-    /// Removes a call's folder in this one, and its lock. If something stays, so does the lock, by which a later call finds it.
+    /// Removes a folder in this one, if it is empty.
+    fn clear_empty(&self, name: &str) {
+        if self.is_there() {
+            let _ = fs::remove_dir(self.path.join(name));
+        }
+    }
+
+    /// Removes a call's folder in this one, and its lock.
     fn remove_call(&self, name: &str) {
         self.clear(name);
+        self.remove_lock(name);
+    }
+
+    /// Removes the lock of a call whose folder is gone. If something stays, so does the lock, by which a later call finds it.
+    fn remove_lock(&self, name: &str) {
         if fs::symlink_metadata(self.path.join(name)).is_err() {
             let _ = system::remove_below(self.as_fd(), &lock_name(name));
         }
@@ -192,18 +206,24 @@ fn random(above: &Path) -> io::Result<CallFolder> {
     Err(io::ErrorKind::AlreadyExists.into())
 }
 
-/// Removes the directories of calls that were killed long ago.
+/// Removes what calls that were killed have left: their directories after some time, and empty ones soon.
 fn remove_left(user: &Folder) {
     let Ok(entries) = fs::read_dir(&user.path) else { return };
-    let is_old = |status: Metadata| status.modified().is_ok_and(|time| time.elapsed().is_ok_and(|age| age > LEFT_ALONE));
+    let age_of = |status: Metadata| status.modified().ok()?.elapsed().ok();
     for entry in entries.flatten() {
         let file = entry.file_name();
         let Some(name) = file.to_str().and_then(|name| name.strip_suffix(".lock")) else { continue };
-        if !entry.metadata().is_ok_and(is_old) {
+        let age = entry.metadata().ok().and_then(age_of).unwrap_or_default();
+        if age <= EMPTY_LEFT_ALONE {
             continue;
         }
         if let Ok(Some(_lock)) = lock(user, name) {
-            user.remove_call(name);
+            if age > LEFT_ALONE {
+                user.clear(name);
+            } else {
+                user.clear_empty(name);
+            }
+            user.remove_lock(name);
         }
     }
 }
@@ -272,6 +292,59 @@ mod tests {
             assert_eq!(fs::metadata(taken.path()).unwrap().mode() & 0o7777, 0o700);
             taken.remove();
         }
+    }
+
+    #[test]
+    fn what_killed_calls_left_goes() {
+        let scratch = Scratch::new();
+        let of = |name: &str| CallFolder::take(&scratch.0, name).unwrap();
+        let (own, alive) = (of("own"), of("alive"));
+        let user = scratch.0.join(user_name());
+        let entry = |name: &str, seconds: u64, holds: &[&str]| {
+            let file = File::create(user.join(format!("{name}.lock"))).unwrap();
+            file.set_modified(std::time::SystemTime::now() - Duration::from_secs(seconds)).unwrap();
+            for part in holds {
+                fs::create_dir_all(user.join(name).join(part)).unwrap();
+            }
+        };
+        entry("alive", 700, &[]);
+        entry("old", 700, &["x/y"]);
+        entry("young", 500, &["x/y"]);
+        entry("empty", 20, &[""]);
+        entry("missing", 20, &[]);
+        entry("new", 0, &[""]);
+        entry("future", 0, &[""]);
+        File::open(user.join("future.lock")).unwrap().set_modified(std::time::SystemTime::now() + Duration::from_secs(700)).unwrap();
+        fs::create_dir(user.join("other")).unwrap();
+        own.remove();
+        let mut left: Vec<_> = fs::read_dir(&user).unwrap().map(|entry| entry.unwrap().file_name().into_string().unwrap()).collect();
+        left.sort_unstable();
+        assert_eq!(left.join(" "), "alive alive.lock future future.lock new new.lock other young young.lock");
+        drop(alive);
+    }
+
+    #[test]
+    fn so_many_equal_calls_have_names() {
+        let scratch = Scratch::new();
+        let taken: Vec<CallFolder> = (0..=MOST_EQUAL_CALLS).map(|_| CallFolder::take(&scratch.0, "k").unwrap()).collect();
+        assert_eq!(taken.iter().map(|folder| usize::from(folder.is_named())).sum::<usize>(), 64);
+        let [last, random] = [&taken[63], &taken[64]].map(|folder| folder.path().file_name().unwrap().to_str().unwrap());
+        assert!(last == "k-64" && random.starts_with("zigrunk.") && random.len() == "zigrunk.".len() + 6, "{random}");
+        taken[64].remove();
+        assert!(!taken[64].is_there());
+    }
+
+    #[test]
+    fn nothing_is_removed_from_another_users_folder() {
+        let scratch = Scratch::new();
+        let taken = CallFolder::take(&scratch.0, "k").unwrap();
+        let user = scratch.0.join(user_name());
+        fs::rename(&user, user.with_extension("moved")).unwrap();
+        fs::create_dir_all(user.join("k")).unwrap();
+        fs::create_dir_all(user.join("left")).unwrap();
+        File::create(user.join("left.lock")).unwrap().set_modified(std::time::SystemTime::now() - Duration::from_secs(20)).unwrap();
+        taken.remove();
+        assert!(user.join("k").is_dir() && user.join("left").is_dir());
     }
 
     #[test]
