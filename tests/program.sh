@@ -1049,6 +1049,10 @@ yes cd /w && $scratch/none/gcc -D__NVCC__$renamed
 starves() {
     local name=$1 status=$2 out=$3 err=$4 number=0 ended said told=0 problem='' met=refused
     shift 4
+    if [ "$(head -c 2 "$program")" = '#!' ]; then
+        skip "$name, out of memory" 'a script starts the program, and its shell would be refused the memory'
+        return
+    fi
     while [ "$met" = refused ] && [ -z "$problem" ]; do
         number=$((number + 1))
         REFUSED=$number LD_PRELOAD=$scratch/refuse_nth.so "$program" "$@" < "${from-/dev/null}" > "$scratch/out" 2> "$scratch/err" 9> "$scratch/met"

@@ -7,6 +7,7 @@ A proof's text has these forms, and no other is taken for ghost text:
     ensures NAME? {..}  requires NAME? {..}                       the clauses of a function, between its signature and its body
     impl Model for TYPE { ghost .. }                              how clauses see a type: an implementation of ghost members alone
     fn NAME() ensures {..} {}                                     a law: no parameters, no answer, no code but calls of other laws
+    fn keeps_the_rule(&self) ensures {..} { let _ = &self.NAME; } a law on the values of a type, and calls of it as statements
     #![tactic(NAME)]  prove!(NAME);                               words to the prover, the second with the fact that it takes
     'NAME: while ..                                               the label of a loop that nothing leaves by name: proofs name loops by labels
     Drop                                                          in derives and bounds: the prover's word for a type that owns memory
@@ -26,9 +27,12 @@ WITH_BODIES = {"fn", "struct", "enum", "union", "macro_rules", *WITH_ITEMS}
 MODIFIERS = {"const", "unsafe", "async", "extern", "default"}
 # What documentation says of proofs, in lines joined by newlines. A sentence goes if it ends its line, and if it is the last paragraph, so does
 # the empty line above it.
-SENTENCE = r"(?:Contracts see |Clauses see |`laws::)[^.\n]*(?:\n//[/!] [^.\n]*)*\.$"
+SENTENCE = (r"(?:(?:Contracts|Clauses) see |`laws::|The laws of |What (?:they hold|it was started with) isn't known to contracts|"
+            r"Its members `reading` and `writing` say )[^.\n]*(?:\n//[/!] [^.\n]*)*\.$")
 VIEWS = re.compile(rf"\n//[/!]\n//[/!] {SENTENCE}(?!\n//[/!] )|^//[/!] {SENTENCE}\n?|(?<=\.) {SENTENCE}|"
-                   r", seen in contracts as [^.\n]*(?=\.$)| \(`(?:laws::|specs/)[^)\n]*\)", re.M)
+                   r", seen in contracts as [^.\n]*(?=\.$)|; no clause says so(?=\.$)| \(`(?:laws::|specs/)[^)\n]*\)", re.M)
+# The method that says what each value of its type guarantees, and does nothing.
+ON_VALUES = "keeps_the_rule"
 # The places of a bound's end.
 AFTER_BOUND = {",", ">", "+", "{", ";", "=", "where", "ensures", "requires"}
 
@@ -241,7 +245,7 @@ class Reader:
         body = self.find_body(noun, end)
         behind = self.past(body)
         if self.erases and self.is_law(noun, body):
-            self.leave_out("law", start, behind)
+            self.leave_out("law on values" if self.has(noun + 1, ON_VALUES) else "law", start, behind)
             return behind
         self.reading.items += 1
         first = len(self.reading.code)
@@ -274,11 +278,13 @@ class Reader:
         return self.past(at) if self.has(at, "{") else None
 
     def is_law(self, noun: int, body: int) -> bool:
-        """Whether a function is a law: it has clauses, no parameters, no answer, and its body calls laws alone."""
+        """Whether a function is a law: it has clauses, no parameters, no answer, and its body calls laws alone. Or it's the one on values."""
         if not self.has(noun, "fn") or not self.has(body, "{"):
             return False
         parameters = self.find(noun, body, "(")
         code = "".join(token.text for token in self.tokens[body + 1:self.partners[body]])
+        if self.has(noun + 1, ON_VALUES, "(", "&", "self", ")"):
+            return self.past_clause(noun + 6) is not None and re.fullmatch(r"let_=&self\.\w+;", code) is not None
         calls_laws = re.fullmatch(r"((\w+::)*laws::\w+\(\);)*", code) is not None
         return self.has(parameters, "(", ")") and self.past_clause(parameters + 2) is not None and calls_laws
 
@@ -295,8 +301,12 @@ class Reader:
     def statements(self, at: int, end: int) -> None:
         """Reads code, in which facts for the prover and labels are ghost text."""
         while at < end:
-            fact = self.past_fact(at) if self.erases and self.text(at - 1) in ("{", "}", ";") else None
-            if fact is not None:
+            begins = self.erases and self.text(at - 1) in ("{", "}", ";")
+            fact = self.past_fact(at) if begins else None
+            if begins and self.tokens[at].kind == "word" and self.has(at + 1, ".", ON_VALUES, "(", ")", ";"):
+                self.leave_out("law on values", at, at + 6)
+                fact = at + 6
+            elif fact is not None:
                 self.leave_out("fact", at, fact)
             elif self.erases and self.is_ghost_label(at):
                 self.leave_out("label", at, at + 2)

@@ -1,6 +1,6 @@
 //! Cases of erasing: a text, and what is left of it. `cargo test -p eraser NAME` runs one.
 
-use crate::ghost::{erase, has_laws_alone};
+use crate::ghost::{delete_calls, erase, has_laws_alone, laws_of_values};
 use crate::layout;
 use crate::source::{Fault, Source};
 use crate::tokens::tokens;
@@ -10,6 +10,8 @@ use std::path::{Path, PathBuf};
 fn left(text: &str) -> Result<String, Fault> {
     let mut source = Source::new(text)?;
     erase(&mut source)?;
+    let laws = laws_of_values(&source).into_iter().collect();
+    delete_calls(&mut source, &laws);
     Ok(layout::text(&source))
 }
 
@@ -97,6 +99,15 @@ cases! {
     which_law_is_about_it:
         "//! Alike (`laws::alike`). A\n//! text.\n\n/// Orders. `laws::orders` says more.\n///\n/// Variables (`specs/A` says which).\nfn a() {}\n"
         => "//! Alike. A\n//! text.\n\n/// Orders.\n///\n/// Variables.\nfn a() {}\n";
+    a_law_of_values:
+        "impl A {\n    /// It holds.\n    pub fn law(&self)\n        ensures { a }\n    {\n        let _ = &self.b;\n    }\n\n    fn c(&self) -> u8 {\n        self.law();\n        self.b.law();\n        self.law()\n    }\n}\n"
+        => "impl A {\n    fn c(&self) -> u8 {\n        self.b.law();\n        self.law()\n    }\n}\n";
+    methods_that_are_no_laws_of_values:
+        "impl A {\n    fn law(&self) {\n        let _ = &self.b;\n    }\n\n    fn c(&self)\n        ensures { a }\n    {\n        let _ = self.b();\n        self.law();\n    }\n}\n"
+        => "impl A {\n    fn law(&self) {\n        let _ = &self.b;\n    }\n\n    fn c(&self) {\n        let _ = self.b();\n        self.law();\n    }\n}\n";
+    what_contracts_do_not_know:
+        "/// Files. What they hold isn't known to contracts, and\n/// so any do.\nstruct A;\n\n/// Clean. The laws of names are about it.\nstruct B;\n\n/// Never fails; no clause says so.\nstruct C;\n"
+        => "/// Files.\nstruct A;\n\n/// Clean.\nstruct B;\n\n/// Never fails.\nstruct C;\n";
     documentation_that_goes_on:
         "/// A. Contracts see it. B.\n/// Contracts see, as `a.b`\n\n// A. Contracts see it.\nstruct A;\n"
         => "/// A. Contracts see it. B.\n/// Contracts see, as `a.b`\n\n// A. Contracts see it.\nstruct A;\n";

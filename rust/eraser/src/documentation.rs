@@ -6,9 +6,17 @@ use crate::tokens::Kind;
 /// What a line of documentation begins with.
 const MARKS: [&str; 2] = ["/// ", "//! "];
 /// How a sentence begins that goes if a line ends with it.
-const SENTENCES: [&str; 3] = ["Contracts see ", "Clauses see ", "`laws::"];
+const SENTENCES: [&str; 7] = [
+    "Contracts see ",
+    "Clauses see ",
+    "`laws::",
+    "The laws of ",
+    "What they hold isn't known to contracts",
+    "What it was started with isn't known to contracts",
+    "Its members `reading` and `writing` say",
+];
 /// How the rest of a sentence begins that goes if the line ends with it.
-const REST: &str = ", seen in contracts as ";
+const RESTS: [&str; 2] = [", seen in contracts as ", "; no clause says so"];
 /// How a parenthesis begins that goes.
 const PARENTHESES: [&str; 2] = [" (`laws::", " (`specs/"];
 
@@ -40,7 +48,7 @@ fn parenthesis(text: &str) -> Option<(usize, usize)> {
 
 // Where the rest of a sentence is that goes, without its full stop.
 fn rest(text: &str) -> Option<(usize, usize)> {
-    let start = text.find(REST)?;
+    let start = RESTS.iter().find_map(|it| text.find(it))?;
     let end = start + text[start..].find('.')?;
     (end + 1 == text.len()).then_some((start, end))
 }

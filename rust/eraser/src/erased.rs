@@ -2,7 +2,7 @@
 
 use crate::crates::Crate;
 use crate::error::Error;
-use crate::ghost::{delete_module, erase, has_laws_alone};
+use crate::ghost::{delete_calls, delete_module, erase, has_laws_alone, laws_of_values};
 use crate::layout;
 use crate::rewrites::rewritten;
 use crate::source::Source;
@@ -32,6 +32,10 @@ pub fn erased(root: &Path, of: &Crate) -> Result<ErasedCrate, Error> {
         let mut source = Source::new(text).map_err(at)?;
         erase(&mut source).map_err(at)?;
         files.insert(path.as_path(), source);
+    }
+    let of_values: BTreeSet<&str> = files.values().flat_map(laws_of_values).collect();
+    for source in files.values_mut() {
+        delete_calls(source, &of_values);
     }
     let mut found = ErasedCrate::default();
     for path in drop_laws(&mut files).map_err(|it| Error::NoModule(of.folder.join(it)))? {

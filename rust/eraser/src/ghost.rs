@@ -5,6 +5,7 @@ use crate::imports::{delete_leaf, imports};
 use crate::signature::{Signature, signature};
 use crate::source::{Class, Fault, Source};
 use crate::tokens::Kind;
+use std::collections::BTreeSet;
 
 /// Deletes all that plain Rust doesn't have, and what is left without a reader by that.
 pub fn erase(source: &mut Source<'_>) -> Result<(), Fault> {
@@ -91,7 +92,7 @@ fn statement_end(source: &Source<'_>, place: usize) -> Option<usize> {
 
 // A theorem, or the clauses of any other function. The writer of `fmt`.
 fn delete_of_function(source: &mut Source<'_>, found: &Signature) {
-    if found.is_law(source) {
+    if found.is_law(source) || found.is_law_of_values(source) {
         let end = source.partner(found.end);
         source.delete(source.item_start(found.keyword)..=end, Class::Law);
         return;
@@ -300,6 +301,38 @@ fn delete_unread_imports(source: &mut Source<'_>) {
             }
         }
     }
+}
+
+/// The names of the theorems on values of types.
+pub fn laws_of_values<'a>(source: &Source<'a>) -> Vec<&'a str> {
+    (0..source.len())
+        .filter_map(|it| signature(source, it))
+        .filter(|it| it.is_law_of_values(source))
+        .map(|it| source.word(it.name))
+        .collect()
+}
+
+/// Deletes the statements `VALUE.NAME();` that call theorems on values.
+pub fn delete_calls(source: &mut Source<'_>, names: &BTreeSet<&str>) {
+    for value in 0..source.len() {
+        if let Some(end) = call_end(source, value, names) {
+            source.delete(source.comments_above(value)..=end, Class::Law);
+        }
+    }
+}
+
+// Where a statement `VALUE.NAME();` ends that begins at a place.
+fn call_end(source: &Source<'_>, value: usize, names: &BTreeSet<&str>) -> Option<usize> {
+    let before = source.word(source.last(value)?);
+    let dot = source.next(value);
+    let name = source.next(dot);
+    let is_call = source.is_kept_code(value)
+        && source.is(value, Kind::Word)
+        && matches!(before, "{" | "}" | ";")
+        && source.word(dot) == "."
+        && names.contains(source.word(name));
+    let end = source.reads(source.next(name), &["(", ")"])?;
+    (is_call && source.word(end) == ";").then_some(end)
 }
 
 /// Whether a file had theorems, and has nothing but imports left.

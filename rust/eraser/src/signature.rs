@@ -68,6 +68,16 @@ impl Signature {
             && !self.clauses.is_empty()
             && has_calls_alone(source, self.end)
     }
+
+    /// Whether it takes a value alone, gives nothing, has clauses, and reads one field: a theorem on the values of a type.
+    pub fn is_law_of_values(&self, source: &Source<'_>) -> bool {
+        let takes_a_value = source.reads(self.parameters, &["(", "&", "self", ")"]);
+        let field = source.reads(self.end, &["{", "let", "_", "=", "&", "self", "."]);
+        takes_a_value.is_some()
+            && !self.has_result
+            && !self.clauses.is_empty()
+            && field.is_some_and(|it| source.reads(source.next(it), &[";", "}"]).is_some())
+    }
 }
 
 // The last token of the clause at a place, if one begins there.

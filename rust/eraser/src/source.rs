@@ -24,7 +24,8 @@ pub enum Class {
     Bound,
     /// `impl Model for ..`, which has nothing but ghost members, and the import of `Model`.
     Model,
-    /// A theorem: a function that takes and gives nothing. Also a file that has no other functions, and its `mod`.
+    /// A theorem: a function that takes and gives nothing, or takes a value alone and only reads a field, with its calls. Also a file that
+    /// has no other functions, and its `mod`.
     Law,
     /// The parameter of `fmt` for the writer. Rust's formatter has none.
     Writer,
