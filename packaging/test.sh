@@ -18,6 +18,8 @@ if [ ! -f "dist/zigrunk-$version.tar.gz" ]; then
     exit
 fi
 trap 'rm -rf --one-file-system "$scratch"' EXIT
+# a root has no such folder
+unset TMPDIR
 
 # no_mention COMMAND..: whether a command succeeds and prints nothing about this project.
 no_mention() {
