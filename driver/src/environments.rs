@@ -59,8 +59,8 @@ mod tests {
         let few = Environment(["A=1", "AB=x=y", "C="].map(|text| CString::new(text).unwrap()).into());
         assert_eq!((few.get("AB"), few.get("C"), few.get("B")), (Some("x=y".as_ref()), Some("".as_ref()), None));
         let changed = few.changed(&[("A".into(), None), ("C".into(), Some("2".into())), ("D".into(), Some("3".into()))]).unwrap();
-        assert_eq!(changed, [c"AB=x=y", c"C=2", c"D=3"]);
+        assert_eq!(changed, [c"AB=x=y", c"C=2", c"D=3"].map(Cow::Borrowed));
         assert!(few.changed(&[("A".into(), Some("\0".into()))]).is_err());
-        assert_eq!(few.with("A", "2".as_ref()).changed(&[]).unwrap(), [c"AB=x=y", c"C=", c"A=2"]);
+        assert_eq!(few.with("A", "2".as_ref()).changed(&[]).unwrap(), [c"AB=x=y", c"C=", c"A=2"].map(Cow::Borrowed));
     }
 }
