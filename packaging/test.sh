@@ -157,6 +157,7 @@ sources() {
     git archive HEAD | tar -x -C "$root/root/clone"
     check "$name: cargo" inside apt-get install -y --no-install-recommends make gcc libc6-dev pkg-config "$@"
     check "$name: make rust" offline make -s -C clone rust
+    check "$name: tests and examples compile" offline env -C /root/clone/out/rust cargo check --quiet --offline --workspace --all-targets
     check "$name: make install" offline make -s -C clone install PREFIX=/usr/local
     programs "$name, a clone"
     in_c "$name, a clone" /usr/local
