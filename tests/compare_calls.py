@@ -354,13 +354,15 @@ def file_differences(want: dict[str, bytes], got: dict[str, bytes], base: Path) 
 def said_differences(want: Ran, got: Ran) -> Iterator[Difference]:
     if (want["out"], want["err"]) == (got["out"], got["err"]):
         return
-    wanted, given = (sorted((said["out"] + said["err"]).splitlines()) for said in (want, got))
-    if wanted == given:
-        yield "stream-order", ""
+    lines = [sorted(text.splitlines()) for text in (want["out"], want["err"], got["out"], got["err"])]
+    wanted, given = (sorted(out + errors) for out, errors in (lines[:2], lines[2:]))
+    if lines[:2] == lines[2:]:
+        yield "ORDER", f"{got['out'] + got['err']!r}, not {want['out'] + want['err']!r}"
+    elif wanted == given:
+        yield "STREAM", f"{got['out']!r} on standard output, not {want['out']!r}"
     else:
-        lacks = [line for line in wanted if line not in given][:3]
-        extra = [line for line in given if line not in wanted][:3]
-        yield "SAID", f"lacks {lacks}, has {extra} ({len(wanted)} and {len(given)} lines)"
+        lacks, extra = ([*(Counter(one) - Counter(other)).elements()] for one, other in ((wanted, given), (given, wanted)))
+        yield "SAID", f"lacks {lacks[:3]}, has {extra[:3]} ({len(wanted)} and {len(given)} lines)"
 
 
 def differences(want: Ran, got: Ran, base: Path) -> list[Difference]:
