@@ -450,6 +450,12 @@ ROWS
         by_nvcc "a word isn't UTF-8"
         end
     fi
+    for variable in DEPENDENCIES_OUTPUT SUNPRO_DEPENDENCIES; do
+        case_of "nvcc makes a call with $variable" || continue
+        call "${plain[@]}" "$variable=d.txt" -c k.cu -o k.o
+        by_nvcc 'a variable has gcc write dependencies'
+        end
+    done
     if case_of 'the words of variables, which nvcc gets once'; then
         call NVCC_PREPEND_FLAGS='-DA  -DB' NVCC_APPEND_FLAGS=' -DC' OWN_DOES='echo "${NVCC_PREPEND_FLAGS-none} ${NVCC_APPEND_FLAGS-none}" > "$LOG.flags"' -c k.cu -o k.o
         splits
@@ -551,6 +557,24 @@ outputs() {
         same messages "$(head -n 1 "$room/err") $(sed 1d "$room/err" | cut -d ' ' -f 2 | paste -sd ' ')" "nvcc warns $order"
         end
     fi
+    if case_of 'what nvcc would have said by now is said at once'; then
+        until_said='tries=0; until grep -q early "${LOG%/*}/err"; do tries=$((tries + 1)); [ "$tries" -lt 600 ] || exit 9; sleep 0.05; done'
+        for does in "[ \"\$name\" != gcc-E ] || { echo early >&2; $until_said; }" "case \$name in gcc-E) echo early >&2 ;; cudafe++) $until_said ;; esac"; do
+            call TOOL_DOES="$does" -c k.cu -o k.o
+            same 'status and messages' "$status $(cat "$room/err")" '0 early'
+        done
+        call TOOL_DOES='case $name in gcc-E.80) echo later >&2 ;; gcc-E) until grep -q "^- gcc-E.80" "$LOG"; do sleep 0.05; done; sleep 0.5; cat "${LOG%/*}/err" > "$LOG.seen" ;; esac' -c k.cu -o k.o
+        same 'what nvcc would say later' "$status $(cat "$room/err" "$room/log.seen")" '0 later'
+        end
+    fi
+    if case_of 'a command fails, and nvcc has several threads'; then
+        prints='/^#\$ [a-z]/ s,$, > /t/1_stdout 2>/t/1_stderr,'
+        call OWN_FORM="$prints" TOOL_DOES='case $name in cicc.80) echo "bad $name" >&2; exit 6 ;; gcc-E.90) echo "says $name" >&2 ;; esac' ZIGRUNK_JOBS=1 -t2 -c k.cu -o k.o
+        same 'status and messages' "$status $(cat "$room/err")" $'255 bad cicc.80'
+        call OWN_FORM="$prints" ZIGRUNK_JOBS=1 -t2 -c k.cu -o k.o
+        splits
+        end
+    fi
     while IFS='|' read -r what wanted does; do
         case_of "a command fails: $what" || continue
         call TOOL_DOES="$does" -c k.cu -o k.o
@@ -624,6 +648,21 @@ products() {
         same 'by nvcc' "$status$(cat x.d "$room/err")" '0by nvcc'
         call SOURCE=j.cu -MD -c k.cu -o k.o
         same 'by nvcc, for another form' "$status$(cat k.d)" '0by nvcc'
+        end
+    fi
+    if case_of 'with a dependency file, preprocessors speak first'; then
+        call TOOL_DOES='echo "err $name" >&2' -MD -c k.cu -o k.o
+        same messages "$status $(cut -d ' ' -f 2 "$room/err" | paste -sd ' ')" '0 gcc-E.80 gcc-E.90 gcc-E cudafe++ cicc.80 ptxas.80 cicc.90 ptxas.90 fatbinary gcc-c'
+        rm k.d
+        call TOOL_DOES='[ "$name" != gcc-E.80 ] || { echo "bad $name" >&2; exit 6; }' -MD -c k.cu -o k.o
+        same 'one that fails' "$status $(cat "$room/err") $(find . -name k.d)" '6 bad gcc-E.80 '
+        end
+    fi
+    if case_of 'names of generated files'; then
+        call TOOL_DOES='[ "$name" != gcc-c ] || echo "$*" > "$LOG.words"' -c k.cu -o k.o
+        same "nvcc's" "$(grep -o '[^/ ]*\.cudafe1\.cpp' "$room/log.words")" kernel.compute_90.cudafe1.cpp
+        call ZIGRUNK_LAUNCHER=env TOOL_DOES='[ "$name" != gcc-c ] || echo "$*" > "$LOG.words"' -c k.cu -o k.o
+        same 'with a launcher' "$(grep -o '[^/ ]*\.cudafe1\.cpp' "$room/log.words")" x_0.cudafe1.cpp
         end
     fi
     if case_of 'a dependency file that nvcc cannot make'; then

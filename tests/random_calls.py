@@ -202,11 +202,6 @@ def is_debug(line: str, want: Ran, got: Ran, found: Difference) -> bool:
     return found[0] == "CONTENT" and re.search(r"-G\b|device-debug", line) is not None and not found[1].endswith(".ptx")
 
 
-def is_kept_stub(line: str, want: Ran, got: Ran, found: Difference) -> bool:
-    """--keep-dir: the first line of the kept stub names another directory."""
-    return found[0] == "CONTENT" and "keep-dir" in line and found[1].endswith(".cudafe1.stub.c")
-
-
 def is_later_failure(line: str, want: Ran, got: Ran, found: Difference) -> bool:
     """A command fails: others run at the same time, and what they make is kept. Of several targets a later one may fail first."""
     kept = found[0] == "FILE-EXTRA" and re.search(r"-keep|save-temps", line) is not None
@@ -215,36 +210,8 @@ def is_later_failure(line: str, want: Ran, got: Ran, found: Difference) -> bool:
 
 
 def is_failure_of_threads(line: str, want: Ran, got: Ran, found: Difference) -> bool:
-    """--threads: the status of a failure is the command's, not 255, and messages end with the first command that fails."""
-    if not both_fail(want, got) or want["status"] != 255 or re.search(r"--threads|-t[ =\d]", line) is None:
-        return False
-    return found[0] == "STATUS" or (found[0] == "SAID" and found[1].startswith("lacks [], has []"))
-
-
-def is_directory_of_ptxas(line: str, want: Ran, got: Ran, found: Difference) -> bool:
-    """--keep-dir: ptxas's messages name no directory."""
-    return found[0] == "SAID" and "keep-dir" in line and re.sub(r"ptxas \S*/", "ptxas ", want["err"]) == got["err"]
-
-
-def is_host_code_of_dependencies(line: str, want: Ran, got: Ran, found: Difference) -> bool:
-    """-MD without host code, or of a C or C++ source: the same lines, some more often, and a kept file more."""
-    if re.search(r"-MM?D|with-compile", line) is None:
-        return False
-    kept = (".cpp4.ii", "host.ii", "host.i")
-    if found[0] == "GONE":
-        # A folder that was empty isn't any more, since the file is in it.
-        folders = tuple(set(want["gone"]) - set(got["gone"]))
-        return set(got["gone"]) < set(want["gone"]) and all(name.endswith(kept) for name in want["made"] if name.startswith(folders))
-    says_nothing_more = found[0] == "SAID" and found[1].startswith("lacks [], has []")
-    return says_nothing_more or (found[0] == "FILE-LACKS" and found[1].endswith(kept))
-
-
-def is_name_of_generated(line: str, want: Ran, got: Ran, found: Difference) -> bool:
-    """The host compiler finds fault with a generated file: its messages have the canonical name, and mark as many characters."""
-    def unnamed(said: str) -> str:
-        return re.sub(r"(?m)^ +\| +\^~*$", "", re.sub(r"(?:x_0|[\w.]+(?: ace)?)\.cudafe1\.", "NAME.cudafe1.", said))
-
-    return found[0] == "SAID" and want["err"] != got["err"] and unnamed(want["err"]) == unnamed(got["err"])
+    """--threads: several commands fail at once, or others speak: nvcc tells of them as they end."""
+    return both_fail(want, got) and want["status"] == 255 and found[0] in ("SAID", "ORDER") and re.search(r"--threads|-t[ =\d]", line) is not None
 
 
 def is_left_by_nvcc(line: str, want: Ran, got: Ran, found: Difference) -> bool:
@@ -253,10 +220,7 @@ def is_left_by_nvcc(line: str, want: Ran, got: Ran, found: Difference) -> bool:
 
 
 # The rows of docs/DIFFERENCES.md, "From nvcc", that such calls can show.
-KNOWN: list[Callable[[str, Ran, Ran, Difference], bool]] = [
-    is_debug, is_kept_stub, is_later_failure, is_failure_of_threads, is_directory_of_ptxas, is_host_code_of_dependencies,
-    is_name_of_generated, is_left_by_nvcc,
-]
+KNOWN: list[Callable[[str, Ran, Ran, Difference], bool]] = [is_debug, is_later_failure, is_failure_of_threads, is_left_by_nvcc]
 
 
 def row_of(line: str, want: Ran, got: Ran, found: Difference) -> str:

@@ -93,12 +93,9 @@ impl Call<'_> {
         let host = Host::of_process(&self.settings, make, environment, Rc::clone(&folder));
         let mut host = host.map_err(|lacks| format!("no {lacks} for the call"))?;
         let begun = SystemTime::now();
-        let outcome = split.run(&mut host, &outline);
+        let outcome = split.run(&mut host, &outline, &mut |is_error, text| drop(say(if is_error { 2 } else { 1 }, text)));
         self.host = Some(host);
         let outcome = outcome?;
-        for (is_error, text) in &outcome.said {
-            let _ = say(if *is_error { 2 } else { 1 }, text);
-        }
         if let Some(keep_dir) = &outline.keep_dir {
             products::keep(folder.path(), Path::new(keep_dir), begun);
         }

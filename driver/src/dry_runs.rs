@@ -14,6 +14,10 @@ pub struct DryRuns {
     pub second: Vec<u8>,
     /// Its warnings of the line as it is.
     pub messages: Vec<u8>,
+    /// Whether nvcc would run the line's commands side by side.
+    pub has_threads: bool,
+    /// What is in front of the stub file's name, as nvcc gives it to the command that writes the file.
+    pub stub_folder: Option<String>,
 }
 
 /// Why there are no dry runs.
@@ -68,6 +72,7 @@ fn all<M: Machine>(machine: &mut M, jobs: &[Job], meanwhile: impl FnOnce() -> Re
                 ended[number] = Some(one);
                 Ok(())
             }
+            Event::Printed(..) => Ok(()),
             Event::Lost(reason) => Err(reason),
             Event::Signal(number) => {
                 machine.end_all(number);
@@ -129,6 +134,7 @@ pub fn make<M: Machine>(machine: &mut M, line: &Line<'_>, meanwhile: impl FnOnce
     jobs.extend(outline.keep_dir.is_some().then(|| planned_job(&outline.first_dry_run)));
     let mut ended = all(machine, &jobs, meanwhile)?.into_iter();
     let (Some(own), Some(second), first) = (ended.next(), ended.next(), ended.next()) else { return Err(fails()) };
+    let has_threads = prints_to_files(&own.errors) || fails_by_threads(&own.errors);
     let own = if own.status.succeeded() { own.errors } else { for_one_thread(machine, line, &own.errors)? };
     if [Some(&second), first.as_ref()].into_iter().flatten().any(|run| !run.status.succeeded()) {
         return Err(fails());
@@ -144,7 +150,21 @@ pub fn make<M: Machine>(machine: &mut M, line: &Line<'_>, meanwhile: impl FnOnce
     if !is_agreed {
         return Err(Failed::ByNvcc("nvcc reads the line otherwise".into()));
     }
-    Ok(DryRuns { first: commands, second: second.errors, messages: bytes(remarks_in(Global, &own))? })
+    Ok(DryRuns { first: commands, second: second.errors, messages: bytes(remarks_in(Global, &own))?, has_threads, stub_folder: stub_folder(&own) })
+}
+
+/// What a dry run has in front of the stub file's name, the last time that it names the file.
+fn stub_folder(run: &[u8]) -> Option<String> {
+    let (_, rest) = std::str::from_utf8(run).ok()?.rsplit_once("--stub_file_name \"")?;
+    let (name, _) = rest.split_once('"')?;
+    Some(name.rfind('/').map_or("", |slash| &name[..=slash]).to_owned())
+}
+
+/// Whether a dry run's commands run side by side: then each prints to files.
+fn prints_to_files(run: &[u8]) -> bool {
+    const BETWEEN: &[u8] = b"_stdout 2>";
+    let prints = |line: &[u8]| line.ends_with(b"_stderr") && line.windows(BETWEEN.len()).any(|part| part == BETWEEN);
+    run.split(|&byte| byte == b'\n').any(|line| line.starts_with(b"#$ ") && prints(line))
 }
 
 /// Makes the two dry runs of a plan alone, and says how each ended.
@@ -247,7 +267,7 @@ mod tests {
     }
 
     fn runs(first: &str, second: &str, messages: &str) -> DryRuns {
-        DryRuns { first: first.into(), second: second.into(), messages: messages.into() }
+        DryRuns { first: first.into(), second: second.into(), messages: messages.into(), ..DryRuns::default() }
     }
 
     fn to_nvcc(reason: &str) -> Result<DryRuns, Failed> {
@@ -315,5 +335,28 @@ mod tests {
         let ended = make_planned(&mut machine, &outline(None)).unwrap();
         assert_eq!(ended.iter().map(|run| (run.status.code, run.errors.as_slice())).collect::<Vec<_>>(), [(0, &b"a"[..]), (3, b"b")]);
         assert_eq!(machine.started.iter().map(|job| job.words.join(" ")).collect::<Vec<_>>(), ["nvcc first", "nvcc second"]);
+    }
+
+    #[test]
+    fn the_stub_file_is_named_last_where_it_is_written() {
+        let of = |name: &str| format!("#$ cudafe++ --stub_file_name \"k.cudafe1.stub.c\" x\n#$ cicc --stub_file_name \"{name}\" \"k.cpp1.ii\"\n");
+        for (name, wanted) in [("k.stub.c", ""), ("./a b/k.stub.c", "./a b/"), ("/t/k.stub.c", "/t/"), ("/k.stub.c", "/")] {
+            assert_eq!(stub_folder(of(name).as_bytes()).as_deref(), Some(wanted), "{name}");
+        }
+        assert_eq!(stub_folder(b"#$ gcc -c k.cpp\n"), None);
+    }
+
+    #[test]
+    fn commands_that_run_side_by_side_print_to_files() {
+        let cases = [
+            ("#$ _CUDART_=cudart\n#$ gcc -E \"k.cu\"  > /t/tmpxft_1-9_1f_stdout 2>/t/tmpxft_1-9_1f_stderr\n#$ x\n", true),
+            ("#$ gcc -E \"k.cu\" -o \"a_stdout 2>b_stderr\"\n", false),
+            ("gcc > /t/a_stdout 2>/t/a_stderr\n", false),
+            ("#$ gcc > /t/a_stdout\n#$ gcc 2>/t/a_stderr\n", false),
+            ("", false),
+        ];
+        for (run, wanted) in cases {
+            assert_eq!(prints_to_files(run.as_bytes()), wanted, "{run}");
+        }
     }
 }

@@ -142,10 +142,16 @@ impl MovedStub {
     }
 }
 
+/// Has preprocessors not wait for each other, unless they share a file.
+pub fn free_preprocessors(tasks: &mut [Task], commands: &[PlannedCommand]) {
+    for (task, command) in tasks.iter_mut().zip(commands).filter(|(_, command)| command.preprocesses) {
+        task.needs.retain(|&need| !may_go_ahead(command, &commands[need]));
+    }
+}
+
 /// Lets tasks begin before one that they need has ended. `tasks` are those of `commands`, but that others may follow the last but one.
 pub fn allow(tasks: &mut [Task], commands: &[PlannedCommand], tmp: &str) {
     for (number, task) in tasks.iter_mut().enumerate().take(commands.len().saturating_sub(1)) {
-        task.needs.retain(|&need| !may_go_ahead(&commands[number], &commands[need]));
         task.head_start = head_start(commands, number, &task.job, tmp);
     }
 }
@@ -249,7 +255,7 @@ mod tests {
             command("gcc -c k.cpp", &[4], &[], &[]),
         ];
         let mut tasks: Vec<Task> = commands.iter().map(|command| Task { needs: command.needs.clone(), ..Task::default() }).collect();
-        allow(&mut tasks, &commands, "/t");
+        free_preprocessors(&mut tasks, &commands);
         let needs: Vec<Vec<usize>> = tasks.into_iter().map(|task| task.needs).collect();
         assert_eq!(needs, [vec![], vec![], vec![0], vec![0], vec![1], vec![4]]);
     }

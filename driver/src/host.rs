@@ -24,6 +24,8 @@ use std::time::{Duration, Instant, SystemTime};
 
 /// How many milliseconds a call that waits for a slot sleeps at most, until it looks again for a slot of a call that died.
 const LOOK: i32 = 200;
+/// How many milliseconds what a command prints may wait until it is noticed.
+const HEARING: i32 = 100;
 /// How long commands may take to end after a signal.
 const GRACE: Duration = Duration::from_millis(700);
 
@@ -51,6 +53,8 @@ struct Running {
     permit: Option<Permit>,
     out: File,
     errors: Printed,
+    /// How many bytes it had printed when it was last listened to.
+    heard: u64,
     begun: f64,
 }
 
@@ -69,6 +73,8 @@ pub struct Host {
     wants: bool,
     permit: Option<Permit>,
     running: Vec<Running>,
+    /// The job that is listened to.
+    listened: Option<usize>,
     events: VecDeque<Event>,
     beaten: Instant,
 }
@@ -84,6 +90,10 @@ pub fn nanoseconds() -> u64 {
     time.as_secs() * 1_000_000_000 + u64::from(time.subsec_nanos())
 }
 
+fn size_of(file: &File) -> u64 {
+    file.metadata().map_or(0, |file| file.len())
+}
+
 impl Printed {
     /// For a terminal's end that is read.
     fn drain(&mut self) {
@@ -94,11 +104,20 @@ impl Printed {
         }
     }
 
-    fn text(mut self) -> io::Result<Vec<u8>> {
+    /// All that was printed up to now.
+    fn text(&mut self) -> io::Result<Vec<u8>> {
         self.drain();
         match self {
-            Printed::Memory(file) => content(&file),
-            Printed::Terminal(_, text) => Ok(text),
+            Printed::Memory(file) => content(file),
+            Printed::Terminal(_, text) => Ok(text.clone()),
+        }
+    }
+
+    /// How many bytes were printed up to now.
+    fn size(&self) -> u64 {
+        match self {
+            Printed::Memory(file) => size_of(file),
+            Printed::Terminal(_, text) => text.len() as u64,
         }
     }
 }
@@ -152,6 +171,7 @@ impl Host {
             wants: false,
             permit: None,
             running: Vec::new(),
+            listened: None,
             events: VecDeque::new(),
             beaten: Instant::now(),
         })
@@ -271,7 +291,7 @@ impl Host {
     /// Notes that a child has ended.
     fn ended(&mut self, process: i32, status: Status) {
         let Some(at) = self.running.iter().position(|running| running.process == process) else { return };
-        let running = self.running.swap_remove(at);
+        let mut running = self.running.swap_remove(at);
         // SAFETY: the place is one of a page that lasts as long as this process.
         unsafe { ptr::write_volatile(self.shared.group(running.place), 0) };
         self.keep_or_give_back(running.permit);
@@ -305,7 +325,9 @@ impl Host {
             Printed::Memory(_) => None,
         }));
         let holds = self.permit.is_some() || !self.running.is_empty();
-        let longest = if waits.is_some() {
+        let longest = if self.running.iter().any(|running| self.listened == Some(running.number)) {
+            HEARING
+        } else if waits.is_some() {
             LOOK
         } else if holds {
             BEAT
@@ -318,6 +340,19 @@ impl Host {
         }
         self.running.iter_mut().for_each(|running| running.errors.drain());
         self.beat();
+    }
+
+    /// Notes what the job that is listened to has printed, if that is more than before.
+    fn listen_to_job(&mut self) {
+        let Some(running) = self.running.iter_mut().find(|running| self.listened == Some(running.number)) else { return };
+        let size = size_of(&running.out) + running.errors.size();
+        if size == running.heard {
+            return;
+        }
+        if let (Ok(out), Ok(errors)) = (content(&running.out), running.errors.text()) {
+            running.heard = size;
+            self.events.push_back(Event::Printed(running.number, [out, errors]));
+        }
     }
 
     /// Says once a second that this call runs.
@@ -386,9 +421,14 @@ impl Machine for Host {
         self.has_permit() && !self.slots.as_ref().is_some_and(Slots::are_wanted)
     }
 
+    fn listen(&mut self, job: Option<usize>) {
+        self.listened = job;
+    }
+
     fn next(&mut self) -> Event {
         loop {
             self.take_signals();
+            self.listen_to_job();
             if let Some(event) = self.events.pop_front() {
                 return event;
             }
@@ -425,7 +465,7 @@ impl Machine for Host {
         let streams = [self.null.as_raw_fd(), out.as_raw_fd(), program_errors.as_raw_fd()];
         let process = image.start(streams, &self.signals, self.shared.group(place), &complaint)?;
         let permit = if job.shares_slot { None } else { self.permit.take() };
-        self.running.push(Running { number, process, place, permit, out, errors, begun });
+        self.running.push(Running { number, process, place, permit, out, errors, heard: 0, begun });
         Ok(())
     }
 

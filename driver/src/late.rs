@@ -34,14 +34,13 @@ impl Include {
     }
 }
 
-/// Variables by which gcc does more than its words say.
-const ODD_VARIABLES: [&str; 3] = ["DEPENDENCIES_OUTPUT", "GCC_COMPARE_DEBUG", "SUNPRO_DEPENDENCIES"];
+/// A variable by which gcc does more than its words say.
+const ODD_VARIABLE: &str = "GCC_COMPARE_DEBUG";
 
 /// Whether a call's commands may be begun so, which its caller has to ask for. A cache and a runner get the plan's own.
 pub fn is_on(settings: &Settings) -> bool {
     let is_asked = env::var_os("ZIGRUNK_LATE").is_some_and(|value| value == "1");
-    let is_odd = ODD_VARIABLES.iter().any(|name| env::var_os(name).is_some());
-    is_asked && !is_odd && settings.launcher.is_empty() && settings.runner.is_empty()
+    is_asked && env::var_os(ODD_VARIABLE).is_none() && settings.launcher.is_empty() && settings.runner.is_empty()
 }
 
 /// Whether a command is gcc's by its program's name, as `g++-12`.

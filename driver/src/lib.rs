@@ -30,6 +30,7 @@ mod split;
 mod streams;
 mod system;
 mod tasks;
+mod voice;
 #[cfg(test)]
 mod whole_call;
 mod withheld;

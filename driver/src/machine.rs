@@ -32,6 +32,8 @@ pub enum Event {
     Slot,
     /// The job of this number has ended.
     Ended(usize, Ended),
+    /// The job that is listened to has printed more: all of its output and of its messages up to now.
+    Printed(usize, [Vec<u8>; 2]),
     /// A signal ends the call.
     Signal(i32),
     /// The machine can't go on, and why.
@@ -50,6 +52,9 @@ pub trait Machine {
 
     /// Says whether what follows is part of planning the call.
     fn plans(&mut self, _: bool) {}
+
+    /// Says which job is listened to while it runs, if one is.
+    fn listen(&mut self, _: Option<usize>) {}
 
     /// Waits for what comes next. Without a job that runs or is wanted, that is a signal.
     fn next(&mut self) -> Event;

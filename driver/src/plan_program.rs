@@ -114,7 +114,7 @@ fn plan_of(asked: &Asked<'_>) -> Result<String, Refusal> {
     }
     let [first, second] = ended.as_slice() else { return Err(refusal(1, "zigrunk-plan: a dry run is missing")) };
     let dry_runs = [first.errors.as_slice(), second.errors.as_slice()];
-    let of = ToPlan { dry_runs, cwd: &line.cwd, tmp: &tmp, flag: &outline.flag, keeps: outline.keep_dir.is_some() };
+    let of = ToPlan { dry_runs, cwd: &line.cwd, tmp: &tmp, flag: &outline.flag, keeps_names: outline.keep_dir.is_some() };
     let (file, commands) = planner::plan_file(asked.format, &of).map_err(|reason| refusal(1, format!("zigrunk-plan: {reason}")))?;
     Ok(if asked.format == "ninja" { described(&file, &commands) } else { file })
 }

@@ -182,8 +182,8 @@ pub struct ToPlan<'a> {
     pub cwd: &'a str,
     pub tmp: &'a str,
     pub flag: &'a str,
-    /// Whether generated files keep nvcc's names.
-    pub keeps: bool,
+    /// Whether generated files have the names that nvcc gives those that it keeps.
+    pub keeps_names: bool,
 }
 
 /// Plans a call.
@@ -196,7 +196,7 @@ fn planned(of: &ToPlan<'_>) -> Result<PlanWithOrigins, String> {
         cwd: of.cwd,
         tmp: of.tmp,
         compilation_flag: of.flag,
-        keep_dir: of.keeps.then_some(of.tmp),
+        keep_dir: of.keeps_names.then_some(of.tmp),
         env_vars: &[],
         host_compiler: NvccHostCompiler::Gcc,
         suffixes: &suffixes,

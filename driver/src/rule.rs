@@ -1,7 +1,8 @@
 //! The dependency file of a call, made from what its preprocessors have written.
 use crate::planner::{PlannedCommand, Words, list_of};
-use crate::run::Watch;
+use crate::run::{Done, Watch};
 use crate::streams::{complain, content_of, write_all};
+use crate::voice::Voice;
 use dependency_rules::{Rule, order_of, rule_asked, rule_text};
 use rattle_std::alloc::{AllocError, Global};
 use rattle_std::vec::{Collect, Vec as List};
@@ -15,14 +16,15 @@ use texts::words::Words as WordList;
 /// The tools whose commands the cache refuses, of all calls that this process makes.
 pub type Refusals = Mutex<BTreeSet<String>>;
 
-/// Makes the dependency file, and tells of a cache that refuses a command.
-pub struct RuleMaker<'a> {
+/// Makes the dependency file, tells of a cache that refuses a command, and hands what commands say to the call's voice.
+pub struct RuleMaker<'a, 'b> {
     pub commands: &'a [PlannedCommand],
     /// The command that makes it by nvcc, if the line asks for one.
     pub asked: Option<&'a Words>,
     /// The cache's name.
     pub launcher: &'a str,
     pub refusals: &'a Refusals,
+    pub voice: Voice<'b>,
 }
 
 /// The words of commands.
@@ -31,7 +33,7 @@ fn word_lists(commands: &[&PlannedCommand]) -> Result<Vec<WordList>, AllocError>
     commands.iter().map(words).collect()
 }
 
-impl RuleMaker<'_> {
+impl RuleMaker<'_, '_> {
     /// What the preprocessors have written, in the order in which nvcc reads it. `None` if nvcc has to make the rule.
     fn written(&self) -> Option<Vec<Bytes>> {
         let commands: Vec<&PlannedCommand> = self.commands.iter().filter(|command| command.preprocesses).collect();
@@ -53,7 +55,7 @@ impl RuleMaker<'_> {
     }
 }
 
-impl Watch for RuleMaker<'_> {
+impl Watch for RuleMaker<'_, '_> {
     fn make_rule(&mut self) -> bool {
         self.try_make().is_some()
     }
@@ -67,11 +69,24 @@ impl Watch for RuleMaker<'_> {
     fn refuses(&self, tool: &str) -> bool {
         self.refusals.lock().is_ok_and(|refusals| refusals.contains(tool))
     }
+
+    fn front(&self) -> Option<usize> {
+        self.voice.front()
+    }
+
+    fn hear(&mut self, number: usize, texts: [&[u8]; 2]) {
+        self.voice.hear(number, texts);
+    }
+
+    fn tell(&mut self, done: &[Done]) {
+        self.voice.tell(done);
+    }
 }
 
 #[cfg(test)]
 mod tests {
     use super::*;
+    use crate::voice::Habits;
     use std::fs;
     use std::path::PathBuf;
 
@@ -97,7 +112,9 @@ mod tests {
         fn made(&self, asked: &str, commands: &[PlannedCommand]) -> Option<String> {
             let _ = fs::remove_file(self.0.join("k.d"));
             let words = Words { folder: self.0.to_str().unwrap().into(), words: asked.split(' ').map(String::from).collect() };
-            let mut maker = RuleMaker { commands, asked: Some(&words), launcher: "", refusals: &Refusals::default() };
+            let mut nobody = |_: bool, _: &[u8]| ();
+            let voice = Voice::new(&[], Habits::default(), &mut nobody);
+            let mut maker = RuleMaker { commands, asked: Some(&words), launcher: "", refusals: &Refusals::default(), voice };
             maker.make_rule().then(|| fs::read_to_string(self.0.join("k.d")).unwrap())
         }
     }

@@ -20,6 +20,8 @@ pub struct Task {
     pub needs: Vec<usize>,
     /// Whether the driver may do it itself, without a process.
     pub is_rule: bool,
+    /// Whether it only preprocesses.
+    pub preprocesses: bool,
     /// What it is, for the log: a program, what it does, and for which target.
     pub kind: String,
     /// How long it usually takes, in any unit: the longer what waits for a command, the earlier it starts.
@@ -85,6 +87,14 @@ pub trait Watch {
     fn refused(&mut self, tool: &str);
     /// Whether the cache has refused commands of a tool.
     fn refuses(&self, tool: &str) -> bool;
+    /// The task whose texts it wants while that runs, if it wants those of one.
+    fn front(&self) -> Option<usize> {
+        None
+    }
+    /// Hears what this task has printed up to now.
+    fn hear(&mut self, _: usize, _: [&[u8]; 2]) {}
+    /// Hears what has become of the tasks by now.
+    fn tell(&mut self, _: &[Done]) {}
 }
 
 /// Makes no dependency file.
@@ -166,6 +176,7 @@ impl<'a, M: Machine, W: Watch> Run<'a, M, W> {
         let mut is_held_back = false;
         loop {
             while self.make_rules()? || self.take_up()? {}
+            self.watch.tell(&self.done);
             if self.schedule.over() {
                 self.machine.want(false);
                 self.end_early();
@@ -175,12 +186,15 @@ impl<'a, M: Machine, W: Watch> Run<'a, M, W> {
             while next.is_none() && self.begin_early() {}
             self.note_asked(next);
             self.machine.want(next.is_some() && !is_held_back);
+            let front = self.watch.front().filter(|front| !self.early.contains_key(front) && !self.is_void[*front]);
+            self.machine.listen(front);
             match self.machine.next() {
                 Event::Slot => is_held_back = self.start(next)?,
                 Event::Ended(number, ended) => {
                     is_held_back = false;
                     self.ended(number, ended)?;
                 }
+                Event::Printed(number, [out, errors]) => self.watch.hear(number, [&out, &errors]),
                 Event::Signal(number) => return Err(Stopped::Signal(number)),
                 Event::Lost(reason) => return Err(Stopped::NoProcess(reason)),
             }

@@ -10,9 +10,10 @@ use crate::places::absolute;
 use crate::planner::{self, Line, Outline, PlannedCommand, ToPlan};
 use crate::products;
 use crate::rule::{Refusals, RuleMaker};
-use crate::run::{self, Done, NoRule, Stopped, Task};
+use crate::run::{self, Done, Stopped, Task};
 use crate::settings::Settings;
 use crate::tasks::{self, Surroundings};
+use crate::voice::{End, Habits, Say, Voice};
 use dry_run_pairs::runs_devices_first;
 use std::env;
 use std::fs;
@@ -55,6 +56,9 @@ pub fn by_nvcc<T>(reason: &str) -> Result<T, Stop> {
     Err(Stop::ByNvcc(reason.to_owned()))
 }
 
+/// Variables by which each command of gcc adds to one file, so that their order shows there.
+const DEPENDENCY_VARIABLES: [&str; 2] = ["DEPENDENCIES_OUTPUT", "SUNPRO_DEPENDENCIES"];
+
 /// The words of nvcc's variable, as it cuts its value. A call is split only if they have no quotes.
 fn flags(name: &str) -> Vec<String> {
     env::var(name).unwrap_or_default().split_whitespace().map(String::from).collect()
@@ -72,8 +76,6 @@ pub type Said = Vec<(bool, Vec<u8>)>;
 #[derive(Clone, PartialEq, Debug, Default)]
 pub struct Outcome {
     pub status: i32,
-    /// What nvcc and the commands said, in nvcc's order.
-    pub said: Said,
     /// The commands as the log has them.
     pub commands: Vec<String>,
     /// What the cache had counted before and after.
@@ -97,6 +99,8 @@ struct Planned {
     tasks: Vec<Task>,
     /// Whether its last host compile begins before the fatbin is there.
     is_late: bool,
+    /// How its voice speaks.
+    habits: Habits,
 }
 
 impl Call<'_> {
@@ -104,8 +108,8 @@ impl Call<'_> {
         self.folder.path().to_str().ok_or_else(|| "the temporary directory isn't UTF-8".to_owned().into())
     }
 
-    /// Whether nvcc's tools run in the call's own directory. A cache may look an answer up by a command's words, so it gets those of the
-    /// plan, which name no directory.
+    /// Whether nvcc's tools run in the call's own directory, and generated files have nvcc's names, which tools show. A cache may look an
+    /// answer up by a command's words, so it gets those of the plan, which name no directory and don't depend on the call.
     fn runs_in_place(&self) -> bool {
         self.settings.launcher.is_empty()
     }
@@ -120,21 +124,26 @@ impl Call<'_> {
         line.variables.extend(self.runs_in_place().then(|| ("ZIGRUNK_IN_PLACE".to_owned(), "1".to_owned())));
         let outline = planner::outline_of(&line, self.tmp()?)?;
         check(&outline)?;
+        if DEPENDENCY_VARIABLES.iter().any(|name| env::var_os(name).is_some()) {
+            return by_nvcc("a variable has gcc write dependencies");
+        }
         Ok(outline)
     }
 
     /// Plans the call.
     fn planned(&self, outline: &Outline, dry_runs: &DryRuns) -> Result<Planned, Stop> {
-        let (line, tmp, keeps) = (self.line, self.tmp()?, outline.keep_dir.is_some());
-        let to_plan = ToPlan { dry_runs: [&dry_runs.first, &dry_runs.second], cwd: &line.cwd, tmp, flag: &outline.flag, keeps };
-        let mut commands = if self.runs_in_place() { planner::plan_in_place(&to_plan)? } else { planner::plan(&to_plan)? };
+        let (tmp, keeps) = (self.tmp()?, outline.keep_dir.is_some());
+        let mut commands = self.commands(dry_runs, outline, tmp)?;
         let late = if late::is_on(self.settings) && !keeps { late::begin_early(&mut commands, tmp) } else { None };
         let is_early = early::is_on(self.settings) && !keeps;
         let compile = commands.len().checked_sub(2).filter(|_| is_early && late.is_some());
         let moved = compile.and_then(|compile| early::move_stub(&mut commands, compile, tmp));
-        let scratch = self.settings.scratch().map(|path| absolute(path, Path::new(&line.cwd)).to_string_lossy().into_owned());
+        let scratch = self.settings.scratch().map(|path| absolute(path, Path::new(&self.line.cwd)).to_string_lossy().into_owned());
         let surroundings = Surroundings { settings: self.settings, tmp, scratch };
         let mut tasks = tasks::tasks_of(&commands, outline.dependencies.as_ref(), &surroundings);
+        if is_early || dry_runs.has_threads || outline.dependencies.is_some() {
+            early::free_preprocessors(&mut tasks, &commands);
+        }
         if is_early {
             early::allow(&mut tasks, &commands, tmp);
         }
@@ -143,39 +152,69 @@ impl Call<'_> {
         }
         let is_late = late.is_some();
         tasks.last_mut().into_iter().for_each(|last| last.include.clone_from(&late));
-        Ok(Planned { commands, tasks, is_late })
+        let tasks = tasks::in_nvccs_order(tasks);
+        let habits = habits_of(&tasks, is_late, dry_runs, outline)?;
+        Ok(Planned { commands, tasks, is_late, habits })
     }
 
-    /// Makes the dry runs, plans the call and runs its commands.
+    /// The commands of the call's plan.
+    fn commands(&self, dry_runs: &DryRuns, outline: &Outline, tmp: &str) -> Result<Vec<PlannedCommand>, Stop> {
+        let in_place = self.runs_in_place();
+        let runs = [dry_runs.first.as_slice(), &dry_runs.second];
+        let keeps_names = outline.keep_dir.is_some() || in_place;
+        let to_plan = ToPlan { dry_runs: runs, cwd: &self.line.cwd, tmp, flag: &outline.flag, keeps_names };
+        Ok(if in_place { planner::plan_in_place(&to_plan)? } else { planner::plan(&to_plan)? })
+    }
+
+    /// Makes the dry runs, plans the call and runs its commands. `say` is told what nvcc and the commands say, in nvcc's order.
     ///
     /// # Errors
     ///
     /// Why nvcc makes the call, or the signal that ends it.
-    pub fn run<M: Machine>(&self, machine: &mut M, outline: &Outline) -> Result<Outcome, Stop> {
+    pub fn run<M: Machine>(&self, machine: &mut M, outline: &Outline, say: &mut Say<'_>) -> Result<Outcome, Stop> {
         let (line, tmp) = (self.line, self.tmp()?);
         machine.plans(true);
         let asked = dry_runs::Line { nvcc: &line.nvcc, words: &with_flags(&line.words), outline, tmp, cwd: &line.cwd };
         let make_own = || fs::create_dir(Path::new(tmp).join(tasks::OWN)).map_err(|_| "no room for temporary files".into());
         let dry_runs = dry_runs::make(machine, &asked, make_own)?;
         machine.plans(false);
-        let Planned { commands, tasks, is_late } = self.planned(outline, &dry_runs)?;
+        let Planned { commands, tasks, is_late, habits } = self.planned(outline, &dry_runs)?;
         let launcher = self.settings.launcher.first().map(String::as_str).unwrap_or_default();
-        let mut maker = RuleMaker { commands: &commands, asked: outline.dependencies.as_ref(), launcher, refusals: self.refusals };
         let before = caches::counts(machine, self.settings)?;
-        let mut done = run::run(machine, &mut maker, &tasks, outline.jobs.unwrap_or(self.at_once))?;
-        make_late_rule(machine, &mut done, &tasks)?;
+        say(true, &dry_runs.messages);
+        let voice = Voice::new(&tasks, habits, say);
+        let mut maker = RuleMaker { commands: &commands, asked: outline.dependencies.as_ref(), launcher, refusals: self.refusals, voice };
+        let done = run::run(machine, &mut maker, &tasks, outline.jobs.unwrap_or(self.at_once))?;
         if is_late && late::went_wrong(&done) {
             return by_nvcc("its assembler fails, or says something");
         }
         check_end(self.folder.is_there(), &done, &tasks, &dry_runs)?;
-        if let Some(keep_dir) = &outline.keep_dir {
-            name_stubs(tmp, &kept_folder(keep_dir, &line.cwd));
+        if let Some(folder) = dry_runs.stub_folder.as_ref().filter(|_| outline.keep_dir.is_some()) {
+            name_stubs(tmp, folder);
         }
         let counted = before.zip(caches::counts(machine, self.settings)?).map(<[Counts; 2]>::from);
         let commands = if self.settings.log.is_some() { log::commands(&tasks, &done) } else { Vec::new() };
-        let (status, said) = said(dry_runs.messages, &tasks, done, self.settings);
-        Ok(Outcome { status, said, commands, counted })
+        let End { status, is_silent } = maker.voice.end(&done);
+        if status != 0 && is_silent {
+            say(true, self.words_of_silence(status).as_bytes());
+        }
+        Ok(Outcome { status, commands, counted })
     }
+
+    /// What to say of a call of which a command failed without a message.
+    fn words_of_silence(&self, status: i32) -> String {
+        let room = products::lack_of_room(self.settings.plans());
+        format!("zigrunk-nvcc: a command failed with status {status} and without a message{room}\n")
+    }
+}
+
+/// How the voice of a call speaks that has these tasks.
+fn habits_of(tasks: &[Task], is_late: bool, dry_runs: &DryRuns, outline: &Outline) -> Result<Habits, Stop> {
+    let rule_speaks = outline.dependencies.is_some() && !tasks.iter().any(tasks::preprocesses_for_host);
+    if rule_speaks && outline.keep_dir.is_some() {
+        return by_nvcc("it keeps a file that only its dependencies need");
+    }
+    Ok(Habits { holds_back: is_late || runs_devices_first(&dry_runs.first), has_threads: dry_runs.has_threads, rule_speaks })
 }
 
 /// What of a line's outline nvcc has to make.
@@ -191,18 +230,6 @@ fn check(outline: &Outline) -> Result<(), Stop> {
     Ok(())
 }
 
-/// Has nvcc make the dependency file if a command failed before that was made: nvcc makes it before that command.
-fn make_late_rule<M: Machine>(machine: &mut M, done: &mut [Done], tasks: &[Task]) -> Result<(), Stop> {
-    let Some(at) = tasks.iter().position(|task| task.is_rule) else { return Ok(()) };
-    if done[at].has_ended() || !done.iter().any(Done::failed) {
-        return Ok(());
-    }
-    let task = Task { needs: Vec::new(), is_rule: false, ..tasks[at].clone() };
-    let mut late = run::run(machine, &mut NoRule, &[task], 1)?;
-    done[at] = late.pop().unwrap_or_default();
-    Ok(())
-}
-
 /// Whether the end of the commands is the call's, whose directory is there or not, or nvcc has to make it.
 fn check_end(is_there: bool, done: &[Done], tasks: &[Task], dry_runs: &DryRuns) -> Result<(), Stop> {
     if !is_there {
@@ -214,16 +241,14 @@ fn check_end(is_there: bool, done: &[Done], tasks: &[Task], dry_runs: &DryRuns) 
     if done.iter().zip(tasks).any(|(done, task)| task.is_rule && done.failed()) {
         return by_nvcc("its dependency file fails");
     }
+    let writes_rule = tasks.iter().any(|task| task.is_rule);
+    if writes_rule && dry_runs.has_threads && done.iter().zip(tasks).any(|(done, task)| task.preprocesses && done.failed()) {
+        return by_nvcc("a preprocessor fails, and nvcc goes on");
+    }
     if runs_devices_first(&dry_runs.first) {
         return by_nvcc("a command fails, and nvcc has them in another order");
     }
     Ok(())
-}
-
-/// The directory that keeps generated files, as nvcc names it in front of theirs: seen from the working directory if it is below that.
-fn kept_folder(keep_dir: &str, cwd: &str) -> String {
-    let seen = Path::new(keep_dir).strip_prefix(cwd).unwrap_or(Path::new(keep_dir));
-    if seen.as_os_str().is_empty() { String::new() } else { format!("{}/", seen.display()) }
 }
 
 /// Gives the stub files in a directory the names by which they are kept: cicc writes a stub file's name into it.
@@ -234,28 +259,6 @@ fn name_stubs(tmp: &str, folder: &str) {
             let _ = fs::write(entry.path(), text.replacen(&format!("\n# 1 \"{tmp}/"), &format!("\n# 1 \"{folder}"), 1));
         }
     }
-}
-
-/// The status of a call, and what nvcc and the commands said, in nvcc's order, up to the first command that failed.
-fn said(messages: Vec<u8>, tasks: &[Task], done: Vec<Done>, settings: &Settings) -> (i32, Said) {
-    let ended = done.into_iter().zip(tasks).filter_map(|(done, task)| Some((task.is_rule, done.ended?)));
-    let (rules, ended): (Vec<_>, Vec<_>) = ended.partition(|(is_rule, _)| *is_rule);
-    let mut said = vec![(true, messages)];
-    said.extend(rules.into_iter().map(|(_, rule)| (false, rule.out)));
-    let mut is_silent = true;
-    for (_, mut ended) in ended {
-        ended.errors.extend(tasks::words_of_death(ended.status).into_bytes());
-        is_silent &= ended.out.is_empty() && ended.errors.is_empty();
-        said.extend([(false, ended.out), (true, ended.errors)]);
-        let code = ended.status.code;
-        if code != 0 {
-            let room = if is_silent { products::lack_of_room(settings.plans()) } else { String::new() };
-            let text = format!("zigrunk-nvcc: a command failed with status {code} and without a message{room}\n");
-            said.extend(is_silent.then(|| (true, text.into_bytes())));
-            return (code, said);
-        }
-    }
-    (0, said)
 }
 
 #[cfg(test)]
@@ -332,29 +335,6 @@ mod tests {
     }
 
     #[test]
-    fn what_is_said_ends_with_the_first_failure() {
-        let settings = Settings { temporary: env::temp_dir(), ..Settings::default() };
-        let texts = |done: Vec<Done>, rules: &[bool]| {
-            let (status, said) = said(b"warning\n".to_vec(), &tasks(rules), done, &settings);
-            let text = |(is_error, text): (bool, Vec<u8>)| format!("{}{}", u8::from(is_error), String::from_utf8(text).unwrap());
-            (status, said.into_iter().map(text).collect::<Vec<_>>().join("|"))
-        };
-        let rule = ended(0, "rule\n", "not said\n");
-        let all = vec![ended(0, "a\n", "b\n"), rule, ended(0, "", "c\n")];
-        assert_eq!(texts(all, &[false, true, false]), (0, "1warning\n|0rule\n|0a\n|1b\n|0|1c\n".into()));
-        let failed = vec![ended(0, "", ""), ended(3, "", "bad\n"), ended(4, "x", "y")];
-        assert_eq!(texts(failed, &[false; 3]), (3, "1warning\n|0|1|0|1bad\n".into()));
-        let said_out = vec![ended(5, "out", "")];
-        assert_eq!(texts(said_out, &[false]), (5, "1warning\n|0out|1".into()));
-        let silent = "1zigrunk-nvcc: a command failed with status 5 and without a message\n";
-        assert_eq!(texts(vec![ended(5, "", "")], &[false]), (5, format!("1warning\n|0|1|{silent}")));
-        assert_eq!(texts(vec![ended(0, "", "a"), Done::default(), ended(5, "", "")], &[false; 3]), (5, "1warning\n|0|1a|0|1".into()));
-        let mut killed = ended(139, "", "");
-        killed.ended.as_mut().unwrap().status = Status { code: 139, signal: Some(11), dumped: true };
-        assert_eq!(texts(vec![killed], &[false]), (139, "1warning\n|0|1Segmentation fault (core dumped)\n".into()));
-    }
-
-    #[test]
     fn ends_keep_their_meaning() {
         assert_eq!(Stop::from(Failed::Signal(2)), Stop::Signal(2));
         assert_eq!(Stop::from(Stopped::Signal(15)), Stop::Signal(15));
@@ -362,14 +342,6 @@ mod tests {
             [Stop::from(Failed::ByNvcc("a".into())), Stopped::NoProcess("b".into()).into()],
             [Stop::ByNvcc("a".into()), Stop::ByNvcc("b".into())]
         );
-    }
-
-    #[test]
-    fn kept_files_are_named_from_the_working_directory() {
-        let cases = [("/w", "/w", ""), ("/w/a/b", "/w", "a/b/"), ("/wa", "/w", "/wa/"), ("/k", "/w", "/k/")];
-        for (keep_dir, cwd, wanted) in cases {
-            assert_eq!(kept_folder(keep_dir, cwd), wanted, "{keep_dir} {cwd}");
-        }
     }
 
     #[test]

@@ -1,5 +1,6 @@
 //! The commands of a plan as tasks for the machine.
 use crate::caches;
+use crate::early::HeadStart;
 use crate::machine::Job;
 use crate::planner::{PlannedCommand, Words};
 use crate::run::Task;
@@ -92,7 +93,8 @@ fn job_of(command: &PlannedCommand, before: &[&[String]], around: &Surroundings<
 fn task_of(number: usize, command: &PlannedCommand, around: &Surroundings<'_>) -> Task {
     let settings = around.settings;
     let bare = job_of(command, &[&settings.runner], around);
-    let task = Task { needs: command.needs.clone(), kind: kind_of(command), weight: weight_of(command), ..Task::default() };
+    let (needs, preprocesses) = (command.needs.clone(), command.preprocesses);
+    let task = Task { needs, kind: kind_of(command), weight: weight_of(command), preprocesses, ..Task::default() };
     if !is_launched(command, settings) {
         return Task { job: bare, ..task };
     }
@@ -119,6 +121,49 @@ pub fn tasks_of(commands: &[PlannedCommand], dependencies: Option<&Words>, aroun
     tasks[last].needs.push(last);
     tasks.insert(last, rule);
     tasks
+}
+
+/// Whether a task preprocesses for the host.
+pub fn preprocesses_for_host(task: &Task) -> bool {
+    task.preprocesses && !task.kind.contains("__CUDA_ARCH__=")
+}
+
+/// Tasks in the order in which nvcc runs them.
+pub fn in_nvccs_order(tasks: Vec<Task>) -> Vec<Task> {
+    if tasks.iter().any(|task| task.is_rule) { reordered(&tasks, &order_with_rule(&tasks)) } else { tasks }
+}
+
+/// The order in which nvcc runs tasks of which one makes the dependency file: those that preprocess for devices, those that do so for the
+/// host, the dependency file's, the others. A task stays behind those that it needs.
+fn order_with_rule(tasks: &[Task]) -> Vec<usize> {
+    let turn = |task: &Task| match task {
+        task if preprocesses_for_host(task) => 1,
+        task if task.preprocesses => 0,
+        task if task.is_rule => 2,
+        _ => 3,
+    };
+    let mut order: Vec<usize> = Vec::with_capacity(tasks.len());
+    let mut left: Vec<usize> = (0..tasks.len()).collect();
+    while !left.is_empty() {
+        let is_ready = |number: usize| tasks[number].needs.iter().all(|need| order.contains(need));
+        let ready = (0..left.len()).filter(|&place| is_ready(left[place]));
+        // The first of those left needs only earlier ones, which are placed.
+        let next = ready.min_by_key(|&place| turn(&tasks[left[place]])).unwrap_or(0);
+        order.push(left.remove(next));
+    }
+    order
+}
+
+/// Tasks in another order, with new numbers for those that they need.
+fn reordered(tasks: &[Task], order: &[usize]) -> Vec<Task> {
+    let place = |number: &usize| order.iter().position(|other| other == number);
+    let task = |&number: &usize| {
+        let mut task = tasks[number].clone();
+        task.needs = task.needs.iter().filter_map(place).collect();
+        task.head_start = task.head_start.and_then(|start| Some(HeadStart { beside: place(&start.beside)?, ..start }));
+        task
+    };
+    order.iter().map(task).collect()
 }
 
 /// What a shell says of a command that a signal ended.
@@ -275,5 +320,51 @@ mod tests {
         }
         assert_eq!(words(Some(11), true), "Segmentation fault (core dumped)\n");
         assert_eq!([words(None, false), words(None, true), words(Some(2), true)], ["", "", ""]);
+    }
+
+    fn task(kind: &str, preprocesses: bool, needs: &[usize]) -> Task {
+        Task { kind: kind.into(), preprocesses, is_rule: kind == "nvcc -M", needs: needs.to_vec(), ..Task::default() }
+    }
+
+    /// Tasks in nvcc's order, each with what it needs.
+    fn in_order(tasks: &[Task]) -> Vec<(String, Vec<usize>)> {
+        in_nvccs_order(tasks.to_vec()).into_iter().map(|task| (task.kind, task.needs)).collect()
+    }
+
+    #[test]
+    fn with_a_dependency_file_preprocessors_come_first() {
+        let [device, other] = ["gcc -E __CUDA_ARCH__=800", "gcc -E __CUDA_ARCH__=900"];
+        let tasks = [
+            task("gcc -E", true, &[]),
+            task("cudafe++", false, &[0]),
+            task(device, true, &[]),
+            task("cicc", false, &[1, 2]),
+            task(other, true, &[]),
+            task("nvcc -M", false, &[0, 2, 4]),
+            task("gcc -c", false, &[3, 5]),
+        ];
+        let wanted: [(&str, &[usize]); 7] =
+            [(device, &[]), (other, &[]), ("gcc -E", &[]), ("nvcc -M", &[2, 0, 1]), ("cudafe++", &[2]), ("cicc", &[4, 0]), ("gcc -c", &[5, 3])];
+        assert_eq!(in_order(&tasks), wanted.map(|(kind, needs)| (kind.to_owned(), needs.to_vec())));
+    }
+
+    #[test]
+    fn a_head_start_stays_beside_its_task() {
+        let mut cicc = task("cicc", false, &[0, 1]);
+        cicc.head_start = Some(HeadStart { beside: 0, ..HeadStart::default() });
+        let tasks = vec![task("cudafe++", false, &[]), task("gcc -E __CUDA_ARCH__=800", true, &[]), task("nvcc -M", false, &[1]), cicc];
+        let ordered = in_nvccs_order(tasks.clone());
+        assert_eq!(ordered.iter().map(|task| task.head_start.as_ref().map(|start| start.beside)).collect::<Vec<_>>(), [None, None, None, Some(2)]);
+        let without = [&tasks[..2], &tasks[3..]].concat();
+        assert_eq!(
+            in_nvccs_order(without.clone()).iter().map(|task| &task.kind).collect::<Vec<_>>(),
+            without.iter().map(|task| &task.kind).collect::<Vec<_>>()
+        );
+    }
+
+    #[test]
+    fn a_task_stays_behind_those_that_it_needs() {
+        let tasks = [task("gcc -E", true, &[]), task("cudafe++", false, &[0]), task("gcc -E __CUDA_ARCH__=800", true, &[1])];
+        assert_eq!(order_with_rule(&tasks), [0, 1, 2]);
     }
 }

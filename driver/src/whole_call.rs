@@ -129,7 +129,7 @@ impl Room {
 
     fn plan(&self, dry_runs: &DryRuns) -> Vec<PlannedCommand> {
         let (line, outline, tmp) = (self.line(), self.outline(), self.tmp());
-        planner::plan(&ToPlan { dry_runs: [&dry_runs.first, &dry_runs.second], cwd: &line.cwd, tmp: &tmp, flag: &outline.flag, keeps: false })
+        planner::plan(&ToPlan { dry_runs: [&dry_runs.first, &dry_runs.second], cwd: &line.cwd, tmp: &tmp, flag: &outline.flag, keeps_names: false })
             .unwrap()
     }
 

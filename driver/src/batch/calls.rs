@@ -224,9 +224,10 @@ impl Making<'_> {
         let Context { settings, at_once, refusals, .. } = self.context;
         let split = split::Call { settings, line, folder, at_once: *at_once, refusals };
         let outline = split.outline()?;
-        let mut outcome = split.run(self.turns, &outline)?;
+        let mut said = Said::new();
+        let outcome = split.run(self.turns, &outline, &mut |is_error, text| said.push((is_error, text.to_vec())))?;
         self.made.status = outcome.status;
-        self.made.said.append(&mut outcome.said);
+        self.made.said.append(&mut said);
         if self.context.records.is_some() {
             self.reads = Reads::of_folder(folder.path());
         }

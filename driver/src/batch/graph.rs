@@ -140,6 +140,7 @@ impl<'a, M: Machine, C: Calls, W: Write> Graph<'a, M, C, W> {
             match self.machine.next() {
                 Event::Slot => self.take_slot(),
                 Event::Ended(number, ended) => self.take_end(number, ended),
+                Event::Printed(..) => {}
                 Event::Signal(number) => self.stop(number),
                 Event::Lost(reason) => {
                     complain(&format!("zigrunk-batch: {reason}"));
