@@ -48,7 +48,7 @@ help:
 	@echo 'make erased-kit       compile the sources with and without contracts by the kit, and compare each function'\''s instructions; ten minutes'
 	@echo 'make refused-memory   run the test cases again and again, each time with another allocation failing'
 	@echo 'make end-to-end       compare zigrunk-nvcc with nvcc; needs nvcc, ninja and cargo on the path'
-	@echo 'make odd-calls        the same for 180 calls with odd words, and for 100 random calls'
+	@echo 'make odd-calls        the same for 182 calls with odd words, and for 100 random calls'
 	@echo 'make random-calls     the same for calls whose words are drawn from nvcc'\''s options; SEED=1 COUNT=1000'
 	@echo 'make mutants-by-lot   edit the driver by lot, one line at a time, and say which edits no test finds; SEED=1 COUNT=100, ONLY=17 makes one'
 	@echo '                      of them again; KIND=examples edits the examples. Needs root. No part of the gate'

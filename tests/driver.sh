@@ -342,7 +342,7 @@ ROWS
         within 20 has_begun cudafe++
         { wait "$process"; } 2> /dev/null
         status=$?
-        same 'status and reason' "$status $(head -n 1 "$room/err")" '5 zigrunk-nvcc: nvcc itself: its temporary directory is gone'
+        same 'status and reason' "$status $(grep '^zigrunk' "$room/err")" '5 zigrunk-nvcc: nvcc itself: its temporary directory is gone'
         end
     fi
     if case_of 'few open files'; then
@@ -366,13 +366,14 @@ with_name() {
 
 compilers() {
     if case_of 'the first word'; then
-        cp "$stand_ins/nvcc" "$room/my-compiler" && cp "$stand_ins/nvcc" "$room/cross-nvcc"
+        for compiler in my-compiler cross-nvcc nvcc-13.0; do cp "$stand_ins/nvcc" "$room/$compiler"; done
         while IFS=: read -r first wanted; do
             call "${plain[@]}" ZIGRUNK_NVCC="$room/my-compiler" "${first/ROOM/$room}" -E k.cu
             same "words with $first" "$(cat "$room/log")" "$wanted"
         done << 'ROWS'
 ROOM/my-compiler:nvcc [-E] [k.cu]
 ROOM/cross-nvcc:nvcc [-E] [k.cu]
+ROOM/nvcc-13.0:nvcc [-E] [k.cu]
 -Invcc:nvcc [-Invcc] [-E] [k.cu]
 k.cu:nvcc [k.cu] [-E] [k.cu]
 ROWS
@@ -569,9 +570,9 @@ outputs() {
     fi
     if case_of 'a command fails, and nvcc has several threads'; then
         prints='/^#\$ [a-z]/ s,$, > /t/1_stdout 2>/t/1_stderr,'
-        call OWN_FORM="$prints" TOOL_DOES='case $name in cicc.80) echo "bad $name" >&2; exit 6 ;; gcc-E.90) echo "says $name" >&2 ;; esac' ZIGRUNK_JOBS=1 -t2 -c k.cu -o k.o
-        same 'status and messages' "$status $(cat "$room/err")" $'255 bad cicc.80'
-        call OWN_FORM="$prints" ZIGRUNK_JOBS=1 -t2 -c k.cu -o k.o
+        call OWN_FORM="$prints" TOOL_DOES='case $name in cicc.80) until grep -q "^- gcc-E.90" "$LOG"; do sleep 0.05; done; echo "bad $name" >&2; exit 6 ;; gcc-E.90) echo "says $name" >&2 ;; esac' -t2 -c k.cu -o k.o
+        same 'status and messages' "$status $(cat "$room/err")" $'255 bad cicc.80\nsays gcc-E.90'
+        call OWN_FORM="$prints" -t2 -c k.cu -o k.o
         splits
         end
     fi

@@ -80,6 +80,16 @@ pub struct PlannedCommand {
     pub may_write: Vec<String>,
 }
 
+/// How many bytes a file's name may have.
+const LONGEST_NAME: usize = 255;
+
+impl PlannedCommand {
+    /// Whether it writes a file whose name no disk takes.
+    pub fn writes_long_name(&self) -> bool {
+        self.writes.iter().filter_map(|file| file.rsplit('/').next()).any(|name| name.len() > LONGEST_NAME)
+    }
+}
+
 fn text(text: &str) -> Result<Text, AllocError> {
     Text::from_str(Global, text)
 }

@@ -71,12 +71,18 @@ pub struct Compiler {
     pub inside: OsString,
 }
 
+/// Whether a word is nvcc's name or path, as `nvcc`, `/opt/cuda/bin/nvcc` or `nvcc-13.0`.
+pub fn is_nvcc(word: &[u8]) -> bool {
+    let is_of_version = |byte: &u8| byte.is_ascii_digit() || *byte == b'.';
+    let end = word.iter().rposition(|byte| !is_of_version(byte)).map_or(0, |last| last + 1);
+    let name = if end < word.len() { word[..end].strip_suffix(b"-") } else { Some(word) };
+    !word.starts_with(b"-") && name.is_some_and(|name| name.ends_with(b"nvcc"))
+}
+
 /// The words of a call without the nvcc that they may begin with, and its name.
 fn named<'a>(settings: &Settings, words: &'a [OsString]) -> (OsString, &'a [OsString]) {
     match words {
-        [first, rest @ ..] if !first.as_bytes().starts_with(b"-") && (first.as_bytes().ends_with(b"nvcc") || *first == settings.nvcc) => {
-            (first.clone(), rest)
-        }
+        [first, rest @ ..] if is_nvcc(first.as_bytes()) || (!first.as_bytes().starts_with(b"-") && *first == settings.nvcc) => (first.clone(), rest),
         _ => (settings.nvcc.clone(), words),
     }
 }
@@ -115,6 +121,11 @@ mod tests {
         let cases = [
             ("/a/nvcc", "/a/nvcc"),
             ("cross-nvcc", "cross-nvcc"),
+            ("nvcc-13.0", "nvcc-13.0"),
+            ("/usr/bin/nvcc-12", "/usr/bin/nvcc-12"),
+            ("nvcc13", "my-compiler"),
+            ("nvcc-13.0.cu", "my-compiler"),
+            ("13.0", "my-compiler"),
             ("my-compiler", "my-compiler"),
             ("-Invcc", "my-compiler"),
             ("k.cu", "my-compiler"),

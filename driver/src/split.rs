@@ -134,6 +134,9 @@ impl Call<'_> {
     fn planned(&self, outline: &Outline, dry_runs: &DryRuns) -> Result<Planned, Stop> {
         let (tmp, keeps) = (self.tmp()?, outline.keep_dir.is_some());
         let mut commands = self.commands(dry_runs, outline, tmp)?;
+        if commands.iter().any(PlannedCommand::writes_long_name) {
+            return by_nvcc("a generated file's name is too long");
+        }
         let late = if late::is_on(self.settings) && !keeps { late::begin_early(&mut commands, tmp) } else { None };
         let is_early = early::is_on(self.settings) && !keeps;
         let compile = commands.len().checked_sub(2).filter(|_| is_early && late.is_some());

@@ -15,6 +15,7 @@ use crate::folder::CallFolder;
 use crate::host::Host;
 use crate::jobserver::Make;
 use crate::places::{absolute, working_directory};
+use crate::programs;
 use crate::rule::Refusals;
 use crate::settings::Settings;
 use crate::streams::{complain, say};
@@ -51,7 +52,7 @@ fn asked(words: Vec<String>, settings: &Settings) -> Asked {
     let stem = name.rsplit_once('-').filter(|(_, version)| version.starts_with(|digit: char| digit.is_ascii_digit())).map_or(name, |(stem, _)| stem);
     if name == "zigrunk-nvcc" {
         Asked::Nvcc(words[1..].to_vec())
-    } else if first.starts_with('-') || first.ends_with("nvcc") || settings.nvcc == *first {
+    } else if first.starts_with('-') || programs::is_nvcc(first.as_bytes()) || settings.nvcc == *first {
         Asked::Nvcc(words)
     } else if ["gcc", "++", "clang"].iter().any(|end| stem.ends_with(end)) || name == "cc" {
         Asked::Compiler(words)
