@@ -76,12 +76,14 @@ unpack() {
 
 # configure, build JOBS: what a CMake project does. Others have functions of these names in their file. The makefiles of CMake have no target
 # for an object that can be called from above, so objects.mk calls those below.
+# FindCUDA drops the variable for nvcc if the toolkit's folder isn't the one that it has noted.
 configure() {
     local name=Ninja
     [ "$generator" != own ] || return 0
     [ "$generator" = Ninja ] || name='Unix Makefiles'
     cmake -G "$name" -S source -B build "${settings[@]}" -DCMAKE_PREFIX_PATH="$place/root/usr" -DCMAKE_CUDA_COMPILER="$nvcc" \
-        -DCUDA_TOOLKIT_ROOT_DIR="$toolkit" -DCUDA_NVCC_EXECUTABLE="$nvcc" -DCUDA_HOST_COMPILER=/usr/bin/c++ || return
+        -DCUDA_TOOLKIT_ROOT_DIR="$toolkit" -DCUDA_TOOLKIT_ROOT_DIR_INTERNAL="$toolkit" -DCUDA_NVCC_EXECUTABLE="$nvcc" \
+        -DCUDA_HOST_COMPILER=/usr/bin/c++ || return
     [ "$generator" != Ninja ] || return 0
     find build -name build.make -exec grep -HoE '"Building (CUDA|NVCC \(Device\)) object [^"]*' {} + | grep -E "${only:-.}" | LC_ALL=C sort -u |
         sed 's,^build/,,; s,^\([^:]*\):.* object \(.*\),all: \2\n\2: FORCE\n\t$(MAKE) -f \1 \2,; $a FORCE:' > build/objects.mk

@@ -31,8 +31,12 @@ TEMPORARY = re.compile(rb"(?:/[\w./-]*/)?(?:tmpxft_[0-9a-f]{8}_[0-9a-f]{8}-\d+_[
 
 
 def read_calls(path: str) -> list[Call]:
-    with open(path, encoding="utf-8") as file:
-        return [json.loads(line) for line in file]
+    """Returns the calls of a file, or none if there is no file, since nobody made a call."""
+    try:
+        with open(path, encoding="utf-8") as file:
+            return [json.loads(line) for line in file]
+    except FileNotFoundError:
+        return []
 
 
 def compiles(words: list[str]) -> bool:
@@ -141,7 +145,7 @@ def compare_calls(ours: list[Call], theirs: list[Call]) -> list[str]:
 
 def compare(place: str, other: str, results: str, nvcc: str) -> None:
     ours, theirs = read_calls(f"{results}/zigrunk.calls"), read_calls(f"{results}/nvcc.calls")
-    log = [call for call in map(json.loads, open(f"{results}/zigrunk.log", encoding="utf-8")) if "hint" not in call]
+    log = [call for call in read_calls(f"{results}/zigrunk.log") if "hint" not in call]
     problems = compare_calls(ours, theirs)
     differences: Counter[str] = Counter()
     for call in ours:
@@ -164,7 +168,9 @@ def compare(place: str, other: str, results: str, nvcc: str) -> None:
     }
     with open(f"{results}/figures.json", "w", encoding="utf-8") as file:
         json.dump(figures, file, indent=1)
-    if figures["failed"] == figures["compile"]:
+    if not figures["compile"]:
+        problems.append("the build calls another nvcc: no call that compiles came")
+    elif figures["failed"] == figures["compile"]:
         problems.append("no call that compiles succeeds")
     print("\n".join(problems), end="\n" * bool(problems))
 
