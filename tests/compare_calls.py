@@ -102,6 +102,9 @@ SOURCES = {
     "void h(int*p){anon<<<1,1>>>(p);st<<<1,1>>>();}\n",
     "archerr.cu": "#if defined(__CUDA_ARCH__) && __CUDA_ARCH__ >= 800\n#error too new\n#endif\n__global__ void k(int*p){*p=1;}\n",
     "value.cu": "__global__ void k(int*p){*p=V;}\n",
+    "inc/warn.h": "#warning from a header\nstatic __device__ int from_w(){int unused;return 1;}\n",
+    "line.cu": '#include "warn.h"\n#line 7 "made/by.y"\n__global__ void l(int*p){int never;*p=from_w();}\nconst char*n(){return __FILE__;}\n',
+    "lineerr.cu": '#line 3 "made/by.y"\n__global__ void e(int*p){*p=missing;}\n',
 }
 LAUNCHER = '#!/bin/sh\nprintf "%s\\n" "${1##*/}" >> "$COMPARE_LOG"\nexec "$@"\n'
 FIELDS = {"name", "setup", "after", "cwd", "tmp", "ours", "headers", "targets", "later", "instead", "how", "launched", "differs"}

@@ -5,8 +5,9 @@
         [--ours PATH]
 
 The words of a call are drawn from nvcc's options, as crates/nvcc_words has them, with values from a small grammar: most are good, some
-are odd. Some words go into NVCC_PREPEND_FLAGS, NVCC_APPEND_FLAGS or an options file. The same seed draws the same calls, and each call
-depends on the seed and its own number alone: --first 7 --count 1 makes the seventh again. --list prints the calls and makes none.
+are odd, and some name files, relative or not. A third of the calls ask for line information or debug code. Some words go into
+NVCC_PREPEND_FLAGS, NVCC_APPEND_FLAGS or an options file. The same seed draws the same calls, and each call depends on the seed and its own
+number alone: --first 7 --count 1 makes the seventh again. --list prints the calls and makes none.
 
 tests/compare_calls.py compares the two tools: statuses, files, what is printed, and what is left in TMPDIR. A difference that
 docs/DIFFERENCES.md lists for such words isn't a failure. KNOWN below has a rule for each of its rows. Each other difference is printed
@@ -36,7 +37,7 @@ SOURCES: list[tuple[int, str, list[str]]] = [
     (20, "dev.cu", []), (12, "sub/k2.cu", []), (8, "sp ace.cu", []), (12, "useinc.cu", ["-Iinc"]), (8, "define.cu", []),
     (8, "value.cu", ["-DV=3"]), (8, "static.cu", []), (6, "warn.cu", []), (6, "gccwarn.cu", []), (4, "kern.cpp", ["-x", "cu"]),
     (3, "host.cpp", []), (2, "host.c", []), (1, "syntax.cu", []), (1, "hosterr.cu", []), (1, "deverr.cu", []), (1, "asmerr.cu", []),
-    (1, "archerr.cu", []), (1, "missing.cu", []),
+    (1, "archerr.cu", []), (1, "missing.cu", []), (8, "sub/file.cu", ["-Iinc"]), (6, "line.cu", ["-Iinc"]), (2, "lineerr.cu", []),
 ]
 PHASES = [(40, "-c"), (5, "--compile"), (22, "-ptx"), (3, "--ptx"), (8, "-cubin"), (2, "--cubin"), (10, "-fatbin"), (2, "--fatbin"), (10, "-dc"),
           (3, "--device-c"), (3, "-dw"), (2, "-optix-ir")]
@@ -61,10 +62,13 @@ VALUES: dict[str, list[str]] = {
     "-include": ["inc/b.h", "./inc/b.h", "@WORK@/inc/b.h", "cuda_runtime.h"],
     "-L": [".", "/usr/lib", "no such"], "-l": ["m", "z", "m,z"],
     "-Xcompiler": ["-Wall", "-O2", "-fno-inline", "-Wall,-Wextra", "-g", "-fPIC", "-DX=1", "-w", "-march=x86-64-v2", "-Wno-all -O1",
-                   "-fno-exceptions", "-Wall -Wextra", "-fvisibility=hidden", "-pthread", "-UX,-Iinc"],
+                   "-fno-exceptions", "-Wall -Wextra", "-fvisibility=hidden", "-pthread", "-UX,-Iinc", "-include,inc/b.h", "-MMD,-MF,g.d",
+                   "-MD,-MF,@WORK@/sub/g.d", "-save-temps", "-fstack-usage", "-pedantic", "-Iinc,-I@WORK@/sub", "-imacros,inc/b.h"],
     "-Xptxas": ["-v", "-O1", "-O3", "-warn-spills", "-v,-O2", "--verbose", "-dlcm=ca", "-maxrregcount=32", "-w"],
-    "-Xcudafe": ["--diag_suppress=177", "--display_error_number", "--diag_suppress=177,--display_error_number"],
-    "-Xcicc": ["-opt=1", "-ftz=1"], "-Xfatbin": ["-compress-all", "-compress=false", "--compress-all"],
+    "-Xcudafe": ["--diag_suppress=177", "--display_error_number", "--diag_suppress=177,--display_error_number", "--error_output=e.txt",
+                 "--error_output=@WORK@/e.txt", "--preinclude=inc/b.h", "--preinclude=@WORK@/inc/b.h"],
+    "-Xcicc": ["-opt=1", "-ftz=1", "--error_output=e.txt", "--error_output=@WORK@/sub/e.txt"],
+    "-Xfatbin": ["-compress-all", "-compress=false", "--compress-all"],
     "-Xlinker": ["-z,now", "--as-needed"], "-Xarchive": ["x"], "-Xnvlink": ["-v"],
     "-cudart": ["none", "shared", "static"], "-cudadevrt": ["none", "static"], "-default-stream": ["legacy", "per-thread", "null"],
     "-diag-suppress": ["177", "20012", "177,550"], "-diag-warn": ["177"], "-diag-error": ["1,2", "550"],
@@ -181,6 +185,8 @@ def line_of(seed: int, number: int, table: list[Option], weights: list[int]) -> 
     _, source, needed = draw.choices(SOURCES, [row[0] for row in SOURCES])[0]
     phase = weighted(draw, PHASES)
     groups = drawn_options(draw, table, weights)
+    if draw.random() < 0.33:
+        groups.append([draw.choice(["-lineinfo", "--generate-line-info", "-G", "--source-in-ptx"])])
     if draw.random() < 0.97:
         groups.append([phase])
     if needed and draw.random() < 0.95:
