@@ -1122,6 +1122,8 @@ plans() {
         done
         as=$as_plan call NVCC_APPEND_FLAGS=-DAPPENDED json nvcc -c k.cu -o k.o
         same 'words of a variable' "$(grep -c '^nvcc .*--dryrun.*\[-DAPPENDED\]\|^nvcc .*\[-DAPPENDED\].*--dryrun' "$room/log")" 2
+        as=$as_plan call NVCC_PREPEND_FLAGS=-DPREPENDED json nvcc -c k.cu -o k.o
+        same 'words of the other variable' "$(grep -c '^nvcc .*\[-DPREPENDED\]' "$room/log")" 2
         for words in ':a format is missing' '--json nvcc:unexpected option --json' 'odd nvcc:unknown format odd' 'json:nvcc and its words are missing' 'json --:nvcc and its words are missing'; do
             # shellcheck disable=SC2086 # several words, or none
             as=$as_plan call ${words%:*}
