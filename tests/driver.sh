@@ -719,7 +719,8 @@ signals() {
             same 'a command that is stopped' "$(pgrep -f "$CUDA/bin/cudafe" | head -n 1 | xargs -I{} cut -d ' ' -f 3 /proc/{}/stat | tr D T)" T
             same 'slots that are free' "$(for slot in "$room/run"/*/[0-9]*; do flock -n "$slot" true || echo "$slot"; done)" ''
             kill -CONT "$process"
-            within 5 eval '[ "$(cut -d " " -f 3 "/proc/$process/stat")" != T ]' || problems+='  it does not go on'$'\n'
+            # Its commands go on last.
+            within 5 eval '[ "$(pgrep -f "$CUDA/bin/cudafe" | head -n 1 | xargs -I{} cut -d " " -f 3 /proc/{}/stat)" = S ]' || problems+='  it does not go on'$'\n'
         done
         : > "$room/log.go"
         ended 0
