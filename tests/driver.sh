@@ -760,6 +760,14 @@ signals() {
         fi
         end
     fi
+    if case_of 'KILL to a call that nvcc makes, with a log'; then
+        start ZIGRUNK_LOG="$room/calls" NVCC_DOES='trap "echo ended > $LOG.ended; kill \$!; exit 3" TERM; echo "+ nvcc" >> "$LOG"; sleep 300 & wait' k.cu
+        within 20 has_begun nvcc
+        kill -KILL "$process"
+        wait "$process" 2> /dev/null
+        within 10 eval '[ -s "$room/log.ended" ]' || problems+='  nvcc does not end'$'\n'
+        end
+    fi
     if case_of 'TERM to a call that nvcc makes, with a log'; then
         start ZIGRUNK_LOG="$room/calls" NVCC_DOES='trap "echo ended > $LOG.ended; exit 3" TERM; echo "+ nvcc" >> "$LOG"; sleep 300 & wait' k.cu
         within 20 has_begun nvcc
