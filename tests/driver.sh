@@ -759,7 +759,8 @@ signals() {
             same 'a command that is stopped' "$(pgrep -f "$CUDA/bin/cudafe" | head -n 1 | xargs -I{} cut -d ' ' -f 3 /proc/{}/stat | tr D T)" T
             same 'slots that are free' "$(for slot in "$room/run"/*/[0-9]*; do flock -n "$slot" true || echo "$slot"; done)" ''
             kill -CONT "$process"
-            within 5 eval '[ "$(cut -d " " -f 3 "/proc/$process/stat")" != T ]' || problems+='  it does not go on'$'\n'
+            # Its commands go on last.
+            within 5 eval '[ "$(pgrep -f "$CUDA/bin/cudafe" | head -n 1 | xargs -I{} cut -d " " -f 3 /proc/{}/stat)" = S ]' || problems+='  it does not go on'$'\n'
         done
         : > "$room/log.go"
         ended 0
@@ -797,6 +798,14 @@ signals() {
             echo "$problems" > "$room/problems")
             same 'in the case' "$(cat "$room/problems")" ''
         fi
+        end
+    fi
+    if case_of 'KILL to a call that nvcc makes, with a log'; then
+        start ZIGRUNK_LOG="$room/calls" NVCC_DOES='trap "echo ended > $LOG.ended; kill \$!; exit 3" TERM; echo "+ nvcc" >> "$LOG"; sleep 300 & wait' k.cu
+        within 20 has_begun nvcc
+        kill -KILL "$process"
+        wait "$process" 2> /dev/null
+        within 10 eval '[ -s "$room/log.ended" ]' || problems+='  nvcc does not end'$'\n'
         end
     fi
     if case_of 'TERM to a call that nvcc makes, with a log'; then
@@ -1162,6 +1171,8 @@ plans() {
         done
         as=$as_plan call NVCC_APPEND_FLAGS=-DAPPENDED json nvcc -c k.cu -o k.o
         same 'words of a variable' "$(grep -c '^nvcc .*--dryrun.*\[-DAPPENDED\]\|^nvcc .*\[-DAPPENDED\].*--dryrun' "$room/log")" 2
+        as=$as_plan call NVCC_PREPEND_FLAGS=-DPREPENDED json nvcc -c k.cu -o k.o
+        same 'words of the other variable' "$(grep -c '^nvcc .*\[-DPREPENDED\]' "$room/log")" 2
         for words in ':a format is missing' '--json nvcc:unexpected option --json' 'odd nvcc:unknown format odd' 'json:nvcc and its words are missing' 'json --:nvcc and its words are missing'; do
             # shellcheck disable=SC2086 # several words, or none
             as=$as_plan call ${words%:*}

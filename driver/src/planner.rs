@@ -275,3 +275,92 @@ fn commands_of(planned: &PlanWithOrigins, as_it_runs: impl Fn(&Command) -> Resul
     };
     commands.zip(facts).map(command).collect()
 }
+
+#[cfg(test)]
+mod tests {
+    use super::*;
+    use std::os::unix::fs::PermissionsExt;
+    use std::path::PathBuf;
+
+    /// A folder for a test, which goes with it.
+    struct Scratch(PathBuf);
+
+    impl Scratch {
+        fn new(name: &str) -> Scratch {
+            let path = std::env::temp_dir().join(format!("planner-{name}-{}", std::process::id()));
+            fs::create_dir_all(&path).unwrap();
+            Scratch(path)
+        }
+    }
+
+    impl Drop for Scratch {
+        fn drop(&mut self) {
+            let _ = fs::remove_dir_all(&self.0);
+        }
+    }
+
+    fn line(words: &str, cwd: &str) -> Line {
+        let variables = vec![("ZIGRUNK_JOBS".to_owned(), "3".to_owned())];
+        Line { cwd: cwd.into(), nvcc: "nvcc".into(), words: words.split(' ').map(String::from).collect(), variables }
+    }
+
+    #[test]
+    fn a_lines_directory_has_one_name() {
+        let names =
+            [line("-c k.cu", "/w"), line("-c k.cu", "/w"), line("-c j.cu", "/w"), line("-c k.cu", "/v")].map(|line| directory_of(&line).unwrap());
+        assert!(names[0] == names[1] && names[0] != names[2] && names[0] != names[3], "{names:?}");
+    }
+
+    #[test]
+    fn an_outline_has_what_the_line_and_its_options_file_say() {
+        let scratch = Scratch::new("outline");
+        fs::write(scratch.0.join("words"), "-o k.o -MD\n").unwrap();
+        let of = |words: &str| outline_of(&line(words, scratch.0.to_str().unwrap()), "/t");
+        let outline = of("-c k.cu --options-file words").unwrap();
+        assert_eq!((outline.flag.as_str(), outline.jobs, outline.keep_dir.as_deref()), ("-c", Some(3), None));
+        assert!(outline.dependencies.is_some_and(|rule| rule.words[0] == "nvcc" && rule.words.contains(&"-M".into())));
+        for run in [&outline.first_dry_run, &outline.second_dry_run] {
+            assert_eq!((run.folder.as_str(), run.words[0].as_str()), (scratch.0.to_str().unwrap(), "nvcc"));
+            assert!(run.words.contains(&"--dryrun".into()), "{run:?}");
+        }
+        assert!(outline.second_dry_run.words.contains(&"/t".into()) && !outline.first_dry_run.words.contains(&"/t".into()));
+        assert_eq!(of("-c k.cu -o k.o").unwrap().dependencies, None);
+        assert!(of("k.o -o k").is_err() && of("-c k.cu --options-file missing").is_err());
+    }
+
+    #[test]
+    fn options_files_are_plain_files_in_utf8() {
+        let scratch = Scratch::new("options");
+        let cwd = scratch.0.to_str().unwrap();
+        fs::write(scratch.0.join("good"), "-O2").unwrap();
+        fs::write(scratch.0.join("bad"), b"\xff").unwrap();
+        fs::create_dir(scratch.0.join("folder")).unwrap();
+        assert_eq!(options_file(cwd, "good"), Some(("good".into(), "-O2".into())));
+        assert_eq!(["bad", "folder", "missing", "/dev/null"].map(|name| options_file(cwd, name)), [None, None, None, None]);
+    }
+
+    #[test]
+    fn programs_are_looked_up_once() {
+        let scratch = Scratch::new("disk");
+        let tool = scratch.0.join("tool");
+        fs::write(&tool, "").unwrap();
+        fs::set_permissions(&tool, PermissionsExt::from_mode(0o755)).unwrap();
+        let (disk, path) = (Disk::default(), format!("/missing:{}", scratch.0.display()));
+        let found = |program: &str| disk.found(Global, program, &path, "/").unwrap().map(|found| string(&found));
+        assert_eq!(found("tool").as_deref(), tool.to_str());
+        fs::remove_file(&tool).unwrap();
+        assert_eq!((found("tool").as_deref(), found("other")), (tool.to_str(), None));
+    }
+
+    #[test]
+    fn some_dry_runs_have_no_plan() {
+        let of = |dry_runs, cwd| ToPlan { dry_runs, cwd, tmp: "/t", flag: "-c", keeps: false };
+        let reason = |of: &ToPlan<'_>| [plan(of).err(), plan_in_place(of).err(), plan_file("json", of).err()];
+        let plain = "a directory isn't absolute, or has an empty part, . or ..";
+        assert_eq!(reason(&of([b"", b""], "w")), [plain; 3].map(|reason| Some(reason.to_owned())));
+        assert_eq!(reason(&of([b"", b""], "/w/..")), [plain; 3].map(|reason| Some(reason.to_owned())));
+        assert_eq!(reason(&ToPlan { tmp: "t", ..of([b"", b""], "/w") }), [plain; 3].map(|reason| Some(reason.to_owned())));
+        assert_eq!(reason(&of([b"", b""], "/w")), ["the plan has no command"; 3].map(|reason| Some(reason.to_owned())));
+        assert_eq!(plan_file("other", &of([b"", b""], "/w")), Err("unknown format".into()));
+    }
+}

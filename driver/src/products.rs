@@ -90,6 +90,19 @@ mod tests {
     }
 
     #[test]
+    fn a_link_in_the_keep_directory_is_replaced() {
+        let (scratch, shared) = (Scratch::new("link"), Path::new("/dev/shm"));
+        let name = format!("products-link-{}", std::process::id());
+        scratch.write(&format!("tmp/{name}"), "generated", SystemTime::now());
+        scratch.write("mine", "mine", SystemTime::now());
+        std::os::unix::fs::symlink(scratch.0.join("mine"), shared.join(&name)).unwrap();
+        keep(&scratch.0.join("tmp"), shared, SystemTime::now() + Duration::from_secs(9));
+        let kept = fs::read_to_string(shared.join(&name));
+        fs::remove_file(shared.join(&name)).unwrap();
+        assert_eq!((kept.unwrap().as_str(), scratch.has("mine").as_deref()), ("generated", Some("mine")));
+    }
+
+    #[test]
     fn a_folder_has_room_or_not() {
         let scratch = Scratch::new("room");
         assert_eq!(lack_of_room(&scratch.0), "");

@@ -629,3 +629,216 @@ pub fn wait_for_child(child: i32) {
         }
     }
 }
+
+#[cfg(test)]
+mod tests {
+    use super::*;
+    use std::fs;
+    use std::io::{Read, Write};
+    use std::os::fd::AsFd;
+    use std::os::unix::fs::{FileTypeExt, MetadataExt, symlink};
+    use std::path::PathBuf;
+    use std::time::Instant;
+
+    /// A folder for a test, which goes with it.
+    struct Scratch(PathBuf, File);
+
+    impl Scratch {
+        fn new(name: &str) -> Scratch {
+            let path = std::env::temp_dir().join(format!("system-{name}-{}", std::process::id()));
+            fs::create_dir_all(&path).unwrap();
+            let file = File::open(&path).unwrap();
+            Scratch(path, file)
+        }
+
+        fn open(&self, name: &str, how: Opening) -> io::Result<OwnedFd> {
+            open_below(self.1.as_fd(), name, how)
+        }
+    }
+
+    impl Drop for Scratch {
+        fn drop(&mut self) {
+            let _ = fs::remove_dir_all(&self.0);
+        }
+    }
+
+    /// Whether a program that is run gets an open file, as the kernel says.
+    fn is_inherited(file: &impl AsRawFd) -> bool {
+        let text = fs::read_to_string(format!("/proc/self/fdinfo/{}", file.as_raw_fd())).unwrap();
+        let flags = text.lines().find_map(|line| line.strip_prefix("flags:")).unwrap();
+        i32::from_str_radix(flags.trim(), 8).unwrap() & CLOSE_ON_EXEC == 0
+    }
+
+    /// A number in a file of /proc that follows a name there.
+    fn number_in(file: &str, name: &str, radix: u32) -> u64 {
+        let text = fs::read_to_string(file).unwrap();
+        let rest = text.lines().find_map(|line| line.strip_prefix(name)).unwrap().replace(',', "");
+        u64::from_str_radix(rest.split_whitespace().next().unwrap(), radix).unwrap()
+    }
+
+    #[test]
+    fn a_state_is_a_status() {
+        let status = |code, signal, dumped| Status { code, signal, dumped };
+        let cases = [
+            (0, status(0, None, false)),
+            (0x300, status(3, None, false)),
+            (0xff00, status(255, None, false)),
+            (9, status(137, Some(9), false)),
+            (0x8b, status(139, Some(11), true)),
+        ];
+        for (state, wanted) in cases {
+            assert_eq!(Status::of(state), wanted, "{state}");
+        }
+        assert!(status(0, None, false).succeeded() && !status(1, None, false).succeeded());
+    }
+
+    #[test]
+    fn the_machine_is_as_the_kernel_says() {
+        assert_eq!(processors(), number_in("/proc/self/status", "Cpus_allowed:", 16).count_ones() as usize);
+        assert_eq!((process().unsigned_abs(), user()), (std::process::id(), fs::metadata("/proc/self").unwrap().uid()));
+        let most = usize::try_from(number_in("/proc/self/limits", "Max open files", 10)).unwrap();
+        // Other tests open some files meanwhile.
+        assert!((most.saturating_sub(900)..most).contains(&spare_files()), "{} of {most}", spare_files());
+    }
+
+    #[test]
+    fn programs_get_no_file_of_this_process() {
+        let scratch = Scratch::new("inherited");
+        make_pipe(scratch.1.as_fd(), "pipe").unwrap();
+        let path = CString::new(scratch.0.join("pipe").to_str().unwrap()).unwrap();
+        let (read, write) = pipe().unwrap();
+        let (owner, program) = terminal().unwrap();
+        let files =
+            [read, write, open_fifo(&path).unwrap(), open_unblocked(&path, false).unwrap(), program, memory_file().unwrap().into(), owner.into()];
+        assert_eq!(files.each_ref().map(is_inherited), [false; 7]);
+        let kinds = [Opening::Kept, Opening::Pipe, Opening::PipeToWrite].map(|how| is_inherited(&scratch.open("pipe", how).unwrap()));
+        assert_eq!((kinds, is_inherited(&scratch.open(".", Opening::Folder).unwrap())), ([false; 3], false));
+    }
+
+    #[test]
+    fn no_link_is_followed_below_a_folder() {
+        let scratch = Scratch::new("links");
+        fs::create_dir(scratch.0.join("folder")).unwrap();
+        fs::write(scratch.0.join("file"), "text").unwrap();
+        symlink("folder", scratch.0.join("to-folder")).unwrap();
+        symlink("file", scratch.0.join("to-file")).unwrap();
+        assert!(scratch.open("folder", Opening::Folder).is_ok() && scratch.open("file", Opening::Kept).is_ok());
+        for (name, how) in [("to-folder", Opening::Folder), ("file", Opening::Folder), ("to-file", Opening::Kept), ("to-file", Opening::Pipe)] {
+            assert!(scratch.open(name, how).is_err(), "{name}");
+        }
+        assert!(
+            scratch.open("missing", Opening::Folder).is_err()
+                && scratch.open("missing", Opening::Pipe).is_err()
+                && scratch.open("a\0b", Opening::Kept).is_err()
+        );
+    }
+
+    #[test]
+    fn what_is_made_is_the_users_alone() {
+        let scratch = Scratch::new("made");
+        make_folder(scratch.1.as_fd(), "folder").unwrap();
+        make_pipe(scratch.1.as_fd(), "pipe").unwrap();
+        let mut kept = File::from(scratch.open("kept", Opening::Kept).unwrap());
+        kept.write_all(b"text").unwrap();
+        let modes = ["folder", "pipe", "kept"].map(|name| fs::metadata(scratch.0.join(name)).unwrap().mode() & 0o7777);
+        assert_eq!(modes, [0o700, 0o600, 0o600]);
+        assert!(fs::metadata(scratch.0.join("pipe")).unwrap().file_type().is_fifo());
+        assert!(make_folder(scratch.1.as_fd(), "folder").is_err() && make_pipe(scratch.1.as_fd(), "pipe").is_err());
+        assert_eq!(fs::read_to_string(scratch.0.join("kept")).unwrap(), "text");
+        remove_below(scratch.1.as_fd(), "kept").unwrap();
+        assert!(!scratch.0.join("kept").exists() && remove_below(scratch.1.as_fd(), "kept").is_err());
+    }
+
+    #[test]
+    fn a_named_pipe_is_opened_without_waiting() {
+        let scratch = Scratch::new("pipe");
+        make_pipe(scratch.1.as_fd(), "pipe").unwrap();
+        assert!(scratch.open("pipe", Opening::PipeToWrite).is_err(), "nobody reads it");
+        let path = CString::new(scratch.0.join("pipe").to_str().unwrap()).unwrap();
+        assert!(open_unblocked(&path, true).is_err(), "nobody reads it");
+        let read = open_unblocked(&path, false).unwrap();
+        let mut byte = 7;
+        assert!(!read_byte(read.as_fd(), &raw mut byte) && byte == 7);
+        assert!(write_byte(scratch.open("pipe", Opening::PipeToWrite).unwrap().as_fd(), b'a'));
+        assert!(write_byte(open_unblocked(&path, true).unwrap().as_fd(), b'b'));
+        let both = [scratch.open("pipe", Opening::Pipe).unwrap(), open_fifo(&path).unwrap()];
+        assert!(both.iter().all(|pipe| write_byte(pipe.as_fd(), b'c')));
+        let bytes: Vec<u8> = std::iter::from_fn(|| read_byte(both[1].as_fd(), &raw mut byte).then_some(byte)).collect();
+        assert_eq!(bytes, b"abcc");
+    }
+
+    #[test]
+    fn one_open_file_has_a_lock() {
+        let scratch = Scratch::new("lock");
+        let [one, other] = [(); 2].map(|()| scratch.open("lock", Opening::Kept).unwrap());
+        assert_eq!([&one, &one, &other].map(|file| try_lock(file.as_fd()).unwrap()), [true, true, false]);
+        drop(one);
+        assert!(try_lock(other.as_fd()).unwrap());
+    }
+
+    #[test]
+    fn the_files_that_can_be_read_are_said() {
+        let [(first, _first_end), (second, second_end)] = [(); 2].map(|()| pipe().unwrap());
+        let files = [first.as_raw_fd(), second.as_raw_fd()];
+        let begun = Instant::now();
+        assert_eq!(wait_for(&files, 30), [false, false]);
+        assert!(begun.elapsed() >= Duration::from_millis(30));
+        assert!(write_byte(second_end.as_fd(), b'a'));
+        assert_eq!(wait_for(&files, -1), [false, true]);
+        assert_eq!(wait_for(&files[..1], 0), [false]);
+    }
+
+    #[test]
+    fn a_stream_that_takes_more_is_not_waited_for() {
+        let (read, write) = pipe().unwrap();
+        let begun = Instant::now();
+        wait_to_write(write.as_raw_fd(), 20_000);
+        assert!(begun.elapsed() < Duration::from_secs(10), "it takes more");
+        set_unblocked(write.as_raw_fd()).unwrap();
+        set_unblocked(read.as_raw_fd()).unwrap();
+        while write_byte(write.as_fd(), b'a') {}
+        let begun = Instant::now();
+        wait_to_write(write.as_raw_fd(), 30);
+        assert!(begun.elapsed() >= Duration::from_millis(30), "it is full");
+        let mut byte = 0;
+        while read_byte(read.as_fd(), &raw mut byte) {}
+        assert!(set_unblocked(-1).is_err());
+    }
+
+    #[test]
+    fn a_pipe_ends_with_its_last_writer() {
+        let (read, write) = pipe().unwrap();
+        let waiter = std::thread::spawn(move || wait_for_end(read.as_fd()));
+        sleep(Duration::from_millis(30));
+        assert!(!waiter.is_finished());
+        assert!(write_byte(write.as_fd(), b'a'));
+        drop(write);
+        waiter.join().unwrap();
+    }
+
+    #[test]
+    fn a_shared_page_is_empty() {
+        let page = shared_page().unwrap();
+        // SAFETY: the page is as long, and nobody else has it.
+        let bytes = unsafe { std::slice::from_raw_parts(page, 4096) };
+        assert!(bytes.iter().all(|&byte| byte == 0));
+    }
+
+    #[test]
+    fn a_group_is_there_or_not() {
+        assert!(signal_group(process(), 0), "a process without a group of its number");
+        assert!(!signal_group(i32::MAX, 0));
+    }
+
+    #[test]
+    fn a_terminal_hands_over_lines_as_they_are() {
+        let (mut owner, program) = terminal().unwrap();
+        File::from(program.try_clone().unwrap()).write_all(b"a\nb\n").unwrap();
+        assert!(io::IsTerminal::is_terminal(&program));
+        wait_for(&[owner.as_raw_fd()], 10_000);
+        let mut text = [0; 64];
+        let size = owner.read(&mut text).unwrap();
+        assert_eq!(&text[..size], b"a\nb\n");
+        assert_eq!(owner.read(&mut text).unwrap_err().kind(), io::ErrorKind::WouldBlock);
+    }
+}

@@ -236,10 +236,15 @@ mod tests {
             ("-MD", Some("/d/k.d")),
             ("-MF o.d", None),
             ("--generate-dependencies-with-compile --dependency-output x", Some("x")),
+            ("--generate-nonsystem-dependencies-with-compile --dependency-output=x", Some("x")),
+            ("-MD -MF first -MF last", Some("last")),
+            ("-MD -MF=first -MF=last", Some("last")),
+            ("-MD --dependency-output x -MF=o.d", Some("o.d")),
         ] {
             let words: Vec<String> = line.split(' ').map(String::from).collect();
             assert_eq!(rule_of(&words, "/d/k.o").as_deref(), wanted, "{line}");
         }
+        assert_eq!(rule_of(&["-MD".into()], "/d/k").as_deref(), Some("/d/k.d"));
         let words = ["-MD", "-MT", "a.o", "-MF", "a.d", "-c", "a.cu"].map(String::from);
         assert_eq!(without_rule(&words), ["-c", "a.cu"]);
     }

@@ -269,5 +269,8 @@ mod tests {
         for (words, wanted) in [("nvcc -c d/a.cu -o a.o", "d/a.cu"), ("nvcc -Ix.cu a.o", "no source"), ("nvcc -c a.cpp b.cu", "b.cu")] {
             assert_eq!(source(&call(words)), wanted, "{words}");
         }
+        for suffix in ["cu", "c", "cc", "cpp", "cxx", "ptx", "ii", "gpu"] {
+            assert_eq!(source(&call(&format!("nvcc a.{suffix}"))), format!("a.{suffix}"));
+        }
     }
 }
