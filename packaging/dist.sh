@@ -37,7 +37,7 @@ pack() {
 write_sources() {
     local file
     cargo run --quiet --manifest-path rust/Cargo.toml -p eraser -- . "$sources"
-    git ls-files README.md CHANGELOG.md LICENSE NOTICE VERSION bindings/c bindings/python completions demo docs examples man | while read -r file; do
+    git ls-files README.md CHANGELOG.md LICENSE NOTICE VERSION bindings/c bindings/cmake bindings/cpp bindings/go bindings/python completions demo docs examples man | while read -r file; do
         mkdir -p "$sources/$(dirname "$file")"
         cp "$file" "$sources/$file"
     done

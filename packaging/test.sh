@@ -137,13 +137,13 @@ proved() {
 new_project() {
     offline cargo new --quiet --vcs none planner && offline env -C /root/planner cargo add --quiet --offline --path "$1/share/zigrunk/rust/zigrunk" || return 1
     cat > "$root/root/planner/src/main.rs" << 'END'
-use zigrunk::{NvccCall, variables};
+use zigrunk::{Call, NvccCall, variables};
 
 fn main() {
     let environment: Vec<_> = std::env::vars_os().collect();
     let words = ["-c", "k.cu", "-o", "k.o"];
-    let call = NvccCall { cwd: "/w", tmp: "/t", nvcc: "/none", words: &words, variables: &variables(&environment) };
-    println!("{}", call.plan().is_err());
+    let call = Call::new(&NvccCall { nvcc: "/none", words: &words, variables: &variables(&environment), cwd: "/w", tmp: "/t" });
+    println!("{}", call.is_ok_and(|call| call.plan().is_err()));
 }
 END
     prints true offline env -C /root/planner cargo run --quiet --offline

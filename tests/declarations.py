@@ -1,8 +1,8 @@
 #!/usr/bin/env python3
 """Compares what bindings/c/zigrunk.h declares with the library's exports and the bindings: the types that each function takes and gives
-with the exports of crates/zigrunk_c, with Rust's declarations and with Python's, and each number with that of Python's enums. (How records
-are laid out is a test of each binding.) It needs neither a library nor a compiler. Prints a line for each difference, and last
-'N passed, M failed'; the status is 1 if something differs."""
+with the exports of crates/zigrunk_c, with Rust's declarations and with Python's, and each number with that of Python's enums. The layers
+for C, C++ and Go have to name numbers of the header, and Go all statuses. (How records are laid out is a test of each binding.) It needs
+neither a library nor a compiler. Prints a line for each difference, and last 'N passed, M failed'; the status is 1 if something differs."""
 
 import ast
 import ctypes
@@ -25,6 +25,8 @@ IN_PYTHON = {ctypes.c_uint8: "u8", ctypes.c_uint32: "u32", ctypes.c_int32: "i32"
 RENAMED = {"input_text": "text", "schedule_call": "schedule", "nvcc_line_call": "nvcc_call", "group_record": "group",
            "command_record": "command", "step_record": "step", "output_record": "output"}
 
+# The layers over the header. That for Go is the last.
+LAYERS = ["bindings/c/zigrunk_call.h", "bindings/cpp/zigrunk.hpp", "bindings/go/zigrunk.go"]
 # Python's enums: their prefix in the header, and what a name has behind it. Where other words are clearer, the header's name is given.
 ENUMS = {"Status": ("", ""), "Form": ("", ""), "HostCompiler": ("", ""), "Tool": ("TOOL_", ""), "CommandTool": ("TOOL_", ""),
          "Language": ("LANGUAGE_", ""), "ColorMode": ("COLOR_", ""), "Stage": ("", ""), "Reason": ("", ""), "Missing": ("", "_MISSING"),
@@ -121,6 +123,17 @@ def numbers_in_python(names: dict[str, Any]) -> dict[str, tuple[str, int]]:
     return found
 
 
+def statuses_in_header() -> set[str]:
+    """The names of the header's statuses but ZIGRUNK_OK, without their prefix."""
+    listed = re.search(r"/\* Statuses\..*?\n\n", read("bindings/c/zigrunk.h"), re.DOTALL)
+    return set(re.findall(r"^#define ZIGRUNK_(\w+)", listed[0], re.MULTILINE)) - {"OK"} if listed else set()
+
+
+def numbers_by_name(path: str) -> set[str]:
+    """The header's numbers that a layer names. It takes their values, and all records, from the header itself, by a compiler of C."""
+    return {it for it in re.findall(r"\bZIGRUNK_([A-Z][A-Z_0-9]*)", read(path)) if not it.startswith("CALL_") and it not in ("HPP", "H")}
+
+
 def differences(got: dict[str, Types], header: dict[str, Types]) -> list[str]:
     found = [f"{call} isn't in the header" for call in got if call not in header]
     return found + [f"{call} has {got[call]}, and the header {header[call]}" for call in got if call in header and got[call] != header[call]]
@@ -141,6 +154,11 @@ def main() -> int:
     counts.case("the header's numbers", [f"Python lacks ZIGRUNK_{name}" for name in numbers if name not in said])
     unlisted = [it for it, kind in names.items() if isinstance(kind, type) and issubclass(kind, enum.IntEnum) and kind.__module__ == "zigrunk"]
     counts.case("Python's enums", [f"{it} isn't compared" for it in unlisted if it not in ENUMS])
+    for path in LAYERS:
+        counts.case(path, [f"the header has no ZIGRUNK_{it}" for it in sorted(numbers_by_name(path)) if it not in numbers])
+    go = numbers_by_name(LAYERS[-1])
+    counts.case("Go's statuses", [f"Go lacks ZIGRUNK_{it}" for it in sorted(statuses_in_header()) if it not in go] or
+                ([] if statuses_in_header() else ["the header has no statuses"]))
     return counts.summary()
 
 

@@ -46,7 +46,7 @@ check 'the man page lists the statuses of the header' alike page_statuses status
 unknown_names() {
     local name
     grep -o '\<\(zigrunk\|ZIGRUNK\)_[A-Za-z_0-9]*' "$top/man/zigrunk.h.3" | LC_ALL=C sort -u | while read -r name; do
-        grep -q "\<$name\>" "$top/bindings/c/zigrunk.h" || echo "$name"
+        cat "$top"/bindings/c/*.h | grep -q "\<$name\>" || echo "$name"
     done
 }
 check 'the header has the names of the man page' prints '' unknown_names

@@ -22,7 +22,6 @@ import zigrunk
 
 FOLDER, NAMES = sys.argv[1], sys.argv[2:]
 MODULE = os.path.dirname(os.path.abspath(zigrunk.__file__))
-EXAMPLE = os.path.join(MODULE, "..", "examples", "audit.py")
 INCLUDE = os.path.join(MODULE, "..", "..", "c")
 
 
@@ -87,6 +86,10 @@ class Calls(unittest.TestCase):
                              } for it in said["commands"]]
                 made = [dataclasses.asdict(it) for it in records.commands]
                 self.assertEqual([it.pop("missing") is None for it in made], [it["complete"] for it in said["commands"]])
+                targets = [it.pop("targets") for it in made]
+                if name == "two_targets":
+                    two = [("compute_80",), ("compute_80",), ("sm_80",), ("compute_90",), ("compute_90",), ("sm_90",)]
+                    self.assertEqual(targets, [(), (), *two, ("sm_80", "sm_90", "compute_90"), ()])
                 stems = [os.path.basename(it["exe"]).partition(".")[0] for it in said["commands"]]
                 tools = {"cicc": zigrunk.CommandTool.CICC, "ptxas": zigrunk.CommandTool.PTXAS, "cudafe++": zigrunk.CommandTool.CUDAFE,
                          "fatbinary": zigrunk.CommandTool.FATBINARY, "nvlink": zigrunk.CommandTool.NVLINK}
@@ -99,7 +102,7 @@ class Calls(unittest.TestCase):
                 self.assertEqual(stages, [zigrunk.Stage.FRONT] + [zigrunk.Stage.DEVICE] * (len(stages) - 2) + [zigrunk.Stage.FINAL])
                 dropped = [{"program": it["exe"], "arguments": tuple(it["args"]), "variables": (), "cwd": "", "group": None,
                             "cacheable": False, "run": it["run"], "line": it["line"] - 1, "needs": (), "reads": (), "writes": (),
-                            "may_write": (), "tool": None, "missing": None} for it in said["dropped"]]
+                            "may_write": (), "tool": None, "missing": None, "targets": ()} for it in said["dropped"]]
                 reasons = [zigrunk.Reason(it.reason or 0).name.replace("_", "").lower() for it in records.dropped]
                 self.assertEqual(reasons, [it["reason"].lower() for it in said["dropped"]])
                 self.assertEqual([dataclasses.asdict(dataclasses.replace(it, reason=None)) for it in records.dropped],
@@ -373,14 +376,63 @@ class Calls(unittest.TestCase):
             if name == "two_targets":
                 self.assertEqual(started, [0, 1, 2, 5, 3, 6, 4, 7, 8, 9])
 
-    def test_example(self) -> None:
-        for name in NAMES:
-            with self.subTest(name):
-                flag = read(name, ".flag").decode().strip()
-                call = [sys.executable, EXAMPLE, "/w", "/t", flag, f"{FOLDER}/{name}.dry1", f"{FOLDER}/{name}.dry2"]
-                lines = subprocess.run(call, check=True, stdout=subprocess.PIPE, text=True).stdout.splitlines()
-                plan = [it for it in read(name, ".plan").decode().splitlines() if not it.startswith("group ")]
-                self.assertEqual([it.startswith("dropped") for it in lines], [it.startswith("dropped") for it in plan])
+
+NVCC = """#!/bin/sh
+echo "$*" >> "${0%/*}/words"
+case $* in *-Dbad*) echo 'nvcc fatal   : bad' >&2; exit 3 ;; esac
+tmp=
+while [ $# -gt 0 ]; do [ "$1" = --keep-dir ] && tmp=$2/; shift; done
+cat >&2 << END
+#$ PATH=${0%/*}
+#$ gcc -D__NVCC__ -E k.cu -o "${tmp}k.cpp1.ii"
+#$ cicc -arch compute_75 "${tmp}k.cpp1.ii" -o "${tmp}k.ptx"
+#$ gcc -c -D__NVCC__ k.cu -o "k.o"
+END
+"""
+
+
+class WholeCalls(unittest.TestCase):
+    """Calls of an nvcc that is a stand-in. tests/callers.sh has misuses."""
+
+    def setUp(self) -> None:
+        room = tempfile.TemporaryDirectory()
+        self.addCleanup(room.cleanup)
+        self.folder = os.path.realpath(room.name)
+        for program, text in (("nvcc", NVCC), ("gcc", ""), ("cicc", "")):
+            with open(f"{self.folder}/{program}", "w", encoding="utf-8") as file:
+                file.write(text)
+            os.chmod(file.name, 0o755)
+        os.mkdir(f"{self.folder}/t")
+
+    def call(self, words: list[str], **environment: str) -> zigrunk.Call:
+        return zigrunk.Call(f"{self.folder}/nvcc", words, {"PATH": "/usr/bin:/bin", **environment}, self.folder, f"{self.folder}/t")
+
+    def test_plan(self) -> None:
+        call = self.call(["-MD", "-c", "k.cu", "-t", "3"], NVCC_APPEND_FLAGS="-DX=1", ODD="\udcff")
+        self.assertEqual((call.flag, call.jobs, call.keep_dir, call.input, call.outputs), ("-c", 3, None, "k.cu", ("k.o", "k.d")))
+        plan = call.plan()
+        with open(f"{self.folder}/words", encoding="utf-8") as file:
+            self.assertEqual(sorted(" -DX=1 " in line for line in file), [True, True])
+        self.assertEqual([it.needs for it in plan.commands], [(), (0,), (0, 1)])
+        self.assertEqual([it.targets for it in plan.commands], [("compute_75",), ("compute_75",), ()])
+        self.assertEqual([it.preprocesses for it in plan.commands], [True, False, False])
+        self.assertEqual({it.variables[-1] for it in plan.commands}, {("ODD", "\udcff")})
+        self.assertEqual(call.dependencies and call.dependencies.words[-4:], ("-MT", "k.o", "-MF", "k.d"))
+
+    def test_calls_for_nvcc(self) -> None:
+        with self.assertRaises(zigrunk.ZigrunkError) as passed:
+            self.call(["-E", "k.cu"])
+        self.assertEqual(passed.exception.number, zigrunk.Status.TO_NVCC)
+        with self.assertRaises(zigrunk.NvccError) as refused:
+            self.call(["-c", "k.cu", "-Dbad"]).plan()
+        self.assertEqual((refused.exception.status, str(refused.exception)), (3, "nvcc fatal   : bad"))
+        with self.assertRaises(zigrunk.ZigrunkError) as odd:
+            zigrunk.Call("nvcc", ["-c", "k.cu"], {}, "/w", "/t$x")
+        self.assertEqual(odd.exception.place, zigrunk.Place(zigrunk.Field.TMP))
+
+    def test_headers(self) -> None:
+        text = b'# 1 "k.cu"\n# 1 "<built-in>"\n#line 3 "a\\\\b\\"c.h"\nint a; # 1 "no"\n# 2 "k.cu" 2\n'
+        self.assertEqual(zigrunk.headers(text), ["k.cu", 'a\\b"c.h'])
 
 
 class Layout(unittest.TestCase):

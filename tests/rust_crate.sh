@@ -9,6 +9,10 @@
 set -u
 cd "$(dirname "$0")/.." || exit 1
 . tests/lib.sh
+. tests/callers/room.sh
+top=$PWD
+room=$scratch/room
+make_room "$room"
 require 'the crate for Rust' cargo rustc cc
 
 count=${COUNT:-20000}
@@ -55,25 +59,21 @@ examples_write() {
     done
 }
 
-# new_project: a project that adds the crate plans a call in the five lines that the crate's page has. nvcc and its tools are stand-ins, and
-# the dry runs are those of a real call.
+# new_project: a project that adds the crate plans a call by the lines of docs/EMBEDDING.md. nvcc and its tools are stand-ins, and the dry runs
+# are those of a real call.
 new_project() {
-    local crate=$PWD/zigrunk room=$scratch/project tool
-    mkdir -p "$room/bin" "$room/src"
-    for tool in gcc cudafe++ cicc ptxas fatbinary rm; do
-        printf '#!/bin/sh\n' > "$room/bin/$tool"
-    done
-    printf '%s\n' '#!/bin/sh' "case \$* in *--keep-dir*) run=2 ;; *) run=1 ;; esac" \
-        "sed 's,^#[$] PATH=.*,#\$ PATH=$room/bin,; s,/opt/cuda/bin/../nvvm/bin,$room/bin,g' $data/one_target.dry\$run >&2" > "$room/bin/nvcc"
-    chmod +x "$room"/bin/*
-    {
-        echo 'fn main() -> Result<(), Box<dyn std::error::Error>> {'
-        sed -n '/^\/\/! use zigrunk/,/^\/\/! # Ok/s/^\/\/! \(# \)\?//p' zigrunk/src/lib.rs | sed "s,\"nvcc\",\"$room/bin/nvcc\",; s,\"/[wt]\",\"$room\",g"
-        echo '}'
-    } > "$room/src/main.rs"
-    (cd "$room" && cargo init -q --vcs none --name five_lines . && cargo add -q --path "$crate" && cargo build -q) || return 1
-    "$CARGO_TARGET_DIR/debug/five_lines" > "$scratch/five" || return 1
-    diff <(grep -cE '^(yes|no) cd ' "$data/one_target.plan") <(grep -c '' "$scratch/five") && grep -qxF "0, when [] have ended: $room/bin/gcc" "$scratch/five"
+    local crate=$PWD/zigrunk project=$scratch/project
+    mkdir -p "$project/src"
+    sed -n '/^```rust$/,/^```$/p' "$top/docs/EMBEDDING.md" | grep -v '^```' > "$project/src/main.rs"
+    (cd "$project" && cargo init -q --vcs none --name ten_lines . && cargo add -q --path "$crate" && cargo build -q) || return 1
+    diff <(for tool in gcc cudafe++ gcc cicc ptxas fatbinary gcc; do echo "$room/bin/$tool"; done) \
+        <(PATH=$room/bin:$PATH NVCC_APPEND_FLAGS='-DX=1 -DY=2' "$CARGO_TARGET_DIR/debug/ten_lines" "$room/w" "$room/t" -c kernel.cu -o kernel.o) &&
+        [ "$(grep -c -- '-DX=1 -DY=2' "$room/words")" = 2 ]
+}
+
+# misuses: whether a program says of each misuse what the table of the other languages says.
+misuses() {
+    diff <(misuse_rows | awk '{print $1, $5, $6, $7}') <(misuse_rows | "$CARGO_TARGET_DIR/debug/examples/misuses" "$room")
 }
 
 # answers_of BACKEND WORD..: builds the program that prints answers, for packages and features.
@@ -119,7 +119,8 @@ check 'the versions' grep -qx "version = \"$version\"" Cargo.toml
 check 'the tests' cargo test -q "${plain[@]}"
 check 'programs are no tests' cargo test -q -p cudaplan -p zigrunk-cli
 check 'what the examples write' examples_write "$CARGO_TARGET_DIR/debug/examples"
-check 'five lines in a new project' new_project
+check 'the ten lines of the page in a new project' new_project
+check 'misuses' misuses
 if cargo clippy --version > /dev/null 2>&1; then
     linted 'plain' "${plain[@]}"
     linted 'linked' "${linked[@]}"

@@ -1,5 +1,5 @@
 #!/bin/sh
-# library.sh ARCHIVE FOLDER: makes libzigrunk in FOLDER, with its header and pkg-config file, of the archive that `rt lib`
+# library.sh ARCHIVE FOLDER: makes libzigrunk in FOLDER, with its headers and the files of pkg-config and CMake, of the archive that `rt lib`
 # leaves in crates/zigrunk_c/out, or of the one that cargo leaves in out/rust/target/release.
 #
 # The names of an archive are all global. So it becomes one object, in which only the exports are. The archive of `rt lib` lacks the
@@ -9,7 +9,7 @@ archive=$(realpath "$1")
 folder=$(realpath -m "$2")
 cd "$(dirname "$0")"
 kit=${KIT:-/opt/rattle}
-mkdir -p "$folder/lib/pkgconfig" "$folder/include"
+mkdir -p "$folder/lib/pkgconfig" "$folder/lib/cmake/zigrunk" "$folder/include"
 work=$(mktemp -d)
 trap 'rm -rf "$work"' EXIT
 
@@ -31,14 +31,25 @@ rm -f "$folder/lib/libzigrunk.a"
 ${CC:-cc} -shared -o "$folder/lib/libzigrunk.so.1" "$work/zigrunk.o" -s -Wl,--gc-sections \
     -Wl,-soname,libzigrunk.so.1 -Wl,--version-script=zigrunk.map -static-libgcc -Wl,--no-undefined -Wl,-z,relro,-z,now,-z,noexecstack
 ln -sf libzigrunk.so.1 "$folder/lib/libzigrunk.so"
-cp zigrunk.h "$folder/include/zigrunk.h"
+cp zigrunk.h zigrunk_call.h ../cpp/zigrunk.hpp "$folder/include"
+version=$(cat ../../VERSION)
+cp ../cmake/zigrunk-config.cmake "$folder/lib/cmake/zigrunk"
+cat > "$folder/lib/cmake/zigrunk/zigrunk-config-version.cmake" << END
+set(PACKAGE_VERSION $version)
+if(PACKAGE_FIND_VERSION VERSION_EQUAL PACKAGE_VERSION)
+  set(PACKAGE_VERSION_EXACT TRUE)
+endif()
+if(NOT PACKAGE_FIND_VERSION VERSION_GREATER PACKAGE_VERSION)
+  set(PACKAGE_VERSION_COMPATIBLE TRUE)
+endif()
+END
 cat > "$folder/lib/pkgconfig/zigrunk.pc" << END
 prefix=\${pcfiledir}/../..
 libdir=\${prefix}/lib
 
 Name: zigrunk
 Description: Plans the commands of one nvcc call
-Version: $(cat ../../VERSION)
+Version: $version
 Cflags: -I\${prefix}/include
 Libs: -L\${libdir} -lzigrunk
 END

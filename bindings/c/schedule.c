@@ -113,7 +113,8 @@ static int run(size_t count) {
                 bad |= zigrunk_schedule_ended(&schedule, states, count, i, jobs[i].status ? ZIGRUNK_FAILED : ZIGRUNK_SUCCEEDED).status;
             }
         }
-        for (size_t end = zigrunk_schedule_told(&schedule, states, count, told, count).end; told < end; told++) {
+        size_t end = told > 0 && jobs[told - 1].status ? told : zigrunk_schedule_told(&schedule, states, count, told, count).end;
+        for (; told < end; told++) {
             fwrite(jobs[told].printed, 1, jobs[told].length, stderr);
         }
     }

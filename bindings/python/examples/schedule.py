@@ -13,13 +13,8 @@ import zigrunk
 JOBS = 4
 
 
-def dry_run(line: str) -> bytes:
-    return subprocess.run(["sh", "-c", line], stdout=subprocess.DEVNULL, stderr=subprocess.PIPE, check=True).stderr
-
-
 def run(command: zigrunk.Command) -> "subprocess.CompletedProcess[bytes]":
-    words, variables = [command.program, *command.arguments], dict(command.variables)
-    return subprocess.run(words, cwd=command.cwd, env=variables, stdout=subprocess.PIPE, stderr=subprocess.STDOUT, check=False)
+    return subprocess.run(command.words, cwd=command.cwd, env=dict(command.variables), stdout=subprocess.PIPE, stderr=subprocess.STDOUT, check=False)
 
 
 def run_plan(plan: zigrunk.Plan) -> int:
@@ -34,22 +29,22 @@ def run_plan(plan: zigrunk.Plan) -> int:
                 number = running.pop(done)
                 ran[number] = done.result()
                 schedule.ended(number, zigrunk.CommandState.FAILED if ran[number].returncode else zigrunk.CommandState.SUCCEEDED)
-            told_now = schedule.told(told, len(schedule)).commands
-            for number in told_now:
+            now = schedule.told(told, len(schedule) if told == 0 or ran[told - 1].returncode == 0 else told).commands
+            for number in now:
                 sys.stderr.buffer.write(ran[number].stdout)
-            told = told_now.stop
+            told = now.stop
     return ran[told - 1].returncode
 
 
 def main(words: List[str]) -> int:
     with tempfile.TemporaryDirectory() as tmp:
         try:
-            line = zigrunk.nvcc_line(os.getcwd(), tmp, "nvcc", words, os.environ)
-            plan = zigrunk.plan_records(zigrunk.PlanCall(
-                dry_run(line.first_dry_run), dry_run(line.second_dry_run), os.getcwd(), tmp, line.flag, line.keep_dir or None, os.environ))
-        except (zigrunk.ZigrunkError, subprocess.CalledProcessError):
+            call = zigrunk.Call("nvcc", words, os.environ, os.getcwd(), tmp)
+            plan = call.plan()
+        except (zigrunk.ZigrunkError, zigrunk.NvccError):
             return subprocess.run(["nvcc", *words], check=False).returncode
-        status = subprocess.run(["sh", "-c", line.dependencies], check=False).returncode if line.dependencies else 0
+        rule = call.dependencies
+        status = subprocess.run(rule.words, cwd=rule.cwd, env=rule.environment, check=False).returncode if rule else 0
         return status or run_plan(plan)
 
 

@@ -1,7 +1,7 @@
 """What one nvcc call really runs, by libzigrunk.
 
-nvcc's dry runs go in, and a plan comes out: the commands in groups, and the commands that the plan dropped, each with the
-reason. The module looks no program up by itself: `lookups` says what to look up, and `find` does it on disk.
+A `Call` is an nvcc line, the environment, and where it is made. `Call.plan` runs nvcc's two dry runs, finds the programs that they name, and
+gives the commands: in groups, and those that the plan dropped, each with the reason. `plan_records` plans dry runs without their line.
 
 The module takes the shared object that the environment variable ZIGRUNK_LIBRARY names. If that isn't set, it looks for
 `libzigrunk.so.1` in its own folder, in `lib` of the prefix that it is installed in, in `out/lib` of the repository, and then where
@@ -11,17 +11,22 @@ the loader does. Any number of threads may call.
 from __future__ import annotations
 
 import ctypes
+import dataclasses
 import enum
 import os
+import re
 import struct
+import subprocess
 import sys
 from dataclasses import dataclass, field
-from typing import Any, Callable, Dict, Iterable, Iterator, List, Mapping, Optional, Sequence, Tuple, Type, TypeVar, Union
+from typing import (Any, Callable, Dict, Iterable, Iterator, List, Mapping, Optional, Sequence, Set, Tuple, Type, TypeVar,
+                    Union)
 
-__all__ = ["AfterFailure", "ColorMode", "Command", "CommandState", "CommandTool", "Field", "Form", "Group", "HostCompiler", "Language", "Line",
-           "Lookup", "Missing", "NvccLine", "Output", "Place", "Plan", "PlanCall", "PlanStatus", "Reason", "Refused", "Schedule",
-           "ScheduleError", "Stage", "Status", "Told", "Tool", "ZigrunkError", "candidates", "command_key", "find", "line", "line_records",
-           "line_words", "lookups", "nvcc_line", "plan", "plan_records", "quote", "remap", "split", "version"]
+__all__ = ["AfterFailure", "Call", "ColorMode", "Command", "CommandState", "CommandTool", "Field", "Form", "Group", "HostCompiler",
+           "Language", "Line", "Lookup", "Missing", "NvccError", "NvccLine", "Output", "Place", "Plan", "PlanCall", "PlanStatus", "Reason",
+           "Refused", "Run", "Schedule", "ScheduleError", "Stage", "Status", "Told", "Tool", "ZigrunkError", "candidates", "command_key",
+           "find", "headers", "line", "line_records", "line_words", "lookups", "nvcc_line", "plan", "plan_records", "quote", "remap",
+           "split", "version"]
 
 _ABI_VERSION = 1
 
@@ -308,6 +313,19 @@ class Command:
     missing: Union[Missing, int, None] = None
     """Which files it touches that aren't among these, or None if they are all. Among them may be files that commands which it needs
     write. A number if a later library has a reason that this module doesn't know."""
+    targets: Tuple[str, ...] = ()
+    """What a command of one target is for, such as `compute_80` or `sm_80`, and what a fatbinary has. A preprocessor's are those of the
+    cicc commands that read what it writes."""
+
+    @property
+    def words(self) -> Tuple[str, ...]:
+        """The program, and its words."""
+        return (self.program, *self.arguments)
+
+    @property
+    def preprocesses(self) -> bool:
+        """Whether it only preprocesses."""
+        return self.tool == CommandTool.HOST and "-E" in self.arguments
 
 
 @dataclass(frozen=True)
@@ -817,15 +835,47 @@ def plan_records(call: PlanCall, which: Callable[[Lookup, str], Optional[str]] =
                 raise refusal
             _checked(answer.status, data, _place(answer.place))
             texts = _texts(ranges, answer.ranges, data)
-            made = tuple(_command(it, steps[at] if at < answer.steps else None, numbers, texts)
-                         for at, it in enumerate(commands[: answer.commands]))
+            made = [_command(it, steps[at] if at < answer.steps else None, numbers, texts)
+                    for at, it in enumerate(commands[: answer.commands])]
+            made = [dataclasses.replace(it, targets=_targets(it, made)) for it in made]
             return Plan(
-                tuple(Group(_known(Stage, it.stage), made[it.commands.offset:it.commands.offset + it.commands.length])
+                tuple(Group(_known(Stage, it.stage), tuple(made[it.commands.offset:it.commands.offset + it.commands.length]))
                       for it in groups[: answer.groups]),
-                made[answer.steps:],
+                tuple(made[answer.steps:]),
             )
         sizes = [max(pair) for pair in zip(counts, sizes)]
     raise _unsettled()
+
+
+_IMAGE = re.compile(r"--image3=kind=(\w+),sm=(\w+),|--image=profile=(\w+),")
+_KINDS = {"elf": "sm", "ptx": "compute", "nvvm": "lto"}
+
+
+def _own_targets(command: Command) -> Tuple[str, ...]:
+    """The targets that a command's own words name."""
+    words = command.arguments
+    if command.tool == CommandTool.FATBINARY:
+        images = [it for it in map(_IMAGE.match, words) if it]
+        return tuple(it[3] or f"{_KINDS.get(it[1], it[1])}_{it[2]}" for it in images)
+    if command.tool not in (CommandTool.CICC, CommandTool.PTXAS):
+        return ()
+    values = [words[at + 1] if word == "-arch" else word[len("-arch="):] for at, word in enumerate(words)
+              if word.startswith("-arch=") or word == "-arch" and at + 1 < len(words)]
+    return tuple(values[-1:])
+
+
+def _targets(command: Command, others: Sequence[Command]) -> Tuple[str, ...]:
+    if not command.preprocesses:
+        return _own_targets(command)
+    readers = [it for it in others if it.tool == CommandTool.CICC and set(it.reads) & set(command.writes)]
+    return tuple(target for it in readers for target in _own_targets(it))
+
+
+def headers(preprocessed: bytes) -> List[str]:
+    """The files that a preprocessor's output says it was made from, each once, in the order of their line markers."""
+    names = re.findall(rb'^#(?:line)? \d+ "((?:[^"\\\n]|\\.)*)"', preprocessed, re.MULTILINE)
+    found = [re.sub(rb"\\(.)", rb"\1", it).decode("utf-8", "surrogateescape") for it in dict.fromkeys(names)]
+    return [it for it in found if not it.startswith("<")]
 
 
 def _line_call(tool: Tool, cwd: str, words: Sequence[str],
@@ -909,6 +959,147 @@ def nvcc_line(cwd: str, tmp: str, nvcc: str, words: Sequence[str],
     """
     record = _NvccCall(_text(_bytes(cwd)), _text(_bytes(tmp)), _text(_bytes(nvcc)), *_array(words), *_variables(environment), 0)
     return NvccLine(*_ask_list(_library.zigrunk_nvcc_line, ctypes.byref(record)))
+
+
+class NvccError(Exception):
+    """nvcc refused a dry run: `status` is its status, and the text what it printed."""
+
+    def __init__(self, status: int, printed: bytes) -> None:
+        super().__init__(printed.decode("utf-8", "replace").rstrip())
+        self.status = status
+
+
+@dataclass(frozen=True)
+class Run:
+    """A program to run: words without a shell, a directory, and the whole environment."""
+
+    words: Tuple[str, ...]
+    cwd: str
+    environment: Mapping[str, str]
+
+    def start(self) -> "subprocess.Popen[bytes]":
+        """Starts it without input and output, and with a pipe for what it prints to standard error."""
+        return subprocess.Popen(self.words, cwd=self.cwd, env=self.environment, stdin=subprocess.DEVNULL, stdout=subprocess.DEVNULL,
+                                stderr=subprocess.PIPE)
+
+
+def _is_text(text: str) -> bool:
+    return not any("\udc80" <= it <= "\udcff" for it in text)
+
+
+def _marked_lines(dry_run: bytes) -> List[Tuple[int, bytes]]:
+    """The lines of a dry run that say something, each with its number. Which files nvcc removes says nothing."""
+    return [(number, line.rstrip()) for number, line in enumerate(dry_run.split(b"\n"), 1)
+            if line.startswith(b"#$ ") and not line.startswith(b"#$ rm ")]
+
+
+class Call:
+    """An nvcc call: its words without nvcc's name, its environment, its directory, and one for temporary files, which has to be there.
+
+    `environment` is all of it, as `os.environ`: nvcc reads NVCC_PREPEND_FLAGS and NVCC_APPEND_FLAGS there, and the commands run in it.
+
+    Raises `ZigrunkError` if nvcc has to make the call itself (`Status.TO_NVCC`, with the reason), or if the line can't be read.
+    """
+
+    dry_runs: Tuple[Run, Run]
+    """The two dry runs. `plan` runs them; to run them elsewhere, pass what they print to standard error to `plan_of`."""
+    dependencies: Optional[Run]
+    """What writes the dependency file, if the line asks for one. It's no command of the plan."""
+    flag: str
+    """The option that says what nvcc makes, as `-c`."""
+    jobs: Optional[int]
+    """How many commands may run at once, if the line or the environment says so."""
+    keep_dir: Optional[str]
+    """The directory that keeps generated files, if the line names one."""
+    input: str
+    """The path of the source, as the dry runs have it."""
+    outputs: Tuple[str, ...]
+    """The paths of what the call makes: the product, and the dependency file if there is one."""
+
+    def __init__(self, nvcc: str, words: Sequence[str], environment: Mapping[str, str], cwd: str, tmp: str) -> None:
+        if set(tmp) & set("\"$`\\\n"):
+            raise ZigrunkError(Status.ODD_DIRECTORY, "nvcc's dry runs can't have this directory for temporary files", Place(Field.TMP))
+        self.cwd, self.tmp, self._environment = cwd, tmp, dict(environment)
+        line = nvcc_line(cwd, tmp, nvcc, words, self._texts())
+        self.dry_runs = (self._run(line.first_dry_run), self._run(line.second_dry_run))
+        self.dependencies = self._run(line.dependencies) if line.dependencies else None
+        self.flag, self.jobs, self.keep_dir = line.flag, int(line.jobs) if line.jobs else None, line.keep_dir or None
+        first = self.dry_runs[0].words
+        self.input = first[-3]
+        rule = self.dependencies.words if self.dependencies else ()
+        self.outputs = tuple(words[words.index(option) + 1] for words, option in ((first, "-o"), (rule, "-MF")) if option in words)
+
+    def _texts(self) -> Dict[str, str]:
+        """The variables that are UTF-8. The library takes no others, and nvcc reads none."""
+        return {name: value for name, value in self._environment.items() if _is_text(name) and _is_text(value)}
+
+    def _run(self, command: str) -> Run:
+        """A command of `nvcc_line`: `( unset NVCC_PREPEND_FLAGS NVCC_APPEND_FLAGS; cd DIRECTORY && WORD.. )`."""
+        words = split(command)
+        without = {name: value for name, value in self._environment.items() if name not in ("NVCC_PREPEND_FLAGS", "NVCC_APPEND_FLAGS")}
+        return Run(tuple(words[7:-1]), words[5], without)
+
+    def plan(self) -> Plan:
+        """Runs both dry runs, and plans.
+
+        Raises `NvccError` if nvcc refuses one, `OSError` if it can't be run, and what `plan_of` raises.
+        """
+        started = [run.start() for run in self.dry_runs]
+        printed = [it.communicate()[1] for it in started]
+        for process, text in zip(started, printed):
+            if process.returncode != 0:
+                raise NvccError(process.returncode, text)
+        return self.plan_of(printed[0], printed[1])
+
+    def plan_of(self, dry1: bytes, dry2: bytes, which: Callable[[Lookup, str], Optional[str]] = find, limit: Optional[int] = None) -> Plan:
+        """Plans what the two dry runs printed. Each command has what it needs, or there is no plan.
+
+        Raises `ZigrunkError` as `plan_records` does; with `Status.NO_DRY_RUN`, and the place, if the texts aren't the dry runs of this call; and
+        with `Status.TO_NVCC` if a command reads a file that no command before it writes.
+        """
+        self._check_pair(dry1, dry2)
+        plan = plan_records(PlanCall(dry1, dry2, self.cwd, self.tmp, self.flag, self.keep_dir, self._texts(), limit=limit), which)
+        self._check_plan(plan, dry2)
+        others = tuple((name, value) for name, value in self._environment.items() if not (_is_text(name) and _is_text(value)))
+        return plan if not others else _with_variables(plan, others)
+
+    def _check_pair(self, dry1: bytes, dry2: bytes) -> None:
+        """Both have to say the same, the second with `tmp` in front of names."""
+        front = re.compile(rb'(["=])' + re.escape(_bytes(self.tmp)) + rb"/")
+        lines, others = _marked_lines(dry1), _marked_lines(dry2)
+        for (_, line), (number, other) in zip(lines, others):
+            if front.sub(rb"\1", other) != line:
+                raise _no_dry_run("the dry runs differ by more than the directory for temporary files", Field.DRY2, number)
+        if len(lines) != len(others) and lines and others:
+            raise _no_dry_run("the dry runs have different numbers of lines", Field.DRY2 if len(lines) < len(others) else Field.DRY1)
+
+    def _check_plan(self, plan: Plan, dry2: bytes) -> None:
+        """Its commands have to read the source, to write the product, and to read no file in `tmp` that none before them writes."""
+        read = {path for command in plan.commands for path in command.reads}
+        written = {path for command in plan.commands for path in command.writes + command.may_write}
+        if os.path.join(self.cwd, self.input) not in read:
+            raise _no_dry_run(f"the dry runs are of another call: none of their commands reads {self.input}", Field.DRY2)
+        if self.outputs and os.path.join(self.cwd, self.outputs[0]) not in written:
+            raise _no_dry_run(f"the dry runs are of another call: none of their commands writes {self.outputs[0]}", Field.DRY2)
+        before: Set[str] = set()
+        for command in plan.commands:
+            missing = [path for path in command.reads if path.startswith(self.tmp + "/") and path not in before]
+            if missing and not re.search(rb'["=]' + re.escape(_bytes(self.tmp)) + rb"/", dry2):
+                raise _no_dry_run("this dry run doesn't have the directory for temporary files", Field.DRY2)
+            if missing:
+                place = Place(Field(command.run), command.line + 1)
+                raise ZigrunkError(Status.TO_NVCC, f"goes to nvcc: no command of its plan writes {missing[0]}", place)
+            before.update(command.writes + command.may_write)
+
+
+def _no_dry_run(message: str, at: Field, line: Optional[int] = None) -> ZigrunkError:
+    return ZigrunkError(Status.NO_DRY_RUN, message, Place(at, line))
+
+
+def _with_variables(plan: Plan, variables: Tuple[Tuple[str, str], ...]) -> Plan:
+    def with_them(command: Command) -> Command:
+        return dataclasses.replace(command, variables=command.variables + variables)
+    return Plan(tuple(Group(it.stage, tuple(map(with_them, it.commands))) for it in plan.groups), plan.dropped)
 
 
 def command_key(tool: CommandTool, words: Sequence[str],

@@ -4,7 +4,7 @@
 use std::error::Error;
 use std::{env, process};
 
-use zigrunk::{NvccCall, quote, variables};
+use zigrunk::{Call, NvccCall, quote, variables};
 
 fn main() -> Result<(), Box<dyn Error>> {
     let arguments: Vec<String> = env::args().skip(1).collect();
@@ -13,7 +13,7 @@ fn main() -> Result<(), Box<dyn Error>> {
         process::exit(2);
     };
     let environment: Vec<_> = env::vars_os().collect();
-    let call = NvccCall { cwd, tmp, nvcc, words, variables: &variables(&environment) };
+    let call = Call::new(&NvccCall { nvcc, words, variables: &variables(&environment), cwd, tmp })?;
     for (number, command) in call.plan()?.commands().enumerate() {
         println!("{number} {:?} {} {}", command.needs(), command.program(), quote(command.arguments())?);
     }

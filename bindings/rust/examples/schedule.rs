@@ -7,7 +7,7 @@ use std::sync::mpsc;
 use std::{env, io, process, thread};
 
 use zigrunk::schedule::{AfterFailure, Outcome, Schedule};
-use zigrunk::{NvccCall, variables};
+use zigrunk::{Call, NvccCall, variables};
 
 fn run(command: zigrunk::Command<'_>) -> io::Result<Output> {
     let mut process = Command::new(command.program());
@@ -21,7 +21,11 @@ fn main() -> Result<(), Box<dyn Error>> {
         process::exit(2);
     };
     let environment: Vec<_> = env::vars_os().collect();
-    let plan = NvccCall { cwd, tmp, nvcc, words, variables: &variables(&environment) }.plan()?;
+    let call = Call::new(&NvccCall { nvcc, words, variables: &variables(&environment), cwd, tmp })?;
+    if let Some(status) = call.dependencies().map(|run| run.command().status()).transpose()?.filter(|status| !status.success()) {
+        process::exit(status.code().unwrap_or(1));
+    }
+    let plan = call.plan()?;
     let commands: Vec<_> = plan.commands().collect();
     let mut schedule = Schedule::of_plans([&plan], 4, AfterFailure::StartEarlier)?;
     let mut ran: Vec<Option<Output>> = vec![None; commands.len()];
@@ -35,7 +39,8 @@ fn main() -> Result<(), Box<dyn Error>> {
             let (number, output) = ended.recv()?;
             let output = ran[number].insert(output?);
             schedule.ended(number, if output.status.success() { Outcome::Success } else { Outcome::Failure })?;
-            let now = schedule.told(told..commands.len());
+            let has_failed = told > 0 && ran[told - 1].as_ref().is_some_and(|last| !last.status.success());
+            let now = schedule.told(told..if has_failed { told } else { commands.len() });
             for output in ran[now.commands.clone()].iter().flatten() {
                 io::stdout().write_all(&output.stdout)?;
                 io::stderr().write_all(&output.stderr)?;

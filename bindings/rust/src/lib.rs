@@ -6,10 +6,10 @@
 //!
 //! ```no_run
 //! # fn main() -> Result<(), Box<dyn std::error::Error>> {
-//! use zigrunk::{NvccCall, variables};
+//! use zigrunk::{Call, NvccCall, variables};
 //! let environment: Vec<_> = std::env::vars_os().collect();
 //! let words = ["-c", "k.cu", "-o", "k.o"];
-//! let call = NvccCall { cwd: "/w", tmp: "/t", nvcc: "nvcc", words: &words, variables: &variables(&environment) };
+//! let call = Call::new(&NvccCall { nvcc: "nvcc", words: &words, variables: &variables(&environment), cwd: "/w", tmp: "/t" })?;
 //! for (number, command) in call.plan()?.commands().enumerate() {
 //!     println!("{number}, when {:?} have ended: {}", command.needs(), command.program());
 //! }
@@ -17,8 +17,8 @@
 //! # }
 //! ```
 //!
-//! [`NvccCall::plan`] runs nvcc's dry runs on this machine, and [`find_programs`] looks on its disk for the programs that they name. Nothing
-//! else here starts a process or reads a file: [`plan()`] plans dry runs that you have, with programs that you know, for any machine.
+//! [`Call::plan`] runs nvcc's dry runs on this machine, and [`find_programs`] looks on its disk for the programs that they name. Nothing
+//! else here starts a process or reads a file: [`Call::plan_of`] plans dry runs that you have, with programs that you know, for any machine.
 //! [`plan_text`] writes the same plan as JSON, as a Ninja file, as a shell script or for people. A [`schedule`] says in which order to run
 //! the commands.
 //!
@@ -40,6 +40,7 @@ mod backend;
 mod backend;
 mod call;
 mod error;
+mod headers;
 mod key;
 mod line;
 mod needs;
@@ -54,16 +55,18 @@ mod words;
 
 pub use call::{Form, HostCompiler, PlanCall, plan_text};
 pub use error::{Error, ErrorKind, Field, Place};
+pub use headers::headers;
 pub use key::{KeyCall, command_key};
 pub use line::{ColorMode, Language, Line, Output, line_records};
 pub use needs::needs;
-pub use nvcc::CallError;
+pub use nvcc::{Call, CallError, Run};
 pub use plan::{Command, CommandTool, Commands, Group, Groups, Missing, Plan, Reason, Stage, Variables, plan};
 pub use programs::{
     FoundProgram, Lookup, candidates, find_program, find_programs, find_programs_within, lookups, lookups_within,
 };
 pub use texts::{Texts, TextsIter};
-pub use tools::{LineCall, NvccCall, NvccLine, Tool, line, line_words, nvcc_line, remap};
+pub use tools::{LineCall, NvccCall, Tool, line, line_words, remap};
+pub(crate) use variable::pairs;
 pub use variable::{Variable, variables};
 pub use words::{quote, split};
 

@@ -312,6 +312,44 @@ impl<'a> Command<'a> {
         self.plan.texts.part(self.record.arguments)
     }
 
+    /// The program, and its words.
+    pub fn words(&self) -> impl Iterator<Item = &'a str> {
+        std::iter::once(self.program()).chain(self.arguments())
+    }
+
+    /// Whether it only preprocesses.
+    #[must_use]
+    pub fn preprocesses(&self) -> bool {
+        self.tool() == Some(CommandTool::Host) && self.arguments().any(|word| word == "-E")
+    }
+
+    /// The target that a command of a device is for, such as `compute_80` or `sm_80`, and the targets of what a fatbinary has. Those of a
+    /// preprocessor are those of the cicc commands that read what it writes.
+    #[must_use]
+    pub fn targets(&self) -> Vec<String> {
+        if !self.preprocesses() {
+            return self.own_targets();
+        }
+        let reads = |it: &Command<'_>| {
+            it.tool() == Some(CommandTool::Cicc) && it.reads().any(|path| self.writes().any(|own| own == path))
+        };
+        self.plan.commands().filter(reads).flat_map(|it| it.own_targets()).collect()
+    }
+
+    /// The targets that its own words name.
+    fn own_targets(&self) -> Vec<String> {
+        match self.tool() {
+            Some(CommandTool::Fatbinary) => self.arguments().filter_map(image_target).collect(),
+            Some(CommandTool::Cicc | CommandTool::Ptxas) => {
+                let pairs = self.arguments().zip(self.arguments().skip(1).chain([""]));
+                let named =
+                    pairs.filter_map(|(word, next)| if word == "-arch" { Some(next) } else { word.strip_prefix("-arch=") });
+                named.last().map(str::to_owned).into_iter().collect()
+            }
+            _ => Vec::new(),
+        }
+    }
+
     /// The environment: names and values. A name may occur twice: the last one counts. None if the command was dropped.
     #[must_use]
     pub fn variables(&self) -> Variables<'a> {
@@ -360,6 +398,22 @@ impl<'a> Command<'a> {
     pub fn line(&self) -> usize {
         self.record.line
     }
+}
+
+/// The target of a word of fatbinary that names an image.
+fn image_target(word: &str) -> Option<String> {
+    if let Some(named) = word.strip_prefix("--image=profile=") {
+        return named.split_once(',').map(|(target, _)| target.to_owned());
+    }
+    let (kind, rest) = word.strip_prefix("--image3=kind=")?.split_once(",sm=")?;
+    let (target, _) = rest.split_once(',')?;
+    let kind = match kind {
+        "elf" => "sm",
+        "ptx" => "compute",
+        "nvvm" => "lto",
+        other => other,
+    };
+    Some(format!("{kind}_{target}"))
 }
 
 impl fmt::Debug for Command<'_> {

@@ -49,3 +49,9 @@ impl fmt::Debug for Variable<'_> {
 pub fn variables<N: AsRef<OsStr>, V: AsRef<OsStr>>(pairs: &[(N, V)]) -> Vec<Variable<'_>> {
     pairs.iter().map(|(name, value)| Variable::new(name, value)).collect()
 }
+
+/// The names and values that are UTF-8. The library refuses others before.
+pub(crate) fn pairs(variables: &[Variable<'_>]) -> Vec<(String, String)> {
+    let text = |it: &OsStr| it.to_str().map(str::to_owned);
+    variables.iter().filter_map(|it| Some((text(it.name)?, text(it.value)?))).collect()
+}

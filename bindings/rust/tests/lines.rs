@@ -1,7 +1,8 @@
 //! Lines of tools, and canonical names.
 
 use zigrunk::{
-    ColorMode, ErrorKind, Language, LineCall, NvccCall, Output, Tool, Variable, line, line_records, line_words, nvcc_line, remap,
+    Call, ColorMode, ErrorKind, Field, Language, LineCall, NvccCall, Output, Tool, Variable, line, line_records, line_words,
+    remap,
 };
 
 fn words(text: &str) -> Vec<String> {
@@ -65,17 +66,23 @@ fn lines_of_device_tools_as_values() {
 fn a_line_of_nvcc() {
     let given = words("-MD -MF k.d --threads 2 -c k.cu -o k.o");
     let call = NvccCall { cwd: "/w", tmp: "/t", nvcc: "nvcc", words: &given, variables: &[] };
-    let line = nvcc_line(&call).unwrap();
-    assert!(line.dependencies().is_some_and(|command| command.contains("-M -MF k.d")));
-    assert!(line.first_dry_run().ends_with("--dryrun --keep )") && !line.first_dry_run().contains("--keep-dir"));
-    assert!(line.second_dry_run().contains("--keep-dir /t --dryrun --keep"));
-    assert_eq!((line.flag(), line.jobs(), line.keep_dir()), ("-c", Some("2"), None));
-    let given = [Variable::new("NVCC_APPEND_FLAGS", "--keep-dir /k --keep")];
-    let kept = nvcc_line(&NvccCall { words: &words("-c k.cu"), variables: &given, ..call }).unwrap();
+    let read = Call::new(&call).unwrap();
+    let [first, second] = read.dry_runs();
+    assert_eq!(first.words, ["nvcc", "-x", "cu", "-o", "k.o", "-c", "k.cu", "--dryrun", "--keep"]);
+    assert_eq!(second.words, ["nvcc", "-x", "cu", "-o", "k.o", "-c", "k.cu", "--keep-dir", "/t", "--dryrun", "--keep"]);
+    assert_eq!(first.cwd, "/w");
+    assert!(read.dependencies().is_some_and(|rule| rule.words.ends_with(&words("-M -MF k.d -MT k.o"))), "{read:?}");
+    assert_eq!((read.flag(), read.jobs(), read.keep_dir(), read.input()), ("-c", Some(2), None, "k.cu"));
+    assert!(read.outputs().eq(["k.o", "k.d"]));
+    let given = [Variable::new("A", "1"), Variable::new("NVCC_APPEND_FLAGS", "--keep-dir /k --keep -DX=1")];
+    let kept = Call::new(&NvccCall { words: &words("-c k.cu"), variables: &given, ..call }).unwrap();
     assert_eq!((kept.dependencies(), kept.keep_dir()), (None, Some("/k")));
-    let passed = nvcc_line(&NvccCall { words: &words("-E k.cu"), ..call });
-    let error = passed.unwrap_err();
+    assert!(kept.dry_runs()[0].words.contains(&"-DX=1".to_owned()), "{kept:?}");
+    assert_eq!(kept.dry_runs()[0].environment, [("A".to_owned(), "1".to_owned())]);
+    let error = Call::new(&NvccCall { words: &words("-E k.cu"), ..call }).unwrap_err();
     assert_eq!((error.kind(), error.message()), (ErrorKind::ToNvcc, "goes to nvcc: its phase isn't split"));
+    let odd = Call::new(&NvccCall { tmp: "/t$x", ..call }).unwrap_err();
+    assert_eq!((odd.kind(), odd.place().map(|it| it.field)), (ErrorKind::OddDirectory, Some(Field::Tmp)));
 }
 
 #[test]

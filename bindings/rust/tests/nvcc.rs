@@ -5,7 +5,7 @@ use std::fs;
 use std::os::unix::fs::PermissionsExt;
 use std::path::{Path, PathBuf};
 
-use zigrunk::{CallError, CommandTool, ErrorKind, NvccCall, Variable};
+use zigrunk::{Call, CallError, CommandTool, ErrorKind, NvccCall, Variable};
 
 /// Prints a dry run whose programs are beside it. The second one has the directory for temporary files in its words. It notes its own
 /// words, and fails if one is `-Dbad`.
@@ -16,8 +16,9 @@ tmp=
 while [ $# -gt 0 ]; do [ "$1" = --keep-dir ] && tmp=$2/; shift; done
 cat >&2 << END
 #$ PATH=${0%/*}
-#$ gcc -D__NVCC__ -E k.cu -o ${tmp}k.cpp1.ii
-#$ cicc --module_id_file_name m ${tmp}k.cpp1.ii -o ${tmp}k.ptx
+#$ gcc -D__NVCC__ -E k.cu -o "${tmp}k.cpp1.ii"
+#$ cicc -arch compute_75 "${tmp}k.cpp1.ii" -o "${tmp}k.ptx"
+#$ gcc -c -D__NVCC__ k.cu -o "k.o"
 END
 "#;
 
@@ -46,7 +47,7 @@ impl Room {
     fn plan(&self, words: &[&str], more: &[Variable<'_>]) -> Result<zigrunk::Plan, CallError> {
         let variables = [&[Variable::new("PATH", "/usr/bin:/bin")], more].concat();
         let (cwd, tmp, nvcc) = (self.path(""), self.path("t"), self.path("nvcc"));
-        NvccCall { cwd: cwd.trim_end_matches('/'), tmp: &tmp, nvcc: &nvcc, words, variables: &variables }.plan()
+        Call::new(&NvccCall { nvcc: &nvcc, words, variables: &variables, cwd: cwd.trim_end_matches('/'), tmp: &tmp })?.plan()
     }
 }
 
@@ -61,7 +62,9 @@ impl Drop for Room {
 fn a_call_is_planned() {
     let room = Room::new("planned");
     let plan = room.plan(&["-c", "k.cu"], &[Variable::new("A", "1")]).unwrap();
-    let [gcc, cicc] = plan.commands().collect::<Vec<_>>().try_into().unwrap();
+    let [gcc, cicc, last] = plan.commands().collect::<Vec<_>>().try_into().unwrap();
+    assert_eq!((gcc.preprocesses(), last.preprocesses()), (true, false));
+    assert_eq!((gcc.targets(), cicc.targets(), last.targets()), (vec!["compute_75".into()], vec!["compute_75".into()], vec![]));
     assert_eq!((gcc.program(), cicc.program()), (room.path("gcc").as_str(), room.path("cicc").as_str()));
     assert_eq!((cicc.needs(), cicc.tool()), ([0].as_slice(), Some(CommandTool::Cicc)));
     assert!(cicc.writes().eq([room.path("k.ptx")]) || cicc.writes().eq([room.path("t/k.ptx")]), "{cicc:?}");
@@ -87,5 +90,5 @@ fn calls_that_are_not_planned() {
     let missing = room.plan(&["-c", "k.cu"], &[]).unwrap_err();
     assert!(matches!(&missing, CallError::Planner(error) if error.kind() == ErrorKind::NotFound), "{missing:?}");
     fs::remove_file(room.folder.join("nvcc")).unwrap();
-    assert!(matches!(room.plan(&["-c", "k.cu"], &[]), Err(CallError::Nvcc(said)) if said.contains("nvcc")));
+    assert!(matches!(room.plan(&["-c", "k.cu"], &[]), Err(CallError::Run(_))));
 }

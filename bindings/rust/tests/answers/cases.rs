@@ -6,8 +6,8 @@ use std::num::NonZeroUsize;
 use std::path::Path;
 
 use zigrunk::{
-    CommandTool, Form, FoundProgram, HostCompiler, KeyCall, LineCall, Lookup, NvccCall, PlanCall, Tool, Variable, candidates,
-    command_key, line, line_records, line_words, lookups, lookups_within, message, needs, nvcc_line, plan, plan_text, quote,
+    Call, CommandTool, Form, FoundProgram, HostCompiler, KeyCall, LineCall, Lookup, NvccCall, PlanCall, Tool, Variable,
+    candidates, command_key, line, line_records, line_words, lookups, lookups_within, message, needs, plan, plan_text, quote,
     remap, split, variables,
 };
 
@@ -106,7 +106,7 @@ fn nvcc_lines(_: &DryRuns, draws: &mut Draws, told: &mut Told) {
     let nvcc = *draws.one_of(&["nvcc", "/opt/cuda/bin/nvcc", "my nvcc", ""]);
     let call = NvccCall { cwd: folder(draws), tmp: folder(draws), nvcc, words: &words, variables: &variables };
     told.tell("call", &call);
-    told.tell("nvcc_line", nvcc_line(&call));
+    told.tell("nvcc_line", Call::new(&call));
 }
 
 fn shell_words(_: &DryRuns, draws: &mut Draws, told: &mut Told) {

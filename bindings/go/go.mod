@@ -1,0 +1,3 @@
+module zigrunk
+
+go 1.19

@@ -1,0 +1,161 @@
+#!/usr/bin/env bash
+# Tests the layers in which a program makes a call of nvcc, for C, C++, Go and Python, over an installed library: the programs of
+# docs/EMBEDDING.md as they are there, misuses, and the examples. tests/rust_crate.sh does so for Rust. nvcc and its tools are stand-ins, but the
+# examples also make what nvcc makes if there is one. The last line is 'N passed, M failed'.
+#
+#   tests/callers.sh [FOLDER]   FOLDER: as `make install` or `make lib` leaves it, with lib and include; otherwise out, or what `make rust` built
+set -u
+cd "$(dirname "$0")/.." || exit 1
+. tests/lib.sh
+. tests/callers/room.sh
+require 'the call layers' cc c++ pkg-config python3
+installed=$(realpath -m "${1:-out}")
+if ! [ -f "$installed/lib/libzigrunk.so.1" ] && [ -f out/rust/target/release/libzigrunk.a ]; then
+    installed=$scratch/installed
+    bindings/c/library.sh out/rust/target/release/libzigrunk.a "$installed"
+fi
+[ -f "$installed/lib/libzigrunk.so.1" ] || skip_all 'the call layers' "there is no library in $installed: make rust"
+python=$PWD/bindings/python go=$PWD/bindings/go
+[ ! -d "$installed/share/zigrunk/go" ] || python=$installed/share/zigrunk/python go=$installed/share/zigrunk/go
+export PKG_CONFIG_PATH=$installed/lib/pkgconfig LD_LIBRARY_PATH=$installed/lib PYTHONPATH=$python
+export ZIGRUNK_LIBRARY=$installed/lib/libzigrunk.so.1 PYTHONDONTWRITEBYTECODE=1
+strict=(-Wall -Wextra -Wpedantic -Werror -O1 -g)
+room=$scratch/room
+make_room "$room"
+read -ra flags <<< "$(pkg-config --cflags --libs zigrunk)"
+read -ra static_flags <<< "$(pkg-config --static --cflags --libs zigrunk)"
+
+# block LANGUAGE: the program of this language in the page.
+block() {
+    sed -n "/^\`\`\`$1\$/,/^\`\`\`\$/p" docs/EMBEDDING.md | grep -v '^```' | sed '/^$/d'
+}
+
+# built_c, built_cpp: a program of C or C++ by the flags of pkg-config.
+built_c() { cc -std=c99 -D_POSIX_C_SOURCE=200809L "${strict[@]}" "$1" -o "$2" "${@:3}"; }
+built_cpp() { c++ -std=c++17 "${strict[@]}" "$1" -o "$2" "${@:3}"; }
+
+# built_go FOLDER OUT: the program of a folder, with the installed module.
+built_go() {
+    printf 'module test\n\ngo 1.19\n\nrequire zigrunk v0.0.0\n\nreplace zigrunk => %s\n' "$go" > "$1/go.mod"
+    (cd "$1" && GOFLAGS=-mod=mod GOPROXY=off GOCACHE=$scratch/go go build -o "$2" .)
+}
+
+# plans COMMAND..: whether a program prints the program of each command.
+plans() {
+    diff <(for tool in gcc cudafe++ gcc cicc ptxas fatbinary gcc; do echo "$room/bin/$tool"; done) \
+        <(PATH=$room/bin:$PATH NVCC_APPEND_FLAGS='-DX=1 -DY=2' "$@" "$room/w" "$room/t" -c kernel.cu -o kernel.o) &&
+        [ "$(grep -c -- '-DX=1 -DY=2' "$room/words")" = 2 ] && rm "$room/words"
+}
+
+# has_ten_lines LANGUAGE: whether the program has at most ten.
+has_ten_lines() { [ "$(block "$1" | grep -c '')" -le 10 ] && [ "$(block "$1" | grep -c '')" -gt 2 ]; }
+
+# misuses COMMAND..: whether a program says of each misuse what the table says.
+misuses() {
+    diff <(misuse_rows | awk '{print $1, $5, $6, $7}') <(misuse_rows | "$@" "$room")
+}
+
+# sanitized FILE OUT: with the checks of the compiler.
+sanitized() { cc -std=c99 -D_POSIX_C_SOURCE=200809L -fsanitize=address,undefined -fno-sanitize-recover "${strict[@]}" "$1" -o "$2" "${flags[@]}"; }
+
+# by_cmake: a project finds the library, as it is shared and as an archive.
+by_cmake() {
+    mkdir -p "$scratch/cmake"
+    printf '%s\n' 'cmake_minimum_required(VERSION 3.13)' 'project(planner C)' 'find_package(zigrunk 0.1 REQUIRED)' 'add_executable(shared first.c)' \
+        'target_link_libraries(shared zigrunk::zigrunk)' 'add_executable(archived first.c)' 'target_link_libraries(archived zigrunk::static)' \
+        > "$scratch/cmake/CMakeLists.txt"
+    cp "$scratch/first.c" "$scratch/cmake"
+    cmake -S "$scratch/cmake" -B "$scratch/cmake/b" -DCMAKE_PREFIX_PATH="$installed" -DCMAKE_C_FLAGS=-D_POSIX_C_SOURCE=200809L > /dev/null &&
+        cmake --build "$scratch/cmake/b" > /dev/null && plans "$scratch/cmake/b/shared" &&
+        LD_LIBRARY_PATH='' plans "$scratch/cmake/b/archived"
+}
+
+# audits: the auditor says of a call what it runs, and of another why it isn't planned.
+audits() (
+    cd "$room/w" || exit 1
+    printf '%s\n' '-c kernel.cu -o kernel.o' "-E 'kernel.cu'" | PATH=$room/bin:$PATH python3 "$python/examples/audit.py" "$scratch/audit.json" "$scratch/audit.html"
+    [ $? = 1 ] && diff - <(python3 -c "
+import json, sys
+for call in json.load(open(sys.argv[1]))['calls']:
+    print(' '.join(call['call']), call['error'] if 'error' in call else ' '.join(call['makes']))
+    for it in call['commands']:
+        print(it['number'], it['tool'], *it['targets'], *it['needs'], it['unknown'], it['cacheable'])
+" "$scratch/audit.json") << 'END' || exit 1
+-c kernel.cu -o kernel.o kernel.o
+0 gcc headers False
+1 cudafe++ 0 None True
+2 gcc compute_75 0 headers False
+3 cicc compute_75 1 2 None True
+4 ptxas sm_75 3 None True
+5 fatbinary sm_75 compute_75 0 1 2 3 4 None False
+6 gcc 0 1 2 3 4 5 inputs True
+-E kernel.cu goes to nvcc: its phase isn't split
+END
+    python3 -c "
+import html.parser, sys
+class Page(html.parser.HTMLParser):
+    rows = 0
+    def handle_starttag(self, tag, attributes):
+        self.rows += tag == 'tr'
+page = Page()
+page.feed(open(sys.argv[1]).read())
+sys.exit(page.rows != 8)" "$scratch/audit.html"
+)
+
+# in_wheel: a wheel has all that the package needs.
+in_wheel() {
+    mkdir -p "$scratch/wheel/all"
+    python3 bindings/python/wheel.py "$installed/lib/libzigrunk.so.1" "$scratch/wheel" && (cd "$scratch/wheel" && python3 -m zipfile -e ./*.whl all) &&
+        ZIGRUNK_LIBRARY='' LD_LIBRARY_PATH='' PYTHONPATH=$scratch/wheel/all plans python3 "$scratch/first.py"
+}
+
+# at_most LINES FILE..: whether each file has at most as many lines.
+at_most() { ! wc -l "${@:2}" | awk -v most="$1" '$2 != "total" && $1 > most { print } ' | grep . ; }
+
+block c > "$scratch/first.c"
+block cpp > "$scratch/first.cpp"
+block python > "$scratch/first.py"
+for language in c cpp go python rust; do
+    check "the page's program in $language has at most ten lines" has_ten_lines "$language"
+done
+check 'C: the program of the page' built_c "$scratch/first.c" "$scratch/first_c" "${flags[@]}"
+check 'C: its plan' plans "$scratch/first_c"
+check 'C: the program with the archive' built_c "$scratch/first.c" "$scratch/first_static" -static "${static_flags[@]}"
+check 'C: its plan with the archive' plans "$scratch/first_static"
+check 'C: the header, by a compiler of C++' c++ -x c++ -std=c++11 "${strict[@]}" -fsyntax-only tests/callers/misuses.c "${flags[@]}"
+check 'C: misuses, with the checks of the compiler' sanitized tests/callers/misuses.c "$scratch/misuses_c"
+check 'C: what comes of them' misuses "$scratch/misuses_c"
+check 'C++: the program of the page' built_cpp "$scratch/first.cpp" "$scratch/first_cpp" "${flags[@]}"
+check 'C++: its plan' plans "$scratch/first_cpp"
+check 'C++: misuses' built_cpp tests/callers/misuses.cpp "$scratch/misuses_cpp" "${flags[@]}"
+check 'C++: what comes of them' misuses "$scratch/misuses_cpp"
+check 'Python: its plan' plans python3 "$scratch/first.py"
+check 'Python: misuses' misuses python3 tests/callers/misuses.py
+check 'Python: a wheel' in_wheel
+check 'Python: the auditor' audits
+check 'the lines of the scheduler' at_most 150 bindings/cpp/examples/scheduler.cpp
+check 'the lines of the auditor' at_most 100 bindings/python/examples/audit.py
+check 'the lines of the key maker' at_most 60 bindings/rust/examples/keys.rs
+check 'the lines of the cache server' at_most 200 bindings/go/examples/cacheserver/main.go
+check 'C++: the scheduler' built_cpp bindings/cpp/examples/scheduler.cpp "$scratch/scheduler" "${flags[@]}"
+if command -v go > /dev/null; then
+    mkdir -p "$scratch/first_go" "$scratch/misuses_go"
+    block go > "$scratch/first_go/main.go"
+    cp tests/callers/go/misuses.go "$scratch/misuses_go"
+    check 'Go: the format' prints '' gofmt -l bindings/go tests/callers/go
+    mkdir -p "$scratch/server"
+    cp bindings/go/examples/cacheserver/main.go "$scratch/server"
+    check 'Go: the cache server' built_go "$scratch/server" "$scratch/server/cacheserver"
+    check 'Go: the program of the page' built_go "$scratch/first_go" "$scratch/first_go/first"
+    check 'Go: its plan' plans "$scratch/first_go/first"
+    check 'Go: misuses' built_go "$scratch/misuses_go" "$scratch/misuses_go/misuses"
+    check 'Go: what comes of them' misuses "$scratch/misuses_go/misuses"
+else
+    skip 'the module for Go' 'go is not on the path'
+fi
+if command -v cmake > /dev/null; then
+    check 'a project of CMake' by_cmake
+else
+    skip 'a project of CMake' 'cmake is not on the path'
+fi
+summary

@@ -1,0 +1,46 @@
+/* The misuses of misuses.txt, by the layer for C: misuses ROOM < misuses.txt. It prints each with what comes of it. */
+#include <zigrunk_call.h>
+
+extern char **environ;
+
+static zigrunk_text text_of(const char *room, const char *name) {
+    static char texts[2][1 << 16];
+    static int which;
+    char path[4096];
+    which = !which;
+    snprintf(path, sizeof path, "%s/%s", room, name);
+    FILE *file = fopen(path, "rb");
+    if (!file) {
+        exit(2);
+    }
+    zigrunk_text text = {(const uint8_t *)texts[which], fread(texts[which], 1, sizeof texts[which], file)};
+    fclose(file);
+    return text;
+}
+
+int main(int count, char **arguments) {
+    char name[64], tmp[64], first[64], second[64], rest[64], nvcc[4096], cwd[4096], folder[4096];
+    char *words[] = {(char *)"-c", (char *)"kernel.cu", (char *)"-o", (char *)"kernel.o", NULL};
+    if (count != 2) {
+        return 2;
+    }
+    const char *room = arguments[1];
+    while (scanf("%63s %63s %63s %63s %63[^\n]", name, tmp, first, second, rest) == 5) {
+        snprintf(nvcc, sizeof nvcc, "%s/bin/nvcc", room);
+        snprintf(cwd, sizeof cwd, "%s/w", room);
+        snprintf(folder, sizeof folder, "%s/%s", room, tmp);
+        zigrunk_call *call = zigrunk_call_of(nvcc, words, environ, cwd, folder);
+        zigrunk_text dry1 = text_of(room, first), dry2 = text_of(room, second);
+        if (!call) {
+            return 2;
+        }
+        /* again, since a refusal leaves the call as it was */
+        int32_t status = zigrunk_call_plan_of(call, dry1, dry2, 0);
+        if (zigrunk_call_plan_of(call, dry1, dry2, 0) != status) {
+            return 3;
+        }
+        printf("%s %d %u %zu\n", name, (int)status, (unsigned)call->place.field, call->place.line);
+        zigrunk_call_free(call);
+    }
+    return 0;
+}

@@ -1,0 +1,51 @@
+# A folder in which nvcc and its tools are stand-ins, with the stored dry runs as if they were made there. Sourced by tests/callers.sh and
+# tests/rust_crate.sh, from the top of the repository.
+# shellcheck shell=bash
+
+# misuse_rows: the rows of the table of misuses.
+misuse_rows() { grep -v '^#' "${top:-$PWD}/tests/callers/misuses.txt"; }
+
+# in_room ROOM NAME FILE..: stored dry runs as NAME.dry1 and NAME.dry2, with the room's paths.
+in_room() {
+    local run
+    for run in 1 2; do
+        sed "s,^#[$] PATH=.*,#\$ PATH=$1/bin,; s,/opt/cuda/bin/../nvvm/bin,$1/bin,g; s,\([\"=]\)/t/,\1$1/t/,g; s,\"/w/,\"$1/w/,g" \
+            "tests/drivers/test_plans/data/dry_runs/$3.dry$run" | tr -d '\r' |
+            sed "s,\"$1/w/kernel.cu\",\"kernel.cu\",g; s,-o \"[^\"]*kernel.o\",-o \"kernel.o\",; s,\"$1/w/kernel.cu,\"kernel.cu," > "$1/$2.dry$run"
+    done
+}
+
+# edited ROOM NAME SCRIPT [ONE]: the dry runs `one`, with a change.
+edited() {
+    local run
+    for run in 1 2; do
+        sed "$3" "$1/one.dry$run" > "$1/$2.dry$run"
+    done
+}
+
+# make_room ROOM: the folder.
+make_room() {
+    local tool
+    mkdir -p "$1/bin" "$1/w" "$1/t/t" "$1/u"
+    ln -s t "$1/link"
+    for tool in gcc cudafe++ cicc ptxas fatbinary rm; do
+        printf '#!/bin/sh\n' > "$1/bin/$tool"
+    done
+    in_room "$1" one one_target
+    in_room "$1" two two_targets
+    in_room "$1" ptx only_ptx
+    edited "$1" other 's,kernel\.cu,other.cu,g'
+    edited "$1" product 's,"kernel\.o","other.o",'
+    edited "$1" less '/ptxas -arch/d'
+    edited "$1" more '25s/$/ -DMORE/'
+    cp "$1/one.dry1" "$1/more.dry1"
+    edited "$1" quote "\$a#\$ gcc 'open"
+    edited "$1" none 's,^#\$ ptxas ,#$ ptxas_of_nobody ,'
+    sed '$d' "$1/one.dry2" > "$1/short.dry2"
+    : > "$1/empty"
+    echo 'nvcc fatal   : none' > "$1/message"
+    # shellcheck disable=SC2016 # the stand-in's own
+    printf '%s\n' '#!/bin/sh' "echo \"\$*\" >> '$1/words'" 'tmp=' 'run=1' \
+        'while [ $# -gt 0 ]; do [ "$1" != --keep-dir ] || { tmp=$2 run=2; }; shift; done' "sed \"s,$1/t/,\$tmp/,g\" '$1/one.dry'\$run >&2" > "$1/bin/nvcc"
+    chmod +x "$1"/bin/*
+}
