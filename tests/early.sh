@@ -12,7 +12,7 @@ unset NVCC_PREPEND_FLAGS NVCC_APPEND_FLAGS MAKEFLAGS ZIGRUNK_RUNNER ZIGRUNK_LAUN
 cp tests/small/cuda_runtime.h "$scratch"
 cd "$scratch" || exit 1
 mkdir tmp
-export TMPDIR=$scratch/tmp ZIGRUNK_LOG=$scratch/log ZIGRUNK_SLOTS=0
+export TMPDIR=$scratch/tmp ZIGRUNK_LOG=$scratch/log ZIGRUNK_SLOTS=0 ZIGRUNK_LATE=0
 cat > k.cu << 'END_OF_SOURCE'
 #include <cstdio>
 template <int N> __global__ void scale(float* values) { values[threadIdx.x] *= N; }
@@ -90,7 +90,7 @@ compare -E "${two[@]}" -c fails.cu
 compare '-E cicc' "${two[@]}" -c device.cu
 compare '-E cicc' "${two[@]}" -c host.cu
 compare '-E cicc' "${two[@]}" -c header_80.cu
-export ZIGRUNK_LATE=1
+export ZIGRUNK_LATE=''
 compare '-E cicc -S' -c k.cu -o k.o
 compare '-E cicc -S' "${two[@]}" -dc k.cu -o k.o
 compare '-E cicc -S' -Xcompiler -Wshadow -G "${two[@]}" -c k.cu -o k.o
@@ -98,7 +98,7 @@ compare '-E cicc -S' "${two[@]}" -c warns.cu
 compare '-E cicc -S' "${two[@]}" -c device.cu
 compare '-E cicc' "${two[@]}" -g -c k.cu -o k.o
 ZIGRUNK_SLOTS=1 XDG_RUNTIME_DIR=$scratch compare '' "${two[@]}" -c k.cu -o k.o
-unset ZIGRUNK_LATE
+export ZIGRUNK_LATE=0
 
 # A header that is missing for host and device is missed once.
 made '' "${two[@]}" -c header.cu

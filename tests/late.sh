@@ -1,6 +1,6 @@
 #!/usr/bin/env bash
 # Tests that a call whose last host compile begins before its fatbin is there makes the same object and says the same as one whose
-# compile waits, as without ZIGRUNK_LATE=1, and which calls begin it so. The last line is 'N passed, M failed'; the status is 1 if one failed.
+# compile waits, as with ZIGRUNK_LATE=0, and which calls begin it so. The last line is 'N passed, M failed'; the status is 1 if one failed.
 #
 #   DRIVER_BIN=FOLDER      where zigrunk-nvcc is, else where `make rust` leaves it
 cd "$(dirname "$0")/.." || exit 1
@@ -54,10 +54,10 @@ made() {
 # the assembler complains.
 compare() {
     local problem='' wanted_said wanted_files
-    made '' "${@:2}"
+    made 0 "${@:2}"
     wanted_said=$said wanted_files=$files
-    [ -z "$halves" ] || problem='its compile begins early without being asked; '
-    made 1 "${@:2}"
+    [ -z "$halves" ] || problem='its compile begins early though that is off; '
+    made '' "${@:2}"
     case $1 in
         early) [ -n "$halves" ] || problem+='its compile waits; ' ;;
         waits) [ -z "$halves" ] || problem+='its compile begins early; ' ;;

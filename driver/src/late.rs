@@ -37,10 +37,10 @@ impl Include {
 /// A variable by which gcc does more than its words say.
 const ODD_VARIABLE: &str = "GCC_COMPARE_DEBUG";
 
-/// Whether a call's commands may be begun so, which its caller has to ask for. A cache and a runner get the plan's own.
+/// Whether a call's commands may be begun so. A cache and a runner get the plan's own.
 pub fn is_on(settings: &Settings) -> bool {
-    let is_asked = env::var_os("ZIGRUNK_LATE").is_some_and(|value| value == "1");
-    is_asked && env::var_os(ODD_VARIABLE).is_none() && settings.launcher.is_empty() && settings.runner.is_empty()
+    let is_off = env::var_os("ZIGRUNK_LATE").is_some_and(|value| value == "0");
+    !is_off && env::var_os(ODD_VARIABLE).is_none() && settings.launcher.is_empty() && settings.runner.is_empty()
 }
 
 /// Whether a command is gcc's by its program's name, as `g++-12`.
@@ -91,11 +91,17 @@ fn moved(commands: &[PlannedCommand], to: &str) -> Option<(Moved, PathBuf)> {
     Some((Moved { fatbinary, words, from: to.into(), is_linked }, read))
 }
 
+/// Whether a command can write its files. A compiler that can't names the source, and an assembler another file.
+fn can_write(command: &PlannedCommand) -> bool {
+    let is_free = |file: &Path| !file.is_dir() && file.parent().is_some_and(Path::is_dir);
+    command.writes.iter().all(|file| is_free(&Path::new(&command.folder).join(file)))
+}
+
 /// Puts two commands in place of the last, a host compile. The first makes assembler text without the fatbin. Says what the second
 /// includes. `None` if the commands stay as they are: then the fatbin may show in the product, or in what a command says.
 pub fn begin_early(commands: &mut Vec<PlannedCommand>, tmp: &str) -> Option<Include> {
     let (last, before) = commands.split_last()?;
-    if !is_gcc(last) || !are_known(before) {
+    if !is_gcc(last) || !are_known(before) || !can_write(last) {
         return None;
     }
     let [text_file, included, file] = ["late.s", "fatbin.s", "fatbin.c"].map(|name| format!("{tmp}/{OWN}/{name}"));
@@ -155,6 +161,17 @@ mod tests {
         let mut commands = vec![command("gcc -E -D__CUDACC_VER_MAJOR__=12 k.cu", &[]), command(compile, &["/w/k.o"])];
         assert_eq!(begin_early(&mut commands, "/t"), None);
         assert_eq!(commands[1], command(compile, &["/w/k.o"]));
+    }
+
+    #[test]
+    fn a_product_needs_a_folder() {
+        let folder = env::temp_dir().join(format!("late-{}", std::process::id()));
+        fs::create_dir_all(folder.join("taken")).unwrap();
+        for (file, wanted) in [("k.o", true), ("taken", false), ("no/k.o", false), ("taken/k.o", true)] {
+            let last = PlannedCommand { folder: folder.to_str().unwrap().to_owned(), ..command("gcc -c", &[file]) };
+            assert_eq!(can_write(&last), wanted, "{file}");
+        }
+        fs::remove_dir_all(folder).unwrap();
     }
 
     #[test]

@@ -88,7 +88,7 @@ class Room:
     def environment(self, mark: str, has_make: bool) -> dict[str, str]:
         kept = {name: value for name, value in os.environ.items() if not name.startswith(("ZIGRUNK", "NVCC", "MAKE"))}
         kept.update(LOG=str(self.log), TMPDIR=str(self.path("tmp")), XDG_RUNTIME_DIR=str(self.path("run")), CUDA=str(self.cuda), DATA=str(DRY_RUNS),
-                    PATH=f"{self.cuda}/bin:{kept['PATH']}", TRIAL=mark, ZIGRUNK_SLOTS="3", PAUSE="15")
+                    PATH=f"{self.cuda}/bin:{kept['PATH']}", TRIAL=mark, ZIGRUNK_SLOTS="3", ZIGRUNK_LATE="0", PAUSE="15")
         if has_make:
             kept["MAKEFLAGS"] = f" -j4 --jobserver-auth=fifo:{self.path('jobs')}"
         return kept
