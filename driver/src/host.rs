@@ -418,7 +418,7 @@ impl Machine for Host {
     }
 
     fn has_spare_slot(&mut self) -> bool {
-        self.has_permit() && !self.slots.as_ref().is_some_and(Slots::are_wanted)
+        self.has_permit() && self.slots.as_ref().is_none_or(Slots::are_plenty)
     }
 
     fn listen(&mut self, job: Option<usize>) {

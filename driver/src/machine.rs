@@ -45,7 +45,8 @@ pub trait Machine {
     /// Says whether the call has a job to start, so that it waits for a slot or not.
     fn want(&mut self, wants: bool);
 
-    /// Whether a job that isn't wanted yet may start: a slot is free, and no other call waits for one.
+    /// Whether a job may start that isn't next: a slot is free for it, and one more for another call, so that none waits for a job that
+    /// waits itself.
     fn has_spare_slot(&mut self) -> bool {
         false
     }

@@ -170,9 +170,11 @@ impl Slots {
         slot.number > self.own.count || self.taken_by_older() >= slot.number
     }
 
-    /// Whether another call waits for a slot.
-    pub fn are_wanted(&self) -> bool {
-        self.waiters().into_iter().any(|waiter| waiter != self.own && self.is_alive(waiter))
+    /// Whether a slot is free and no other call waits for one.
+    pub fn are_plenty(&self) -> bool {
+        let is_wanted = self.waiters().into_iter().any(|waiter| waiter != self.own && self.is_alive(waiter));
+        let free = if is_wanted { None } else { self.try_take() };
+        free.map(|slot| self.give_back(slot)).is_some()
     }
 
     /// Gives a slot back, and wakes the oldest call that waits for it.
@@ -294,6 +296,22 @@ mod tests {
         assert!(one.try_take().is_none() && other.try_take().is_none());
         one.give_back(first);
         assert_eq!(other.try_take().unwrap().number, 2);
+    }
+
+    #[test]
+    fn slots_are_plenty_if_one_is_free_and_nobody_waits() {
+        let room = Room::new();
+        let (one, mut other) = (room.slots(2, 1), room.slots(2, 2));
+        let first = one.try_take().unwrap();
+        assert!(one.are_plenty() && one.are_plenty(), "it takes none");
+        let second = other.try_take().unwrap();
+        assert!(!one.are_plenty());
+        other.give_back(second);
+        assert!(other.begin_to_wait());
+        assert!(!one.are_plenty(), "another call waits");
+        other.end_to_wait();
+        assert!(one.are_plenty());
+        one.give_back(first);
     }
 
     #[test]
