@@ -62,6 +62,7 @@ compare() {
     local problem='' wanted_said wanted_files one
     made 0 "${@:2}"
     wanted_said=$said wanted_files=$files
+    early=${early#-E}
     [ -z "$early" ] || problem="$early begins early though that is off; "
     made '' "${@:2}"
     for one in $early; do
