@@ -354,7 +354,7 @@ mod tests {
 
     #[test]
     fn some_dry_runs_have_no_plan() {
-        let of = |dry_runs, cwd| ToPlan { dry_runs, cwd, tmp: "/t", flag: "-c", keeps: false };
+        let of = |dry_runs, cwd| ToPlan { dry_runs, cwd, tmp: "/t", flag: "-c", keeps_names: false };
         let reason = |of: &ToPlan<'_>| [plan(of).err(), plan_in_place(of).err(), plan_file("json", of).err()];
         let plain = "a directory isn't absolute, or has an empty part, . or ..";
         assert_eq!(reason(&of([b"", b""], "w")), [plain; 3].map(|reason| Some(reason.to_owned())));
