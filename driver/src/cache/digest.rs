@@ -1,4 +1,4 @@
-//! Digests: BLAKE2b with 32 bytes, as RFC 7693 defines it.
+//! Digests: `BLAKE2b` with 32 bytes, as RFC 7693 defines it.
 use std::fmt::{self, Display, Formatter};
 
 /// How many bytes are taken at once.
@@ -70,12 +70,12 @@ impl Default for Hasher {
 }
 
 /// Mixes two words of a block into four words of the state.
-fn mix(state: &mut [u64; 16], [a, b, c, d]: [usize; 4], x: u64, y: u64) {
-    state[a] = state[a].wrapping_add(state[b]).wrapping_add(x);
+fn mix(state: &mut [u64; 16], [a, b, c, d]: [usize; 4], words: [u64; 2]) {
+    state[a] = state[a].wrapping_add(state[b]).wrapping_add(words[0]);
     state[d] = (state[d] ^ state[a]).rotate_right(32);
     state[c] = state[c].wrapping_add(state[d]);
     state[b] = (state[b] ^ state[c]).rotate_right(24);
-    state[a] = state[a].wrapping_add(state[b]).wrapping_add(y);
+    state[a] = state[a].wrapping_add(state[b]).wrapping_add(words[1]);
     state[d] = (state[d] ^ state[a]).rotate_right(16);
     state[c] = state[c].wrapping_add(state[d]);
     state[b] = (state[b] ^ state[c]).rotate_right(63);
@@ -116,7 +116,7 @@ impl Hasher {
         for round in 0..12 {
             let order = &ORDERS[round % 10];
             for (step, places) in STEPS.iter().enumerate() {
-                mix(&mut state, *places, words[order[2 * step]], words[order[2 * step + 1]]);
+                mix(&mut state, *places, [words[order[2 * step]], words[order[2 * step + 1]]]);
             }
         }
         for (place, word) in self.state.iter_mut().enumerate() {
@@ -161,7 +161,9 @@ mod tests {
     fn parts_do_not_count_but_their_lengths_can() {
         let of = |parts: &[&[u8]], add: fn(&mut Hasher, &[u8])| {
             let mut hasher = Hasher::default();
-            parts.iter().for_each(|part| add(&mut hasher, part));
+            for part in parts {
+                add(&mut hasher, part);
+            }
             hasher.finish()
         };
         let long = [7; 300];

@@ -2,11 +2,19 @@
 use crate::cache::digest::Digest;
 use crate::cache::marked::Marked;
 
+/// What a command has made of an output.
+#[derive(Clone, PartialEq, Eq, Debug)]
+pub enum Made {
+    /// It left it out.
+    Nothing,
+    File(Marked),
+}
+
 /// What a command has made and said.
 #[derive(Clone, PartialEq, Eq, Debug, Default)]
 pub struct Entry {
-    /// The contents of its outputs, in the order of its record. `None` if it left one out.
-    pub outputs: Vec<Option<Marked>>,
+    /// What has become of its outputs, in the order of its record.
+    pub outputs: Vec<Made>,
     pub out: Marked,
     pub errors: Marked,
     /// Files of which its messages may show lines, and the digests of their contents.
@@ -26,7 +34,9 @@ fn put_text(to: &mut Vec<u8>, text: &[u8]) {
 
 fn put_marked(to: &mut Vec<u8>, text: &Marked) {
     put_number(to, text.0.len());
-    text.0.iter().for_each(|part| put_text(to, part));
+    for part in &text.0 {
+        put_text(to, part);
+    }
 }
 
 /// What is still to read of a text.
@@ -53,10 +63,10 @@ impl<'a> Rest<'a> {
         (0..count).map(|_| self.text()).collect::<Option<_>>().map(Marked)
     }
 
-    fn output(&mut self) -> Option<Option<Marked>> {
+    fn output(&mut self) -> Option<Made> {
         match self.bytes(1)? {
-            [0] => Some(None),
-            [1] => self.marked().map(Some),
+            [0] => Some(Made::Nothing),
+            [1] => self.marked().map(Made::File),
             _ => None,
         }
     }
@@ -77,8 +87,13 @@ impl Entry {
         let mut bytes = Vec::new();
         put_number(&mut bytes, self.outputs.len());
         for output in &self.outputs {
-            bytes.push(u8::from(output.is_some()));
-            output.iter().for_each(|text| put_marked(&mut bytes, text));
+            match output {
+                Made::Nothing => bytes.push(0),
+                Made::File(text) => {
+                    bytes.push(1);
+                    put_marked(&mut bytes, text);
+                }
+            }
         }
         put_marked(&mut bytes, &self.out);
         put_marked(&mut bytes, &self.errors);
@@ -113,7 +128,7 @@ mod tests {
 
     fn example() -> Entry {
         Entry {
-            outputs: vec![Some(Marked::of(b"x /t y", b"/t")), None, Some(Marked::of(b"\0\x01", b""))],
+            outputs: vec![Made::File(Marked::of(b"x /t y", b"/t")), Made::Nothing, Made::File(Marked::of(b"\0\x01", b""))],
             out: Marked::of(b"", b""),
             errors: Marked::of(b"k.cu:1: warning", b""),
             shown: vec![(b"k.cu".to_vec(), Digest::of(b"text"))],

@@ -40,7 +40,9 @@ pub fn parts<'a>(text: &'a [u8], directory: &[u8]) -> Vec<&'a [u8]> {
 pub fn add_to(hasher: &mut Hasher, text: &[u8], directory: &[u8]) {
     let parts = parts(text, directory);
     hasher.update(&(parts.len() as u64).to_le_bytes());
-    parts.iter().for_each(|part| hasher.add(part));
+    for part in parts {
+        hasher.add(part);
+    }
 }
 
 /// A text with marks for a directory.

@@ -52,8 +52,12 @@ fn stamp(path: &Path, status: &Metadata) -> Digest {
     hasher.add(b"zigrunk tool 1");
     hasher.add(path.as_os_str().as_bytes());
     let times = [status.mtime(), status.mtime_nsec(), status.ctime(), status.ctime_nsec()];
-    times.iter().for_each(|number| hasher.update(&number.to_le_bytes()));
-    [status.dev(), status.ino(), status.size()].iter().for_each(|number| hasher.update(&number.to_le_bytes()));
+    for number in times {
+        hasher.update(&number.to_le_bytes());
+    }
+    for number in [status.dev(), status.ino(), status.size()] {
+        hasher.update(&number.to_le_bytes());
+    }
     hasher.finish()
 }
 
