@@ -86,7 +86,7 @@ mod tests {
 
     fn done(code: i32, asked: f64, times: (f64, f64)) -> Done {
         let status = Status { code, signal: None, dumped: false };
-        Done { asked, ended: Some(Ended { status, out: Vec::new(), errors: Vec::new(), times }), by_driver: false }
+        Done { asked, ended: Some(Ended { status, out: Vec::new(), errors: Vec::new(), times }), ..Done::default() }
     }
 
     #[test]
