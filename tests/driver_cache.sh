@@ -348,6 +348,9 @@ made() {
         find . -newer "$room/stamp" -type f ! -name '*.cu' ! -name '*.h' ! -name data -exec cp {} "$room/by.$by" \;
         said+=("$(sed 's/tmpxft_[0-9a-f_-]*[0-9]_/x_/g' "$room/err")")
     done
+    same "names of files of $what" "$(ls "$room/by.cache")" "$(ls "$room/by.nvcc")"
+    # what gcc writes beside an object names temporary files, and when it was made
+    find "$room"/by.* -type f ! -name '*.o' ! -name '*.ptx' ! -name '*.cubin' -delete
     same "files of $what, with the cache and without" "$(diff -rq "$room/by.plain" "$room/by.cache")" ''
     for file in "$room"/by.{nvcc,cache}/*.o; do objcopy --strip-unneeded "$file" 2> /dev/null; done
     case $what in *' -g '*) ;; *) same "files of $what, and nvcc's" "$(diff -rq "$room/by.nvcc" "$room/by.cache")" '' ;; esac
@@ -387,7 +390,7 @@ real_calls() {
     command -v nvcc > /dev/null || { skip 'calls of nvcc' 'nvcc is not on the path' && return; }
     if case_of 'nvcc: phases'; then
         project
-        for words in '-c' '-dc' '-O3 -Xcompiler -fPIC,-O2 -c' '-std=c++20 -rdc=true -c' '-lineinfo -c' '-g -c' '-G -g -c' '-ptx' '-cubin' '-lineinfo -ptx'; do
+        for words in '-std=c++20 -c' '-O3 -Xcompiler -fPIC,-O2 -dc' '-lineinfo -c' '-g -c' '-G -g -c' -ptx -cubin; do
             # shellcheck disable=SC2086 # several words
             made -arch=sm_80 -Iinc $words k.cu
             # shellcheck disable=SC2086
@@ -407,7 +410,7 @@ real_calls() {
         same 'another product' "$missed" ''
         sed -i '1i // a line' k.cu
         made "${two[@]}" -Iinc -c k.cu -o k.o
-        same 'a line more' "$served" 'gcc--c ptxas-sm_75 ptxas-sm_80'
+        same 'a line more' "$served" 'ptxas-sm_75 ptxas-sm_80'
         sed -i 's/return count/return count + 1/' k.cu
         made "${two[@]}" -Iinc -c k.cu -o k.o
         same 'a host function' "$served" 'ptxas-sm_75 ptxas-sm_80'
@@ -415,7 +418,7 @@ real_calls() {
         made "${two[@]}" -Iinc -c k.cu -o k.o
         same 'a kernel' "$served" ''
         made "${two[@]}" -gencode arch=compute_90,code=sm_90 -Iinc -c k.cu -o k.o
-        same 'a further target' "$served" 'cicc-compute_75 cicc-compute_80 ptxas-sm_75 ptxas-sm_80'
+        same 'a further target' "$served" 'cicc-compute_75 cudafe++ ptxas-sm_75 ptxas-sm_80'
         end
     fi
     if case_of 'nvcc: headers'; then
@@ -482,7 +485,7 @@ real_calls() {
         echo 'int warns() { int never; return 0; } // a comment' >> k.cu
         touch -d '1 minute ago' k.cu
         made -arch=sm_80 -Iinc -c k.cu -o k.o
-        same 'it warns' "$(grep -c never "$room/err")" "$(grep -c . <<< 1)"
+        same 'it warns' "$(grep -q never "$room/err" && echo told)" told
         made -arch=sm_80 -Iinc -c k.cu -o k.o
         same 'misses' "$missed" ''
         sed -i 's/a comment/another comment/' k.cu

@@ -54,16 +54,24 @@ fn between_quotes(line: &[u8]) -> Option<&[u8]> {
     line.get(begin..end)
 }
 
-/// Whether a module id is the same each time. nvcc's own puts the number of a process last if the source defines no external name.
+/// Whether a text has eight hexadecimal digits, as nvcc writes a sum.
+fn is_sum(text: &str) -> bool {
+    text.len() == 8 && text.bytes().all(|byte| byte.is_ascii_hexdigit())
+}
+
+/// Whether a module id is the same each time: the sum of a path, the length of a file's name, that name, and a name that the source defines or
+/// its sum. If the source defines no external name, a sum and the number of a process stand for it.
 pub fn is_stable_id(id: &[u8]) -> bool {
-    let is_hexadecimal = |text: &str| !text.is_empty() && text.bytes().all(|byte| byte.is_ascii_hexdigit());
     let parts = || {
         let (path, rest) = std::str::from_utf8(id).ok()?.trim_end().strip_prefix('_')?.split_once('_')?;
         let (length, rest) = rest.split_once('_')?;
-        let name = rest.split_at_checked(length.parse().ok()?)?.1.strip_prefix('_')?;
-        Some(is_hexadecimal(path) && is_hexadecimal(name))
+        Some((path, rest.split_at_checked(length.parse().ok()?)?.1.strip_prefix('_')?))
     };
-    parts().unwrap_or(false)
+    let is_process = |name: &str| {
+        let parts = name.split_once('_');
+        parts.is_some_and(|(sum, number)| is_sum(sum) && number.bytes().all(|byte| byte.is_ascii_digit()))
+    };
+    parts().is_some_and(|(path, name)| is_sum(path) && !name.is_empty() && !is_process(name))
 }
 
 #[cfg(test)]
@@ -107,7 +115,11 @@ mod tests {
         let cases = [
             ("_0ab662b8_4_k_cu_1d3c70b5", true),
             ("_0ab662b8_7_k_12_cu_1d3c70b5\n", true),
+            ("_edf60b65_4_k_cu__Z4filev", true),
+            ("_edf60b65_4_k_cu_run_5", true),
             ("_9f1b1dc8_4_s_cu_778e0101_7547", false),
+            ("_9f1b1dc8_4_s_cu_778e0101_", false),
+            ("9f1b1dc8_4_s_cu_f", false),
             ("_9f1b1dc8_4_s_cu_", false),
             ("_9f1b1dc8_99_s_cu_778e0101", false),
             ("made", false),

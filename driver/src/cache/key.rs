@@ -50,7 +50,8 @@ fn add_stamp(hasher: &mut Hasher, file: &Path) {
     hasher.add(stamp.unwrap_or_default().as_bytes());
 }
 
-/// The key of a command, given the identity of its tool, its environment, and the texts that it reads.
+/// The key of a command, given the identity of its tool, its environment, and the texts that it reads. `None` if PTX names a file with a
+/// backslash, which may quote something.
 pub fn key_of(recipe: &Recipe, tool: &Digest, environment: &[(OsString, OsString)], texts: &[Vec<u8>]) -> Option<Digest> {
     let mut hasher = Hasher::default();
     hasher.add(FORM);
@@ -60,6 +61,9 @@ pub fn key_of(recipe: &Recipe, tool: &Digest, environment: &[(OsString, OsString
     for text in texts {
         hasher.update(&text_identity(text, recipe.directory.as_bytes()).0);
         let named = if recipe.kind == Kind::Ptxas { files_of_ptx(text) } else { Vec::new() };
+        if named.iter().any(|name| name.contains(&b'\\')) {
+            return None;
+        }
         for name in named {
             add_stamp(&mut hasher, &Path::new(&recipe.job.folder).join(OsStr::from_bytes(name)));
         }

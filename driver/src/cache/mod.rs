@@ -30,7 +30,7 @@ use std::fs::{self, File};
 use std::io::{self, ErrorKind, IsTerminal};
 use std::os::unix::ffi::OsStrExt;
 use std::os::unix::fs::MetadataExt;
-use std::path::Path;
+use std::path::{Path, PathBuf};
 use store::Store;
 use tool::{Kind, Run, Tools};
 
@@ -72,6 +72,8 @@ pub struct Session<'a> {
     tmp: &'a str,
     candidates: BTreeMap<usize, Candidate>,
     terminal: Vec<u8>,
+    /// When it began, in seconds.
+    begun: f64,
     /// Whether the user knows that nothing can be written.
     has_complained: bool,
 }
@@ -121,7 +123,7 @@ impl<'a> Session<'a> {
             Some((number, Candidate { recipe, state: State::Fresh, hit: None }))
         };
         let candidates = of_commands.zip(commands).filter_map(candidate).collect();
-        Session { store, tools: Tools::new(store), tmp, candidates, terminal: terminal(), has_complained: false }
+        Session { store, tools: Tools::new(store), tmp, candidates, terminal: terminal(), begun: host::now(), has_complained: false }
     }
 
     /// What to do with a task that may start.
@@ -252,6 +254,13 @@ impl<'a> Session<'a> {
         }
     }
 
+    /// A file that messages name, if it hasn't changed since a preprocessor may have read it.
+    fn shown(&self, recipe: &Recipe, name: &[u8]) -> Option<(Vec<u8>, Digest)> {
+        let changed = fs::metadata(path_of(recipe, name)).ok()?.modified().ok()?;
+        let is_old = changed.elapsed().is_ok_and(|age| age.as_secs_f64() > host::now() - self.begun);
+        Some((name.to_vec(), shown_file(recipe, name).filter(|_| is_old)?))
+    }
+
     /// The entry of a task that has run, if it may have one.
     fn entry_of(&self, recipe: &Recipe, text: &[u8], ended: &Ended) -> Option<Entry> {
         let modes = new_modes()?;
@@ -260,14 +269,14 @@ impl<'a> Session<'a> {
         let messages = [&ended.out[..], &ended.errors].concat();
         let (out, errors) = (Marked::of(&ended.out, directory), Marked::of(&ended.errors, directory));
         let is_named = [&out, &errors].iter().any(|text| text.0.iter().any(|part| names(part, &recipe.directory)));
-        let shown = host_text::shown_files(text, &messages).into_iter().map(|name| Some((name.to_vec(), shown_file(recipe, name)?)));
+        let shown = host_text::shown_files(text, &messages).into_iter().map(|name| self.shown(recipe, name));
         let shown = shown.collect::<Option<_>>()?;
         let terminal = if messages.is_empty() { Vec::new() } else { self.terminal.clone() };
         (!is_named).then_some(Entry { outputs, out, errors, shown, terminal })
     }
 }
 
-/// What an entry has of an output. `None` if it can't have that: only text of cudafe++ and cicc may name the call's directory.
+/// What an entry has of an output. `None` if it can't have that: only text may name the call's directory, as that of cudafe++, cicc and a compiler.
 fn made(recipe: &Recipe, output: &Output, modes: u32) -> Option<Made> {
     let status = match fs::symlink_metadata(&output.written_to) {
         Err(error) if error.kind() == ErrorKind::NotFound && output.is_optional => return Some(Made::Nothing),
@@ -279,14 +288,22 @@ fn made(recipe: &Recipe, output: &Output, modes: u32) -> Option<Made> {
         return None;
     }
     let marked = Marked::of(&text, recipe.directory.as_bytes());
-    let may_name = matches!(recipe.kind, Kind::CudaFe | Kind::Cicc) && !text.contains(&0);
+    let is_binary = recipe.kind == Kind::Ptxas || recipe.assembles || text.contains(&0);
     let is_named = !recipe.directory.is_empty() && marked.0.iter().any(|part| names(part, &recipe.directory));
-    (!is_named && (may_name || !marked.has_marks())).then_some(Made::File(marked))
+    if is_named || (is_binary && marked.has_marks()) {
+        return None;
+    }
+    Some(Made::File(marked))
+}
+
+/// The path of a file that messages name.
+fn path_of(recipe: &Recipe, name: &[u8]) -> PathBuf {
+    Path::new(&recipe.job.folder).join(OsStr::from_bytes(name))
 }
 
 /// The digest of a file that messages name.
 fn shown_file(recipe: &Recipe, name: &[u8]) -> Option<Digest> {
-    content_of(&Path::new(&recipe.job.folder).join(OsStr::from_bytes(name))).ok().map(|text| Digest::of(&text))
+    content_of(&path_of(recipe, name)).ok().map(|text| Digest::of(&text))
 }
 
 /// Whether what a process said names a file.

@@ -102,8 +102,11 @@ impl Store {
     ///
     /// # Errors
     ///
-    /// Those of writing. Then the store has what it had.
+    /// Those of writing. Then the store has what it had, as for a text that is too large.
     pub fn write(&self, key: &Digest, content: &[u8]) -> io::Result<()> {
+        if content.len() as u64 > LARGEST / 2 {
+            return Ok(());
+        }
         let path = self.path_of(key);
         let folder = path.parent().unwrap_or(&self.folder);
         fs::create_dir_all(folder)?;
@@ -165,7 +168,10 @@ impl Store {
     pub fn clear(&self) -> io::Result<()> {
         for folder in self.folders() {
             for (entry, _) in files(&folder) {
-                fs::remove_file(entry.path())?;
+                match fs::remove_file(entry.path()) {
+                    Err(error) if error.kind() != io::ErrorKind::NotFound => return Err(error),
+                    _ => {}
+                }
             }
             let _ = fs::remove_dir(folder);
         }
