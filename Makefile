@@ -26,7 +26,7 @@ driver_from = if command -v cargo > /dev/null; then $(MAKE) rust-sources && cd $
 endif
 driver = $(workspace)/target/release/zigrunk-driver
 
-.PHONY: help demo build lib rust rust-sources rust-install check install install-programs install-library install-rust uninstall dist bench drivers fuzz-library fuzz-plain erased-kit must-fail refused-memory end-to-end odd-calls random-calls mutants-by-lot versions cache cache-example peer cluster field platforms test-install dist-test check-docs lint test
+.PHONY: help demo build lib rust rust-sources rust-install check install install-programs install-library install-rust uninstall dist bench drivers fuzz-library fuzz-plain erased-kit must-fail refused-memory end-to-end odd-calls random-calls mutants-by-lot versions cache cache-edits cache-example peer cluster field platforms test-install dist-test check-docs lint test
 
 help:
 	@echo 'make demo             run cudaplan, unproved, on two calls; a minute from a fresh clone'
@@ -54,6 +54,7 @@ help:
 	@echo '                      of them again; KIND=examples edits the examples. Needs root. No part of the gate'
 	@echo 'make versions         the same with nvcc 11.2, 11.8 and 12.4, which it downloads from Debian, up to 3 GB; or CUDA_VERSIONS=FOLDER'
 	@echo 'make cache            compare builds and rebuilds with and without ccache and sccache; needs both, sccache 0.9 or later'
+	@echo 'make cache-edits      build a small project by nvcc and with our cache after each of 200 random edits; SEED=, COUNT='
 	@echo 'make cache-example    test the small cache that is an example in Rust; needs nvcc, ninja, cargo, and make build and make lib before'
 	@echo 'make peer             build Debian'\''s sccache as it is and on the crate zigrunk, which it downloads with its crates, 30 MB; run its tests'
 	@echo '                      and calls of nvcc by both; needs nvcc and cargo 1.85. No part of the gate'
@@ -98,7 +99,7 @@ lib:
 # The proved sources as crates of plain Rust (docs/PLAIN_RUST.md), and programs and library of them: no kit, no network.
 rust: rust-sources
 	cd out/rust && cargo build --release
-	for name in nvcc plan batch report; do ln -sf zigrunk-driver out/rust/target/release/zigrunk-$$name; done
+	for name in nvcc plan batch report cache; do ln -sf zigrunk-driver out/rust/target/release/zigrunk-$$name; done
 
 rust-sources:
 	cargo run --quiet --manifest-path rust/Cargo.toml -p eraser -- . out/rust
@@ -169,6 +170,10 @@ versions: rust
 
 cache: rust
 	@tests/cache.sh
+
+# Outside the gate: edits drawn by lot, each build compared with nvcc's.
+cache-edits: rust
+	@tests/driver_cache/edits.py $(workspace)/target/release/zigrunk-driver --seed "$(SEED)" --count "$(if $(filter command line environment,$(origin COUNT)),$(COUNT),200)"
 
 cache-example: rust
 	@tests/cache_example.sh

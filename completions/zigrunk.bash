@@ -1,4 +1,4 @@
-# Completion for zigrunk, cudaplan, zigrunk-nvcc and zigrunk-batch in bash.
+# Completion for zigrunk, cudaplan, zigrunk-nvcc, zigrunk-batch and zigrunk-cache in bash.
 
 # Offers the words of $1 that begin like the current one.
 _zigrunk_words() {
@@ -79,4 +79,5 @@ _zigrunk() {
 }
 
 complete -F _zigrunk zigrunk cudaplan
+complete -W 'stats clear limit' zigrunk-cache
 complete -o default zigrunk-nvcc zigrunk-batch

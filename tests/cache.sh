@@ -1,27 +1,33 @@
 #!/usr/bin/env bash
 # Builds the project of tests/project.sh, twelve sources for two targets, by `make -j4`, with and without caches: by nvcc, `ccache nvcc`,
-# `sccache nvcc`, zigrunk-nvcc, zigrunk-nvcc with sccache inside (ZIGRUNK_LAUNCHER), `ccache zigrunk-nvcc`, and that with sccache inside.
+# `sccache nvcc`, zigrunk-nvcc, that with its own cache, and with an early host compile too, zigrunk-nvcc with sccache inside (ZIGRUNK_LAUNCHER),
+# `ccache zigrunk-nvcc`, and that with sccache inside.
 # Each has an empty cache first, and then builds all objects again: unchanged, after a change in a comment, in a host function and in a
-# kernel of one source, and for a third target. The objects have to be those of nvcc each time, and the unchanged build with sccache inside
-# may run no command that sccache can answer. Prints seconds, and seconds of processor. The last line is 'N passed, M failed'.
+# kernel of one source, and for a third target. The objects have to be those of nvcc each time, and the unchanged build with sccache or
+# our cache may run no command that these can answer. Prints seconds, and seconds of processor. The last line is 'N passed, M failed'.
 #
 #   DRIVER_BIN=FOLDER   where zigrunk-nvcc is, else where `make rust` leaves it
 #   RUNS=N              so many runs, of which it prints medians; 1 unless set
-#   TOOLS='nvcc ..'     only these of nvcc, ccache, sccache, zigrunk, zigrunk+sccache, ccache+zigrunk, ccache+zigrunk+sccache
+#   TOOLS='nvcc ..'     only these of nvcc, ccache, sccache, zigrunk, zigrunk+cache, zigrunk+cache+late, zigrunk+sccache, ccache+zigrunk,
+#                       ccache+zigrunk+sccache
 #   STAGES='cold ..'    only these of cold, unchanged, comment, host, kernel, target
 #   EXAMPLE=PATH        the example cache.rs of the crate for Rust, as `cargo build --release --example cache` leaves it: then zigrunk+example is
 #                       a tool too, zigrunk-nvcc with that inside
 #   SCCACHE=PATH        sccache, if it isn't the one on the path. Versions before 0.9 don't know cicc, ptxas and cudafe++
 cd "$(dirname "$0")/.." || exit 1
 . tests/lib.sh
-require 'builds through caches' cmake make nvcc ninja objcopy python3 ccache "${SCCACHE:-sccache}"
-sccache=$(realpath "$(command -v "${SCCACHE:-sccache}")")
-version=$("$sccache" --version) || skip_all 'builds through caches' "$sccache doesn't run"
-[[ ! $version =~ ^sccache\ 0\.[0-8]\. ]] || skip_all 'builds through caches' "$version doesn't know nvcc's commands; 0.9 or later does"
+require 'builds through caches' cmake make nvcc ninja objcopy python3 ccache
+sccache='' version='no sccache'
+if [[ ${TOOLS-sccache} == *sccache* ]]; then
+    require 'builds through caches' "${SCCACHE:-sccache}"
+    sccache=$(realpath "$(command -v "${SCCACHE:-sccache}")")
+    version=$("$sccache" --version) || skip_all 'builds through caches' "$sccache doesn't run"
+    [[ ! $version =~ ^sccache\ 0\.[0-8]\. ]] || skip_all 'builds through caches' "$version doesn't know nvcc's commands; 0.9 or later does"
+fi
 wrapper=${DRIVER_BIN:-$PWD/out/rust/target/release}/zigrunk-nvcc
 tests=$PWD/tests
 example=${EXAMPLE:+$(realpath "$EXAMPLE")}
-read -ra tools <<< "${TOOLS:-nvcc ccache sccache zigrunk zigrunk+sccache ${EXAMPLE:+zigrunk+example} ccache+zigrunk ccache+zigrunk+sccache}"
+read -ra tools <<< "${TOOLS:-nvcc ccache sccache zigrunk zigrunk+cache zigrunk+cache+late zigrunk+sccache ${EXAMPLE:+zigrunk+example} ccache+zigrunk ccache+zigrunk+sccache}"
 read -ra stages <<< "${STAGES:-cold unchanged comment host kernel target}"
 unset NVCC_PREPEND_FLAGS NVCC_APPEND_FLAGS MAKEFLAGS CUDAFLAGS CUDACXX CUDAARCHS "${!CMAKE_@}" "${!ZIGRUNK_@}" "${!SCCACHE_@}" "${!CCACHE_@}"
 trap 'kill ${servers[@]} 2> /dev/null; rm -rf "$scratch"' EXIT
@@ -37,6 +43,8 @@ by() {
     local settings=(CCACHE_DIR="$scratch/$1.ccache" SCCACHE_SERVER_PORT="${ports[$1]}")
     [[ $1 != zigrunk+sccache && $1 != *+sccache ]] || settings+=(ZIGRUNK_LAUNCHER="$sccache")
     [[ $1 != ccache*+sccache ]] || settings+=(ZIGRUNK_LAUNCHED='cudafe++ cicc ptxas')
+    [[ $1 != zigrunk+cache* ]] || settings+=(ZIGRUNK_CACHE="$scratch/$1.entries" ZIGRUNK_LOG="$scratch/$1.log")
+    [[ $1 != *+late ]] || settings+=(ZIGRUNK_LATE=1)
     [ "$1" != zigrunk+example ] || settings+=(ZIGRUNK_LAUNCHER="$example" ZIGRUNK_LAUNCHED='-E cudafe++ cicc ptxas -c' \
         CACHE_FOLDER="$scratch/$1.entries" CACHE_LOG="$scratch/$1.log")
     env "${settings[@]}" "${@:2}"
@@ -81,6 +89,7 @@ work_of() {
 
 # misses TOOL: how many commands sccache, or the example, answered and ran since its numbers were last set to zero.
 misses() {
+    [[ $1 != zigrunk+cache* ]] || { echo "$(grep -o '"hit":true' "$scratch/$1.log" | wc -l) $(grep -o '"hit":false' "$scratch/$1.log" | wc -l)" && return; }
     [ "$1" != zigrunk+example ] || { echo "$(grep -c '^hit' "$scratch/$1.log") $(grep -c '^miss' "$scratch/$1.log")" && return; }
     by "$1" "$sccache" --show-stats --stats-format json | python3 -c '
 import json, sys
@@ -105,7 +114,7 @@ build() {
     mv "$scratch/work/build" "$scratch/$3"
     count "run $1, $2, $3" "$([ "$status" = 0 ] || tail -n 20 "$scratch/$3.said")"
     case "$2 $3" in
-    'unchanged zigrunk+sccache') same "run $1, hits and misses of $3" "$(misses "$3")" '72 0' ;;
+    'unchanged zigrunk+sccache' | 'unchanged zigrunk+cache'*) same "run $1, hits and misses of $3" "$(misses "$3")" '72 0' ;;
     'unchanged zigrunk+example') same "run $1, hits and misses of $3" "$(misses "$3")" '108 0' ;;
     esac
 }

@@ -82,7 +82,7 @@ library_flags() {
     PKG_CONFIG_PATH="$root/usr/lib/pkgconfig" pkg-config "$@" zigrunk
 }
 if command -v man > /dev/null; then
-    for page in man1/zigrunk.1 man1/zigrunk-nvcc.1 man1/zigrunk-batch.1 man1/cudaplan.1 man3/zigrunk.h.3; do
+    for page in man1/zigrunk.1 man1/zigrunk-nvcc.1 man1/zigrunk-batch.1 man1/zigrunk-cache.1 man1/cudaplan.1 man3/zigrunk.h.3; do
         man --warnings -l "$root/usr/share/man/$page" > shown 2> warnings
         # shellcheck disable=SC2016 # for sh
         check "the man page $page" sh -c '[ -s shown ] && ! grep . warnings'

@@ -2,6 +2,7 @@
 //!
 //! It acts by its name, or by its first word if that isn't a name of its own.
 mod batch;
+mod cache;
 mod caches;
 mod call;
 mod dry_runs;
@@ -40,7 +41,7 @@ pub use system::open_standard_streams;
 use std::ffi::{OsStr, OsString};
 use std::path::Path;
 
-const USAGE: &str = "usage: zigrunk-driver nvcc|batch|plan|report WORD..";
+const USAGE: &str = "usage: zigrunk-driver nvcc|batch|plan|report|cache WORD..";
 
 /// What is run under a name.
 fn run_as(name: &OsStr, words: &[OsString]) -> Option<i32> {
@@ -48,6 +49,7 @@ fn run_as(name: &OsStr, words: &[OsString]) -> Option<i32> {
         "zigrunk-plan" => Some(plan_program::run(words)),
         "zigrunk-batch" => Some(batch::main(words)),
         "zigrunk-report" => Some(report::run(words)),
+        "zigrunk-cache" => Some(cache::program::run(words)),
         other if other.ends_with("nvcc") => Some(call::make(name, words)),
         _ => None,
     }

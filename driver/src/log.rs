@@ -34,7 +34,7 @@ pub fn commands(tasks: &[Task], done: &[Done]) -> Vec<String> {
         let kind = String::from_utf8(json(task.kind.as_bytes())).ok()?;
         let (begin, end) = ended.times;
         let needs: Vec<String> = task.needs.iter().filter(|&&need| done[need].ended.is_some()).map(|&need| place(need).to_string()).collect();
-        let hit = task.statistics.as_deref().and_then(caches::had).map(|hit| format!(",\"hit\":{hit}")).unwrap_or_default();
+        let hit = one.hit.or_else(|| task.statistics.as_deref().and_then(caches::had)).map(|hit| format!(",\"hit\":{hit}")).unwrap_or_default();
         let (asked, status, needs) = (one.asked, ended.status.code, needs.join(","));
         Some(format!("{{\"kind\":{kind},\"asked\":{asked:.4},\"begin\":{begin:.4},\"end\":{end:.4},\"status\":{status}{hit},\"needs\":[{needs}]}}"))
     };
@@ -86,7 +86,7 @@ mod tests {
 
     fn done(code: i32, asked: f64, times: (f64, f64)) -> Done {
         let status = Status { code, signal: None, dumped: false };
-        Done { asked, ended: Some(Ended { status, out: Vec::new(), errors: Vec::new(), times }), by_driver: false }
+        Done { asked, ended: Some(Ended { status, out: Vec::new(), errors: Vec::new(), times }), ..Done::default() }
     }
 
     #[test]

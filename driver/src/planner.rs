@@ -78,6 +78,8 @@ pub struct PlannedCommand {
     pub reads: Vec<String>,
     pub writes: Vec<String>,
     pub may_write: Vec<String>,
+    /// Whether these are all files that it touches.
+    pub complete: bool,
 }
 
 /// How many bytes a file's name may have.
@@ -271,6 +273,7 @@ fn commands_of(planned: &PlanWithOrigins, as_it_runs: impl Fn(&Command) -> Resul
             reads: strings(files.reads.as_slice()),
             writes: strings(files.writes.as_slice()),
             may_write: strings(files.may_write.as_slice()),
+            complete: files.complete,
         })
     };
     commands.zip(facts).map(command).collect()

@@ -1,6 +1,8 @@
 //! The dependency file of a call, made from what its preprocessors have written.
+use crate::cache::Session;
+use crate::machine::Ended;
 use crate::planner::{PlannedCommand, Words, list_of};
-use crate::run::{Done, Watch};
+use crate::run::{Done, Step, Watch};
 use crate::streams::{complain, content_of, write_all};
 use crate::voice::Voice;
 use dependency_rules::{Rule, order_of, rule_asked, rule_text};
@@ -16,7 +18,7 @@ use texts::words::Words as WordList;
 /// The tools whose commands the cache refuses, of all calls that this process makes.
 pub type Refusals = Mutex<BTreeSet<String>>;
 
-/// Makes the dependency file, tells of a cache that refuses a command, and hands what commands say to the call's voice.
+/// Makes the dependency file, asks the cache, tells of a launcher that refuses a command, and hands what commands say to the call's voice.
 pub struct RuleMaker<'a, 'b> {
     pub commands: &'a [PlannedCommand],
     /// The command that makes it by nvcc, if the line asks for one.
@@ -25,6 +27,8 @@ pub struct RuleMaker<'a, 'b> {
     pub launcher: &'a str,
     pub refusals: &'a Refusals,
     pub voice: Voice<'b>,
+    /// The driver's own cache, if the call uses it.
+    pub cache: Option<Session<'a>>,
 }
 
 /// The words of commands.
@@ -81,6 +85,17 @@ impl Watch for RuleMaker<'_, '_> {
     fn tell(&mut self, done: &[Done]) {
         self.voice.tell(done);
     }
+
+    fn first_step(&mut self, task: usize) -> Step {
+        self.cache.as_mut().map_or(Step::Own, |cache| cache.first(task))
+    }
+
+    fn next_step(&mut self, task: usize, ended: Ended) -> Step {
+        match &mut self.cache {
+            Some(cache) => cache.next(task, ended),
+            None => Step::Ended(ended),
+        }
+    }
 }
 
 #[cfg(test)]
@@ -114,7 +129,7 @@ mod tests {
             let words = Words { folder: self.0.to_str().unwrap().into(), words: asked.split(' ').map(String::from).collect() };
             let mut nobody = |_: bool, _: &[u8]| ();
             let voice = Voice::new(&[], Habits::default(), &mut nobody);
-            let mut maker = RuleMaker { commands, asked: Some(&words), launcher: "", refusals: &Refusals::default(), voice };
+            let mut maker = RuleMaker { commands, asked: Some(&words), launcher: "", refusals: &Refusals::default(), voice, cache: None };
             maker.make_rule().then(|| fs::read_to_string(self.0.join("k.d")).unwrap())
         }
     }

@@ -50,6 +50,8 @@ pub struct Done {
     pub ended: Option<Ended>,
     /// Whether the driver did it itself.
     pub by_driver: bool,
+    /// Whether the driver's cache had what it makes, if that was asked for it.
+    pub hit: Option<bool>,
 }
 
 impl Done {
@@ -79,6 +81,17 @@ impl From<Refused> for Stopped {
     }
 }
 
+/// What to do with a task.
+#[derive(Debug)]
+pub enum Step {
+    /// Start its own process.
+    Own,
+    /// Start another process, and hear how it ends.
+    Instead(Job),
+    /// Nothing more: this is its end.
+    Ended(Ended),
+}
+
 /// What the caller of a run does for its tasks.
 pub trait Watch {
     /// Does a task without a process, if that is possible.
@@ -95,6 +108,16 @@ pub trait Watch {
     fn hear(&mut self, _: usize, _: [&[u8]; 2]) {}
     /// Hears what has become of the tasks by now.
     fn tell(&mut self, _: &[Done]) {}
+
+    /// Says what to do with a task that may start.
+    fn first_step(&mut self, _: usize) -> Step {
+        Step::Own
+    }
+
+    /// Says what to do with a task whose process, which wasn't its own, has ended.
+    fn next_step(&mut self, _: usize, ended: Ended) -> Step {
+        Step::Ended(ended)
+    }
 }
 
 /// Makes no dependency file.
@@ -139,6 +162,10 @@ struct Run<'a, M, W> {
     is_void: Vec<bool>,
     /// Whether each task was started through the cache.
     launched: Vec<bool>,
+    /// Whether it is known what to do with each task.
+    asked_for: Vec<bool>,
+    /// The processes that run in place of tasks' own.
+    instead: Vec<Option<Job>>,
 }
 
 /// The schedule of tasks, of which so many may run at once. What begins the heaviest chain starts first.
@@ -160,10 +187,11 @@ fn schedule_of(tasks: &[Task], at_once: usize) -> Result<Schedule, BadGraph> {
 pub fn run<M: Machine, W: Watch>(machine: &mut M, watch: &mut W, tasks: &[Task], at_once: usize) -> Result<Vec<Done>, Stopped> {
     let at_once = at_once.max(1);
     let schedule = schedule_of(tasks, at_once).map_err(|_| Stopped::NoProcess("the commands have no schedule".into()))?;
-    let [started, is_void, launched] = [(); 3].map(|()| vec![false; tasks.len()]);
+    let [started, is_void, launched, asked_for] = [(); 4].map(|()| vec![false; tasks.len()]);
+    let instead = vec![None; tasks.len()];
     let done = vec![Done::default(); tasks.len()];
     let (again, early) = (Vec::new(), BTreeMap::new());
-    let mut run = Run { machine, watch, tasks, schedule, at_once, done, again, started, early, is_void, launched };
+    let mut run = Run { machine, watch, tasks, schedule, at_once, done, again, started, early, is_void, launched, asked_for, instead };
     let ended = run.run_all();
     if let Err(stopped) = &ended {
         run.machine.end_all(if let Stopped::Signal(number) = stopped { *number } else { crate::system::TERM });
@@ -175,7 +203,7 @@ impl<'a, M: Machine, W: Watch> Run<'a, M, W> {
     fn run_all(&mut self) -> Result<(), Stopped> {
         let mut is_held_back = false;
         loop {
-            while self.make_rules()? || self.take_up()? {}
+            while self.make_rules()? || self.take_up()? || self.serve()? {}
             self.watch.tell(&self.done);
             if self.schedule.over() {
                 self.machine.want(false);
@@ -186,7 +214,8 @@ impl<'a, M: Machine, W: Watch> Run<'a, M, W> {
             while next.is_none() && self.begin_early() {}
             self.note_asked(next);
             self.machine.want(next.is_some() && !is_held_back);
-            let front = self.watch.front().filter(|front| !self.early.contains_key(front) && !self.is_void[*front]);
+            let is_own = |front: &usize| !self.early.contains_key(front) && !self.is_void[*front] && self.instead[*front].is_none();
+            let front = self.watch.front().filter(is_own);
             self.machine.listen(front);
             match self.machine.next() {
                 Event::Slot => is_held_back = self.start(next)?,
@@ -209,6 +238,23 @@ impl<'a, M: Machine, W: Watch> Run<'a, M, W> {
         self.schedule.ended(next, Outcome::Success)?;
         self.done[next].by_driver = true;
         Ok(true)
+    }
+
+    /// Asks what to do with the next task. Says whether it has come to its end, without a process.
+    fn serve(&mut self) -> Result<bool, Stopped> {
+        let next = self.schedule.next().filter(|&next| !self.tasks[next].is_rule);
+        let Some(next) = next.filter(|&next| !mem::replace(&mut self.asked_for[next], true)) else { return Ok(false) };
+        match self.watch.first_step(next) {
+            Step::Own => {}
+            Step::Instead(job) => self.instead[next] = Some(job),
+            Step::Ended(ended) => {
+                self.note_asked(Some(next));
+                self.schedule.started(next)?;
+                self.end(next, ended)?;
+                return Ok(true);
+            }
+        }
+        Ok(false)
     }
 
     /// Whether the call may have one more process.
@@ -273,7 +319,8 @@ impl<'a, M: Machine, W: Watch> Run<'a, M, W> {
         task.include.as_ref().map_or(Ok(()), Include::write).map_err(Stopped::NoProcess)?;
         task.head_start.as_ref().map_or(Ok(()), HeadStart::write).map_err(Stopped::NoProcess)?;
         let bare = task.without_launcher.as_ref().filter(|_| self.watch.refuses(task.tool()));
-        match self.machine.start(next, bare.unwrap_or(&task.job)) {
+        let job = self.instead[next].as_ref().or(bare).unwrap_or(&task.job);
+        match self.machine.start(next, job) {
             Ok(()) => {
                 self.launched[next] = task.without_launcher.is_some() && bare.is_none();
                 self.started[next] = true;
@@ -296,6 +343,9 @@ impl<'a, M: Machine, W: Watch> Run<'a, M, W> {
             self.again.push(number);
             return Ok(());
         }
+        if self.instead[number].take().is_some() {
+            return self.next_step(number, ended);
+        }
         let task = &self.tasks[number];
         let is_refusal = !ended.status.succeeded() && contains(&ended.errors, REFUSAL);
         if is_refusal && self.launched[number] {
@@ -305,6 +355,21 @@ impl<'a, M: Machine, W: Watch> Run<'a, M, W> {
             self.again.push(number);
             return Ok(());
         }
+        self.end(number, ended)
+    }
+
+    /// Goes on with a task whose process, which wasn't its own, has ended.
+    fn next_step(&mut self, number: usize, ended: Ended) -> Result<(), Stopped> {
+        match self.watch.next_step(number, ended) {
+            Step::Own => {}
+            Step::Instead(job) => self.instead[number] = Some(job),
+            Step::Ended(ended) => return self.end(number, ended),
+        }
+        self.again.push(number);
+        Ok(())
+    }
+
+    fn end(&mut self, number: usize, ended: Ended) -> Result<(), Stopped> {
         self.done[number].ended = Some(ended);
         let outcome = if self.done[number].failed() { Outcome::Failure } else { Outcome::Success };
         Ok(self.schedule.ended(number, outcome)?)
@@ -388,11 +453,19 @@ mod tests {
         }
     }
 
-    /// Makes the rule or doesn't, and hears what the cache refuses.
+    /// Makes the rule or doesn't, and hears what the cache refuses. Says what to do with tasks: for each, the steps that are left.
     #[derive(Default)]
     struct Heard {
         makes_rule: bool,
         refused: Vec<String>,
+        steps: Vec<Vec<Step>>,
+    }
+
+    impl Heard {
+        fn step(&mut self, task: usize, otherwise: Step) -> Step {
+            let left = self.steps.get_mut(task).filter(|steps| !steps.is_empty());
+            left.map_or(otherwise, |steps| steps.remove(0))
+        }
     }
 
     impl Watch for Heard {
@@ -406,6 +479,14 @@ mod tests {
 
         fn refuses(&self, tool: &str) -> bool {
             self.refused.iter().any(|other| other == tool)
+        }
+
+        fn first_step(&mut self, task: usize) -> Step {
+            self.step(task, Step::Own)
+        }
+
+        fn next_step(&mut self, task: usize, ended: Ended) -> Step {
+            self.step(task, Step::Ended(ended))
         }
     }
 
@@ -476,6 +557,26 @@ mod tests {
         assert_eq!((machine.started.concat(), done[1].by_driver, done[1].has_ended()), ("ab".into(), true, true));
         let mut machine = Fake::default();
         assert_eq!(run_all(&mut machine, &tasks, 9), ("aruleb".into(), vec![Some(0); 3]));
+    }
+
+    #[test]
+    fn a_task_may_end_without_its_process() {
+        let ended = |code| Ended { status: Status { code, signal: None, dumped: false }, out: Vec::new(), errors: Vec::new(), times: (1.0, 1.0) };
+        let tasks = [task("a 0", &[]), task("b 0", &[0]), task("c 0", &[1]), task("d 0", &[2]), task("e 0", &[3])];
+        let steps = vec![
+            vec![Step::Ended(ended(0))],
+            vec![Step::Instead(job("question 1")), Step::Ended(ended(0))],
+            vec![Step::Instead(job("question 0")), Step::Instead(job("other 3")), Step::Own],
+            vec![Step::Instead(job("another 0"))],
+        ];
+        let (mut machine, mut heard) = (Fake::default(), Heard { steps, ..Heard::default() });
+        let done = run(&mut machine, &mut heard, &tasks, 9).unwrap();
+        assert_eq!(machine.started, ["question", "question", "other", "c", "another", "e"]);
+        assert!(done.iter().all(|done| done.has_ended() && !done.failed()), "{done:?}");
+        let steps = vec![vec![Step::Ended(ended(4))]];
+        let (mut machine, mut heard) = (Fake::default(), Heard { steps, ..Heard::default() });
+        let done = run(&mut machine, &mut heard, &tasks, 9).unwrap();
+        assert_eq!((machine.started.len(), done.iter().filter(|done| done.has_ended()).count(), done[0].failed()), (0, 1, true));
     }
 
     #[test]

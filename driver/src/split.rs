@@ -1,4 +1,5 @@
 //! A call that is split, from its line to what its commands said. A call alone and one of a batch take these steps.
+use crate::cache::{self, Session};
 use crate::caches::{self, Counts};
 use crate::dry_runs::{self, DryRuns, Failed};
 use crate::early;
@@ -131,14 +132,15 @@ impl Call<'_> {
     }
 
     /// Plans the call.
-    fn planned(&self, outline: &Outline, dry_runs: &DryRuns) -> Result<Planned, Stop> {
+    fn planned(&self, outline: &Outline, dry_runs: &DryRuns, has_cache: bool) -> Result<Planned, Stop> {
         let (tmp, keeps) = (self.tmp()?, outline.keep_dir.is_some());
         let mut commands = self.commands(dry_runs, outline, tmp)?;
         if commands.iter().any(PlannedCommand::writes_long_name) {
             return by_nvcc("a generated file's name is too long");
         }
         let late = if late::is_on(self.settings) && !keeps { late::begin_early(&mut commands, tmp) } else { None };
-        let is_early = early::is_on(self.settings) && !keeps;
+        // What begins early runs before the cache knows what it reads.
+        let is_early = early::is_on(self.settings) && !keeps && !has_cache;
         let compile = commands.len().checked_sub(2).filter(|_| is_early && late.is_some());
         let moved = compile.and_then(|compile| early::move_stub(&mut commands, compile, tmp));
         let scratch = self.settings.scratch().map(|path| absolute(path, Path::new(&self.line.cwd)).to_string_lossy().into_owned());
@@ -181,13 +183,19 @@ impl Call<'_> {
         let make_own = || fs::create_dir(Path::new(tmp).join(tasks::OWN)).map_err(|_| "no room for temporary files".into());
         let dry_runs = dry_runs::make(machine, &asked, make_own)?;
         machine.plans(false);
-        let Planned { commands, tasks, is_late, habits } = self.planned(outline, &dry_runs)?;
+        let store = if outline.keep_dir.is_some() { None } else { cache::store_of(self.settings, &line.cwd) };
+        let Planned { commands, tasks, is_late, habits } = self.planned(outline, &dry_runs, store.is_some())?;
         let launcher = self.settings.launcher.first().map(String::as_str).unwrap_or_default();
         let before = caches::counts(machine, self.settings)?;
         say(true, &dry_runs.messages);
         let voice = Voice::new(&tasks, habits, say);
-        let mut maker = RuleMaker { commands: &commands, asked: outline.dependencies.as_ref(), launcher, refusals: self.refusals, voice };
-        let done = run::run(machine, &mut maker, &tasks, outline.jobs.unwrap_or(self.at_once))?;
+        let cache = store.as_ref().map(|store| Session::new(store, tmp, &commands, &tasks));
+        let mut maker = RuleMaker { commands: &commands, asked: outline.dependencies.as_ref(), launcher, refusals: self.refusals, voice, cache };
+        let mut done = run::run(machine, &mut maker, &tasks, outline.jobs.unwrap_or(self.at_once))?;
+        if let Some(cache) = &maker.cache {
+            done.iter_mut().enumerate().for_each(|(task, done)| done.hit = cache.had(task));
+            cache.end();
+        }
         if is_late && late::went_wrong(&done) {
             return by_nvcc("its assembler fails, or says something");
         }

@@ -41,7 +41,7 @@ const PARENT_WAITS: c_int = 0x4000;
 const CHILD_STACK: usize = 4096;
 
 const CREATE: c_int = 0o100;
-const UNBLOCKED: c_int = 0o4000;
+pub const UNBLOCKED: c_int = 0o4000;
 const CLOSE_ON_EXEC: c_int = 0o2_000_000;
 #[cfg(target_arch = "aarch64")]
 const FOLDER: c_int = 0o40000;

@@ -1,0 +1,132 @@
+//! What preprocessed text says of files beside it.
+use crate::cache::marked::{contains, find};
+use std::collections::BTreeSet;
+
+/// By these an assembler reads further files.
+const DIRECTIVES: [&[u8]; 2] = [b"incbin", b".include"];
+/// Where strings that reach the assembler stand: statements, and names of sections.
+const ASSEMBLED: [&[u8]; 2] = [b"asm", b"section"];
+
+/// Whether a string of C has a byte by its number, which may hide a directive.
+fn has_numbers(text: &[u8]) -> bool {
+    text.windows(2).any(|pair| pair[0] == b'\\' && (pair[1].is_ascii_digit() || matches!(pair[1], b'x' | b'u' | b'U' | b'N')))
+}
+
+/// The rest of each statement from a word on.
+fn statements<'a>(text: &'a [u8], word: &'a [u8]) -> impl Iterator<Item = &'a [u8]> {
+    let mut rest = text;
+    std::iter::from_fn(move || {
+        let begin = find(rest, word)?;
+        rest = &rest[begin + word.len()..];
+        let end = rest.iter().position(|&byte| byte == b';').unwrap_or(rest.len());
+        Some(&rest[..end])
+    })
+}
+
+/// Whether a compiler that reads this text, or the assembler that it runs, may read a file that isn't in it: by a directive, also one that
+/// is cut into several strings, or by a precompiled header.
+pub fn reads_more(text: &[u8]) -> bool {
+    let joined: Vec<u8> = text.iter().copied().filter(|byte| !matches!(byte, b'"' | b'\\' | b' ' | b'\t' | b'\n')).collect();
+    let has_directive = DIRECTIVES.iter().any(|directive| contains(&joined, directive));
+    has_directive || contains(text, b"pch_preprocess") || ASSEMBLED.iter().any(|word| statements(text, word).any(has_numbers))
+}
+
+/// The name in a line marker.
+fn name_in(line: &[u8]) -> Option<&[u8]> {
+    between_quotes(line.strip_prefix(b"# ")?).filter(|name| !name.is_empty() && !name.starts_with(b"<"))
+}
+
+/// The files of a text's line markers that messages name.
+pub fn shown_files<'a>(text: &'a [u8], messages: &[u8]) -> BTreeSet<&'a [u8]> {
+    let names: BTreeSet<&[u8]> = text.split(|&byte| byte == b'\n').filter_map(name_in).collect();
+    names.into_iter().filter(|name| contains(messages, name)).collect()
+}
+
+/// The files that PTX names for debuggers.
+pub fn files_of_ptx(text: &[u8]) -> Vec<&[u8]> {
+    let is_file = |line: &&[u8]| line.trim_ascii_start().strip_prefix(b".file").is_some_and(|rest| rest.starts_with(b"\t") || rest.starts_with(b" "));
+    text.split(|&byte| byte == b'\n').filter(is_file).filter_map(between_quotes).collect()
+}
+
+fn between_quotes(line: &[u8]) -> Option<&[u8]> {
+    let begin = line.iter().position(|&byte| byte == b'"')? + 1;
+    let end = line.iter().rposition(|&byte| byte == b'"')?;
+    line.get(begin..end)
+}
+
+/// Whether a text has eight hexadecimal digits, as nvcc writes a sum.
+fn is_sum(text: &str) -> bool {
+    text.len() == 8 && text.bytes().all(|byte| byte.is_ascii_hexdigit())
+}
+
+/// Whether a module id is the same each time: the sum of a path, the length of a file's name, that name, and a name that the source defines or
+/// its sum. If the source defines no external name, a sum and the number of a process stand for it.
+pub fn is_stable_id(id: &[u8]) -> bool {
+    let parts = || {
+        let (path, rest) = std::str::from_utf8(id).ok()?.trim_end().strip_prefix('_')?.split_once('_')?;
+        let (length, rest) = rest.split_once('_')?;
+        Some((path, rest.split_at_checked(length.parse().ok()?)?.1.strip_prefix('_')?))
+    };
+    let is_process = |name: &str| {
+        let parts = name.split_once('_');
+        parts.is_some_and(|(sum, number)| is_sum(sum) && number.bytes().all(|byte| byte.is_ascii_digit()))
+    };
+    parts().is_some_and(|(path, name)| is_sum(path) && !name.is_empty() && !is_process(name))
+}
+
+#[cfg(test)]
+mod tests {
+    use super::*;
+
+    #[test]
+    fn directives_are_found() {
+        let cases = [
+            ("int f();", false),
+            ("asm(\".incbin \\\"data\\\"\");", true),
+            ("asm(\".inc\" \"bin \\\"data\\\"\");", true),
+            ("asm(\".inc\"\n  \"lude \\\"x\\\"\");", true),
+            ("__asm__ (\"\\x2eincbi\\x6e x\");", true),
+            ("int x __attribute__((section(\"a\\n.inc\\154ude x\")));", true),
+            ("extern int f() __asm__ (\"\" \"__isoc99_f\");", false),
+            ("asm(\".section a\\n.quad 1\\n\"); const char* s = \"\\0\";", false),
+            ("#pragma GCC pch_preprocess \"a.h.gch\"", true),
+        ];
+        for (text, wanted) in cases {
+            assert_eq!(reads_more(text.as_bytes()), wanted, "{text}");
+        }
+    }
+
+    #[test]
+    fn messages_show_files() {
+        let text = b"# 1 \"k.cu\"\n# 1 \"<built-in>\"\n# 5 \"a b.h\" 1 3\n#pragma x\n# 2 \"other.h\"\n";
+        let shown: Vec<&[u8]> = shown_files(text, b"k.cu:3: x\nIn file included from a b.h:2").into_iter().collect();
+        assert_eq!(shown, [&b"a b.h"[..], b"k.cu"]);
+        assert!(shown_files(text, b"").is_empty());
+    }
+
+    #[test]
+    fn ptx_names_files() {
+        let text = b".version 8\n\t.file\t1 \"/w/k.cu\"\n.file 2 \"a b.h\"\n.filex 3 \"c\"\n// .file\n";
+        assert_eq!(files_of_ptx(text), [&b"/w/k.cu"[..], b"a b.h"]);
+    }
+
+    #[test]
+    fn ids_with_a_process_are_not_stable() {
+        let cases = [
+            ("_0ab662b8_4_k_cu_1d3c70b5", true),
+            ("_0ab662b8_7_k_12_cu_1d3c70b5\n", true),
+            ("_edf60b65_4_k_cu__Z4filev", true),
+            ("_edf60b65_4_k_cu_run_5", true),
+            ("_9f1b1dc8_4_s_cu_778e0101_7547", false),
+            ("_9f1b1dc8_4_s_cu_778e0101_", false),
+            ("9f1b1dc8_4_s_cu_f", false),
+            ("_9f1b1dc8_4_s_cu_", false),
+            ("_9f1b1dc8_99_s_cu_778e0101", false),
+            ("made", false),
+            ("", false),
+        ];
+        for (id, wanted) in cases {
+            assert_eq!(is_stable_id(id.as_bytes()), wanted, "{id}");
+        }
+    }
+}

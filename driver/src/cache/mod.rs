@@ -1,0 +1,321 @@
+//! The cache of commands: what a command of the same tool, words and inputs has made and said before is made and said again.
+mod counts;
+mod digest;
+mod entry;
+mod host_text;
+mod key;
+mod marked;
+mod place;
+pub mod program;
+mod recipe;
+mod store;
+mod tool;
+mod words;
+
+use crate::host;
+use crate::machine::Ended;
+use crate::planner::PlannedCommand;
+use crate::run::{Step, Task};
+use crate::settings::Settings;
+use crate::streams::{complain, content_of, write_all};
+use crate::system::Status;
+use digest::Digest;
+use entry::{Entry, Made};
+use marked::{Marked, contains};
+use recipe::{Output, Recipe};
+use std::collections::BTreeMap;
+use std::env;
+use std::ffi::OsStr;
+use std::fs::{self, File};
+use std::io::{self, ErrorKind, IsTerminal};
+use std::os::unix::ffi::OsStrExt;
+use std::os::unix::fs::MetadataExt;
+use std::path::{Path, PathBuf};
+use store::Store;
+use tool::{Kind, Run, Tools};
+
+/// The store that a call uses, if it uses one. A launcher or a runner takes commands elsewhere.
+pub fn store_of(settings: &Settings, cwd: &str) -> Option<Store> {
+    let store = place::asked(Path::new(cwd))?;
+    let is_own = settings.launcher.is_empty() && settings.runner.is_empty();
+    if !is_own && settings.explains {
+        complain("zigrunk-nvcc: ZIGRUNK_CACHE doesn't count beside ZIGRUNK_LAUNCHER or ZIGRUNK_RUNNER");
+    }
+    is_own.then_some(store)
+}
+
+/// What becomes of a task.
+#[derive(Clone, Debug)]
+enum State {
+    /// It runs as it is.
+    Own,
+    /// It is to be looked up.
+    Fresh,
+    /// What it reads is preprocessed.
+    Asked,
+    /// Nothing was found under its key, and it runs.
+    Missed(Digest, Vec<u8>),
+    Hit,
+}
+
+/// A task that may be served.
+struct Candidate {
+    recipe: Recipe,
+    state: State,
+    hit: Option<bool>,
+}
+
+/// The cache during a call.
+pub struct Session<'a> {
+    store: &'a Store,
+    tools: Tools<'a>,
+    tmp: &'a str,
+    candidates: BTreeMap<usize, Candidate>,
+    terminal: Vec<u8>,
+    /// When it began, in seconds.
+    begun: f64,
+    /// Whether the user knows that nothing can be written.
+    has_complained: bool,
+}
+
+/// What of a terminal shows in messages; nothing if they don't go to one.
+fn terminal() -> Vec<u8> {
+    if !io::stderr().is_terminal() {
+        return Vec::new();
+    }
+    let value = |name: &str| env::var_os(name).unwrap_or_default().as_bytes().to_vec();
+    ["TERM", "COLUMNS", "GCC_COLORS"].map(value).join(&b'\n')
+}
+
+/// The modes that a new file gets.
+fn new_modes() -> Option<u32> {
+    let status = fs::read_to_string("/proc/self/status").ok()?;
+    let mask = status.lines().find_map(|line| line.strip_prefix("Umask:"))?;
+    Some(0o666 & !u32::from_str_radix(mask.trim(), 8).ok()?)
+}
+
+/// Puts a file in its place as a tool does: a compiler makes a new one, the others write to what is there.
+fn put(kind: Kind, path: &Path, text: &[u8]) -> io::Result<()> {
+    match fs::symlink_metadata(path) {
+        Ok(status) if !status.is_file() => return Err(ErrorKind::AlreadyExists.into()),
+        Ok(_) if kind == Kind::Host => fs::remove_file(path)?,
+        _ => {}
+    }
+    let written = File::create(path).and_then(|file| write_all(&file, text));
+    if written.is_err() {
+        let _ = fs::remove_file(path);
+    }
+    written
+}
+
+/// Whether a directory's path, or its own name, is in a text.
+fn names(text: &[u8], directory: &str) -> bool {
+    let own = directory.rsplit('/').next().unwrap_or_default();
+    contains(text, own.as_bytes())
+}
+
+impl<'a> Session<'a> {
+    /// The cache for the tasks of a call's commands, whose files go to `tmp`. Tasks that aren't commands are left out.
+    pub fn new(store: &'a Store, tmp: &'a str, commands: &[PlannedCommand], tasks: &[Task]) -> Session<'a> {
+        let of_commands = tasks.iter().enumerate().filter(|(_, task)| !task.is_rule);
+        let candidate = |((number, task), command): ((usize, &Task), &PlannedCommand)| {
+            let recipe = Recipe::of(command, &task.job, number, tmp)?;
+            Some((number, Candidate { recipe, state: State::Fresh, hit: None }))
+        };
+        let candidates = of_commands.zip(commands).filter_map(candidate).collect();
+        Session { store, tools: Tools::new(store), tmp, candidates, terminal: terminal(), begun: host::now(), has_complained: false }
+    }
+
+    /// What to do with a task that may start.
+    pub fn first(&mut self, task: usize) -> Step {
+        let Some(candidate) = self.candidates.get_mut(&task).filter(|candidate| matches!(candidate.state, State::Fresh)) else { return Step::Own };
+        let recipe = &candidate.recipe;
+        if !recipe.has_plain_outputs() {
+            candidate.state = State::Own;
+            return Step::Own;
+        }
+        if let Some((job, _)) = &recipe.question {
+            candidate.state = State::Asked;
+            return Step::Instead(job.clone());
+        }
+        let now = host::now();
+        self.look_up(task, (now, now))
+    }
+
+    /// What to do with a task whose process, which was started in place of its own, has ended.
+    pub fn next(&mut self, task: usize, ended: Ended) -> Step {
+        let Some(candidate) = self.candidates.get(&task) else { return Step::Ended(ended) };
+        match candidate.state.clone() {
+            State::Asked if ended.status.succeeded() && ended.out.is_empty() && ended.errors.is_empty() => self.look_up(task, ended.times),
+            State::Missed(key, text) => self.ran(task, &key, &text, ended),
+            _ => self.runs_alone(task),
+        }
+    }
+
+    /// Whether the cache had what a task makes, if it was looked up.
+    pub fn had(&self, task: usize) -> Option<bool> {
+        self.candidates.get(&task)?.hit
+    }
+
+    /// Notes how many commands the cache had.
+    pub fn end(&self) {
+        let count = |hit| self.candidates.values().filter(|candidate| candidate.hit == Some(hit)).count() as u64;
+        counts::add(self.store.folder(), counts::Counts { hits: count(true), misses: count(false) });
+    }
+
+    fn set(&mut self, task: usize, state: State, hit: Option<bool>) {
+        if let Some(candidate) = self.candidates.get_mut(&task) {
+            candidate.state = state;
+            candidate.hit = hit.or(candidate.hit);
+        }
+    }
+
+    fn runs_alone(&mut self, task: usize) -> Step {
+        self.set(task, State::Own, None);
+        Step::Own
+    }
+
+    /// The texts that a task's key has, or `None` if what it reads isn't known. The first one has its line markers.
+    fn texts(recipe: &Recipe) -> Option<Vec<Vec<u8>>> {
+        let preprocessed = recipe.question.iter().map(|(_, file)| file);
+        let texts: Vec<Vec<u8>> = preprocessed.chain(&recipe.reads).map(|path| content_of(path).ok()).collect::<Option<_>>()?;
+        let reads_more = recipe.assembles && recipe.kind == Kind::Host && texts.first().is_none_or(|text| host_text::reads_more(text));
+        (!reads_more).then_some(texts)
+    }
+
+    fn key(&mut self, task: usize) -> Option<(Digest, Vec<u8>)> {
+        let recipe = &self.candidates.get(&task)?.recipe;
+        let environment = recipe.environment();
+        let (program, folder) = (Path::new(recipe.job.words.first()?), Path::new(&recipe.job.folder));
+        let tool = self.tools.identity(&Run { kind: recipe.kind, program, folder, environment: &environment })?;
+        let texts = Session::texts(recipe)?;
+        let key = key::key_of(recipe, &tool, &environment, &texts)?;
+        Some((key, texts.into_iter().next()?))
+    }
+
+    fn look_up(&mut self, task: usize, times: (f64, f64)) -> Step {
+        let Some((key, text)) = self.key(task) else { return self.runs_alone(task) };
+        if let Some(entry) = self.store.read(&key).and_then(|bytes| Entry::of_bytes(&bytes)) {
+            if let Some(ended) = self.take(task, &entry, times) {
+                self.set(task, State::Hit, Some(true));
+                return Step::Ended(ended);
+            }
+        }
+        self.set(task, State::Missed(key, text), Some(false));
+        self.candidates.get(&task).map_or(Step::Own, |candidate| Step::Instead(candidate.recipe.job.clone()))
+    }
+
+    /// Makes and says what an entry has. `None` if it doesn't fit, or can't be made here.
+    fn take(&self, task: usize, entry: &Entry, times: (f64, f64)) -> Option<Ended> {
+        let recipe = &self.candidates.get(&task)?.recipe;
+        if recipe.outputs.len() != entry.outputs.len() || (entry.speaks() && !self.may_say(recipe, entry)) {
+            return None;
+        }
+        let directory = self.tmp.as_bytes();
+        for (output, text) in recipe.outputs.iter().zip(&entry.outputs) {
+            match text {
+                Made::File(text) => put(recipe.kind, &output.path, &text.filled(directory)).ok()?,
+                Made::Nothing if output.path.exists() => return None,
+                Made::Nothing => {}
+            }
+        }
+        let status = Status { code: 0, signal: None, dumped: false };
+        Some(Ended { status, out: entry.out.filled(directory), errors: entry.errors.filled(directory), times })
+    }
+
+    /// Whether an entry's messages would be the same now.
+    fn may_say(&self, recipe: &Recipe, entry: &Entry) -> bool {
+        let is_same = |(name, digest): &(Vec<u8>, Digest)| shown_file(recipe, name).is_some_and(|now| now == *digest);
+        entry.terminal == self.terminal && entry.shown.iter().all(is_same)
+    }
+
+    /// What to do with a task that has run.
+    fn ran(&mut self, task: usize, key: &Digest, text: &[u8], ended: Ended) -> Step {
+        let Some(candidate) = self.candidates.get(&task) else { return Step::Ended(ended) };
+        let recipe = &candidate.recipe;
+        let has_products = recipe.has_products();
+        let says_where = recipe.outputs.iter().any(|output| output.path != output.written_to && speaks_of(&ended, &output.written_to));
+        if has_products && (!ended.status.succeeded() || says_where || move_products(recipe).is_none()) {
+            return self.runs_alone(task);
+        }
+        if ended.status.succeeded() {
+            let entry = self.entry_of(recipe, text, &ended);
+            let written = entry.map_or(Ok(()), |entry| self.store.write(key, &entry.to_bytes()));
+            self.tell(written);
+        }
+        Step::Ended(ended)
+    }
+
+    /// Says once that the store can't be written.
+    fn tell(&mut self, written: io::Result<()>) {
+        if let (Err(error), false) = (written, self.has_complained) {
+            self.has_complained = true;
+            complain(&format!("zigrunk-nvcc: cannot write to the cache {}: {error}", self.store.folder().display()));
+        }
+    }
+
+    /// A file that messages name, if it hasn't changed since a preprocessor may have read it.
+    fn shown(&self, recipe: &Recipe, name: &[u8]) -> Option<(Vec<u8>, Digest)> {
+        let changed = fs::metadata(path_of(recipe, name)).ok()?.modified().ok()?;
+        let is_old = changed.elapsed().is_ok_and(|age| age.as_secs_f64() > host::now() - self.begun);
+        Some((name.to_vec(), shown_file(recipe, name).filter(|_| is_old)?))
+    }
+
+    /// The entry of a task that has run, if it may have one.
+    fn entry_of(&self, recipe: &Recipe, text: &[u8], ended: &Ended) -> Option<Entry> {
+        let modes = new_modes()?;
+        let outputs = recipe.outputs.iter().map(|output| made(recipe, output, modes)).collect::<Option<_>>()?;
+        let directory = recipe.directory.as_bytes();
+        let messages = [&ended.out[..], &ended.errors].concat();
+        let (out, errors) = (Marked::of(&ended.out, directory), Marked::of(&ended.errors, directory));
+        let is_named = [&out, &errors].iter().any(|text| text.0.iter().any(|part| names(part, &recipe.directory)));
+        let shown = host_text::shown_files(text, &messages).into_iter().map(|name| self.shown(recipe, name));
+        let shown = shown.collect::<Option<_>>()?;
+        let terminal = if messages.is_empty() { Vec::new() } else { self.terminal.clone() };
+        (!is_named).then_some(Entry { outputs, out, errors, shown, terminal })
+    }
+}
+
+/// What an entry has of an output. `None` if it can't have that: only text may name the call's directory, as that of cudafe++, cicc and a compiler.
+fn made(recipe: &Recipe, output: &Output, modes: u32) -> Option<Made> {
+    let status = match fs::symlink_metadata(&output.written_to) {
+        Err(error) if error.kind() == ErrorKind::NotFound && output.is_optional => return Some(Made::Nothing),
+        other => other.ok().filter(fs::Metadata::is_file)?,
+    };
+    let text = content_of(&output.written_to).ok()?;
+    let is_id = output.path.extension().is_some_and(|extension| extension == "module_id");
+    if status.mode() & 0o7777 != modes || is_id && !host_text::is_stable_id(&text) {
+        return None;
+    }
+    let marked = Marked::of(&text, recipe.directory.as_bytes());
+    let is_binary = recipe.kind == Kind::Ptxas || recipe.assembles || text.contains(&0);
+    let is_named = !recipe.directory.is_empty() && marked.0.iter().any(|part| names(part, &recipe.directory));
+    if is_named || (is_binary && marked.has_marks()) {
+        return None;
+    }
+    Some(Made::File(marked))
+}
+
+/// The path of a file that messages name.
+fn path_of(recipe: &Recipe, name: &[u8]) -> PathBuf {
+    Path::new(&recipe.job.folder).join(OsStr::from_bytes(name))
+}
+
+/// The digest of a file that messages name.
+fn shown_file(recipe: &Recipe, name: &[u8]) -> Option<Digest> {
+    content_of(&path_of(recipe, name)).ok().map(|text| Digest::of(&text))
+}
+
+/// Whether what a process said names a file.
+fn speaks_of(ended: &Ended, file: &Path) -> bool {
+    [&ended.out, &ended.errors].iter().any(|text| contains(text, file.as_os_str().as_bytes()))
+}
+
+/// Puts the products of a command in their places.
+fn move_products(recipe: &Recipe) -> Option<()> {
+    for output in recipe.outputs.iter().filter(|output| output.path != output.written_to) {
+        let text = content_of(&output.written_to).ok()?;
+        put(recipe.kind, &output.path, &text).ok()?;
+    }
+    Some(())
+}

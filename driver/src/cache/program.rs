@@ -1,0 +1,64 @@
+//! `zigrunk-cache`: shows and clears the cache.
+use crate::cache::counts;
+use crate::cache::place::{self, bytes_of, shown};
+use crate::cache::store::Store;
+use crate::places::working_directory;
+use crate::streams::{complain, say};
+use std::ffi::OsString;
+
+const USAGE: &str = "usage: zigrunk-cache stats|clear|limit [SIZE]";
+
+fn tell(text: &str) -> i32 {
+    i32::from(say(1, text.as_bytes()).is_err())
+}
+
+fn wrong(complaint: &str) -> i32 {
+    complain(&format!("zigrunk-cache: {complaint}"));
+    1
+}
+
+fn stats(store: &Store) -> i32 {
+    let (content, counts) = (store.content(), counts::of(store.folder()));
+    let share = (counts.hits * 100).checked_div(counts.hits + counts.misses);
+    let share = share.map(|share| format!(" ({share} %)")).unwrap_or_default();
+    tell(&format!(
+        "folder: {}\nentries: {}\nsize: {}\nlimit: {}\nhits: {}{share}\nmisses: {}\n",
+        store.folder().display(),
+        content.entries,
+        shown(content.bytes),
+        shown(place::limit()),
+        counts.hits,
+        counts.misses,
+    ))
+}
+
+fn clear(store: &Store) -> i32 {
+    counts::clear(store.folder());
+    store.clear().map_or_else(|error| wrong(&format!("cannot clear {}: {error}", store.folder().display())), |()| 0)
+}
+
+/// Keeps a limit now: that of the environment, or another.
+fn limit(store: &Store, size: Option<&str>) -> i32 {
+    let Some(limit) = size.map_or_else(|| Some(place::limit()), bytes_of) else { return wrong("a size has digits, and K, M, G or T") };
+    Store::new(store.folder().to_owned(), limit).tidy_all();
+    0
+}
+
+/// Acts by the words behind the program's name. Says its status.
+pub fn run(words: &[OsString]) -> i32 {
+    let words: Vec<&str> = words.iter().map(|word| word.to_str().unwrap_or_default()).collect();
+    let Some(store) = place::asked_or_users(&working_directory().unwrap_or_default()) else {
+        return wrong("there is no folder: set ZIGRUNK_CACHE");
+    };
+    match words[..] {
+        ["stats"] => stats(&store),
+        ["clear"] => clear(&store),
+        ["limit"] => limit(&store, None),
+        ["limit", size] => limit(&store, Some(size)),
+        ["-h" | "--help"] => tell(&format!("{USAGE}\n")),
+        _ => {
+            complain(USAGE);
+            2
+        }
+    }
+}

@@ -1,0 +1,199 @@
+//! What the cache has to know of a command.
+use crate::cache::tool::Kind;
+use crate::cache::words::{self, Role};
+use crate::machine::Job;
+use crate::planner::PlannedCommand;
+use crate::tasks::OWN;
+use std::env;
+use std::ffi::OsString;
+use std::fs;
+use std::path::{Path, PathBuf};
+
+/// Variables by which gcc writes or compares more than its words say.
+const ODD_VARIABLES: [&str; 3] = ["DEPENDENCIES_OUTPUT", "GCC_COMPARE_DEBUG", "SUNPRO_DEPENDENCIES"];
+
+/// A file that a command writes.
+#[derive(Clone, PartialEq, Eq, Debug)]
+pub struct Output {
+    pub path: PathBuf,
+    /// Whether the command may leave it out.
+    pub is_optional: bool,
+    /// Where the command writes it. A product is written to the call's directory first: there no other call can put its own in its place
+    /// before the cache has read it.
+    pub written_to: PathBuf,
+}
+
+/// A command that the cache may serve.
+#[derive(Clone, PartialEq, Eq, Debug)]
+pub struct Recipe {
+    pub kind: Kind,
+    /// The words that count in its key.
+    pub counted: Vec<String>,
+    /// The command, with each product in the call's directory.
+    pub job: Job,
+    pub reads: Vec<PathBuf>,
+    pub outputs: Vec<Output>,
+    /// The directory whose path doesn't count; empty if names of files count.
+    pub directory: String,
+    /// For a host compiler: the process that preprocesses what it reads, and the file for that.
+    pub question: Option<(Job, PathBuf)>,
+    /// Whether it runs the assembler.
+    pub assembles: bool,
+}
+
+/// The outputs of a command, by its record.
+fn outputs(command: &PlannedCommand, number: usize, tmp: &str) -> Vec<Output> {
+    let certain = command.writes.iter().map(|path| (path, false));
+    let all = certain.chain(command.may_write.iter().map(|path| (path, true)));
+    let output = |(place, (path, is_optional)): (usize, (&String, bool))| {
+        let path = PathBuf::from(path);
+        let is_product = !path.starts_with(tmp);
+        let written_to = if is_product { format!("{tmp}/{OWN}/product.{number}.{place}").into() } else { path.clone() };
+        Output { path, is_optional, written_to }
+    };
+    all.enumerate().map(output).collect()
+}
+
+/// The words of a command as they count, and as it runs. `None` if a word isn't known, or names a file that its record doesn't.
+fn words_of(kind: Kind, words: &[String], folder: &Path, reads: &[PathBuf], outputs: &[Output], counts_all: bool) -> Option<[Vec<String>; 2]> {
+    let (mut counted, mut run) = (Vec::new(), Vec::new());
+    for (word, role) in words::roles(kind, words)? {
+        let path = folder.join(word);
+        let product = outputs.iter().position(|output| output.path == path && output.written_to != path);
+        let product = product.filter(|_| role == Role::TakesValue);
+        if role == Role::File && !reads.contains(&path) {
+            return None;
+        }
+        if counts_all || !matches!(role, Role::Preprocessed | Role::PreprocessedValue) {
+            counted.push(product.map_or_else(|| word.to_owned(), |number| format!("output {number}")));
+        }
+        run.push(product.map_or_else(|| word.to_owned(), |number| outputs[number].written_to.to_string_lossy().into_owned()));
+    }
+    let is_moved = |output: &Output| output.written_to == output.path || run.iter().any(|word| output.written_to == Path::new(word));
+    outputs.iter().all(is_moved).then_some([counted, run])
+}
+
+/// The process that preprocesses what a compile reads, and says nothing else.
+fn question(job: &Job, file: &str) -> Job {
+    let mut words = job.words.clone();
+    for place in 0..words.len() {
+        match words[place].as_str() {
+            "-c" | "-S" => "-E".clone_into(&mut words[place]),
+            "-o" => file.clone_into(&mut words[place + 1]),
+            _ => {}
+        }
+    }
+    Job { words, ..job.clone() }
+}
+
+impl Recipe {
+    /// That of a command, which runs as a job; `number` is its own. `None` if the cache doesn't know all that the command reads and writes.
+    pub fn of(command: &PlannedCommand, job: &Job, number: usize, tmp: &str) -> Option<Recipe> {
+        let (program, words) = job.words.split_first()?;
+        let kind = Kind::of(program)?;
+        let is_host = kind == Kind::Host;
+        let is_odd = ODD_VARIABLES.iter().any(|name| env::var_os(name).is_some());
+        if command.preprocesses || is_odd || if is_host { !words::is_compile(words) } else { !command.complete } {
+            return None;
+        }
+        let names_count = words::names_count(kind, words);
+        let reads: Vec<PathBuf> = command.reads.iter().map(PathBuf::from).collect();
+        let outputs = outputs(command, number, tmp);
+        let has_product = outputs.iter().any(|output| output.written_to != output.path);
+        // A debugger's cubin has its own name in it.
+        if reads.is_empty() || outputs.is_empty() || (names_count && !is_host && has_product) {
+            return None;
+        }
+        let [counted, run] = words_of(kind, words, Path::new(&job.folder), &reads, &outputs, names_count)?;
+        let job = Job { words: [std::slice::from_ref(program), &run].concat(), ..job.clone() };
+        let file = format!("{tmp}/{OWN}/cache.{number}.ii");
+        let question = is_host.then(|| (question(&job, &file), file.into()));
+        let assembles = run.iter().any(|word| word == "-c");
+        let directory = if names_count { String::new() } else { tmp.to_owned() };
+        Some(Recipe { kind, counted, job, reads, outputs, directory, question, assembles })
+    }
+
+    /// Whether each product can be made by a new file in its place: nothing is there, or a plain file.
+    pub fn has_plain_outputs(&self) -> bool {
+        self.outputs.iter().all(|output| fs::symlink_metadata(&output.path).map_or(true, |status| status.is_file()))
+    }
+
+    pub fn has_products(&self) -> bool {
+        self.outputs.iter().any(|output| output.written_to != output.path)
+    }
+
+    /// The environment in which the command runs.
+    pub fn environment(&self) -> Vec<(OsString, OsString)> {
+        let given = |name: &OsString| self.job.variables.iter().any(|(other, _)| name == other.as_str());
+        let own = env::vars_os().filter(|(name, _)| !given(name));
+        let further = self.job.variables.iter().filter_map(|(name, value)| Some((name.into(), value.as_ref()?.into())));
+        own.chain(further).collect()
+    }
+}
+
+#[cfg(test)]
+mod tests {
+    use super::*;
+
+    fn command(words: &str, reads: &[&str], writes: &[&str]) -> (PlannedCommand, Job) {
+        let (program, rest) = words.split_once(' ').unwrap();
+        let list = |words: &[&str]| words.iter().map(|&word| word.to_owned()).collect::<Vec<_>>();
+        let words = list(&rest.split(' ').collect::<Vec<_>>());
+        let job = Job { words: list(&[&[program], &rest.split(' ').collect::<Vec<_>>()[..]].concat()), folder: "/w".into(), ..Job::default() };
+        let (reads, writes) = (list(reads), list(writes));
+        (PlannedCommand { program: program.into(), words, folder: "/w".into(), reads, writes, complete: true, ..PlannedCommand::default() }, job)
+    }
+
+    fn recipe(words: &str, reads: &[&str], writes: &[&str]) -> Option<Recipe> {
+        let (command, job) = command(words, reads, writes);
+        Recipe::of(&command, &job, 3, "/t")
+    }
+
+    #[test]
+    fn a_product_goes_to_the_calls_directory_first() {
+        let made = recipe("/b/gcc -DA -c -x c++ -O2 /t/x.cpp -o k.o", &["/t/x.cpp"], &["/w/k.o"]).unwrap();
+        assert_eq!(made.counted, ["-c", "-x", "c++", "-O2", "/t/x.cpp", "-o", "output 0"]);
+        assert_eq!(made.job.words.join(" "), "/b/gcc -DA -c -x c++ -O2 /t/x.cpp -o /t/zigrunk.tmp/product.3.0");
+        let (question, file) = made.question.clone().unwrap();
+        assert_eq!(
+            (question.words.join(" "), file),
+            ("/b/gcc -DA -E -x c++ -O2 /t/x.cpp -o /t/zigrunk.tmp/cache.3.ii".into(), "/t/zigrunk.tmp/cache.3.ii".into())
+        );
+        assert!(made.has_products() && made.assembles && made.directory == "/t");
+    }
+
+    #[test]
+    fn what_is_generated_stays_where_it_is() {
+        let made = recipe("/b/ptxas -arch=sm_80 -m64 /t/x.ptx -o /t/x.cubin", &["/t/x.ptx"], &["/t/x.cubin"]).unwrap();
+        assert_eq!((made.job.words.last().unwrap().as_str(), made.question, made.counted.len()), ("/t/x.cubin", None, 5));
+        assert_eq!(made.outputs[0].written_to, made.outputs[0].path);
+    }
+
+    #[test]
+    fn with_debugging_information_names_count() {
+        let made = recipe("/b/gcc -g -DA -c -x c++ /t/x.cpp -o k.o", &["/t/x.cpp"], &["/w/k.o"]).unwrap();
+        assert_eq!((made.directory.as_str(), made.counted.join(" ").as_str()), ("", "-g -DA -c -x c++ /t/x.cpp -o output 0"));
+        let words = "/b/ptxas -arch=sm_80 -g /t/x.ptx -o";
+        assert!(recipe(&format!("{words} /t/x.cubin"), &["/t/x.ptx"], &["/t/x.cubin"]).is_some());
+        assert_eq!(recipe(&format!("{words} k.cubin"), &["/t/x.ptx"], &["/w/k.cubin"]), None);
+    }
+
+    #[test]
+    fn what_is_not_known_is_not_cached() {
+        let compile = "/b/gcc -c -x c++ /t/x.cpp -o k.o";
+        let cases = [
+            (compile.replace("-c ", "-c -save-temps "), "/t/x.cpp"),
+            (compile.replace("c++", "assembler"), "/t/x.cpp"),
+            (compile.replace("/t/x.cpp", "/t/x.cpp /t/y.cpp"), "/t/x.cpp"),
+            (compile.replace("gcc", "clang++"), "/t/x.cpp"),
+            (compile.replace("gcc", "gcc.sh"), "/t/x.cpp"),
+        ];
+        for (words, read) in cases {
+            assert_eq!(recipe(&words, &[read], &["/w/k.o"]), None, "{words}");
+        }
+        let (complete, job) = command("/b/ptxas -arch=sm_80 /t/x.ptx -o /t/x.cubin", &["/t/x.ptx"], &["/t/x.cubin"]);
+        assert_eq!(Recipe::of(&PlannedCommand { complete: false, ..complete.clone() }, &job, 0, "/t"), None);
+        assert_eq!(Recipe::of(&PlannedCommand { preprocesses: true, ..complete.clone() }, &job, 0, "/t"), None);
+        assert_eq!(Recipe::of(&PlannedCommand { reads: Vec::new(), ..complete }, &job, 0, "/t"), None);
+    }
+}

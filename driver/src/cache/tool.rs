@@ -1,0 +1,289 @@
+//! Which tool a command runs: the digest of the contents of all that a tool consists of.
+//!
+//! A file that the store knows by its place, its size, its times and its number isn't read again. That trusts the file system: the time
+//! of a file's last change of any kind can't be set, so a file of the same size and time with other contents is another.
+use crate::cache::digest::{Digest, Hasher};
+use crate::cache::store::{Store, digest_of};
+use crate::programs;
+use std::collections::BTreeMap;
+use std::ffi::{OsStr, OsString};
+use std::fs::{self, File, Metadata};
+use std::io::{Read, Seek};
+use std::os::unix::ffi::OsStrExt;
+use std::os::unix::fs::MetadataExt;
+use std::path::{Path, PathBuf};
+use std::process::{Command, Stdio};
+use std::time::{Duration, SystemTime};
+
+/// What programs begin with that the kernel runs itself. A script may run anything.
+const PROGRAM: &[u8] = b"\x7fELF";
+/// A file that changed within this time may change again without another time.
+const FRESH: Duration = Duration::from_secs(2);
+
+/// A kind of tools.
+#[derive(Clone, Copy, PartialEq, Eq, Debug)]
+pub enum Kind {
+    CudaFe,
+    Cicc,
+    Ptxas,
+    /// gcc, when it compiles.
+    Host,
+}
+
+impl Kind {
+    /// The kind of a program, if the cache knows it.
+    pub fn of(program: &str) -> Option<Kind> {
+        match Path::new(program).file_name()?.to_str()? {
+            "cudafe++" => Some(Kind::CudaFe),
+            "cicc" => Some(Kind::Cicc),
+            "ptxas" => Some(Kind::Ptxas),
+            name => {
+                let version = name.strip_prefix("gcc").or_else(|| name.strip_prefix("g++"))?;
+                let is_version = version.trim_start_matches('-').bytes().all(|byte| byte.is_ascii_digit() || byte == b'.');
+                is_version.then_some(Kind::Host)
+            }
+        }
+    }
+}
+
+/// What tells a file from what it was, or what had its name.
+fn stamp(path: &Path, status: &Metadata) -> Digest {
+    let mut hasher = Hasher::default();
+    hasher.add(b"zigrunk tool 1");
+    hasher.add(path.as_os_str().as_bytes());
+    let times = [status.mtime(), status.mtime_nsec(), status.ctime(), status.ctime_nsec()];
+    for number in times {
+        hasher.update(&number.to_le_bytes());
+    }
+    for number in [status.dev(), status.ino(), status.size()] {
+        hasher.update(&number.to_le_bytes());
+    }
+    hasher.finish()
+}
+
+/// Whether a file has been as it is for a while.
+fn is_settled(status: &Metadata) -> bool {
+    let changed = u64::try_from(status.ctime()).map(|time| SystemTime::UNIX_EPOCH + Duration::from_secs(time));
+    let times = [status.modified().ok(), changed.ok()];
+    times.into_iter().all(|time| time.is_some_and(|time| time.elapsed().is_ok_and(|age| age > FRESH)))
+}
+
+fn is_program(file: &mut File) -> bool {
+    let mut begin = [0; PROGRAM.len()];
+    file.read_exact(&mut begin).is_ok() && begin == PROGRAM && file.rewind().is_ok()
+}
+
+/// The tools of a call's commands.
+pub struct Tools<'a> {
+    store: &'a Store,
+    /// Those that were looked at.
+    known: BTreeMap<PathBuf, Option<Digest>>,
+}
+
+/// A tool, and where it runs.
+pub struct Run<'a> {
+    pub kind: Kind,
+    pub program: &'a Path,
+    pub folder: &'a Path,
+    pub environment: &'a [(OsString, OsString)],
+}
+
+impl Run<'_> {
+    fn variable(&self, name: &str) -> Option<&OsStr> {
+        self.environment.iter().rev().find(|variable| variable.0 == name).map(|variable| variable.1.as_os_str())
+    }
+
+    /// The path of a program that gcc runs.
+    fn part(&self, name: &str) -> Option<PathBuf> {
+        let mut gcc = Command::new(self.program);
+        gcc.arg(format!("-print-prog-name={name}")).current_dir(self.folder).env_clear().envs(self.environment.iter().cloned());
+        let said = gcc.stdin(Stdio::null()).stderr(Stdio::null()).output().ok().filter(|said| said.status.success())?;
+        let line = said.stdout.strip_suffix(b"\n").filter(|line| !line.is_empty())?;
+        programs::find(OsStr::from_bytes(line), self.variable("PATH").unwrap_or_default(), self.folder)
+    }
+
+    /// The files of a library for device code that cicc may read.
+    fn libraries(&self) -> Option<Vec<PathBuf>> {
+        let beside = self.program.parent()?.parent()?.join("libdevice");
+        let named = self.variable("NVVMIR_LIBRARY_DIR").map(PathBuf::from);
+        let mut files: Vec<PathBuf> = Vec::new();
+        for folder in [Some(beside), named].into_iter().flatten() {
+            for file in fs::read_dir(folder).into_iter().flatten() {
+                files.push(file.ok()?.path());
+            }
+        }
+        files.sort();
+        Some(files)
+    }
+}
+
+impl<'a> Tools<'a> {
+    pub fn new(store: &'a Store) -> Tools<'a> {
+        Tools { store, known: BTreeMap::new() }
+    }
+
+    /// The digest of a file's contents; `None` if it can't be read, or is to be a program and isn't.
+    fn digest(&self, path: &Path, is_tool: bool) -> Option<Digest> {
+        let mut file = File::open(path).ok()?;
+        let status = file.metadata().ok().filter(Metadata::is_file)?;
+        let stamp = stamp(path, &status);
+        if let Some(known) = self.store.read(&stamp).and_then(|known| known.try_into().ok()) {
+            return Some(Digest(known));
+        }
+        if is_tool && !is_program(&mut file) {
+            return None;
+        }
+        let digest = digest_of(&mut file).ok()?;
+        if is_settled(&status) {
+            let _ = self.store.write(&stamp, &digest.0);
+        }
+        Some(digest)
+    }
+
+    fn known(&mut self, path: &Path, is_tool: bool) -> Option<Digest> {
+        if let Some(known) = self.known.get(path) {
+            return *known;
+        }
+        let digest = self.digest(path, is_tool);
+        self.known.insert(path.to_owned(), digest);
+        digest
+    }
+
+    /// The digest of all that a tool consists of: the program; for gcc also cc1plus and the assembler that it runs, for cicc the files of
+    /// its library. `None` if that isn't known.
+    pub fn identity(&mut self, run: &Run<'_>) -> Option<Digest> {
+        let mut hasher = Hasher::default();
+        hasher.update(&self.known(run.program, true)?.0);
+        let parts: &[&str] = if run.kind == Kind::Host { &["cc1plus", "as"] } else { &[] };
+        for part in parts {
+            hasher.update(&self.known(&run.part(part)?, true)?.0);
+        }
+        let libraries = if run.kind == Kind::Cicc { run.libraries()? } else { Vec::new() };
+        for library in libraries {
+            hasher.add(library.file_name()?.as_bytes());
+            hasher.update(&self.known(&library, false)?.0);
+        }
+        Some(hasher.finish())
+    }
+}
+
+#[cfg(test)]
+mod tests {
+    use super::*;
+    use std::env;
+    use std::os::unix::fs::PermissionsExt;
+
+    #[test]
+    fn tools_are_known_by_their_names() {
+        let cases = [
+            ("/b/cudafe++", Some(Kind::CudaFe)),
+            ("cicc", Some(Kind::Cicc)),
+            ("/c/ptxas", Some(Kind::Ptxas)),
+            ("gcc", Some(Kind::Host)),
+            ("/b/g++-12.2", Some(Kind::Host)),
+            ("fatbinary", None),
+            ("clang++", None),
+            ("gcc-ar", None),
+            ("", None),
+        ];
+        for (program, wanted) in cases {
+            assert_eq!(Kind::of(program), wanted, "{program}");
+        }
+    }
+
+    /// A folder with tools, for a test, which goes with it.
+    struct Scratch(PathBuf);
+
+    impl Scratch {
+        fn new(name: &str) -> Scratch {
+            let folder = env::temp_dir().join(format!("tool-{name}-{}", std::process::id()));
+            let _ = fs::remove_dir_all(&folder);
+            fs::create_dir_all(folder.join("bin")).unwrap();
+            Scratch(folder)
+        }
+
+        fn put(&self, name: &str, text: &str) -> PathBuf {
+            let path = self.0.join(name);
+            fs::create_dir_all(path.parent().unwrap()).unwrap();
+            let _ = fs::remove_file(&path);
+            fs::write(&path, text).unwrap();
+            fs::set_permissions(&path, PermissionsExt::from_mode(0o755)).unwrap();
+            path
+        }
+
+        /// The identity of cicc there, as a call sees it.
+        fn identity(&self) -> Option<Digest> {
+            let store = Store::new(self.0.join("store"), 1 << 20);
+            let program = self.0.join("bin/cicc");
+            let environment = [("NVVMIR_LIBRARY_DIR".into(), self.0.join("named").into_os_string())];
+            Tools::new(&store).identity(&Run { kind: Kind::Cicc, program: &program, folder: Path::new("/"), environment: &environment })
+        }
+    }
+
+    impl Drop for Scratch {
+        fn drop(&mut self) {
+            let _ = fs::remove_dir_all(&self.0);
+        }
+    }
+
+    #[test]
+    fn the_contents_of_a_tool_count() {
+        let scratch = Scratch::new("contents");
+        let cicc = scratch.put("bin/cicc", "\x7fELF one");
+        let first = scratch.identity().unwrap();
+        assert_eq!(scratch.identity(), Some(first));
+        let time = fs::metadata(&cicc).unwrap().modified().unwrap();
+        scratch.put("bin/cicc", "\x7fELF two");
+        File::options().write(true).open(&cicc).unwrap().set_modified(time).unwrap();
+        let second = scratch.identity().unwrap();
+        assert_ne!(first, second, "the same size and time");
+        scratch.put("libdevice/10.bc", "a");
+        let third = scratch.identity().unwrap();
+        scratch.put("named/10.bc", "b");
+        let fourth = scratch.identity().unwrap();
+        scratch.put("bin/cicc", "\x7fELF one");
+        assert!(third != second && fourth != third && scratch.identity().unwrap() != fourth, "its libraries");
+    }
+
+    #[test]
+    fn a_tool_that_is_settled_is_not_read_again() {
+        let scratch = Scratch::new("settled");
+        let store = Store::new(scratch.0.join("store"), 1 << 20);
+        let own = env::current_exe().unwrap();
+        let settled = Path::new("/bin/sh");
+        assert!(is_settled(&fs::metadata(settled).unwrap()));
+        assert_eq!(store.content().entries, 0);
+        let tools = Tools::new(&store);
+        assert_eq!(tools.digest(settled, true), Some(digest_of(&mut File::open(settled).unwrap()).unwrap()));
+        assert_eq!(store.content().entries, 1);
+        let status = fs::metadata(settled).unwrap();
+        store.write(&stamp(settled, &status), &[7; 32]).unwrap();
+        assert_eq!(tools.digest(settled, true), Some(Digest([7; 32])));
+        assert!(tools.digest(&own, true).is_some());
+    }
+
+    #[test]
+    fn a_script_is_no_known_tool() {
+        let scratch = Scratch::new("script");
+        scratch.put("bin/cicc", "#!/bin/sh\n");
+        assert_eq!(scratch.identity(), None);
+        fs::remove_file(scratch.0.join("bin/cicc")).unwrap();
+        assert_eq!(scratch.identity(), None);
+    }
+
+    #[test]
+    fn gcc_has_parts() {
+        let run = |environment: &[(OsString, OsString)]| {
+            let gcc = programs::find("gcc".as_ref(), &env::var_os("PATH").unwrap(), Path::new("/")).unwrap();
+            let run = Run { kind: Kind::Host, program: &gcc, folder: Path::new("/"), environment };
+            (run.part("cc1plus"), run.part("as"))
+        };
+        let scratch = Scratch::new("gcc");
+        let other = scratch.put("bin/as", "\x7fELF");
+        let own = env::var_os("PATH").unwrap();
+        let before: OsString = [other.parent().unwrap().as_os_str(), OsStr::new(":"), &own].into_iter().collect();
+        let usual = run(&[("PATH".into(), own)]);
+        assert!(usual.0.is_some() && usual.1.is_some(), "{usual:?}");
+        assert_eq!(run(&[("PATH".into(), before)]), (usual.0, Some(other)));
+    }
+}

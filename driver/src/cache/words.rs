@@ -1,0 +1,344 @@
+//! Which words of a command the cache knows, and what each means to a key. A command with any other word isn't cached: it may read or write
+//! files that its record doesn't name, or say something that differs each time.
+use crate::cache::tool::Kind;
+
+/// The words that a tool takes, as far as the cache knows them.
+struct Known {
+    /// Whole words.
+    alone: &'static [&'static str],
+    /// What words begin with that go on.
+    beginnings: &'static [&'static str],
+    /// Words with a value in the next one.
+    with_value: &'static [&'static str],
+    /// Those of all these by which names of files and folders reach the product.
+    naming: &'static [&'static str],
+}
+
+/// Words of the front end that cudafe++ and cicc both have.
+const CUDA_FE: Known = Known {
+    alone: &[
+        "--allow_managed",
+        "--c++03",
+        "--c++11",
+        "--c++14",
+        "--c++17",
+        "--c++20",
+        "--debug_mode",
+        "--device-c",
+        "--device-hidden-visibility",
+        "--display_error_number",
+        "--extended-lambda",
+        "--gen_module_id_file",
+        "--keep-device-functions",
+        "--m64",
+        "--no_warnings",
+        "--parse_templates",
+        "--promote_warnings",
+        "--relaxed_constexpr",
+        "--static-host-stub",
+    ],
+    beginnings: &["--diag_error=", "--diag_suppress=", "--diag_warn=", "--gnu_version=", "--unicode_source_kind="],
+    with_value: &[
+        "--diag_error",
+        "--diag_suppress",
+        "--diag_warn",
+        "--gen_c_file_name",
+        "--module_id_file_name",
+        "--orig_src_file_name",
+        "--orig_src_path_name",
+        "--stub_file_name",
+    ],
+    naming: &["--debug_mode"],
+};
+
+/// Words of cicc beside those.
+const CICC: Known = Known {
+    alone: &["--no-version-ident", "-O0", "-extra-device-vectorization", "-g", "-generate-line-info", "-inline-info", "-m64", "-tused"],
+    beginnings: &["-fmad=", "-ftz=", "-prec_div=", "-prec_sqrt="],
+    with_value: &["--gen_device_file_name", "--include_file_name", "-arch", "-maxreg", "-o", "-split-compile"],
+    naming: &["-g", "-generate-line-info", "-inline-info"],
+};
+
+const PTXAS: Known = Known {
+    alone: &[
+        "--compile-only",
+        "--dont-merge-basicblocks",
+        "--generate-line-info",
+        "--return-at-end",
+        "--warning-as-error",
+        "-O0",
+        "-O1",
+        "-O2",
+        "-O3",
+        "-g",
+        "-lineinfo",
+        "-m64",
+        "-v",
+    ],
+    beginnings: &["--maxrregcount=", "-arch=sm_", "-dlcm=", "-maxrregcount=", "-split-compile="],
+    with_value: &["-o"],
+    naming: &["--dont-merge-basicblocks", "--generate-line-info", "--return-at-end", "-g", "-lineinfo"],
+};
+
+const HOST: Known = Known {
+    alone: &[
+        "-O",
+        "-O0",
+        "-O1",
+        "-O2",
+        "-O3",
+        "-Ofast",
+        "-Og",
+        "-Os",
+        "-c",
+        "-S",
+        "-fPIC",
+        "-fPIE",
+        "-fcf-protection",
+        "-fdata-sections",
+        "-ffast-math",
+        "-ffunction-sections",
+        "-fno-asynchronous-unwind-tables",
+        "-fno-common",
+        "-fno-exceptions",
+        "-fno-math-errno",
+        "-fno-omit-frame-pointer",
+        "-fno-plt",
+        "-fno-rtti",
+        "-fno-semantic-interposition",
+        "-fno-strict-aliasing",
+        "-fno-trapping-math",
+        "-fomit-frame-pointer",
+        "-fopenmp",
+        "-fpermissive",
+        "-fpic",
+        "-fpie",
+        "-fsigned-char",
+        "-funroll-loops",
+        "-funsigned-char",
+        "-fvisibility-inlines-hidden",
+        "-fwrapv",
+        "-g",
+        "-g0",
+        "-g1",
+        "-g2",
+        "-ggdb",
+        "-m64",
+        "-pthread",
+        "-w",
+    ],
+    beginnings: &[
+        "-W",
+        "-fdiagnostics-color",
+        "-fmax-errors=",
+        "-fmessage-length=",
+        "-frandom-seed=",
+        "-fstack-protector",
+        "-ftemplate-depth=",
+        "-fvisibility=",
+        "-gdwarf-",
+        "-march=",
+        "-mavx",
+        "-mbmi",
+        "-mf16c",
+        "-mfma",
+        "-mpopcnt",
+        "-msse",
+        "-mtune=",
+        "-std=",
+    ],
+    with_value: &["-o", "-x"],
+    naming: &["-g", "-g1", "-g2", "-ggdb", "-gdwarf-"],
+};
+
+/// Words of a host compiler that only its preprocessor reads, whose text counts by itself: those that go on, and one with a value.
+const PREPROCESSED: [&str; 3] = ["-D", "-I", "-U"];
+const PREPROCESSED_WITH_VALUE: &str = "-isystem";
+/// Words of these beginnings that go to other programs, or mean this machine's processor.
+const NOT_KNOWN: [&str; 5] = ["-Wa,", "-Wl,", "-Wp,", "-march=native", "-mtune=native"];
+
+impl Known {
+    fn has(&self, word: &str) -> bool {
+        self.alone.contains(&word) || self.beginnings.iter().any(|begin| goes_on(word, begin))
+    }
+
+    fn names(&self, word: &str) -> bool {
+        self.naming.iter().any(|name| word == *name || name.ends_with('-') && goes_on(word, name))
+    }
+}
+
+fn goes_on(word: &str, begin: &str) -> bool {
+    word.len() > begin.len() && word.starts_with(begin)
+}
+
+/// The lists of a kind of tools.
+fn known(kind: Kind) -> &'static [Known] {
+    match kind {
+        Kind::CudaFe => &[CUDA_FE],
+        Kind::Cicc => &[CUDA_FE, CICC],
+        Kind::Ptxas => &[PTXAS],
+        Kind::Host => &[HOST],
+    }
+}
+
+/// What a word is to a key.
+#[derive(Clone, Copy, PartialEq, Eq, Debug)]
+pub enum Role {
+    Counts,
+    /// Only the preprocessor reads it.
+    Preprocessed,
+    /// The next word is its value.
+    TakesValue,
+    /// The next word is its value, and only the preprocessor reads both.
+    PreprocessedValue,
+    /// It names a file.
+    File,
+}
+
+/// What a word is that isn't the value of another; `None` if the cache doesn't know.
+fn role(kind: Kind, word: &str) -> Option<Role> {
+    let lists = known(kind);
+    if !word.starts_with('-') {
+        return (!word.starts_with('@')).then_some(Role::File);
+    }
+    if NOT_KNOWN.iter().any(|begin| word.starts_with(begin)) {
+        return None;
+    }
+    if kind == Kind::Host && word == PREPROCESSED_WITH_VALUE {
+        return Some(Role::PreprocessedValue);
+    }
+    if kind == Kind::Host && PREPROCESSED.iter().any(|begin| goes_on(word, begin)) {
+        return Some(Role::Preprocessed);
+    }
+    if lists.iter().any(|list| list.with_value.contains(&word)) {
+        return Some(Role::TakesValue);
+    }
+    lists.iter().any(|list| list.has(word)).then_some(Role::Counts)
+}
+
+/// The words of a command with their roles; a value has the role of its option. `None` if the cache doesn't know one of them.
+pub fn roles(kind: Kind, words: &[String]) -> Option<Vec<(&str, Role)>> {
+    let mut roles: Vec<(&str, Role)> = Vec::with_capacity(words.len());
+    let mut words = words.iter().map(String::as_str);
+    while let Some(word) = words.next() {
+        let role = role(kind, word)?;
+        roles.push((word, role));
+        if matches!(role, Role::TakesValue | Role::PreprocessedValue) {
+            roles.push((words.next()?, role));
+        }
+    }
+    Some(roles)
+}
+
+/// Whether names of files and folders may reach what a command with these words makes.
+pub fn names_count(kind: Kind, words: &[String]) -> bool {
+    words.iter().any(|word| known(kind).iter().any(|list| list.names(word)))
+}
+
+/// Whether these are the words of a host compile of C++ to an object, or to assembler text.
+pub fn is_compile(words: &[String]) -> bool {
+    let count = |sought: &[&str]| words.iter().filter(|word| sought.contains(&word.as_str())).count();
+    let languages = words.windows(2).filter(|pair| pair[0] == "-x" && pair[1] == "c++").count();
+    count(&["-c", "-S"]) == 1 && (count(&["-x"]), languages) == (1, 1) && count(&["-o"]) == 1
+}
+
+#[cfg(test)]
+mod tests {
+    use super::*;
+
+    fn list(words: &str) -> Vec<String> {
+        words.split(' ').map(String::from).collect()
+    }
+
+    fn is_known(kind: Kind, words: &str) -> bool {
+        roles(kind, &list(words)).is_some()
+    }
+
+    #[test]
+    fn words_of_nvcc_are_known() {
+        let front = "--c++17 --static-host-stub --device-hidden-visibility --gnu_version=120200 --display_error_number --orig_src_file_name k.cu \
+                     --orig_src_path_name /w/k.cu --allow_managed";
+        assert!(is_known(Kind::CudaFe, &format!("{front} --m64 --parse_templates --gen_c_file_name a --stub_file_name b x.ii")));
+        assert!(is_known(Kind::Cicc, &format!("{front} -arch compute_80 -m64 -ftz=0 -prec_div=1 -fmad=1 -tused x.ii -o x.ptx")));
+        assert!(is_known(Kind::Ptxas, "-arch=sm_80 -m64 x.ptx -o x.cubin"));
+        assert!(is_known(Kind::Host, "-D__CUDA_ARCH__=800 -c -x c++ -Wno-psabi -I/i -isystem /s -m64 -O2 x.cpp -o k.o"));
+    }
+
+    #[test]
+    fn other_words_are_not() {
+        let cases = [
+            (Kind::CudaFe, "--error_output=e.txt"),
+            (Kind::CudaFe, "--preinclude=b.h"),
+            (Kind::CudaFe, "--list=l.txt"),
+            (Kind::CudaFe, "-arch"),
+            (Kind::CudaFe, "--gen_c_file_name"),
+            (Kind::Cicc, "-olto x"),
+            (Kind::Cicc, "-show-src"),
+            (Kind::Cicc, "--emit-optix-ir"),
+            (Kind::Ptxas, "--options-file=o.txt"),
+            (Kind::Ptxas, "-optf o.txt"),
+            (Kind::Ptxas, "--compiler-stats-file=s.txt"),
+            (Kind::Ptxas, "-arch=compute_80"),
+            (Kind::Ptxas, "@o.txt"),
+        ];
+        for (kind, words) in cases {
+            assert!(!is_known(kind, words), "{words}");
+        }
+    }
+
+    #[test]
+    fn words_of_gcc_with_more_files_are_not() {
+        let words = "-MD -MMD -MFx.d -save-temps --coverage -fprofile-use -fprofile-arcs -ftest-coverage -fstack-usage -fcallgraph-info -aux-info \
+                     -fsave-optimization-record -fopt-info -fdump-tree-all -gsplit-dwarf -flto -pipe -time -time=t -v -H -Wa,-a -Wp,-MD -Wl,-z -B. \
+                     -specs=s -wrapper -fplugin=p -march=native -mtune=native -include -imacros -frecord-gcc-switches -fdebug-prefix-map=a=b -g3 \
+                     -ggdb3 -fmodules-ts -pg -m32 -D -I -U @o --param -fpch-preprocess -ffile-prefix-map=a=b -no-canonical-prefixes --sysroot=/ \
+                     -fwrapper -fcompare-debug -E -M -";
+        for word in words.split_whitespace() {
+            assert!(!is_known(Kind::Host, word), "{word}");
+        }
+    }
+
+    #[test]
+    fn what_only_the_preprocessor_reads_has_its_role() {
+        let words = list("-DA=1 -isystem /s -O2 -o k.o x.cpp");
+        let wanted =
+            [Role::Preprocessed, Role::PreprocessedValue, Role::PreprocessedValue, Role::Counts, Role::TakesValue, Role::TakesValue, Role::File];
+        assert_eq!(roles(Kind::Host, &words).unwrap().iter().map(|word| word.1).collect::<Vec<_>>(), wanted);
+        assert_eq!(roles(Kind::Cicc, &list("-DA=1")), None);
+    }
+
+    #[test]
+    fn words_for_debuggers_have_names_count() {
+        let cases = [
+            (Kind::Host, "-O2 -g", true),
+            (Kind::Host, "-gdwarf-4", true),
+            (Kind::Host, "-g0", false),
+            (Kind::Host, "-O2", false),
+            (Kind::Cicc, "-generate-line-info", true),
+            (Kind::Cicc, "--debug_mode", true),
+            (Kind::Cicc, "-tused", false),
+            (Kind::Ptxas, "--generate-line-info", true),
+            (Kind::Ptxas, "-v", false),
+            (Kind::CudaFe, "--debug_mode", true),
+        ];
+        for (kind, words, wanted) in cases {
+            assert_eq!(names_count(kind, &list(words)), wanted, "{words}");
+        }
+    }
+
+    #[test]
+    fn compiles_have_one_language_and_one_output() {
+        let cases = [
+            ("-c -x c++ x -o k.o", true),
+            ("-S -x c++ x -o k.s", true),
+            ("-c -x assembler x -o k.o", false),
+            ("-c -S -x c++ x -o k.o", false),
+            ("-x c++ x -o k.o", false),
+            ("-c -x c++ x", false),
+            ("-c -x c++ -x c x -o k.o", false),
+        ];
+        for (words, wanted) in cases {
+            assert_eq!(is_compile(&list(words)), wanted, "{words}");
+        }
+    }
+}

@@ -1,0 +1,513 @@
+#!/usr/bin/env bash
+# Tests of the driver's cache of commands (ZIGRUNK_CACHE): attacks with stand-ins for nvcc and its tools, which are programs here, and calls with
+# real nvcc, if that is here, whose products have to be nvcc's. Prints a line for each case that fails, and last 'N passed, M failed'; the status
+# is 1 if one failed.
+#
+#   tests/driver_cache.sh [DRIVER]    DRIVER is zigrunk-driver in a workspace's folder; else the one that `make rust` leaves
+#
+# ONLY=TEXT runs the cases whose names have this text. PARTS="stand_ins nvcc" runs these parts.
+# shellcheck disable=SC2016 # the stand-ins expand what cases give them
+cd "$(dirname "$0")/.." || exit 1
+. tests/lib.sh
+driver=$(realpath "${1:-out/rust/target/release/zigrunk-driver}")
+[ -x "$driver" ] || skip_all 'the cache' "there is no $driver; make rust builds it"
+require 'the cache' gcc python3
+unset NVCC_PREPEND_FLAGS NVCC_APPEND_FLAGS MAKEFLAGS MFLAGS "${!ZIGRUNK@}" DEPENDENCIES_OUTPUT CPATH
+trap 'umount "$scratch/full" 2> /dev/null; rm -rf "$scratch"' EXIT
+tests=$PWD/tests
+shell=(cache)
+mkdir "$scratch/bin"
+for name in nvcc cache report; do ln -s "$driver" "$scratch/bin/zigrunk-$name"; done
+
+# case_of NAME: begins a case, if it is one of those to run.
+case_of() {
+    [[ $1 == *${ONLY-}* ]] || return 1
+    room=$scratch/room
+    begin "$1"
+    mkdir -m 700 "$room/run"
+    echo 'first' > k.cu
+    export ZIGRUNK_CACHE=$room/cache ZIGRUNK_LOG=$room/calls
+}
+
+# call [NAME=VALUE..] WORD..: makes a call with these variables.
+call() {
+    local settings=()
+    while [[ ${1-} == *=* && $1 != -* ]]; do settings+=("$1") && shift; done
+    : > "$room/log"
+    env LOG="$room/log" TMPDIR="$room/tmp" XDG_RUNTIME_DIR="$room/run" "${settings[@]}" "$scratch/bin/zigrunk-nvcc" "$@" > "$room/out" 2> "$room/err"
+    status=$?
+}
+
+# ran WHAT TOOL..: a problem, unless the last call ran these tools beside those that always run, and ended well.
+ran() {
+    same "tools that ran $1" "$(grep -v '^nvcc\|^gcc-E\|^fatbinary' "$room/log" | sort | tr '\n' ' ')" "$(printf '%s ' "${@:2}")"
+    same "status $1" "$status" 0
+}
+all=(cicc.80 cicc.90 cudafe++ gcc-c ptxas.80 ptxas.90)
+ran_all() { ran "$1" "${all[@]}"; }
+ran_none() { same "tools that ran $1" "$(grep -v '^nvcc\|^gcc-E\|^fatbinary' "$room/log")" '' && same "status $1" "$status" 0; }
+
+# end: counts the case. Nothing stays in the folder for temporary files.
+end() {
+    same 'files left' "$(find "$room/tmp" -mindepth 2)" ''
+    end_case
+}
+
+# edit PATTERN COMMAND: gives all entries to a command of Python's, as `data`.
+edit_entries() { python3 - "$room/cache" "$1" << 'END_OF_PROGRAM'
+import pathlib, sys
+for path in pathlib.Path(sys.argv[1]).glob("??/*"):
+    data = bytearray(path.read_bytes())
+    exec(sys.argv[2])
+    path.write_bytes(data)
+END_OF_PROGRAM
+}
+
+toolkit() {
+    export CUDA=$scratch/cuda DATA=$tests/drivers/test_plans/data/dry_runs STAND_IN=$tests/driver_cache/tool
+    mkdir -p "$CUDA/bin" "$CUDA/nvvm/bin"
+    gcc -O1 -o "$CUDA/bin/gcc" "$tests/driver_cache/program.c" || exit 1
+    for tool in bin/cudafe++ bin/ptxas bin/fatbinary bin/cc1plus bin/as nvvm/bin/cicc; do cp "$CUDA/bin/gcc" "$CUDA/$tool"; done
+    ln -s "$tests/driver/nvcc" "$CUDA/bin/nvcc"
+    find "$CUDA" -type f -exec touch -d '2020-01-01' {} +
+}
+
+stand_ins() {
+    local path=$PATH
+    toolkit
+    PATH=$CUDA/bin:$PATH
+    if case_of 'an unchanged call'; then
+        call -c k.cu -o k.o
+        ran_all first
+        cp k.o first.o
+        call -c k.cu -o k.o
+        ran_none again
+        same product "$(cmp k.o first.o 2>&1)" ''
+        rm k.o
+        call -c k.cu -o k.o
+        same 'product that was removed' "$(cmp k.o first.o 2>&1)" ''
+        same messages "$(cat "$room/err" "$room/out")" ''
+        call ZIGRUNK_CACHE= -c k.cu -o other.o
+        ran_all 'without the cache'
+        same 'product without the cache' "$(cmp other.o first.o 2>&1)" ''
+        end
+    fi
+    if case_of 'what a change runs again'; then
+        call -c k.cu -o k.o
+        echo second > k.cu
+        call -c k.cu -o k.o
+        ran_all 'after an edit'
+        cp k.o second.o
+        echo first > k.cu
+        call -c k.cu -o k.o
+        ran_none 'after the edit is taken back'
+        same 'another product' "$(cmp -s k.o second.o; echo $?)" 1
+        end
+    fi
+    if case_of 'another product, folder and directory for temporary files'; then
+        call -c k.cu -o k.o
+        call -c k.cu -o other.o
+        ran_none 'for another product'
+        same 'another product' "$(cmp k.o other.o 2>&1)" ''
+        mkdir "$room/tmp/other"
+        call TMPDIR="$room/tmp/other" -c k.cu -o k.o
+        rm -r "$room/tmp/other"
+        ran_none 'for another TMPDIR'
+        end
+    fi
+    if case_of 'messages come again, in order and once'; then
+        local says='case $name in cicc.80 | ptxas.90) echo "k.cu:1: $name warns" >&2; echo "$name says" ;; esac'
+        call TOOL_DOES="$says" -c k.cu -o k.o
+        cp "$room/err" "$room/err.first" && cp "$room/out" "$room/out.first"
+        same lines "$(wc -l < "$room/err.first")" 2
+        call -c k.cu -o k.o
+        ran_none again
+        same 'standard error' "$(cmp "$room/err" "$room/err.first" 2>&1)" ''
+        same 'standard output' "$(cmp "$room/out" "$room/out.first" 2>&1)" ''
+        printf '%s\n' '// a line that messages may show' first > k.cu
+        call TOOL_DOES="$says" -c k.cu -o k.o
+        ran 'once a file that messages name has changed' cicc.80 ptxas.90
+        end
+    fi
+    if case_of 'a failing command is run each time'; then
+        for try in 1 2; do
+            call TOOL_DOES='[ "$name" != ptxas.80 ] || { echo "no $name" >&2; exit 3; }' -c k.cu -o k.o
+            same "status, try $try" "$status $(cat "$room/err")" '3 no ptxas.80'
+        done
+        same 'it ran' "$(grep -c '^ptxas.80' "$room/log")" 1
+        for try in 1 2; do
+            call TOOL_DOES='[ "$name" != gcc-c ] || { echo "no $name" >&2; exit 4; }' -c k.cu -o k.o
+            same "status of the compiler, try $try" "$status $(cat "$room/err")" '4 no gcc-c'
+        done
+        call -c k.cu -o k.o
+        ran 'at last' gcc-c
+        end
+    fi
+    if case_of 'a tool of the same size and time'; then
+        call -c k.cu -o k.o
+        for tool in bin/ptxas nvvm/bin/cicc bin/as bin/cc1plus bin/gcc bin/cudafe++; do
+            cp -p "$CUDA/$tool" "$room/kept"
+            printf x | dd of="$CUDA/$tool" bs=1 seek=$(($(stat -c %s "$CUDA/$tool") - 1)) conv=notrunc 2> /dev/null
+            touch -r "$room/kept" "$CUDA/$tool"
+            call -c k.cu -o k.o
+            case $tool in
+            bin/ptxas) ran "with another $tool" ptxas.80 ptxas.90 ;;
+            nvvm/bin/cicc) ran "with another $tool" cicc.80 cicc.90 ;;
+            bin/cudafe++) ran "with another $tool" cudafe++ ;;
+            *) ran "with another $tool" gcc-c ;;
+            esac
+            cp -p "$room/kept" "$CUDA/$tool"
+            call -c k.cu -o k.o
+            ran_none "with $tool as it was"
+        done
+        end
+    fi
+    if case_of 'another assembler first on the path'; then
+        call -c k.cu -o k.o
+        mkdir "$room/bin" && cp "$CUDA/bin/as" "$room/bin" && echo >> "$room/bin/as"
+        call OWN_FORM="s,^\(#. PATH=\),\1$room/bin:," KEPT_FORM="s,^\(#. PATH=\),\1$room/bin:," -c k.cu -o k.o
+        ran 'with another' gcc-c
+        end
+    fi
+    if case_of 'scripts as tools'; then
+        mv "$CUDA/bin/ptxas" "$room/ptxas"
+        printf '#!/bin/sh\nexec "$0.real" "$@"\n' > "$CUDA/bin/ptxas" && chmod +x "$CUDA/bin/ptxas"
+        cp "$room/ptxas" "$CUDA/bin/ptxas.real"
+        for _ in 1 2; do call -c k.cu -o k.o; done
+        same 'a script runs each time' "$(grep -c '^ptxas' "$room/log") $status" '2 0'
+        rm "$CUDA/bin/ptxas.real" && mv "$room/ptxas" "$CUDA/bin/ptxas"
+        end
+    fi
+    if case_of 'modes'; then
+        (umask 077 && call -c k.cu -o k.o)
+        same 'with umask 077' "$(stat -c %a k.o)" 600
+        rm k.o
+        (umask 022 && call -c k.cu -o k.o && ran_none 'with another umask')
+        same 'with umask 022' "$(stat -c %a k.o)" 644
+        chmod 444 k.o
+        call -c k.cu -o k.o
+        same 'of a product that was read-only' "$(stat -c %a k.o)" 644
+        end
+    fi
+    if case_of 'entries that are not whole'; then
+        call -c k.cu -o k.o
+        cp k.o first.o
+        for change in 'del data[len(data) // 2:]' 'data.clear()' 'data[-1] ^= 1' 'data[len(data) // 2] ^= 1' 'data[0] ^= 1' 'data += b"x"'; do
+            edit_entries "$change"
+            rm k.o
+            call -c k.cu -o k.o
+            ran_all "after $change"
+            same "product after $change" "$(cmp k.o first.o 2>&1)" ''
+        done
+        call -c k.cu -o k.o
+        ran_none 'at last'
+        end
+    fi
+    if case_of 'what killed writers leave'; then
+        call -c k.cu -o k.o
+        for folder in "$room"/cache/??; do printf part > "$folder/.new-1-2-3"; done
+        call -c k.cu -o k.o
+        ran_none 'beside that'
+        same 'entries' "$("$scratch/bin/zigrunk-cache" stats | sed -n 's/entries: //p')" "$(find "$room/cache" -path '*/??/[0-9a-f]*' | wc -l)"
+        end
+    fi
+    if case_of 'odd outputs'; then
+        call -c k.cu -o k.o
+        cp k.o first.o
+        echo target > target && ln -sf target k.o
+        call -c k.cu -o k.o
+        ran 'for a link' gcc-c
+        same 'the target of a link' "$(cat target)" target
+        rm -f k.o && mkdir k.o
+        call -c k.cu -o k.o
+        same 'for a folder' "$([ "$status" != 0 ] && [ -d k.o ] && echo kept)" kept
+        rmdir k.o && mkfifo k.o
+        call -c k.cu -o k.o
+        ran 'for a pipe' gcc-c
+        rm -f k.o && ln first.o k.o && echo kept > first.o
+        call -c k.cu -o k.o
+        ran_none 'for a file with two names'
+        same 'the other name' "$(cat first.o)" kept
+        call -c k.cu -o nofolder/k.o
+        same 'without a folder' "$([ "$status" != 0 ] && [ -s "$room/err" ] && echo told)" told
+        end
+    fi
+    if case_of 'folders that cannot be written'; then
+        call ZIGRUNK_CACHE=/proc/cache -c k.cu -o k.o
+        ran_all 'below /proc'
+        same messages "$(sed 's/: [^:]*$//' "$room/err")" 'zigrunk-nvcc: cannot write to the cache /proc/cache'
+        echo > "$room/file"
+        call ZIGRUNK_CACHE="$room/file" -c k.cu -o k.o
+        ran_all 'with a file'
+        same 'messages with a file' "$(wc -l < "$room/err")" 1
+        end
+    fi
+    if case_of 'a full disk'; then
+        mkdir -p "$scratch/full"
+        if mount -t tmpfs -o size=16k none "$scratch/full" 2> /dev/null; then
+            head -c 200000 /dev/zero > "$scratch/full/filler" 2> /dev/null
+            for try in 1 2; do
+                call ZIGRUNK_CACHE="$scratch/full/cache" -c k.cu -o k.o
+                ran_all "try $try"
+                same "messages, try $try" "$(wc -l < "$room/err") $(find "$scratch/full" -name '.new-*' | wc -l)" '1 0'
+            done
+            umount "$scratch/full"
+        else
+            skip 'a full disk' 'nothing can be mounted'
+        fi
+        end
+    fi
+    if case_of 'equal calls at once'; then
+        local number
+        for number in 1 2 3 4; do
+            (LOG=$room/log.$number TMPDIR=$room/tmp XDG_RUNTIME_DIR=$room/run "$scratch/bin/zigrunk-nvcc" -c k.cu -o $((number % 2)).o > /dev/null 2>> "$room/said") &
+        done
+        wait
+        call -c k.cu -o k.o
+        ran_none later
+        same products "$(cmp k.o 0.o 2>&1; cmp k.o 1.o 2>&1; cat "$room/said")" ''
+        end
+    fi
+    if case_of 'environments'; then
+        call -c k.cu -o k.o
+        call LANG=xx -c k.cu -o k.o
+        ran 'with another language' gcc-c
+        call DEPENDENCIES_OUTPUT="$room/deps" -c k.cu -o k.o
+        ran_all 'with DEPENDENCIES_OUTPUT'
+        call LD_PRELOAD="" -c k.cu -o k.o
+        ran_all 'with LD_PRELOAD'
+        end
+    fi
+    if case_of 'module ids of a process'; then
+        for _ in 1 2; do call ID=_9f1b1dc8_4_s_cu_778e0101_7547 -c k.cu -o k.o; done
+        ran 'each time' cudafe++
+        end
+    fi
+    if case_of 'what is not asked for'; then
+        for value in '' no; do
+            call ZIGRUNK_CACHE=$value -c k.cu -o k.o
+            ran_all "with '$value'"
+        done
+        call ZIGRUNK_EXPLAIN=1 ZIGRUNK_LAUNCHER=env -c k.cu -o k.o
+        ran_all 'with a launcher'
+        same 'messages with a launcher' "$(cat "$room/err")" "zigrunk-nvcc: ZIGRUNK_CACHE doesn't count beside ZIGRUNK_LAUNCHER or ZIGRUNK_RUNNER"
+        same 'the folder' "$([ -e "$room/cache" ] || echo none)" none
+        call ZIGRUNK_CACHE=yes XDG_CACHE_HOME="$room/users" -c k.cu -o k.o
+        same "the user's folder" "$(ls "$room/users")" zigrunk
+        call ZIGRUNK_CACHE=relative -c k.cu -o k.o
+        same 'a relative folder' "$(find relative -type f | wc -l)" "$(find "$room/users/zigrunk" -type f | wc -l)"
+        end
+    fi
+    if case_of 'a dependency file'; then
+        call -MD -MF k.d -c k.cu -o k.o
+        rm k.d
+        call -MD -MF k.d -c k.cu -o k.o
+        ran_none again
+        same 'the file' "$([ -s k.d ] && echo made)" made
+        end
+    fi
+    if case_of 'the log and the program'; then
+        for _ in 1 2; do call -c k.cu -o k.o; done
+        same 'hits in the log' "$(grep -o '"hit":[a-z]*' "$room/calls" | sort | uniq -c | tr -s ' \n' ' ')" ' 6 "hit":false 6 "hit":true '
+        same 'hits in the report' "$("$scratch/bin/zigrunk-report" "$room/calls" | grep -ci hit)" "$("$scratch/bin/zigrunk-report" "$room/calls" | grep -i hit | grep -c .)"
+        same counts "$("$scratch/bin/zigrunk-cache" stats | sed -n '/^hits/p; /^misses/p; /^folder/p')" "folder: $room/cache"$'\nhits: 6 (50 %)\nmisses: 6'
+        "$scratch/bin/zigrunk-cache" limit 1G
+        call -c k.cu -o k.o
+        ran_none 'within the limit'
+        "$scratch/bin/zigrunk-cache" limit 0
+        call -c k.cu -o k.o
+        ran_all 'after limit 0'
+        "$scratch/bin/zigrunk-cache" clear
+        same 'after clear' "$("$scratch/bin/zigrunk-cache" stats | grep -c '^\(entries\|hits\|misses\): 0$')" 3
+        for words in '' odd 'limit odd' 'limit 1 2'; do
+            # shellcheck disable=SC2086 # several words, or none
+            "$scratch/bin/zigrunk-cache" $words > "$room/out" 2> "$room/err"
+            same "wrong usage with '$words'" "$? $(wc -l < "$room/err")" "$([ "$words" = 'limit odd' ] && echo 1 || echo 2) 1"
+        done
+        end
+    fi
+    PATH=$path
+}
+
+# made [NAME=VALUE..] WORD..: makes the call with the cache and without, and by nvcc. A problem, unless all products in the folder are alike. $missed
+# are the kinds of commands that the cache was asked for and hadn't, $served those that it had.
+made() {
+    local settings=() said=()
+    while [[ ${1-} == *=* && $1 != -* ]]; do settings+=("$1") && shift; done
+    local what="$*"
+    : > "$room/calls"
+    for by in nvcc plain cache; do
+        find . -newer "$room/stamp" -type f ! -name '*.cu' ! -name '*.h' ! -name data -delete
+        case $by in
+        nvcc) env TMPDIR="$room/tmp" "${settings[@]}" nvcc "$@" > "$room/out" 2> "$room/err" ;;
+        plain) call ZIGRUNK_CACHE= ZIGRUNK_LOG= "${settings[@]}" "$@" ;;
+        cache) call "${settings[@]}" "$@" ;;
+        esac
+        [ "$by" = nvcc ] || same "status of $what by $by" "$status" 0
+        rm -rf "$room/by.$by" && mkdir "$room/by.$by"
+        find . -newer "$room/stamp" -type f ! -name '*.cu' ! -name '*.h' ! -name data -exec cp {} "$room/by.$by" \;
+        said+=("$(sed 's/tmpxft_[0-9a-f_-]*[0-9]_/x_/g' "$room/err")")
+    done
+    same "names of files of $what" "$(ls "$room/by.cache")" "$(ls "$room/by.nvcc")"
+    # what gcc writes beside an object names temporary files, and when it was made
+    find "$room"/by.* -type f ! -name '*.o' ! -name '*.ptx' ! -name '*.cubin' -delete
+    same "files of $what, with the cache and without" "$(diff -rq "$room/by.plain" "$room/by.cache")" ''
+    for file in "$room"/by.{nvcc,cache}/*.o; do objcopy --strip-unneeded "$file" 2> /dev/null; done
+    case $what in *' -g '*) ;; *) same "files of $what, and nvcc's" "$(diff -rq "$room/by.nvcc" "$room/by.cache")" '' ;; esac
+    same "messages of $what" "${said[2]}" "${said[1]}"
+    missed=$(commands false) served=$(commands true)
+}
+
+# commands HIT: the kinds of the last call's commands of which the log has this.
+commands() {
+    python3 - "$room/calls" "$1" << 'END_OF_PROGRAM'
+import json, sys
+call = json.loads(open(sys.argv[1]).read().splitlines()[-1])
+print(" ".join(sorted(one["kind"].replace(" ", "-") for one in call["commands"] if str(one.get("hit")).lower() == sys.argv[2])))
+END_OF_PROGRAM
+}
+
+# project: the sources of a case. What is newer than the stamp is made by calls.
+project() {
+    rm -f k.cu
+    cp "$tests/small/cuda_runtime.h" .
+    mkdir -p inc
+    echo '#define SIZE 128' > inc/size.h
+    cat > k.cu << 'END_OF_SOURCE'
+#include "size.h"
+template <int N> __global__ void scale(float* values) { values[threadIdx.x] *= N * SIZE; }
+static __global__ void fill(int* values) { values[threadIdx.x] = 4; }
+const char* file() { return __FILE__; }
+int unused_host(int count) { return count; }
+void run(float* values, int* numbers) { scale<2><<<1, 32>>>(values); fill<<<1, 64>>>(numbers); }
+END_OF_SOURCE
+    touch -d '2 seconds ago' "$room/stamp"
+    touch -d '1 minute ago' k.cu inc/size.h cuda_runtime.h
+}
+
+two=(-gencode 'arch=compute_75,code=sm_75' -gencode 'arch=compute_80,code=sm_80')
+real_calls() {
+    command -v nvcc > /dev/null || { skip 'calls of nvcc' 'nvcc is not on the path' && return; }
+    if case_of 'nvcc: phases'; then
+        project
+        for words in '-std=c++20 -c' '-O3 -Xcompiler -fPIC,-O2 -dc' '-lineinfo -c' '-g -c' '-G -g -c' -ptx -cubin; do
+            # shellcheck disable=SC2086 # several words
+            made -arch=sm_80 -Iinc $words k.cu
+            # shellcheck disable=SC2086
+            made -arch=sm_80 -Iinc $words k.cu
+            case $words in
+            *-G*) ;;
+            *) same "misses of $words" "$missed" '' ;;
+            esac
+        done
+        end
+    fi
+    if case_of 'nvcc: edits'; then
+        project
+        made "${two[@]}" -Iinc -c k.cu -o k.o
+        same 'first' "$served" ''
+        made "${two[@]}" -Iinc -c k.cu -o other.o
+        same 'another product' "$missed" ''
+        sed -i '1i // a line' k.cu
+        made "${two[@]}" -Iinc -c k.cu -o k.o
+        same 'a line more' "$served" 'ptxas-sm_75 ptxas-sm_80'
+        sed -i 's/return count/return count + 1/' k.cu
+        made "${two[@]}" -Iinc -c k.cu -o k.o
+        same 'a host function' "$served" 'ptxas-sm_75 ptxas-sm_80'
+        sed -i 's/= 4/= 5/' k.cu
+        made "${two[@]}" -Iinc -c k.cu -o k.o
+        same 'a kernel' "$served" ''
+        made "${two[@]}" -gencode arch=compute_90,code=sm_90 -Iinc -c k.cu -o k.o
+        same 'a further target' "$served" 'cicc-compute_75 cudafe++ ptxas-sm_75 ptxas-sm_80'
+        end
+    fi
+    if case_of 'nvcc: headers'; then
+        project
+        made -arch=sm_80 -I early -Iinc -c k.cu -o k.o
+        touch -r inc/size.h "$room/time"
+        echo '#define SIZE 256' > inc/size.h && touch -r "$room/time" inc/size.h
+        made -arch=sm_80 -I early -Iinc -c k.cu -o k.o
+        same 'another one of the same size and time' "$served" ''
+        mkdir early && echo '#define SIZE 512' > early/size.h && touch -r "$room/time" early/size.h early
+        made -arch=sm_80 -I early -Iinc -c k.cu -o k.o
+        same 'one that appears earlier' "$served" ''
+        end
+    fi
+    if case_of 'nvcc: the time of a source in line information'; then
+        project
+        made -arch=sm_80 -Iinc -lineinfo -c k.cu -o k.o
+        touch -d '2021-01-01' k.cu
+        made -arch=sm_80 -Iinc -lineinfo -c k.cu -o k.o
+        same 'what is served' "$served" 'cicc-compute_80 cudafe++'
+        end
+    fi
+    if case_of 'nvcc: files that no record names'; then
+        project
+        echo one > data
+        printf '%s\n' 'asm(".globl mine\nmine: .incbin \"data\"\n");' >> k.cu
+        touch -d '1 minute ago' k.cu data
+        for text in one two; do
+            echo "$text" > data
+            made -arch=sm_80 -Iinc -c k.cu -o k.o
+            same '.incbin' "${served#cicc-compute_80 cudafe++ ptxas-sm_80}" ''
+        done
+        sed -i '/incbin/d' k.cu
+        for word in -fstack-usage -save-temps -fcallgraph-info -fsave-optimization-record; do
+            made -arch=sm_80 -Iinc -Xcompiler $word -c k.cu -o k.o
+            made -arch=sm_80 -Iinc -Xcompiler $word -c k.cu -o k.o
+            same "$word" "$(grep -c 'gcc--c' <<< "$served")" 0
+        done
+        end
+    fi
+    if case_of 'nvcc: folders'; then
+        project
+        made -arch=sm_80 -I"$PWD/inc" -c "$PWD/k.cu" -o k.o
+        source=$PWD
+        mkdir "$room/build" && cd "$room/build" && cp "$source/cuda_runtime.h" . && touch -d '1 minute ago' cuda_runtime.h
+        made -arch=sm_80 -I"$source/inc" -c "$source/k.cu" -o k.o
+        same 'another build folder' "$missed" ''
+        made -arch=sm_80 -g -I"$source/inc" -c "$source/k.cu" -o k.o
+        cd "$source" || return
+        made -arch=sm_80 -g -I"$source/inc" -c "$source/k.cu" -o k.o
+        same 'the host compile with -g in another one' "$(grep -c gcc--c <<< "$missed")" 1
+        mkdir "$room/other" && cp -rp . "$room/other" && cd "$room/other" && rm -f k.o
+        made -arch=sm_80 -I"$PWD/inc" -c "$PWD/k.cu" -o k.o
+        echo "another checkout by whole paths: hits of $served; misses of $missed"
+        made -arch=sm_80 -Iinc -c k.cu -o k.o
+        cd "$source" || return
+        made -arch=sm_80 -Iinc -c k.cu -o k.o
+        echo "another checkout by relative paths: hits of $served; misses of $missed"
+        same 'ptxas in another checkout' "$(grep -c ptxas <<< "$served")" 1
+        end
+    fi
+    if case_of 'nvcc: warnings'; then
+        project
+        echo 'int warns() { int never; return 0; } // a comment' >> k.cu
+        touch -d '1 minute ago' k.cu
+        made -arch=sm_80 -Iinc -c k.cu -o k.o
+        same 'it warns' "$(grep -q never "$room/err" && echo told)" told
+        made -arch=sm_80 -Iinc -c k.cu -o k.o
+        same 'misses' "$missed" ''
+        sed -i 's/a comment/another comment/' k.cu
+        made -arch=sm_80 -Iinc -c k.cu -o k.o
+        end
+    fi
+    if case_of 'nvcc: sources without an external name'; then
+        project
+        echo 'static __global__ void k(int* p) { *p = 1; } namespace { struct A { A() { k<<<1, 1>>>(0); } } a; }' > s.cu
+        touch -d '1 minute ago' s.cu
+        for name in a b; do call -arch=sm_80 -dc s.cu -o $name.o; done
+        same 'module ids' "$(nm a.o b.o | grep -c 'fatbinwrap_.*_s_cu')" 2
+        same 'their symbols' "$(nm a.o b.o | grep -o '__fatbinwrap_.*_s_cu.*' | sort -u | wc -l)" 2
+        end
+    fi
+}
+
+toolkit_path=$PATH
+for part in ${PARTS:-stand_ins nvcc}; do
+    case $part in
+    stand_ins) stand_ins ;;
+    nvcc) PATH=$toolkit_path && real_calls ;;
+    esac
+done
+summary

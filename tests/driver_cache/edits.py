@@ -1,0 +1,221 @@
+#!/usr/bin/env python3
+"""Edits a small project at random, by a seed, and builds it after each edit by nvcc and by zigrunk-nvcc with its cache. The objects have to be alike,
+but for the names of temporary files. Some edits are not of sources: a killed call, damaged entries, another umask, a limit.
+
+    tests/driver_cache/edits.py DRIVER [--seed N] [--count N]
+
+The last line is 'N passed, M failed'; the status is 1 if one failed. It needs nvcc and objcopy."""
+import argparse
+import os
+import pathlib
+import random
+import shutil
+import subprocess
+import sys
+import tempfile
+
+SMALL = pathlib.Path(__file__).resolve().parent.parent / "small"
+HEADER = """#pragma once
+// constants
+#define SIZE {size}
+#define OTHER {other}
+inline int blocks(int count) {{ return (count + SIZE - 1) / {block}; }}
+"""
+SOURCE = """#include "size.h"
+// {comment}
+template <int N> __global__ void scale_{name}(float* values) {{ values[threadIdx.x] *= N * SIZE + {kernel}; }}
+static __global__ void fill(int* values) {{
+#if __CUDA_ARCH__ >= 800
+    values[threadIdx.x] = {newer};
+#else
+    values[threadIdx.x] = {older};
+#endif
+}}
+int calls_{name} = {host};
+void run_{name}(float* values, int* numbers, int count) {{ {blank}scale_{name}<2><<<blocks(count), 32>>>(values); fill<<<1, 64>>>(numbers); }}
+"""
+TARGETS = ["75", "80", "90"]
+Values = dict[str, object]
+KINDS = ["comment", "kernel", "newer", "older", "host", "size", "other", "block", "blank", "targets", "words", "umask", "early", "product", "touch",
+         "back", "same_time"]
+Build = tuple[int, bytes, int | None, bytes | None]
+
+
+class Project:
+    """The sources of a project and the words of its calls."""
+
+    def __init__(self, folder: pathlib.Path, lot: random.Random) -> None:
+        self.folder, self.lot = folder, lot
+        self.header: dict[str, int] = {"size": 64, "other": 1, "block": 32}
+        self.sources: dict[str, Values] = {name: {"comment": "one", "kernel": 1, "newer": 2, "older": 3, "host": 4, "blank": ""} for name in "ab"}
+        self.targets, self.umask, self.early, self.product = ["80"], 0o022, False, "{}.o"
+        self.words: list[str] = []
+        self.earlier: list[tuple[dict[str, int], dict[str, Values], list[str]]] = []
+        self.write()
+
+    def write(self) -> None:
+        (self.folder / "inc").mkdir(exist_ok=True)
+        (self.folder / "early").mkdir(exist_ok=True)
+        self.put("inc/size.h", HEADER.format(**self.header))
+        early = self.folder / "early/size.h"
+        if self.early:
+            self.put("early/size.h", HEADER.format(**{**self.header, "size": 7}))
+        elif early.exists():
+            early.unlink()
+        for name, values in self.sources.items():
+            self.put(f"{name}.cu", SOURCE.format(name=name, **values))
+
+    def put(self, name: str, text: str) -> None:
+        path = self.folder / name
+        if not path.exists() or path.read_text() != text:
+            path.write_text(text)
+
+    def edit(self) -> str:
+        """Makes one edit and says which."""
+        source, kind = self.lot.choice("ab"), self.lot.choice(KINDS)
+        self.earlier.append((dict(self.header), {name: dict(values) for name, values in self.sources.items()}, list(self.targets)))
+        if kind in ("size", "other", "block"):
+            self.header[kind] = self.lot.randrange(1, 4)
+        elif kind in self.sources[source]:
+            self.edit_source(self.sources[source], kind)
+        else:
+            self.edit_call(source, kind)
+        self.write()
+        return f"{kind} of {source}"
+
+    def edit_source(self, values: Values, kind: str) -> None:
+        """Changes something in a source."""
+        lot = self.lot
+        if kind == "comment":
+            values[kind] = lot.choice(["one", "two", "three", "two\n// lines"])
+        elif kind == "blank":
+            values[kind] = " " * lot.randrange(3)
+        else:
+            values[kind] = lot.randrange(4)
+
+    def edit_call(self, source: str, kind: str) -> None:
+        """Changes something beside the text of sources."""
+        lot = self.lot
+        if kind == "targets":
+            self.targets = sorted(lot.sample(TARGETS, lot.randrange(1, 3)))
+        elif kind == "words":
+            self.words = lot.choice([[], ["-O3"], ["-lineinfo"], ["-dc"], ["-Xcompiler", "-fPIC"], ["-DX=1"], ["-std=c++20"], ["-MD"]])
+        elif kind == "umask":
+            self.umask = lot.choice([0o022, 0o077, 0o002])
+        elif kind == "early":
+            self.early = not self.early
+        elif kind == "product":
+            self.product = lot.choice(["{}.o", "{}.other.o"])
+        elif kind == "touch":
+            os.utime(self.folder / f"{source}.cu", (1.6e9 + lot.randrange(99), 1.6e9 + lot.randrange(99)))
+        elif kind == "back":
+            self.header, self.sources, self.targets = lot.choice(self.earlier)
+            self.header, self.sources = dict(self.header), {name: dict(values) for name, values in self.sources.items()}
+        elif kind == "same_time":
+            path = self.folder / "inc/size.h"
+            status = path.stat()
+            self.header["size"] = 1 + self.header["size"] % 3
+            self.write()
+            os.utime(path, ns=(status.st_atime_ns, status.st_mtime_ns))
+
+    def call(self, name: str) -> list[str]:
+        targets = [word for target in self.targets for word in ("-gencode", f"arch=compute_{target},code=sm_{target}")]
+        phase = [] if "-dc" in self.words else ["-c"]
+        return [*targets, *self.words, "-Iearly", "-Iinc", *phase, f"{name}.cu", "-o", self.product.format(name)]
+
+
+def damage(lot: random.Random, cache: pathlib.Path) -> None:
+    """Damages an entry, or removes some."""
+    entries = sorted(path for path in cache.glob("??/*") if path.is_file())
+    for path in lot.sample(entries, min(2, len(entries))):
+        data = bytearray(path.read_bytes())
+        if lot.random() < 0.5 and data:
+            data[lot.randrange(len(data))] ^= 1 << lot.randrange(8)
+        else:
+            del data[lot.randrange(len(data) + 1):]
+        path.write_bytes(data)
+
+
+class Builds:
+    """Builds a project by nvcc and with the cache, and compares."""
+
+    def __init__(self, room: pathlib.Path, driver: pathlib.Path, lot: random.Random) -> None:
+        self.room, self.lot, self.cache = room, lot, room / "cache"
+        self.own = str(room / "bin/zigrunk-nvcc")
+        (room / "bin").mkdir()
+        os.symlink(driver, self.own)
+        (room / "tmp").mkdir()
+        self.environment = {**os.environ, "TMPDIR": str(room / "tmp"), "ZIGRUNK_CACHE": str(self.cache), "ZIGRUNK_LOG": str(room / "log")}
+
+    def start(self, program: str, project: Project, name: str) -> "subprocess.Popen[bytes]":
+        """Starts a call."""
+        (project.folder / project.product.format(name)).unlink(missing_ok=True)
+        command = ["sh", "-c", f'umask {project.umask:03o}; exec "$@"', "sh", program, *project.call(name)]
+        return subprocess.Popen(command, cwd=project.folder, env=self.environment, stdout=subprocess.PIPE, stderr=subprocess.STDOUT)
+
+    def kill(self, project: Project, name: str, seconds: float) -> None:
+        """Makes a call with the cache, and kills it after some seconds."""
+        with self.start(self.own, project, name) as process:
+            try:
+                process.communicate(timeout=seconds)
+            except subprocess.TimeoutExpired:
+                process.kill()
+
+    def run(self, program: str, project: Project, name: str) -> Build:
+        """Makes a call, and gives its status, what it says, and the modes and bytes of what it makes."""
+        product = project.folder / project.product.format(name)
+        with self.start(program, project, name) as process:
+            said = process.communicate()[0]
+        if process.returncode or not product.exists():
+            return process.returncode, said, None, None
+        mode = product.stat().st_mode
+        os.chmod(product, 0o600)
+        subprocess.run(["objcopy", "--strip-unneeded", product, self.room / "stripped"], check=True)
+        return process.returncode, said, mode, (self.room / "stripped").read_bytes()
+
+    def problem(self, project: Project) -> str | None:
+        """What is wrong with the builds of a project, if something is."""
+        for name in project.sources:
+            if self.lot.random() < 0.1:
+                self.kill(project, name, self.lot.random() / 2)
+            if self.lot.random() < 0.1 and self.cache.exists():
+                damage(self.lot, self.cache)
+            wanted, made = self.run("nvcc", project, name), self.run(self.own, project, name)
+            for what, one, other in zip(("status", "messages", "mode", "object"), made, wanted):
+                if one != other:
+                    return f"{what} of {name}.cu: {one!r:.200}, not {other!r:.200}, by {' '.join(project.call(name))}"
+        return None
+
+
+def main() -> int:
+    parser = argparse.ArgumentParser()
+    parser.add_argument("driver", type=pathlib.Path)
+    parser.add_argument("--seed", type=int, default=1)
+    parser.add_argument("--count", type=int, default=200)
+    options = parser.parse_args()
+    if not (shutil.which("nvcc") and shutil.which("objcopy")):
+        print("random edits: skipped, nvcc or objcopy is not on the path\n0 passed, 0 failed, 1 skipped")
+        return 0
+    for name in [name for name in os.environ if name.startswith("ZIGRUNK_") or name in ("NVCC_PREPEND_FLAGS", "NVCC_APPEND_FLAGS")]:
+        del os.environ[name]
+    lot, failed = random.Random(options.seed), 0
+    with tempfile.TemporaryDirectory() as folder:
+        room = pathlib.Path(folder)
+        (room / "work").mkdir()
+        shutil.copy(SMALL / "cuda_runtime.h", room / "work")
+        project, builds = Project(room / "work", lot), Builds(room, options.driver.resolve(), lot)
+        for number in range(options.count):
+            edit = project.edit() if number else "none"
+            problem = builds.problem(project)
+            if problem:
+                failed += 1
+                print(f"edit {number} of seed {options.seed}, {edit}: {problem}", flush=True)
+        log = (room / "log").read_text(encoding="utf-8")
+    hits, misses = log.count('"hit":true'), log.count('"hit":false')
+    print(f"{hits} hits, {misses} misses")
+    print(f"{options.count - failed} passed, {failed} failed")
+    return 1 if failed else 0
+
+
+if __name__ == "__main__":
+    sys.exit(main())
