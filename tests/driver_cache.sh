@@ -506,8 +506,9 @@ real_calls() {
 toolkit_path=$PATH
 for part in ${PARTS:-stand_ins nvcc}; do
     case $part in
-    stand_ins) stand_ins ;;
-    nvcc) PATH=$toolkit_path && real_calls ;;
+    # The stand-in for fatbinary writes no file for an assembler.
+    stand_ins) export ZIGRUNK_LATE=0 && stand_ins ;;
+    nvcc) unset ZIGRUNK_LATE && PATH=$toolkit_path && real_calls ;;
     esac
 done
 summary
