@@ -273,7 +273,7 @@ stand_ins() {
         call LANG=xx -c k.cu -o k.o
         ran 'with another language' gcc-c
         call DEPENDENCIES_OUTPUT="$room/deps" -c k.cu -o k.o
-        ran_all 'with DEPENDENCIES_OUTPUT'
+        ran_none 'with DEPENDENCIES_OUTPUT, since nvcc makes the call'
         call LD_PRELOAD="" -c k.cu -o k.o
         ran_all 'with LD_PRELOAD'
         end
@@ -418,7 +418,7 @@ real_calls() {
         made "${two[@]}" -Iinc -c k.cu -o k.o
         same 'a kernel' "$served" ''
         made "${two[@]}" -gencode arch=compute_90,code=sm_90 -Iinc -c k.cu -o k.o
-        same 'a further target' "$served" 'cicc-compute_75 cudafe++ ptxas-sm_75 ptxas-sm_80'
+        same 'a further target' "$served" 'cicc-compute_75 cicc-compute_80 ptxas-sm_75 ptxas-sm_80'
         end
     fi
     if case_of 'nvcc: headers'; then

@@ -14,6 +14,8 @@ use std::mem;
 #[derive(Clone, Debug, Default)]
 pub struct Task {
     pub job: Job,
+    /// The number of its command in the plan, unless it makes the dependency file.
+    pub command: Option<usize>,
     /// The same without the cache, for one that goes through it.
     pub without_launcher: Option<Job>,
     /// The earlier tasks that have to end before it starts.

@@ -138,9 +138,9 @@ impl Call<'_> {
         if commands.iter().any(PlannedCommand::writes_long_name) {
             return by_nvcc("a generated file's name is too long");
         }
-        let late = if late::is_on(self.settings) && !keeps { late::begin_early(&mut commands, tmp) } else { None };
-        // What begins early runs before the cache knows what it reads.
-        let is_early = early::is_on(self.settings) && !keeps && !has_cache;
+        let may_change = !keeps && !has_cache;
+        let late = if late::is_on(self.settings) && may_change { late::begin_early(&mut commands, tmp) } else { None };
+        let is_early = early::is_on(self.settings) && may_change;
         let compile = commands.len().checked_sub(2).filter(|_| is_early && late.is_some());
         let moved = compile.and_then(|compile| early::move_stub(&mut commands, compile, tmp));
         let scratch = self.settings.scratch().map(|path| absolute(path, Path::new(&self.line.cwd)).to_string_lossy().into_owned());

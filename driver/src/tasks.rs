@@ -94,7 +94,8 @@ fn task_of(number: usize, command: &PlannedCommand, around: &Surroundings<'_>) -
     let settings = around.settings;
     let bare = job_of(command, &[&settings.runner], around);
     let (needs, preprocesses) = (command.needs.clone(), command.preprocesses);
-    let task = Task { needs, kind: kind_of(command), weight: weight_of(command), preprocesses, ..Task::default() };
+    let (kind, weight) = (kind_of(command), weight_of(command));
+    let task = Task { command: Some(number), needs, kind, weight, preprocesses, ..Task::default() };
     if !is_launched(command, settings) {
         return Task { job: bare, ..task };
     }

@@ -25,9 +25,8 @@ use std::alloc::{AllocError, Global};
 /// cubin and object stayed the same byte for byte when only comments, blanks and line numbers changed. The files that cudafe++
 /// writes have numbers, and those that were there first stay. The tokens aren't enough, and the text itself has to count,
 ///
-/// - if the command asks for lines: `-g`, `-G`, `-lineinfo`, `--source-in-ptx`; `-dlto` and targets such as `lto_80`, since
-///   LTO-IR has names like `__cuda_local_var_61240_157_l` with lines and columns in them; `-flto`, sanitizers and `--coverage`
-///   of the host compiler. Clang also writes lines for `-fopenmp`, and in the `__PRETTY_FUNCTION__` of a lambda;
+/// - if the command asks for lines: `-g`, `-G`, `-lineinfo`, `--source-in-ptx`; `-dlto` and targets such as `lto_80`, whose
+///   products changed too; `-flto`, sanitizers and `--coverage` of the host compiler. Clang wasn't tried;
 /// - if the text may see its lines ([`sees_lines`](crate::sees_lines));
 /// - if the command prints anything, since messages name lines, and comments can silence a warning;
 /// - if macros that the text defines turn arguments into strings, which shows blanks.

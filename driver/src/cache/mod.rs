@@ -117,12 +117,11 @@ fn names(text: &[u8], directory: &str) -> bool {
 impl<'a> Session<'a> {
     /// The cache for the tasks of a call's commands, whose files go to `tmp`. Tasks that aren't commands are left out.
     pub fn new(store: &'a Store, tmp: &'a str, commands: &[PlannedCommand], tasks: &[Task]) -> Session<'a> {
-        let of_commands = tasks.iter().enumerate().filter(|(_, task)| !task.is_rule);
-        let candidate = |((number, task), command): ((usize, &Task), &PlannedCommand)| {
-            let recipe = Recipe::of(command, &task.job, number, tmp)?;
+        let candidate = |(number, task): (usize, &Task)| {
+            let recipe = Recipe::of(&commands[task.command?], &task.job, number, tmp)?;
             Some((number, Candidate { recipe, state: State::Fresh, hit: None }))
         };
-        let candidates = of_commands.zip(commands).filter_map(candidate).collect();
+        let candidates = tasks.iter().enumerate().filter_map(candidate).collect();
         Session { store, tools: Tools::new(store), tmp, candidates, terminal: terminal(), begun: host::now(), has_complained: false }
     }
 
