@@ -58,6 +58,20 @@ misuses() {
 # sanitized FILE OUT: with the checks of the compiler.
 sanitized() { cc -std=c99 -D_POSIX_C_SOURCE=200809L -fsanitize=address,undefined -fno-sanitize-recover "${strict[@]}" "$1" -o "$2" "${flags[@]}"; }
 
+# without_memory: if one allocation fails, whichever, a call says so, or is as ever.
+without_memory() {
+    local number status
+    cc -shared -fPIC -O1 -o "$scratch/refuse_nth.so" tests/refuse_nth.c -ldl && built_c tests/callers/misuses.c "$scratch/plain_misuses" "${flags[@]}" &&
+        misuse_rows | head -n 1 > "$scratch/row" || return 1
+    for number in $(seq 1 "$most_refused"); do
+        REFUSED=$number LD_PRELOAD=$scratch/refuse_nth.so "$scratch/plain_misuses" "$room" < "$scratch/row" > "$scratch/one" 2>&1 9> /dev/null
+        status=$?
+        # 2: there was no call at all; 3: only the second of its two plans lacked memory
+        case "$status $(cat "$scratch/one")" in '0 right 0 0 0' | '0 right 1 0 0' | '2 ' | '3 ') ;; *) echo "allocation $number: $status"; return 1 ;; esac
+    done
+}
+most_refused=700
+
 # by_cmake: a project finds the library, as it is shared and as an archive.
 by_cmake() {
     mkdir -p "$scratch/cmake"
@@ -125,6 +139,7 @@ check 'C: its plan with the archive' plans "$scratch/first_static"
 check 'C: the header, by a compiler of C++' c++ -x c++ -std=c++11 "${strict[@]}" -fsyntax-only tests/callers/misuses.c "${flags[@]}"
 check 'C: misuses, with the checks of the compiler' sanitized tests/callers/misuses.c "$scratch/misuses_c"
 check 'C: what comes of them' misuses "$scratch/misuses_c"
+check 'C: without memory' without_memory
 check 'C++: the program of the page' built_cpp "$scratch/first.cpp" "$scratch/first_cpp" "${flags[@]}"
 check 'C++: its plan' plans "$scratch/first_cpp"
 check 'C++: misuses' built_cpp tests/callers/misuses.cpp "$scratch/misuses_cpp" "${flags[@]}"

@@ -214,22 +214,27 @@ static char **zigrunk_own_texts(zigrunk_call *call, const uint8_t *bytes, const 
     return list;
 }
 
-/* The texts of an answer, or NULL if the library refuses. */
+/* The texts of an answer, or NULL if the library refuses. If memory was short for a while, the sizes of an answer can be those of another one. */
 static char **zigrunk_own_list(zigrunk_call *call, zigrunk_own_question ask, const void *about) {
-    zigrunk_range no_range;
-    uint8_t no_byte;
-    zigrunk_list_answer size = ask(about, &no_range, 0, &no_byte, 0);
-    zigrunk_range *ranges = (zigrunk_range *)zigrunk_own_room(call, size.count + 1, sizeof *ranges);
-    uint8_t *bytes = (uint8_t *)zigrunk_own_room(call, size.length + 1, 1);
-    if (!ranges || !bytes) {
+    zigrunk_list_answer size = {ZIGRUNK_OK, 63, 4095}, answer;
+    zigrunk_range *ranges;
+    uint8_t *bytes;
+    for (;; size = answer) {
+        ranges = (zigrunk_range *)zigrunk_own_room(call, size.count + 1, sizeof *ranges);
+        bytes = (uint8_t *)zigrunk_own_room(call, size.length + 1, 1);
+        if (!ranges || !bytes) {
+            return NULL;
+        }
+        answer = ask(about, ranges, size.count, bytes, size.length);
+        if (answer.count <= size.count && answer.length <= size.length) {
+            break;
+        }
+    }
+    if (answer.status != ZIGRUNK_OK) {
+        zigrunk_own_refuse(call, answer.status, (const char *)bytes);
         return NULL;
     }
-    size = ask(about, ranges, size.count, bytes, size.length);
-    if (size.status != ZIGRUNK_OK) {
-        zigrunk_own_refuse(call, size.status, (const char *)bytes);
-        return NULL;
-    }
-    return zigrunk_own_texts(call, bytes, ranges, size.count);
+    return zigrunk_own_texts(call, bytes, ranges, answer.count);
 }
 
 /* The variables that are UTF-8, which are all that the library takes. */
@@ -873,13 +878,17 @@ ZIGRUNK_CALL_UNUSED static zigrunk_text zigrunk_call_key(zigrunk_call *call, con
         words[i] = zigrunk_own_text(command->run.words[i]);
     }
     asked.words = words, asked.roots = &root, asked.roots_count = 1, asked.tool = command->tool;
-    uint8_t no_byte;
     zigrunk_text_answer answer = {ZIGRUNK_OUT_OF_MEMORY, 0};
     uint8_t *bytes = NULL;
-    if (words && asked.variables) {
-        answer = zigrunk_command_key(&asked, &no_byte, 0);
-        bytes = (uint8_t *)zigrunk_own_room(call, answer.length + 1, 1);
-        answer = bytes ? zigrunk_command_key(&asked, bytes, answer.length) : answer;
+    for (size_t size = 8192; words && asked.variables; size = answer.length) {
+        bytes = (uint8_t *)zigrunk_own_room(call, size + 1, 1);
+        if (!bytes) {
+            break;
+        }
+        answer = zigrunk_command_key(&asked, bytes, size);
+        if (answer.length <= size) {
+            break;
+        }
     }
     if (answer.status != ZIGRUNK_OK || !bytes) {
         zigrunk_own_refuse(call, answer.status ? answer.status : ZIGRUNK_OUT_OF_MEMORY, bytes ? (const char *)bytes : "out of memory");
