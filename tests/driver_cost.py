@@ -144,7 +144,7 @@ def main() -> int:
         os.chdir(folder / "work")
         Path("k.cu").write_text("__global__ void k() {}\n")
         environment = {"PATH": f"{cuda}/bin:/usr/bin:/bin", "CUDA": str(cuda), "DATA": str(DRY_RUNS), "TMPDIR": str(folder / "tmp"),
-                       "XDG_RUNTIME_DIR": str(folder / "run"), "PAUSE": "0"}
+                       "XDG_RUNTIME_DIR": str(folder / "run"), "PAUSE": "0", "ZIGRUNK_LATE": "0"}
         driver = [str(folder / "zigrunk-nvcc")]
         call = [*driver, *WORDS]
         count = processes(call, environment)
