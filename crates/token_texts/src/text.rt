@@ -10,7 +10,7 @@ use std::alloc::{AllocError, Global};
 /// Writes the tokens of a preprocessed text, each with a newline after it. Returns `None` if it isn't sure of them. The only error
 /// is an allocation failure.
 ///
-/// Two texts give the same bytes if and only if they have the same tokens in the same order ([`laws::keys`](crate::laws::keys)).
+/// Two texts give the same bytes if and only if they have the same tokens in the same order (the law `keys`).
 /// Tokens are those of C++ and C, but don't depend on the language, its version and the compiler: operators stay together if
 /// there is no blank between them. A directive is one token, with its line end. A line marker is one if it enters a file,
 /// returns to one, or names another than the last one. It has the name and the flags, and no number.

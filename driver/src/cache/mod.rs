@@ -277,10 +277,12 @@ impl<'a> Session<'a> {
 
 /// What an entry has of an output. `None` if it can't have that: only text may name the call's directory, as that of cudafe++, cicc and a compiler.
 fn made(recipe: &Recipe, output: &Output, modes: u32) -> Option<Made> {
-    let status = match fs::symlink_metadata(&output.written_to) {
-        Err(error) if error.kind() == ErrorKind::NotFound && output.is_optional => return Some(Made::Nothing),
-        other => other.ok().filter(fs::Metadata::is_file)?,
-    };
+    let found = fs::symlink_metadata(&output.written_to);
+    let is_missing = found.as_ref().is_err_and(|error| error.kind() == ErrorKind::NotFound);
+    if is_missing && output.is_optional {
+        return Some(Made::Nothing);
+    }
+    let status = found.ok().filter(fs::Metadata::is_file)?;
     let text = content_of(&output.written_to).ok()?;
     let is_id = output.path.extension().is_some_and(|extension| extension == "module_id");
     if status.mode() & 0o7777 != modes || is_id && !host_text::is_stable_id(&text) {
