@@ -60,7 +60,7 @@ interrupt() {
     (cd "$folder/work" && exec env --default-signal=HUP,INT,TERM TMPDIR="$folder/tmp" "$wrapper" -arch=all-major -c k.cu -o k.o) &
     process=$!
     for _ in $(seq 600); do
-        [ -z "$(find "$folder/tmp" -name 'x_0*.ii' 2> /dev/null)" ] || break
+        [ -z "$(find "$folder/tmp" -name '*.ii' 2> /dev/null)" ] || break
         kill -0 "$process" 2> /dev/null || break
         sleep 0.05
     done
