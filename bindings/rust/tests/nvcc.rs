@@ -4,6 +4,7 @@
 use std::fs;
 use std::os::unix::fs::PermissionsExt;
 use std::path::{Path, PathBuf};
+use std::sync::{Mutex, MutexGuard, PoisonError};
 
 use zigrunk::{Call, CallError, CommandTool, ErrorKind, NvccCall, Variable};
 
@@ -22,13 +23,18 @@ cat >&2 << END
 END
 "#;
 
-/// A folder with the stand-ins, which goes when it is dropped.
+/// Whose turn it is. A process that one test starts has what another one is writing open for a moment, and then that can't be run.
+static TURN: Mutex<()> = Mutex::new(());
+
+/// A folder with the stand-ins, which goes when it is dropped. A test at a time has one.
 struct Room {
     folder: PathBuf,
+    _turn: MutexGuard<'static, ()>,
 }
 
 impl Room {
     fn new(name: &str) -> Self {
+        let turn = TURN.lock().unwrap_or_else(PoisonError::into_inner);
         let folder = std::env::temp_dir().join(format!("zigrunk-{name}-{}", std::process::id()));
         fs::create_dir_all(folder.join("t")).unwrap();
         for (program, text) in [("nvcc", NVCC), ("gcc", ""), ("cicc", "")] {
@@ -36,7 +42,7 @@ impl Room {
             fs::write(&path, text).unwrap();
             fs::set_permissions(&path, fs::Permissions::from_mode(0o755)).unwrap();
         }
-        Room { folder: folder.canonicalize().unwrap() }
+        Room { folder: folder.canonicalize().unwrap(), _turn: turn }
     }
 
     fn path(&self, name: &str) -> String {

@@ -276,14 +276,15 @@ mod tests {
         let run = |environment: &[(OsString, OsString)]| {
             let gcc = programs::find("gcc".as_ref(), &env::var_os("PATH").unwrap(), Path::new("/")).unwrap();
             let run = Run { kind: Kind::Host, program: &gcc, folder: Path::new("/"), environment };
-            (run.part("cc1plus"), run.part("as"))
+            // Another test of this process may take the end of a child.
+            ["cc1plus", "as"].map(|name| (0..50).find_map(|_| run.part(name)))
         };
         let scratch = Scratch::new("gcc");
         let other = scratch.put("bin/as", "\x7fELF");
         let own = env::var_os("PATH").unwrap();
         let before: OsString = [other.parent().unwrap().as_os_str(), OsStr::new(":"), &own].into_iter().collect();
         let usual = run(&[("PATH".into(), own)]);
-        assert!(usual.0.is_some() && usual.1.is_some(), "{usual:?}");
-        assert_eq!(run(&[("PATH".into(), before)]), (usual.0, Some(other)));
+        assert!(usual.iter().all(Option::is_some), "{usual:?}");
+        assert_eq!(run(&[("PATH".into(), before)]), [usual[0].clone(), Some(other)]);
     }
 }
