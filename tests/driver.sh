@@ -19,7 +19,7 @@ end_shell() { summary; exit 1; }
 
 # unit: the unit tests, each as a case.
 unit() {
-    (cd "$workspace" && cargo test --offline -p zigrunk-driver) > "$scratch/unit" 2>&1
+    (cd "$workspace" && PATH=$usual_path cargo test --offline -p zigrunk-driver) > "$scratch/unit" 2>&1
     local good bad
     good=$(grep -c '^test .* \.\.\. ok$' "$scratch/unit") bad=$(grep -c '^test .* \.\.\. FAILED$' "$scratch/unit")
     [ $((good + bad)) -gt 0 ] || { bad=1 && tail -n 20 "$scratch/unit"; }
@@ -51,6 +51,7 @@ ln -s "$stand_ins/nvcc" "$CUDA/bin/nvcc"
 cp "$driver" "$scratch/bin/zigrunk-nvcc"
 for name in plan report; do ln -s zigrunk-nvcc "$scratch/bin/zigrunk-$name"; done
 nvcc_driver=$scratch/bin/zigrunk-nvcc
+usual_path=$PATH
 export PATH=$CUDA/bin:$PATH
 plain=(ZIGRUNK_EXPLAIN=1 NVCC_STATUS=5)
 # By how much a busy machine may be slower than an idle one: a limit of so many seconds on an idle one is so many times longer.
@@ -340,7 +341,7 @@ ROWS
         end
     fi
     if case_of 'its directory vanishes'; then
-        start "${plain[@]}" TOOL_DOES='[ "$name" != cudafe++ ] || until rm -rf "$TMPDIR/../../../zigrunk-"* 2> /dev/null; do :; done' -c k.cu -o k.o
+        start "${plain[@]}" TOOL_DOES='[ "$name" != cudafe++ ] || until rm -rf "$TMPDIR/../../../zigrunk-"* 2> /dev/null && [ ! -e "$TMPDIR" ]; do :; done' -c k.cu -o k.o
         within 20 has_begun cudafe++
         { wait "$process"; } 2> /dev/null
         status=$?
