@@ -54,7 +54,7 @@ find_sources
 start shellcheck by_shellcheck
 start mypy env MYPYPATH=bindings/python mypy --strict --scripts-are-modules --ignore-missing-imports --soft-error-limit=-1 --cache-dir=/dev/null "${modules[@]}"
 # The kit's module is on the path only after a statement (E402). The rows of a table are long.
-start flake8 flake8 --max-line-length=150 --extend-ignore=E402 --per-file-ignores='tests/long_bodies.py:E501' "${modules[@]}"
+start flake8 flake8 --max-line-length=150 --extend-ignore=E402 "${modules[@]}"
 start rustfmt by_rustfmt
 for at in "${!tools[@]}"; do
     if wait "${processes[at]}"; then count "${tools[at]}" ''; else count "${tools[at]}" "$(cat "$scratch/${tools[at]}.said")"; fi
