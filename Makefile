@@ -26,7 +26,7 @@ driver_from = if command -v cargo > /dev/null; then $(MAKE) rust-sources && cd $
 endif
 driver = $(workspace)/target/release/zigrunk-driver
 
-.PHONY: help demo build lib rust rust-sources rust-install check install install-programs install-library install-rust uninstall dist bench drivers fuzz-library fuzz-plain erased-kit must-fail refused-memory end-to-end odd-calls random-calls mutants-by-lot versions cache cache-edits cache-example peer cluster field platforms test-install dist-test check-docs lint test
+.PHONY: help demo build lib rust rust-sources rust-install check install install-programs install-library install-rust uninstall dist bench drivers fuzz-library fuzz-plain erased-kit must-fail refused-memory end-to-end odd-calls random-calls mutants-by-lot versions cache cache-edits cache-example peer cluster field platforms test-install dist-test check-docs lint one test
 
 help:
 	@echo 'make demo             run cudaplan, unproved, on two calls; a minute from a fresh clone'
@@ -41,6 +41,7 @@ help:
 	@echo 'make check CRATE=dry_runs   prove one crate over kept libraries, or with FUNCTION=PATH one function of it; no verdict'
 	@echo 'make test             the whole gate, with rt ci in it; the last line is N passed, M failed; BODIES=all tries all wrong bodies,'
 	@echo '                      ANEW=1 takes no proof from an earlier run on this machine'
+	@echo 'make one CASE=TEXT    run the cases of the shell scripts and the unit tests of the driver whose names have this text'
 	@echo 'make drivers          compile the test drivers, unproved, and run their cases, or those of NAMES="test_lines"'
 	@echo 'make must-fail        check that the prover rejects the wrong bodies of all crates, or of CRATES="texts dry_runs"'
 	@echo 'make fuzz-library     fuzz libzigrunk for an hour, guided by coverage; needs clang with libFuzzer; FUZZ_SECONDS=3600'
@@ -194,6 +195,9 @@ field: rust
 # The pages name files, definitions and calls; this finds names that aren't there.
 check-docs:
 	@tests/docs.py
+
+one:
+	@tests/one.sh "$(CASE)"
 
 # What the prover doesn't read.
 lint:

@@ -47,7 +47,7 @@ export TOOL_DOES OWN_DOES NVCC_DOES
 
 # case_of NAME: begins a case, if it is one of those to run.
 case_of() {
-    [[ $1 == *${ONLY-}* ]] || return 1
+    is_wanted "$1" || return 1
     room=$scratch/room list=''
     begin "$1"
     mkdir "$room/run" && chmod 700 "$room/run"

@@ -21,7 +21,7 @@ for name in nvcc cache report; do ln -s "$driver" "$scratch/bin/zigrunk-$name"; 
 
 # case_of NAME: begins a case, if it is one of those to run.
 case_of() {
-    [[ $1 == *${ONLY-}* ]] || return 1
+    is_wanted "$1" || return 1
     room=$scratch/room
     begin "$1"
     mkdir -m 700 "$room/run"

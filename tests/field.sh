@@ -6,7 +6,7 @@
 #   DRIVER_BIN=FOLDER            where zigrunk-nvcc is, else where `make rust` leaves it
 #   PROJECTS='bart ceres'        only these of tests/field
 #   GENERATORS='Ninja'           only these of Ninja, make and own; make is CMake's too, and own is a project's own make
-#   ONLY=PATTERN                 only the objects whose paths match, for each project; some projects' files name such a part themselves
+#   OBJECTS=PATTERN              only the objects whose paths match, for each project; some projects' files name such a part themselves
 #   ZIGRUNK_FIELD=FOLDER         what it downloads and builds, else zigrunk/field in your cache folder
 #   SCCACHE=PATH                 sccache, if it isn't the one on the path; one before 0.9 doesn't know nvcc's tools
 #   JOBS=N                       so many processes at once, else as many as there are processors
@@ -163,7 +163,7 @@ one() {
     project=$1
     # shellcheck source=/dev/null # each has the same variables
     . "tests/field/$project.sh"
-    only=${ONLY:-$only}
+    only=${OBJECTS:-$only}
     [ "${#settings[@]}" -gt 0 ] || generators=own
     fetch
     case $? in

@@ -1,5 +1,6 @@
 # What the test scripts share: a folder for their files, $scratch, cases, counts and the last line. A script sources it from the top of
-# the repository, and ends with `summary`. Each case is counted once: by `check`, `same`, `count` or `end_case`.
+# the repository, and ends with `summary`. Each case is counted once: by `check`, `same`, `count` or `end_case`. ONLY, if set, is a text: cases
+# whose names lack it aren't counted. `make one CASE=TEXT` sets it.
 # shellcheck shell=bash
 
 scratch=$(mktemp -d)
@@ -8,8 +9,14 @@ passed=0
 failed=0
 skipped=0
 
+# is_wanted NAME: whether a case of this name is one of those to run.
+is_wanted() {
+    [[ $1 == *"${ONLY-}"* ]]
+}
+
 # count NAME PROBLEM: counts a case, which has passed if there is no problem.
 count() {
+    is_wanted "$1" || return 0
     if [ -z "$2" ]; then
         passed=$((passed + 1))
     else

@@ -19,7 +19,7 @@ readonly USAGE=$'usage: cudaplan line TOOL CWD WORD.. | plan CWD TMP FLAG DRY1 D
 readonly NO_COMPILATION=$'cudaplan: not a compilation\n'
 readonly CANNOT_WRITE=$'cudaplan: cannot write\n'
 
-# judge NAME STATUS OUT ERR: compares a status with that of the last run, and two texts with what it wrote.
+# judge NAME STATUS OUT ERR: compares a status with that of the last run, and two texts with what it wrote. It shows where a text differs.
 judge() {
     printf '%s' "$3" > "$scratch/want_out"
     printf '%s' "$4" > "$scratch/want_err"
@@ -28,16 +28,22 @@ judge() {
     if [ "$got" != "$2" ]; then
         problem="status $got, not $2"
     elif ! cmp -s "$scratch/out" "$scratch/want_out"; then
-        problem='standard output differs'
+        problem="standard output differs"$'\n'$(difference out)
     elif ! cmp -s "$scratch/err" "$scratch/want_err"; then
-        problem='standard error differs'
+        problem="standard error differs"$'\n'$(difference err)
     fi
     count "$1" "$problem"
+}
+
+# difference NAME: the first lines that differ between what a stream should have and what it has, each up to 200 bytes.
+difference() {
+    diff -a -U 1 --label wanted --label printed "$scratch/want_$1" "$scratch/$1" | head -n 20 | cut -b -200
 }
 
 # check NAME STATUS OUT ERR WORD..: a call with these words. Here it takes the place of the check of tests/lib.sh.
 check() {
     local name=$1 status=$2 out=$3 err=$4
+    is_wanted "$name" || return 0
     shift 4
     "$program" "$@" > "$scratch/out" 2> "$scratch/err"
     echo $? > "$scratch/status"
@@ -525,8 +531,8 @@ keep_dir=''
     reads 'words of two files' '' "$words -g -w -c k.cu" -c "''" "''" -c k.cu -optf "$scratch/lines/g.rsp" "--options-file=$scratch/lines/w.rsp"
     NVCC_APPEND_FLAGS="-optf $scratch/lines/g.rsp" reads 'words of a file in a variable' '' "$words -g -c k.cu" -c "''" "''" -c k.cu
     passes 'a file that is no UTF-8' 'an options file is missing or odd' -c k.cu -optf "$scratch/lines/latin.rsp"
-    # (the pipe has a text for a program that reads it)
-    printf -- '-g' > "$scratch/lines/pipe.rsp" &
+    # The pipe has a text for a program that reads it. bash would run this script's trap if it ended the writer while that waits.
+    { trap - EXIT && printf -- '-g' > "$scratch/lines/pipe.rsp"; } &
     passes 'a file that is a pipe' 'an options file is missing or odd' -c k.cu -optf "$scratch/lines/pipe.rsp"
     { kill $! && wait $!; } 2> /dev/null
     words=$(printf ' -DA%.0s' {1..100000})
