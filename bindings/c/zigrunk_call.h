@@ -783,14 +783,52 @@ static int zigrunk_own_names_tmp(const zigrunk_call *call, zigrunk_text dry_run)
     return 0;
 }
 
-/* A path as commands have it. */
-static const char *zigrunk_own_joined(zigrunk_call *call, const char *path) {
-    size_t length = strlen(call->cwd) + strlen(path) + 2;
+/* A path as commands have it, of a word of one that runs in a directory. */
+static const char *zigrunk_own_joined(zigrunk_call *call, const char *cwd, const char *path) {
+    size_t length = strlen(cwd) + strlen(path) + 2;
     char *joined = path[0] == '/' ? NULL : (char *)zigrunk_own_room(call, length, 1);
     if (joined) {
-        snprintf(joined, length, "%s%s%s", call->cwd, strcmp(call->cwd, "/") == 0 ? "" : "/", path);
+        snprintf(joined, length, "%s%s%s", cwd, strcmp(cwd, "/") == 0 ? "" : "/", path);
     }
     return joined ? joined : path;
+}
+
+/* The place of a command in its dry run. */
+static void zigrunk_own_note_place(zigrunk_call *call, const zigrunk_planned *command) {
+    call->place.field = (uint32_t)command->dry_run;
+    call->place.run = command->dry_run;
+    call->place.line = command->line;
+}
+
+/* nvcc tells its tools the source's real path, which shows where a dry run was made. It can't where there is no source. */
+static int32_t zigrunk_own_check_directory(zigrunk_call *call, const zigrunk_planned *command, const char *source) {
+    const char *path = zigrunk_own_behind(command->run.words, "--orig_src_path_name");
+    struct stat own, other;
+    if (!path || path[0] != '/' || stat(source, &own) != 0 || (stat(path, &other) == 0 && own.st_dev == other.st_dev && own.st_ino == other.st_ino)) {
+        return ZIGRUNK_OK;
+    }
+    zigrunk_own_note_place(call, command);
+    return zigrunk_own_refuse(call, ZIGRUNK_NO_DRY_RUN, "the dry runs were made elsewhere: their source has another path");
+}
+
+static int zigrunk_own_makes_object(const zigrunk_call *call) {
+    const char *const flags[] = {"-c", "--compile", "-dc", "--device-c", "-dw", "--device-w"};
+    for (size_t i = 0; i < sizeof flags / sizeof *flags; i++) {
+        if (strcmp(call->flag, flags[i]) == 0) {
+            return 1;
+        }
+    }
+    return 0;
+}
+
+/* An object includes the fatbin by the name that cicc got, which no word of the host compiler says. */
+static int32_t zigrunk_own_check_fatbin(zigrunk_call *call, const zigrunk_planned *command) {
+    const char *name = zigrunk_own_behind(command->run.words, "--include_file_name");
+    if (!name || !zigrunk_own_makes_object(call) || zigrunk_own_writes(call, call->count, zigrunk_own_joined(call, command->run.cwd, name))) {
+        return call->status;
+    }
+    zigrunk_own_note_place(call, command);
+    return zigrunk_own_refuse(call, ZIGRUNK_TO_NVCC, "goes to nvcc: no command of its plan writes the fatbin");
 }
 
 /* A command needs the commands that write what it reads in the temporary directory, so each such file has to have one. */
@@ -803,23 +841,24 @@ static int32_t zigrunk_own_check_needs(zigrunk_call *call, const zigrunk_planned
         if (!zigrunk_own_names_tmp(call, dry2)) {
             return zigrunk_own_no_dry_run(call, ZIGRUNK_FIELD_DRY2, 0, "this dry run doesn't have the directory for temporary files");
         }
-        call->place.field = (uint32_t)command->dry_run;
-        call->place.run = command->dry_run;
-        call->place.line = command->line;
+        zigrunk_own_note_place(call, command);
         return zigrunk_own_refuse(call, ZIGRUNK_TO_NVCC, "goes to nvcc: a command of its plan reads a file that no command writes");
     }
     return ZIGRUNK_OK;
 }
 
 static int32_t zigrunk_own_check_plan(zigrunk_call *call, zigrunk_text dry2) {
-    if (!zigrunk_own_reads(call, zigrunk_own_joined(call, call->input))) {
+    const char *source = zigrunk_own_joined(call, call->cwd, call->input);
+    if (!zigrunk_own_reads(call, source)) {
         return zigrunk_own_no_dry_run(call, ZIGRUNK_FIELD_DRY2, 0, "the dry runs are of another call: none of their commands reads its source");
     }
-    if (call->outputs[0] && !zigrunk_own_writes(call, call->count, zigrunk_own_joined(call, call->outputs[0]))) {
+    if (call->outputs[0] && !zigrunk_own_writes(call, call->count, zigrunk_own_joined(call, call->cwd, call->outputs[0]))) {
         return zigrunk_own_no_dry_run(call, ZIGRUNK_FIELD_DRY2, 0, "the dry runs are of another call: none of their commands writes its product");
     }
     for (size_t i = 0; i < call->count; i++) {
-        if (zigrunk_own_check_needs(call, &call->commands[i], dry2) != ZIGRUNK_OK) {
+        const zigrunk_planned *command = &call->commands[i];
+        if (zigrunk_own_check_needs(call, command, dry2) != ZIGRUNK_OK || zigrunk_own_check_directory(call, command, source) != ZIGRUNK_OK
+            || zigrunk_own_check_fatbin(call, command) != ZIGRUNK_OK) {
             return call->status;
         }
     }

@@ -28,6 +28,8 @@ make_room() {
     local tool
     mkdir -p "$1/bin" "$1/w" "$1/t/t" "$1/u"
     ln -s t "$1/link"
+    ln -s w "$1/sources"
+    touch "$1/w/kernel.cu" "$1/u/kernel.cu"
     for tool in gcc cudafe++ cicc ptxas fatbinary rm; do
         printf '#!/bin/sh\n' > "$1/bin/$tool"
     done
@@ -37,6 +39,9 @@ make_room() {
     edited "$1" other 's,kernel\.cu,other.cu,g'
     edited "$1" product 's,"kernel\.o","other.o",'
     edited "$1" less '/ptxas -arch/d'
+    edited "$1" bare '/^#[$] fatbinary /d'
+    edited "$1" elsewhere "s,orig_src_path_name \"[^\"]*\",orig_src_path_name \"$1/u/kernel.cu\","
+    edited "$1" linked "s,orig_src_path_name \"[^\"]*\",orig_src_path_name \"$1/sources/kernel.cu\","
     edited "$1" more '25s/$/ -DMORE/'
     cp "$1/one.dry1" "$1/more.dry1"
     edited "$1" quote "\$a#\$ gcc 'open"

@@ -1083,13 +1083,42 @@ class Call:
             raise _no_dry_run(f"the dry runs are of another call: none of their commands writes {self.outputs[0]}", Field.DRY2)
         before: Set[str] = set()
         for command in plan.commands:
+            place = Place(Field(command.run), command.line + 1)
             missing = [path for path in command.reads if path.startswith(self.tmp + "/") and path not in before]
             if missing and not re.search(rb'["=]' + re.escape(_bytes(self.tmp)) + rb"/", dry2):
                 raise _no_dry_run("this dry run doesn't have the directory for temporary files", Field.DRY2)
+            if not missing and self._is_elsewhere(command):
+                raise ZigrunkError(Status.NO_DRY_RUN, "the dry runs were made elsewhere: their source has another path", place)
+            missing += self._unwritten_fatbin(command, written)
             if missing:
-                place = Place(Field(command.run), command.line + 1)
                 raise ZigrunkError(Status.TO_NVCC, f"goes to nvcc: no command of its plan writes {missing[0]}", place)
             before.update(command.writes + command.may_write)
+
+    def _is_elsewhere(self, command: Command) -> bool:
+        """Whether a dry run was made in another directory: nvcc tells its tools the source's real path. It can't where there is no source."""
+        path, source = _behind(command.arguments, "--orig_src_path_name"), os.path.join(self.cwd, self.input)
+        try:
+            own = os.stat(source)
+        except OSError:
+            return False
+        try:
+            return path is not None and path.startswith("/") and not os.path.samestat(own, os.stat(path))
+        except OSError:
+            return True
+
+    def _unwritten_fatbin(self, command: Command, written: Set[str]) -> List[str]:
+        """An object includes the fatbin by the name that cicc got, which no word of the host compiler says."""
+        name = _behind(command.arguments, "--include_file_name") if self.flag in _MAKE_OBJECTS else None
+        path = os.path.join(command.cwd, name or "")
+        return [path] if name and path not in written else []
+
+
+_MAKE_OBJECTS = ("-c", "--compile", "-dc", "--device-c", "-dw", "--device-w")
+
+
+def _behind(words: Sequence[str], option: str) -> Optional[str]:
+    """The word behind an option."""
+    return next((value for word, value in zip(words, words[1:]) if word == option), None)
 
 
 def _no_dry_run(message: str, at: Field, line: Optional[int] = None) -> ZigrunkError:

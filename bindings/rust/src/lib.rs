@@ -18,7 +18,8 @@
 //! ```
 //!
 //! [`Call::plan`] runs nvcc's dry runs on this machine, and [`find_programs`] looks on its disk for the programs that they name. Nothing
-//! else here starts a process or reads a file: [`Call::plan_of`] plans dry runs that you have, with programs that you know, for any machine.
+//! else here starts a process: [`Call::plan_of`] plans dry runs that you have, with programs that you know, for any machine. If the source is
+//! on this one, it looks where that is.
 //! [`plan_text`] writes the same plan as JSON, as a Ninja file, as a shell script or for people. A [`schedule`] says in which order to run
 //! the commands.
 //!

@@ -3,7 +3,7 @@
 use std::collections::HashSet;
 use std::num::NonZeroUsize;
 use std::process::{Child, Command, Output, Stdio};
-use std::{error, fmt, io};
+use std::{error, fmt, fs, io};
 
 use crate::{
     Error, FoundProgram, NvccCall, Plan, PlanCall, Texts, Variable, backend, find_programs, pairs, plan, split, variables,
@@ -11,10 +11,14 @@ use crate::{
 
 /// The status of [`ErrorKind::ToNvcc`](crate::ErrorKind).
 const TO_NVCC: i32 = 10;
+/// The status of [`ErrorKind::NoDryRun`](crate::ErrorKind).
+const NO_DRY_RUN: i32 = 12;
 /// The status of [`ErrorKind::OddDirectory`](crate::ErrorKind).
 const ODD_DIRECTORY: i32 = 13;
 /// The number of [`Field::Tmp`](crate::Field).
 const FIELD_TMP: u32 = 4;
+/// The options by which a call makes an object.
+const MAKE_OBJECTS: [&str; 6] = ["-c", "--compile", "-dc", "--device-c", "-dw", "--device-w"];
 
 /// Why a call of nvcc isn't planned.
 #[derive(Debug)]
@@ -107,8 +111,8 @@ fn printed(dry_run: Child) -> Result<Vec<u8>, CallError> {
 }
 
 /// The word behind an option.
-fn behind<'a>(words: &'a [String], option: &str) -> Option<&'a String> {
-    words.iter().skip_while(|word| *word != option).nth(1)
+fn behind<'a, S: AsRef<str>>(words: &'a [S], option: &str) -> Option<&'a str> {
+    words.iter().map(AsRef::as_ref).skip_while(|word| *word != option).nth(1)
 }
 
 /// A call of nvcc, whose line was read.
@@ -197,11 +201,11 @@ impl Call {
     /// The paths of what the call makes: the product, and the dependency file if there is one.
     pub fn outputs(&self) -> impl Iterator<Item = &str> {
         let rule = self.dependencies.as_ref().and_then(|run| behind(&run.words, "-MF"));
-        self.product().into_iter().chain(rule.map(String::as_str))
+        self.product().into_iter().chain(rule)
     }
 
     fn product(&self) -> Option<&str> {
-        behind(&self.dry_runs[0].words, "-o").map(String::as_str)
+        behind(&self.dry_runs[0].words, "-o")
     }
 
     /// Runs both dry runs, finds the programs that they name on this machine, and plans.
@@ -269,25 +273,43 @@ impl Call {
                 let error = Error::new(TO_NVCC, format!("goes to nvcc: no command of its plan writes {path}"));
                 return Err(error.at(place_in(command.run(), command.line() + 1)));
             }
+            self.check_names(plan, command)?;
             written.extend(command.writes().chain(command.may_write()));
         }
         Ok(())
     }
 
+    /// Two names in words of nvcc's tools. The source's real path shows where a dry run was made, if the source is there. An object includes the
+    /// fatbin by the name that cicc got, which no word of the host compiler says.
+    fn check_names(&self, plan: &Plan, command: plan::Command<'_>) -> Result<(), Error> {
+        let place = || place_in(command.run(), command.line() + 1);
+        let words: Vec<&str> = command.arguments().collect();
+        let source = fs::canonicalize(joined(&self.cwd, self.input()));
+        let told = behind(&words, "--orig_src_path_name").filter(|path| path.starts_with('/'));
+        if let (Some(told), Ok(source)) = (told, source) {
+            if fs::canonicalize(told).map_or(true, |path| path != source) {
+                let message = format!("the dry runs were made elsewhere: their source is {told}");
+                return Err(Error::new(NO_DRY_RUN, message).at(place()));
+            }
+        }
+        let fatbin = behind(&words, "--include_file_name").filter(|_| MAKE_OBJECTS.contains(&self.flag()));
+        match fatbin.map(|name| joined(command.cwd(), name)).filter(|path| !writes(plan, path)) {
+            None => Ok(()),
+            Some(path) => {
+                let error = Error::new(TO_NVCC, format!("goes to nvcc: no command of its plan writes {path}"));
+                Err(error.at(place()))
+            }
+        }
+    }
+
     /// The commands have to read the call's source, and to write its product.
     fn check_files(&self, plan: &Plan) -> Result<(), Error> {
-        let joined = |path: &str| {
-            if path.starts_with('/') { path.to_owned() } else { format!("{}/{path}", self.cwd.trim_end_matches('/')) }
-        };
-        let (input, product) = (joined(self.input()), self.product().map(joined));
+        let (input, product) = (joined(&self.cwd, self.input()), self.product().map(|path| joined(&self.cwd, path)));
         if !plan.commands().any(|command| command.reads().any(|path| path == input)) {
             let message = format!("the dry runs are of another call: none of their commands reads {}", self.input());
             return Err(no_dry_run(&message, 2, 0));
         }
-        let is_written = |product: &String| {
-            plan.commands().any(|command| command.writes().chain(command.may_write()).any(|path| path == product))
-        };
-        match product.filter(|product| !is_written(product)) {
+        match product.filter(|product| !writes(plan, product)) {
             None => Ok(()),
             Some(product) => {
                 Err(no_dry_run(&format!("the dry runs are of another call: none of their commands writes {product}"), 2, 0))
@@ -296,13 +318,23 @@ impl Call {
     }
 }
 
+/// A path as commands have it, of a word of one that runs in a directory.
+fn joined(cwd: &str, path: &str) -> String {
+    if path.starts_with('/') { path.to_owned() } else { format!("{}/{path}", cwd.trim_end_matches('/')) }
+}
+
+/// Whether a command of a plan may write a file.
+fn writes(plan: &Plan, file: &str) -> bool {
+    plan.commands().any(|command| command.writes().chain(command.may_write()).any(|path| path == file))
+}
+
 /// The place of a line of a dry run, or of the whole text if the line is 0.
 fn place_in(run: usize, line: usize) -> backend::Place {
     backend::Place { run: if line > 0 { run } else { 0 }, line, field: if run == 1 { 1 } else { 2 }, reserved: 0 }
 }
 
 fn no_dry_run(message: &str, run: usize, line: usize) -> Error {
-    Error::new(12, message.to_owned()).at(place_in(run, line))
+    Error::new(NO_DRY_RUN, message.to_owned()).at(place_in(run, line))
 }
 
 /// The lines of a dry run that say something, without blanks at their ends, each with its number from 1. Which files nvcc removes says nothing.
