@@ -1,6 +1,7 @@
 #!/usr/bin/env bash
-# Compares what the examples of docs/EMBEDDING.md make with what nvcc makes: the scheduler in C++, the cache server in Go, twice, and the key maker in Rust
-# if cargo built it. Needs nvcc, and a library as tests/callers.sh does. The last line is 'N passed, M failed'.
+# Compares what the examples of docs/EMBEDDING.md make with what nvcc makes: the scheduler in C++, whose workers see none of the call's files (that needs
+# root), the cache server in Go, twice and in another folder, and the key maker in Rust if cargo built it. Needs nvcc, and a library as
+# tests/callers.sh does. The last line is 'N passed, M failed'.
 #
 #   tests/callers_products.sh [FOLDER]      KEYS=FILE: the key maker, as `cargo build --example keys` leaves it
 set -u
@@ -24,8 +25,16 @@ printf '%s\n' '__global__ void s(int *a) { *a = ; }' > bad.cu
 server=$!
 trap 'kill "$server"; wait "$server" 2> /dev/null; rm -rf "$scratch"' EXIT
 until [ -S "$scratch/socket" ]; do sleep 0.05; done
-calls=('-c k.cu -o k.o' '-c k.cu -o k.o -gencode arch=compute_80,code=sm_80 -gencode arch=compute_86,code=sm_86 -gencode arch=compute_90,code=[sm_90,compute_90]'
-    '-dc k.cu -o k.o' '-fatbin k.cu -o k.fatbin' '-ptx k.cu -o k.ptx' '-MD -c k.cu -o k.o' '-c warn.cu -o k.o' '-c bad.cu -o k.o')
+# A call, and how many of its commands the server can have.
+calls=('3 -c k.cu -o k.o' '7 -c k.cu -o k.o -gencode arch=compute_80,code=sm_80 -gencode arch=compute_86,code=sm_86 -gencode arch=compute_90,code=[sm_90,compute_90]'
+    '3 -dc k.cu -o k.o' '2 -fatbin k.cu -o k.fatbin' '1 -ptx k.cu -o k.ptx' '3 -MD -c k.cu -o k.o' '3 -c warn.cu -o k.o' '0 -c bad.cu -o k.o')
+
+# A worker that shares no disk: each command finds the folders of the call and of temporary files empty.
+printf '%s\n' '#!/bin/sh' "exec unshare -m sh -c 'mount -t tmpfs none \"\$0/w\" && mount -t tmpfs none \"\$0/tmp\" && eval \"\$1\"' '$scratch' \"\$1\"" > "$scratch/worker"
+chmod +x "$scratch/worker"
+worker=$scratch/worker
+"$worker" true || worker=''
+[ -n "$worker" ] || skip 'the scheduler' 'no folder can be mounted here'
 
 # made NAME COMMAND..: what a command makes, prints and returns, in $scratch/NAME.
 made() {
@@ -41,26 +50,34 @@ made() {
 like_nvcc() { diff -r "$scratch/nvcc" "$scratch/$1"; }
 
 for call in "${calls[@]}"; do
+    read -r hits call <<< "$call"
     read -ra words <<< "$call"
     made nvcc nvcc "${words[@]}"
-    made scheduled "$scratch/scheduler" 4 "${words[@]}"
-    check "the scheduler: $call" like_nvcc scheduled
+    if [ -n "$worker" ]; then
+        made scheduled env TMPDIR="$scratch/tmp" "$scratch/scheduler" "$worker" "$worker" "$worker" -- "${words[@]}"
+        check "the scheduler: $call" like_nvcc scheduled
+    fi
     export CACHESERVER_LOG=$scratch/log
     rm -f "$scratch/log"
     made first "$scratch/cacheserver" make "$scratch/socket" "${words[@]}"
     check "the cache server, first: $call" like_nvcc first
     made second "$scratch/cacheserver" make "$scratch/socket" "${words[@]}"
     check "the cache server, second: $call" like_nvcc second
-    # all that a cache may serve: what neither preprocesses nor compiles for the host, nor packs
-    [ ! -f "$scratch/log" ] || check "its hits: $call" grep -qE '^([1-9]|1[0-9]) of' "$scratch/log"
+    [ "$hits" = 0 ] || check "its hits: $call" grep -q "^$hits of" "$scratch/log"
     if [ -n "${KEYS-}" ]; then
         rm -rf "$scratch/tmp"
         mkdir "$scratch/tmp"
         made keyed "$KEYS" "$PWD" "$scratch/tmp" nvcc "${words[@]}"
-        grep -E '^[0-9a-f]{16} |^- ' "$scratch/keyed/output" > "$scratch/keys.1"
+        grep -E $'^([0-9a-f]{16}|-)\t' "$scratch/keyed/output" > "$scratch/keys.1"
         made keyed_again "$KEYS" "$PWD" "$scratch/tmp" nvcc "${words[@]}"
-        grep -E '^[0-9a-f]{16} |^- ' "$scratch/keyed_again/output" > "$scratch/keys.2"
+        grep -E $'^([0-9a-f]{16}|-)\t' "$scratch/keyed_again/output" > "$scratch/keys.2"
         check "the key maker: $call" cmp "$scratch/keys.1" "$scratch/keys.2"
     fi
 done
+# Elsewhere the source has another path, which cudafe++ and cicc get. The PTX is the same.
+cp -r "$scratch/w" "$scratch/other" && cd "$scratch/other" || exit 1
+made nvcc nvcc -c k.cu -o k.o
+made elsewhere "$scratch/cacheserver" make "$scratch/socket" -c k.cu -o k.o
+check 'the cache server, in another folder' like_nvcc elsewhere
+check 'its hits in another folder' grep -q '^1 of' "$scratch/log"
 summary

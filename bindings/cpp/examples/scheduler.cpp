@@ -1,37 +1,27 @@
-// Makes what nvcc makes, with several commands at once: `scheduler JOBS WORD..` in place of `nvcc WORD..`. What the commands print comes in the
-// order in which nvcc prints it, and the status is nvcc's.
+// Makes what nvcc makes, on workers that share no disk with this machine or each other: `scheduler WORKER.. -- WORD..` in place of `nvcc WORD..`. A
+// WORKER is what a shell runs in front of a script, such as 'ssh node'; one that is there twice runs two commands at once. A command gets the files
+// that it reads, and sends back those that it writes. Preprocessors run here, since they read headers. What the commands print comes in the order in
+// which nvcc prints it, and the status is nvcc's.
 #include <zigrunk.hpp>
 
-#include <cstdio>
+#include <algorithm>
 #include <cstdlib>
 #include <filesystem>
+#include <fstream>
 #include <iostream>
 #include <map>
-#include <spawn.h>
 #include <sys/wait.h>
 #include <unistd.h>
-#include <vector>
 
 namespace {
 
-// Where a command prints, and what became of it.
-struct Ran {
-    std::FILE *output = nullptr;
-    std::FILE *errors = nullptr;
-    int status = 0;
-};
+using zigrunk::Command, zigrunk::quote, zigrunk::Texts;
 
-int code_of(int status) {
-    return WIFEXITED(status) ? WEXITSTATUS(status) : 128 + WTERMSIG(status);
-}
-
-// Starts a program with its own directory and environment. A stream that is null stays that of this process.
-pid_t start(const zigrunk::Run &run, std::FILE *output, std::FILE *errors) {
+pid_t start(const zigrunk::Run &run) {
     std::vector<char *> words = zigrunk::own::pointers(run.words), environment = zigrunk::own::pointers(run.environment);
     const pid_t process = fork();
     if (process == 0) {
-        const bool placed = chdir(run.cwd.c_str()) == 0 && (!output || dup2(fileno(output), 1) == 1) && (!errors || dup2(fileno(errors), 2) == 2);
-        if (placed) {
+        if (chdir(run.cwd.c_str()) == 0) {
             environ = environment.data();
             execvp(words[0], words.data());
         }
@@ -44,96 +34,115 @@ pid_t start(const zigrunk::Run &run, std::FILE *output, std::FILE *errors) {
 // Runs a program and waits for it.
 int made(const zigrunk::Run &run) {
     int status = 127 << 8;
-    const pid_t process = start(run, nullptr, nullptr);
-    return process > 0 && waitpid(process, &status, 0) == process ? code_of(status) : 127;
-}
-
-// nvcc makes the call itself.
-int by_nvcc(const zigrunk::Texts &words) {
-    zigrunk::Run run{{"nvcc"}, zigrunk::environment(), std::filesystem::current_path().string()};
-    run.words.insert(run.words.end(), words.begin(), words.end());
-    return made(run);
-}
-
-void copy(std::FILE *from, std::FILE *to) {
-    char part[65536];
-    std::rewind(from);
-    while (const std::size_t got = std::fread(part, 1, sizeof part, from)) {
-        std::fwrite(part, 1, got, to);
+    const pid_t process = start(run);
+    while (process > 0 && waitpid(process, &status, 0) < 0 && errno == EINTR) {
     }
-    std::fflush(to);
+    return WIFEXITED(status) ? WEXITSTATUS(status) : 128 + WTERMSIG(status);
 }
 
-// Waits for one of the commands that run, and notes how it ended.
-void note_one(std::map<pid_t, std::size_t> &running, std::vector<Ran> &ran, zigrunk::Schedule &schedule) {
-    int status = 0;
-    const pid_t process = waitpid(-1, &status, 0);
-    if (const auto found = running.find(process); found != running.end()) {
-        ran[found->second].status = code_of(status);
-        schedule.ended(found->second, status == 0);
-        running.erase(found);
+void append(Texts &to, const Texts &more) {
+    to.insert(to.end(), more.begin(), more.end());
+}
+
+Texts written(const Command &command) {
+    Texts files = command.writes;
+    append(files, command.may_write);
+    return files;
+}
+
+// The files that a command reads: those of its words, and what commands before it wrote for it.
+Texts read(const zigrunk::Plan &plan, const Command &command) {
+    Texts files = command.reads;
+    for (std::size_t i = 0; command.missing != ZIGRUNK_NONE_MISSING && i < command.needs.size(); ++i) {
+        append(files, written(plan.commands[command.needs[i]]));
+    }
+    files.erase(std::remove_if(files.begin(), files.end(), [](const std::string &path) { return !std::filesystem::exists(path); }), files.end());
+    return files;
+}
+
+// A shell's text that runs a command. What it prints, and its status, come to files.
+std::string script(const Command &command, const std::string &said) {
+    Texts words = command.environment, folders{command.cwd, std::filesystem::path(said).parent_path()};
+    append(words, command.words);
+    for (const std::string &path : written(command)) {
+        folders.push_back(std::filesystem::path(path).parent_path());
+    }
+    return "mkdir -p " + quote(folders) + " && ( cd " + quote({command.cwd}) + " && exec env -i " + quote(words) + " ) < /dev/null > " + quote({said + ".output"})
+        + " 2> " + quote({said + ".errors"}) + "; echo $? > " + quote({said + ".status"});
+}
+
+// The same on a worker, with the files that go there and come back.
+std::string script_on(const std::string &worker, const zigrunk::Plan &plan, const Command &command, const std::string &said) {
+    Texts back = written(command), files = read(plan, command);
+    append(back, {said + ".output", said + ".errors", said + ".status"});
+    const std::string there = "tar -xPf -; " + script(command, said) + "; tar -cPf - " + quote(back) + " 2> /dev/null";
+    return "tar -cPf - " + quote(files) + " | " + worker + " " + quote({there}) + " | tar -xPf -";
+}
+
+// The status of a command that ended; 127 if its worker was lost.
+int status_of(const std::string &said) {
+    int status = 127;
+    std::ifstream(said + ".status") >> status;
+    return status;
+}
+
+void print(const std::string &path, std::ostream &to) {
+    if (std::ifstream file{path}; file.peek() != EOF) {
+        to << file.rdbuf() << std::flush;
     }
 }
 
 // Runs the commands of a plan, and returns the status of the last one that nvcc would have run.
-int run_plan(const zigrunk::Plan &plan, std::size_t jobs) {
-    zigrunk::Schedule schedule(plan, jobs);
-    std::vector<Ran> ran(plan.commands.size());
-    std::map<pid_t, std::size_t> running;
+int run_plan(const zigrunk::Plan &plan, Texts free, const std::string &tmp) {
+    zigrunk::Schedule schedule(plan, free.size());
+    std::map<pid_t, std::pair<std::size_t, std::string>> running;
+    const auto said = [&tmp](std::size_t number) { return tmp + "/said." + std::to_string(number); };
     int status = 1;
     while (!schedule.over()) {
         while (const auto number = schedule.start()) {
-            Ran &one = ran[*number];
-            one.output = std::tmpfile(), one.errors = std::tmpfile();
-            const pid_t process = one.output && one.errors ? start(plan.commands[*number], one.output, one.errors) : -1;
-            if (process > 0) {
-                running[process] = *number;
-            } else {
-                one.status = 127;
-                schedule.ended(*number, false);
-            }
+            const Command &command = plan.commands[*number];
+            const std::string text = command.preprocesses ? script(command, said(*number)) : script_on(free.back(), plan, command, said(*number));
+            running[start({{"sh", "-c", text}, zigrunk::environment(), "/"})] = {*number, free.back()};
+            free.pop_back();
         }
-        if (!running.empty()) {
-            note_one(running, ran, schedule);
+        if (const auto ended = running.find(waitpid(-1, nullptr, 0)); ended != running.end()) {
+            schedule.ended(ended->second.first, status_of(said(ended->second.first)) == 0);
+            free.push_back(ended->second.second);
+            running.erase(ended);
         }
-        while (const auto told = schedule.tell()) {
-            copy(ran[*told].output, stdout);
-            copy(ran[*told].errors, stderr);
-            status = ran[*told].status;
+        while (const auto next = schedule.tell()) {
+            print(said(*next) + ".output", std::cout);
+            print(said(*next) + ".errors", std::cerr);
+            status = status_of(said(*next));
         }
     }
     return status;
 }
 
-// A directory for temporary files, which goes at the end.
-struct Folder {
-    Folder() {
-        std::string name = (std::filesystem::temp_directory_path() / "scheduler.XXXXXX").string();
-        path = mkdtemp(name.data()) ? name : throw std::runtime_error("no directory for temporary files");
-    }
-    ~Folder() {
-        std::error_code ignored;
-        std::filesystem::remove_all(path, ignored);
-    }
-    std::string path;
-};
-
 } // namespace
 
 int main(int count, char **arguments) {
-    if (count < 3) {
-        std::cerr << "usage: scheduler JOBS WORD..\n";
+    const Texts all(arguments + 1, arguments + count);
+    const auto end = std::find(all.begin(), all.end(), "--");
+    if (end == all.begin() || end == all.end()) {
+        std::cerr << "usage: scheduler WORKER.. -- WORD..\n";
         return 2;
     }
-    const zigrunk::Texts words(arguments + 2, arguments + count);
-    const Folder tmp;
+    const Texts workers(all.begin(), end), words(end + 1, all.end());
+    std::string tmp = (std::filesystem::temp_directory_path() / "scheduler.XXXXXX").string();
+    int status = mkdtemp(tmp.data()) ? 0 : 1;
     try {
-        zigrunk::Call call("nvcc", words, zigrunk::environment(), std::filesystem::current_path().string(), tmp.path);
+        zigrunk::Call call("nvcc", words, zigrunk::environment(), std::filesystem::current_path().string(), tmp);
         const zigrunk::Plan plan = call.plan();
         const auto rule = call.dependencies();
-        const int status = rule ? made(*rule) : 0;
-        return status != 0 ? status : run_plan(plan, std::strtoul(arguments[1], nullptr, 10));
-    } catch (const zigrunk::Error &) {
-        return by_nvcc(words);
+        status = rule ? made(*rule) : 0;
+        status = status != 0 ? status : run_plan(plan, workers, tmp);
+    } catch (const zigrunk::Error &) { // nvcc makes the call itself
+        zigrunk::Run run{{"nvcc"}, zigrunk::environment(), std::filesystem::current_path().string()};
+        append(run.words, words);
+        status = made(run);
     }
+    std::error_code ignored;
+    std::filesystem::remove_all(tmp, ignored);
+    return status;
 }
