@@ -1,0 +1,6 @@
+use Rattle.std.proofs.Common.{◌≡◌, map, drop, string_bytes}
+use Rattle.command_files.specs.Files.{share}
+use Rattle.early_starts.proofs.overlap.have_one_of.Given as goal
+
+abbrev pub invariant-loop-path : goal.invariant-loop-path
+invariant-loop-path l = share (map string_bytes (drop l.path-index l.paths)) (map string_bytes l.others) ≡ share (map string_bytes l.paths) (map string_bytes l.others)

@@ -1,0 +1,3 @@
+pub mod LateFiles
+pub mod Laws
+pub mod Overlaps

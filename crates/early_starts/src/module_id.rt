@@ -1,0 +1,76 @@
+//! The file that a command reads late.
+
+ghost use Rattle.std.specs.Prelude.{◌≡◌, ◌++◌, IfOk, map, string_bytes};
+ghost use Rattle.early_starts.specs.LateFiles as spec;
+
+use plans::{NvccGeneratedSubcommand, Program};
+use std::alloc::{AllocError, Global};
+use texts::text::{Text, join};
+use texts::words::{Words, word_after};
+
+/// The option behind which cicc and cudafe++ name the module id's file.
+fn module_id_option() -> &'static str
+    ensures { result.now ≡ spec.module_id_option }
+{
+    "--module_id_file_name"
+}
+
+/// The path of the module id's file that a command names, joined to its working directory.
+pub fn named_file(
+    alloc: Global,
+    command: &NvccGeneratedSubcommand,
+) -> Result<Option<Text>, AllocError>
+    ensures { IfOk result (λ file. file ≡ spec.named_file command.now) }
+{
+    match word_after(command.args.as_slice(), module_id_option()) {
+        None => Ok(None),
+        Some(word) => Ok(Some(Text::new(join(alloc, command.cwd.as_str(), word)?))),
+    }
+}
+
+/// The path of the file that a command reads only once it has parsed its input: cicc's module id. `None` if it isn't cicc, or names none.
+pub fn late_file(
+    alloc: Global,
+    command: &NvccGeneratedSubcommand,
+) -> Result<Option<Text>, AllocError>
+    ensures { IfOk result (λ file. file ≡ spec.late_file command.now) }
+{
+    match Program::at(command.exe.as_str()) {
+        Program::Cicc => named_file(alloc, command),
+        Program::Cudafe | Program::Ptxas | Program::Fatbinary | Program::Nvlink | Program::Other =>
+            Ok(None),
+    }
+}
+
+/// The words of a command with another name for that file.
+pub fn renamed(alloc: Global, words: &[String], name: &str) -> Result<Words, AllocError>
+    ensures { IfOk result (λ others. others ≡ spec.renamed name.now (map string_bytes words.now)) }
+{
+    let mut renamed = Words::with_capacity(alloc, words.len())?;
+    let mut rest = words;
+    while let [word, behind @ ..] = rest {
+        renamed.push_str(alloc, word.as_str())?;
+        if word.as_str() == module_id_option() {
+            return with_first(alloc, renamed, name, behind);
+        }
+        rest = behind;
+    }
+    Ok(renamed)
+}
+
+// Words, and others behind them with another first one.
+fn with_first(
+    alloc: Global,
+    words: Words,
+    name: &str,
+    others: &[String],
+) -> Result<Words, AllocError>
+    ensures { IfOk result (λ all. all ≡ words ++ spec.with_first name.now (map string_bytes others.now)) }
+{
+    let mut all = words;
+    if let [_, behind @ ..] = others {
+        all.push_str(alloc, name)?;
+        all.push_copies(alloc, behind)?;
+    }
+    Ok(all)
+}
