@@ -8,7 +8,7 @@ use std::io;
 use std::os::fd::{AsFd, BorrowedFd, OwnedFd};
 use std::os::unix::fs::MetadataExt;
 use std::path::{Path, PathBuf};
-use std::time::Duration;
+use std::time::{Duration, SystemTime};
 
 /// How many equal calls may have directories at once.
 const MOST_EQUAL_CALLS: usize = 64;
@@ -55,6 +55,11 @@ impl Folder {
     /// Whether the folder is still where it was opened.
     pub fn is_there(&self) -> bool {
         is_at(&self.path, &self.file)
+    }
+
+    /// When a file was last made or removed in it, if the disk says so.
+    pub fn changed(&self) -> Option<SystemTime> {
+        self.file.metadata().and_then(|folder| folder.modified()).ok()
     }
 
     /// Whether an open file is still the one of this name. It opens no file, of which there may be too many.

@@ -6,7 +6,7 @@
 //! wasn't touched for some seconds belongs to a call that is stopped or frozen, and doesn't count.
 use crate::folder::Folder;
 use crate::system::{self, Opening};
-use std::cell::Cell;
+use std::cell::{Cell, RefCell};
 use std::fs::{self, File};
 use std::io;
 use std::os::fd::{AsFd, AsRawFd, OwnedFd, RawFd};
@@ -15,6 +15,8 @@ use std::time::{Duration, SystemTime};
 
 /// How long a call that doesn't touch its files counts.
 const STALE: Duration = Duration::from_secs(5);
+/// How much later than its folder's last change a list of those who wait has to be read, so that a further change shows in the folder's time.
+const TICK: Duration = Duration::from_millis(50);
 /// How often holders and waiters touch their files, in milliseconds.
 pub const BEAT: i32 = 1000;
 
@@ -75,6 +77,8 @@ pub struct Slots {
     ticket: Option<Ticket>,
     /// Whether the disk has stopped to take locks.
     is_without_locks: Cell<bool>,
+    /// The calls that waited when the folder had last changed, and when that was.
+    known: RefCell<Option<(SystemTime, Vec<Waiter>)>>,
 }
 
 /// Whether a file was touched within the last seconds.
@@ -94,14 +98,20 @@ impl Slots {
         let folder = Folder::private(place, &format!("zigrunk-slots-{}", system::user()))?;
         let first = system::open_below(folder.as_fd(), "1", Opening::Kept)?;
         system::try_lock(first.as_fd())?;
-        Ok(Slots { folder, own, ticket: None, is_without_locks: Cell::new(false) })
+        Ok(Slots { folder, own, ticket: None, is_without_locks: Cell::new(false), known: RefCell::new(None) })
     }
 
     /// The calls that wait, oldest first.
     fn waiters(&self) -> Vec<Waiter> {
+        let changed = self.folder.changed();
+        if let Some((_, waiters)) = self.known.borrow().as_ref().filter(|(time, _)| Some(*time) == changed) {
+            return waiters.clone();
+        }
         let entries = fs::read_dir(&self.folder.path).into_iter().flatten().flatten();
         let mut waiters: Vec<Waiter> = entries.filter_map(|entry| Waiter::named(entry.file_name().to_str()?)).collect();
         waiters.sort_unstable();
+        let settled = changed.filter(|time| time.elapsed().is_ok_and(|age| age > TICK));
+        *self.known.borrow_mut() = settled.map(|time| (time, waiters.clone()));
         waiters
     }
 
@@ -442,6 +452,26 @@ mod tests {
         assert!(!is_awake(&next), "once is enough");
         drop(next);
         assert_eq!(names(&slots), []);
+    }
+
+    #[test]
+    fn those_who_wait_are_looked_up_when_the_folder_changes() {
+        let room = Room::new();
+        let (slots, mut waiting) = (room.slots(1, 1), room.slots(1, 2));
+        let folder = File::open(&slots.folder.path).unwrap();
+        assert_eq!((slots.waiters(), slots.known.borrow().is_some()), (vec![], false), "it has just changed");
+        age(&folder);
+        let time = slots.folder.changed();
+        assert_eq!((slots.waiters(), slots.known.borrow().is_some()), (vec![], true));
+        assert!(waiting.begin_to_wait());
+        assert_eq!(slots.waiters(), [waiting.own]);
+        folder.set_times(fs::FileTimes::new().set_modified(time.unwrap())).unwrap();
+        assert_eq!(slots.waiters(), [waiting.own], "it isn't kept, since it was read right after a change");
+        waiting.end_to_wait();
+        folder.set_times(fs::FileTimes::new().set_modified(time.unwrap())).unwrap();
+        assert_eq!(slots.waiters(), [waiting.own], "nothing has changed by the folder's time");
+        drop(waiting);
+        assert_eq!(slots.folder.changed(), time);
     }
 
     #[test]
