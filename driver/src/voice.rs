@@ -17,6 +17,9 @@ pub struct Habits {
     pub rule_speaks: bool,
 }
 
+/// How lines begin in which nvcc itself warns.
+const WARNING: &[u8] = b"nvcc warning : ";
+
 /// The status of a failed call whose commands nvcc would have run side by side.
 const STATUS_OF_THREADS: i32 = 255;
 
@@ -27,6 +30,11 @@ pub struct End {
     pub status: i32,
     /// Whether no command said anything.
     pub is_silent: bool,
+}
+
+/// A text without the lines in which nvcc itself warns.
+fn without_warnings(text: &[u8]) -> Vec<u8> {
+    text.split_inclusive(|&byte| byte == b'\n').filter(|line| !line.starts_with(WARNING)).flatten().copied().collect()
 }
 
 /// The voice of a call.
@@ -111,9 +119,14 @@ impl<'a> Voice<'a> {
     }
 
     fn tell_end(&mut self, number: usize, ended: &Ended) {
-        let is_mute = self.rule == Some(number) && !self.habits.rule_speaks;
-        let errors = [ended.errors.as_slice(), tasks::words_of_death(ended.status).as_bytes()].concat();
-        self.tell_more([&ended.out, if is_mute { &[] } else { &errors }]);
+        let said = match self.rule {
+            // What nvcc warns of a dry run has told.
+            Some(rule) if rule == number && self.habits.rule_speaks => &without_warnings(&ended.errors),
+            Some(rule) if rule == number => &Vec::new(),
+            _ => &ended.errors,
+        };
+        let errors = [said.as_slice(), tasks::words_of_death(ended.status).as_bytes()].concat();
+        self.tell_more([&ended.out, &errors]);
         if !ended.status.succeeded() {
             self.failed = self.failed.or(Some(ended.status.code));
         }
@@ -207,6 +220,8 @@ mod tests {
         assert_eq!(told(&tasks, Habits::default(), &[&made]).0, ["!a .out !c ", ""]);
         let speaks = Habits { rule_speaks: true, ..Habits::default() };
         assert_eq!(told(&tasks, speaks, &[&made]).0, [".out !b !c ", ""]);
+        let warns = [ok("a"), ok("nvcc warning : x\nb\n nvcc warning : y"), ok("nvcc warning : c")];
+        assert_eq!(told(&tasks, speaks, &[&warns]).0, ["!b\n nvcc warning : y !nvcc warning : c ", ""], "nvcc has warned before");
         assert_eq!(told(&tasks, speaks, &[&[ok("a"), done(5, "out", "b"), Done::default()]]).0[0], "", "nvcc makes the call");
         let failed = [done(5, "", "a"), Done::default(), Done::default()];
         assert_eq!(told(&tasks, speaks, &[&failed]), (vec![String::new(), "!a ".into()], End { status: 5, is_silent: false }));
