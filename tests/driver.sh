@@ -357,6 +357,78 @@ ROWS
     fi
 }
 
+# A tool that notes the file that it reads late: what cicc has of cudafe++, or the last host compile of cicc. A tool of $EARLY begins beside the one
+# that it waits for, which waits for it here.
+reads='for word; do
+    case $name,$last,$word in
+    cicc.*,--module_id_file_name,*) echo "$word" | sed "s,.*/,,; s,[0-9]*$,," > "$LOG.name.$name" && cat "$word" > "$LOG.read.$name" ;;
+    gcc-S,*,*.cudafe1.cpp) cat "${word%.cpp}.stub.c" > "$LOG.read.$name" ;;
+    esac
+    last=$word
+done; last=""'
+begins='tries=0; until grep -q "^+ $EARLY" "$LOG"; do tries=$((tries + 1)); [ "$tries" -lt 600 ] || exit 9; sleep 0.05; done'
+
+early_starts() {
+    if case_of 'cicc begins beside cudafe++'; then
+        call ZIGRUNK_SLOTS=8 EARLY=cicc.80 TOOL_DOES="[ \"\$name\" != cudafe++ ] || { $begins; }; $reads" -c k.cu -o k.o
+        splits
+        same 'what it reads, of which name' "$(cat "$room"/log.read.* "$room/log.name.cicc.80" | paste -sd ' ')" 'made made module_id.'
+        same 'the command as it begins late' "$(grep -c '^+ cicc' "$room/log")" 2
+        for settings in ZIGRUNK_EARLY=0 ZIGRUNK_SLOTS=1 'ZIGRUNK_LAUNCHER=env' 'ZIGRUNK_RUNNER=env'; do
+            call ZIGRUNK_SLOTS=8 "$settings" TOOL_DOES="[ \"\$name\" != cudafe++ ] || sleep 0.3; $reads" -c k.cu -o k.o
+            splits "with $settings"
+            same "what begins early with $settings" "$(sed '/^- cudafe/,$d' "$room/log" | grep -c '^+ cicc')" 0
+        done
+        end
+    fi
+    if case_of 'cudafe++ fails, and cicc has begun'; then
+        call ZIGRUNK_SLOTS=8 EARLY=cicc.80 TOOL_DOES="[ \"\$name\" != cudafe++ ] || { $begins; exit 5; }; $reads" -c k.cu -o k.o
+        same 'status and what ended' "$status $(grep -c '^- cicc' "$room/log")" '5 0'
+        within 5 none_run || problems+="  processes: $(pgrep -af "$room")"$'\n'
+        end
+    fi
+    if case_of 'cicc has begun, and cudafe++ writes nothing for it'; then
+        call ZIGRUNK_SLOTS=8 EARLY=cicc.80 TOOL_DOES="case \$name in cudafe++) $begins; echo '- cudafe++' >> \"\$LOG\"; exit ;; esac" -c k.cu -o k.o
+        same 'status, and the command as it begins late' "$status $(sed '1,/^- cudafe/d' "$room/log" | grep -c '^+ cicc.80')" '0 1'
+        end
+    fi
+}
+
+late_starts() {
+    late=(ZIGRUNK_LATE= ZIGRUNK_SLOTS=8 FATBIN="$stand_ins/fatbin.c")
+    if case_of 'the last compile begins beside fatbinary'; then
+        call "${late[@]}" EARLY=gcc-S TOOL_DOES="case \$name in fatbinary) $begins ;; gcc-c) cat \"\$TMPDIR/fatbin.s\" > \"\$LOG.assembled\" ;; esac; $reads" -c k.cu -o k.o
+        same 'status, messages and product' "$status$(cat "$room/err" k.o)" 0made
+        same 'commands' "$(grep '^+ gcc-[cS]' "$room/log" | paste -sd ' ') $(grep -c '^+' "$room/log")" '+ gcc-S + gcc-c 11'
+        same 'what the assembler gets' "$(cat "$room/log.assembled")" $'.section .nv_fatbin, "a"\n.align 8\nfatbinData:\n.quad 0x0\n.text'
+        same 'what the compiler includes' "$(sed "s,$room/tmp/.*/,TMP/," "$room/log.read.gcc-S")" $'made\n# 1 "TMP/kernel.compute_90.cudafe1.stub.c"'
+        end
+    fi
+    if case_of 'the last compile begins beside cicc'; then
+        call "${late[@]}" EARLY=gcc-S TOOL_DOES="case \$name in cicc.90) $begins ;; esac; $reads" -c k.cu -o k.o
+        same 'status, messages and product' "$status$(cat "$room/err" k.o)" 0made
+        same 'what the compiler includes' "$(sed "s,$room/tmp/.*/,TMP/," "$room/log.read.gcc-S")" $'made\n# 1 "TMP/kernel.compute_90.cudafe1.stub.c"'
+        end
+    fi
+    if case_of 'the last compile waits'; then
+        for settings in ZIGRUNK_LATE=0 GCC_COMPARE_DEBUG= ZIGRUNK_LAUNCHER=env ZIGRUNK_RUNNER=env; do
+            call "${late[@]}" "$settings" TOOL_DOES="$reads" -c k.cu -o k.o
+            splits "with $settings"
+        done
+        call "${late[@]}" TOOL_DOES="$reads" --keep -c k.cu -o k.o
+        splits 'with --keep'
+        rm -f kernel.*
+        end
+    fi
+    if case_of 'an assembler that says something'; then
+        call "${late[@]}" "${plain[@]}" TOOL_DOES='[ "$name" != gcc-c ] || echo odd >&2' -c k.cu -o k.o
+        by_nvcc 'its assembler fails, or says something'
+        call "${late[@]}" "${plain[@]}" FATBIN=/dev/null -c k.cu -o k.o
+        by_nvcc "fatbinary's file has another form"
+        end
+    fi
+}
+
 # with_name NAME [BODY]: an nvcc in the folder NAME of the case: a link to the driver, or a script.
 with_name() {
     mkdir -p "$room/$1"
@@ -499,7 +571,7 @@ clone:error=EAGAIN:when=1|nvcc itself: no process for a dry run
 clone:error=EAGAIN:when=3|nvcc itself: no process for the call
 mkdir:error=ENOSPC|nvcc itself: no room for temporary files
 pread64:error=EIO:when=6|nvcc itself: what a command said is lost: Input/output error (os error 5)
-wait4:error=EINVAL:when=2|nvcc itself: the end of a command is unknown: Invalid argument (os error 22)
+wait4:error=EINVAL:when=1|nvcc itself: the end of a command is unknown: Invalid argument (os error 22)
 ROWS
     while IFS='|' read -r what reason settings; do
         case_of "dry runs: $what" || continue
@@ -809,6 +881,19 @@ signals() {
         kill -KILL "$process"
         wait "$process" 2> /dev/null
         within 10 eval '[ -s "$room/log.ended" ]' || problems+='  nvcc does not end'$'\n'
+        end
+    fi
+    if case_of 'TSTP and CONT to a call that nvcc makes, with a log'; then
+        set -m
+        start ZIGRUNK_LOG="$room/calls" NVCC_DOES='echo "+ nvcc" >> "$LOG"; until [ -e "$LOG.go" ]; do sleep 0.05; done; exit 4' k.cu
+        set +m
+        within 20 has_begun nvcc
+        kill -TSTP "$process"
+        within 5 eval '[ "$(cut -d " " -f 3 "/proc/$process/stat")" = T ]' || problems+='  it does not stop'$'\n'
+        kill -CONT "$process"
+        within 5 eval '[ "$(cut -d " " -f 3 "/proc/$process/stat")" != T ]' || problems+='  it does not go on'$'\n'
+        : > "$room/log.go"
+        ended 4
         end
     fi
     if case_of 'TERM to a call that nvcc makes, with a log'; then
@@ -1195,5 +1280,5 @@ plans() {
     fi
 }
 
-for part in ${PARTS-unit end_to_end folders compilers to_nvcc outputs products signals logs plans slots jobservers}; do "$part"; done
+for part in ${PARTS-unit end_to_end folders early_starts late_starts compilers to_nvcc outputs products signals logs plans slots jobservers}; do "$part"; done
 summary

@@ -224,9 +224,8 @@ fn end_of(child: i32, signals: &Signals) -> Option<Status> {
                 other => system::signal_process(child, other),
             }
         }
-        match system::ended_child().ok()? {
-            Some((ended, status)) if ended == child => return Some(status),
-            _ => {}
+        if let Some(status) = system::end_of(child).ok()? {
+            return Some(status);
         }
     }
 }

@@ -36,11 +36,12 @@ struct Permit {
     token: Option<Token>,
 }
 
-/// What a process prints to.
+/// Where a process prints its messages.
 #[derive(Debug)]
 enum Printed {
     Memory(File),
-    Terminal(File, Vec<u8>),
+    /// A terminal: the end that is read, the one that the process has, and what was read.
+    Terminal(File, OwnedFd, Vec<u8>),
 }
 
 /// A process that runs.
@@ -97,7 +98,7 @@ fn size_of(file: &File) -> u64 {
 impl Printed {
     /// For a terminal's end that is read.
     fn drain(&mut self) {
-        let Printed::Terminal(file, text) = self else { return };
+        let Printed::Terminal(file, _, text) = self else { return };
         let mut part = [0; 4096];
         while let Ok(size @ 1..) = file.read(&mut part) {
             text.extend_from_slice(&part[..size]);
@@ -109,7 +110,7 @@ impl Printed {
         self.drain();
         match self {
             Printed::Memory(file) => content(file),
-            Printed::Terminal(_, text) => Ok(text.clone()),
+            Printed::Terminal(.., text) => Ok(text.clone()),
         }
     }
 
@@ -117,7 +118,15 @@ impl Printed {
     fn size(&self) -> u64 {
         match self {
             Printed::Memory(file) => size_of(file),
-            Printed::Terminal(_, text) => text.len() as u64,
+            Printed::Terminal(.., text) => text.len() as u64,
+        }
+    }
+
+    /// The file that the process has.
+    fn target(&self) -> RawFd {
+        match self {
+            Printed::Memory(file) => file.as_raw_fd(),
+            Printed::Terminal(_, program, _) => program.as_raw_fd(),
         }
     }
 }
@@ -212,6 +221,11 @@ impl Host {
         }
     }
 
+    /// Whether a permit lacks nothing.
+    fn is_whole(&self, permit: &Permit) -> bool {
+        (self.tokens.is_none() || permit.token.is_some()) && (self.slots.is_none() || permit.slot.is_some())
+    }
+
     /// Takes what is lacking of a permit, and says whether it is whole.
     fn has_permit(&mut self) -> bool {
         let mut permit = self.permit.take().unwrap_or_default();
@@ -222,7 +236,7 @@ impl Host {
         if let (Some(slots), None, true) = (&self.slots, &permit.slot, has_token) {
             permit.slot = slots.try_take();
         }
-        let is_whole = has_token && (self.slots.is_none() || permit.slot.is_some());
+        let is_whole = self.is_whole(&permit);
         self.permit = Some(permit);
         is_whole
     }
@@ -242,26 +256,24 @@ impl Host {
         has_begun && self.has_permit()
     }
 
-    /// Takes the signals that have come. A child's end, or a signal that ends the call, is an event.
+    /// Takes the signals that have come. A job's end, or a signal that ends the call, is an event.
     fn take_signals(&mut self) {
         while let Some(number) = self.signals.next() {
             match number {
-                CHLD => {}
+                CHLD => self.take_ends(),
                 TSTP => self.pause(),
                 _ => self.events.push_back(Event::Signal(number)),
             }
         }
-        self.take_ends();
     }
 
-    /// Notes the children that have ended.
+    /// Notes the jobs that have ended.
     fn take_ends(&mut self) {
-        loop {
-            match system::ended_child() {
-                Ok(Some((process, status))) => self.ended(process, status),
-                Ok(None) => return,
-                Err(error) if self.running.is_empty() => return drop(error),
-                Err(error) => return self.events.push_back(Event::Lost(format!("the end of a command is unknown: {error}"))),
+        for at in (0..self.running.len()).rev() {
+            match system::end_of(self.running[at].process) {
+                Ok(Some(status)) => self.ended(at, status),
+                Ok(None) => {}
+                Err(error) => self.events.push_back(Event::Lost(format!("the end of a command is unknown: {error}"))),
             }
         }
     }
@@ -288,9 +300,8 @@ impl Host {
         }
     }
 
-    /// Notes that a child has ended.
-    fn ended(&mut self, process: i32, status: Status) {
-        let Some(at) = self.running.iter().position(|running| running.process == process) else { return };
+    /// Notes that the job at a place among those that run has ended.
+    fn ended(&mut self, at: usize, status: Status) {
         let mut running = self.running.swap_remove(at);
         // SAFETY: the place is one of a page that lasts as long as this process.
         unsafe { ptr::write_volatile(self.shared.group(running.place), 0) };
@@ -302,15 +313,14 @@ impl Host {
         });
     }
 
-    /// Keeps a permit for the next job, unless an older call wants the slot.
+    /// Keeps a permit for the next job in place of what is lacking of one, unless an older call wants the slot.
     fn keep_or_give_back(&mut self, permit: Option<Permit>) {
         let Some(permit) = permit else { return };
         let is_wanted = matches!((&self.slots, &permit.slot), (Some(slots), Some(slot)) if slots.is_wanted(slot));
-        if is_wanted || self.permit.is_some() || (self.slots.is_some() && permit.slot.is_none()) {
-            self.give_back(Some(permit));
-        } else {
-            self.permit = Some(permit);
-        }
+        let has_one = self.permit.as_ref().is_some_and(|held| self.is_whole(held));
+        let is_kept = !is_wanted && !has_one && self.is_whole(&permit);
+        let given_back = if is_kept { self.permit.replace(permit) } else { Some(permit) };
+        self.give_back(given_back);
     }
 
     /// Waits until there is something to look at.
@@ -321,7 +331,7 @@ impl Host {
         let lacks_token = self.wants && self.permit.as_ref().is_none_or(|permit| permit.token.is_none());
         files.extend(self.tokens.as_ref().filter(|_| lacks_token).map(Tokens::file));
         files.extend(self.running.iter().filter_map(|running| match &running.errors {
-            Printed::Terminal(file, _) => Some(file.as_raw_fd()),
+            Printed::Terminal(file, ..) => Some(file.as_raw_fd()),
             Printed::Memory(_) => None,
         }));
         let holds = self.permit.is_some() || !self.running.is_empty();
@@ -378,15 +388,12 @@ impl Host {
         environment.and_then(|environment| image(program.as_os_str(), words, environment, &job.folder)).map_err(|error| format!("{name}: {error}"))
     }
 
-    /// The streams that a job prints to: what is read later, and what the job gets for its messages.
-    fn streams(&self) -> io::Result<(File, Printed, OwnedFd)> {
-        let out = system::memory_file()?;
-        if let Some((owner, program)) = self.shows_colours.then(system::terminal).and_then(Result::ok) {
-            return Ok((out, Printed::Terminal(owner, Vec::new()), program));
-        }
-        let errors = system::memory_file()?;
-        let program = errors.try_clone()?.into();
-        Ok((out, Printed::Memory(errors), program))
+    /// The streams that a job prints to.
+    fn streams(&self) -> io::Result<(File, Printed)> {
+        let terminal = self.shows_colours.then(system::terminal).and_then(Result::ok);
+        let in_memory = || system::memory_file().map(Printed::Memory);
+        let errors = terminal.map_or_else(in_memory, |(owner, program)| Ok(Printed::Terminal(owner, program, Vec::new())))?;
+        Ok((system::memory_file()?, errors))
     }
 
     /// A place for a group that nobody has.
@@ -450,7 +457,7 @@ impl Machine for Host {
     }
 
     fn start(&mut self, number: usize, job: &Job) -> io::Result<()> {
-        let (place, (out, errors, program_errors)) = (self.free_place()?, self.streams()?);
+        let (place, (out, errors)) = (self.free_place()?, self.streams()?);
         let begun = now();
         let image = match self.image_of(job) {
             Ok(image) => image,
@@ -462,7 +469,7 @@ impl Machine for Host {
             }
         };
         let complaint = CString::new(format!("zigrunk-nvcc: cannot run {}\n", job.words.first().map(String::as_str).unwrap_or_default()))?;
-        let streams = [self.null.as_raw_fd(), out.as_raw_fd(), program_errors.as_raw_fd()];
+        let streams = [self.null.as_raw_fd(), out.as_raw_fd(), errors.target()];
         let process = image.start(streams, &self.signals, self.shared.group(place), &complaint)?;
         let permit = if job.shares_slot { None } else { self.permit.take() };
         self.running.push(Running { number, process, place, permit, out, errors, heard: 0, begun });
@@ -495,11 +502,266 @@ impl Machine for Host {
 #[cfg(test)]
 mod tests {
     use super::*;
+    use crate::forked::in_own_process;
+    use crate::jobserver::Jobserver;
+    use crate::system::{TERM, UNBLOCKED};
+    use std::fs;
+    use std::os::fd::AsFd;
+    use std::thread::{self, sleep};
+
+    /// A folder of a test, which goes with it.
+    struct Room(CallFolder);
+
+    impl Room {
+        fn new() -> Room {
+            Room(CallFolder::take(&env::temp_dir(), "host-of-a-test").unwrap())
+        }
+
+        fn path(&self, name: &str) -> PathBuf {
+            self.0.path().join(name)
+        }
+
+        fn slots(&self, count: usize, age: u64) -> Slots {
+            Slots::open(count, age, &[self.0.path().to_owned()]).unwrap()
+        }
+    }
+
+    impl Drop for Room {
+        fn drop(&mut self) {
+            self.0.remove();
+        }
+    }
+
+    fn host(slots: Option<Slots>, tokens: impl FnOnce(Shared) -> Option<Tokens>) -> Host {
+        let shared = Shared::new().unwrap();
+        let path = Environment::own().with("PATH", "/usr/bin:/bin".as_ref());
+        Host { shows_colours: false, ..Host::new(Signals::open().unwrap(), shared, slots, tokens(shared), path).unwrap() }
+    }
+
+    fn plain_host() -> Host {
+        host(None, |_| None)
+    }
+
+    fn shell(script: &str) -> Job {
+        Job { words: ["sh", "-c", script].map(String::from).to_vec(), ..Job::default() }
+    }
+
+    /// Starts a job in the next slot.
+    fn start(host: &mut Host, number: usize, job: &Job) {
+        host.want(true);
+        assert!(matches!(host.next(), Event::Slot));
+        host.start(number, job).unwrap();
+    }
+
+    /// The next end: which job's, its status and its texts.
+    fn next_end(host: &mut Host) -> (usize, i32, String) {
+        host.want(false);
+        match host.next() {
+            Event::Ended(number, Ended { status, out, errors, .. }) => (number, status.code, String::from_utf8([out, errors].concat()).unwrap()),
+            other => panic!("{other:?}"),
+        }
+    }
+
+    fn wait_until(is_so: impl Fn() -> bool) {
+        while !is_so() {
+            sleep(Duration::from_millis(5));
+        }
+    }
 
     #[test]
     fn nanoseconds_are_the_time() {
         #[allow(clippy::cast_precision_loss)]
         let seconds = nanoseconds() as f64 / 1e9;
         assert!((now() - seconds).abs() < 60.0, "{seconds}");
+    }
+
+    #[test]
+    fn jobs_end_with_what_they_said() {
+        in_own_process(|| {
+            let mut host = plain_host();
+            start(&mut host, 7, &shell("echo out; echo err >&2; exit 3"));
+            assert_eq!(next_end(&mut host), (7, 3, "out\nerr\n".into()));
+            start(&mut host, 1, &Job { words: vec!["missing-program".into()], ..Job::default() });
+            assert_eq!(next_end(&mut host), (1, 127, "zigrunk-nvcc: missing-program: not found\n".into()));
+            start(&mut host, 2, &shell("kill -KILL $$"));
+            assert_eq!(next_end(&mut host), (2, 137, String::new()));
+            let changed =
+                Job { variables: vec![("A".into(), Some("b".into())), ("HOME".into(), None)], folder: "/usr".into(), ..shell("pwd; echo $A$HOME") };
+            start(&mut host, 3, &changed);
+            assert_eq!(next_end(&mut host), (3, 0, "/usr\nb\n".into()));
+            let of_path = Job { words: vec!["sh".into()], variables: vec![("PATH".into(), Some("/missing".into()))], ..Job::default() };
+            start(&mut host, 4, &of_path);
+            assert_eq!(next_end(&mut host), (4, 127, "zigrunk-nvcc: sh: not found\n".into()));
+            assert!(host.running.is_empty() && host.events.is_empty());
+        });
+    }
+
+    #[test]
+    fn a_terminal_is_read_to_its_end() {
+        in_own_process(|| {
+            let mut host = plain_host();
+            host.shows_colours = true;
+            start(&mut host, 0, &shell("[ -t 2 ] && echo terminal; head -c 100000 /dev/zero >&2"));
+            let (_, status, said) = next_end(&mut host);
+            assert_eq!((status, said.len(), &said[..9]), (0, 100_009, "terminal\n"));
+        });
+    }
+
+    #[test]
+    fn a_job_is_heard_while_it_runs() {
+        for shows_colours in [false, true] {
+            in_own_process(|| {
+                let room = Room::new();
+                let (go, mut host) = (room.path("go"), plain_host());
+                host.shows_colours = shows_colours;
+                start(&mut host, 5, &shell(&format!("echo one >&2; until [ -e {} ]; do sleep 0.01; done; echo two >&2", go.display())));
+                host.want(false);
+                host.listen(Some(5));
+                let Event::Printed(5, [out, errors]) = host.next() else { panic!("it isn't heard") };
+                assert_eq!((out.as_slice(), errors.as_slice()), (&b""[..], &b"one\n"[..]));
+                fs::write(go, "").unwrap();
+                let end = loop {
+                    match host.next() {
+                        Event::Printed(5, [_, errors]) => assert_eq!(errors, b"one\ntwo\n"),
+                        Event::Ended(5, ended) => break ended.errors,
+                        other => panic!("{other:?}"),
+                    }
+                };
+                assert_eq!(end, b"one\ntwo\n");
+            });
+        }
+    }
+
+    #[test]
+    fn jobs_end_by_the_signal_or_by_force() {
+        in_own_process(|| {
+            let room = Room::new();
+            let ready = |name: &str| format!("touch {}; while :; do sleep 0.05; done", room.path(name).display());
+            let mut host = plain_host();
+            start(&mut host, 0, &shell(&format!("trap 'echo bye; exit 4' TERM; {}", ready("gentle"))));
+            host.start(1, &shell(&ready("plain"))).unwrap();
+            wait_until(|| room.path("gentle").exists() && room.path("plain").exists());
+            host.signal_all(STOP);
+            host.end_all(TERM);
+            let mut ends: Vec<(usize, i32)> = host
+                .events
+                .drain(..)
+                .map(|event| if let Event::Ended(number, ended) = event { (number, ended.status.code) } else { panic!("{event:?}") })
+                .collect();
+            ends.sort_unstable();
+            assert_eq!((ends, host.running.len()), (vec![(0, 4), (1, 143)], 0), "it waits for them");
+            start(&mut host, 2, &shell(&format!("trap '' TERM; {}", ready("stubborn"))));
+            wait_until(|| room.path("stubborn").exists());
+            let begun = Instant::now();
+            host.end_all(TERM);
+            assert!(begun.elapsed() >= GRACE && matches!(host.events.pop_front(), Some(Event::Ended(2, ended)) if ended.status.code == 137));
+            assert!(host.permit.is_none());
+        });
+    }
+
+    #[test]
+    fn signals_end_a_call() {
+        in_own_process(|| {
+            let mut host = plain_host();
+            start(&mut host, 0, &shell("sleep 300"));
+            host.want(false);
+            system::signal_process(system::process(), TERM);
+            assert!(matches!(host.next(), Event::Signal(TERM)));
+            host.end_all(TERM);
+        });
+    }
+
+    #[test]
+    fn a_slot_is_kept_for_the_next_job_unless_an_older_call_wants_it() {
+        in_own_process(|| {
+            let room = Room::new();
+            let mut host = host(Some(room.slots(1, 2)), |_| None);
+            start(&mut host, 0, &shell(":"));
+            assert!(host.permit.is_none());
+            host.wants = true;
+            assert!(matches!(host.next(), Event::Ended(..)));
+            assert!(host.permit.as_ref().is_some_and(|permit| permit.slot.is_some()), "it is kept");
+            assert!(matches!(host.next(), Event::Slot), "and used");
+            host.start(1, &shell(":")).unwrap();
+            let mut older = room.slots(1, 1);
+            assert!(older.begin_to_wait());
+            assert!(matches!(host.next(), Event::Ended(..)));
+            assert!(host.permit.as_ref().is_none_or(|permit| permit.slot.is_none()));
+            let slot = older.try_take().expect("the slot is free");
+            older.end_to_wait();
+            let younger = thread::spawn(move || {
+                sleep(Duration::from_millis(50));
+                drop(slot);
+            });
+            assert!(matches!(host.next(), Event::Slot), "it looks again, though nobody says that the slot is free");
+            younger.join().unwrap();
+            host.want(false);
+            host.start(2, &shell(":")).unwrap();
+            assert!(host.slots.as_ref().unwrap().file().is_some(), "it has a ticket");
+            let has_none = format!("until [ -z \"$(ls {} | grep wait)\" ]; do sleep 0.01; done", room.path("zigrunk-slots-*").display());
+            host.start(3, &shell(&has_none)).unwrap();
+            let mut ends = [next_end(&mut host).0, next_end(&mut host).0];
+            ends.sort_unstable();
+            assert_eq!(ends, [2, 3], "who wants nothing has no ticket");
+        });
+    }
+
+    #[test]
+    fn jobs_of_one_slot_share_it() {
+        in_own_process(|| {
+            let room = Room::new();
+            let mut host = host(Some(room.slots(2, 1)), |_| None);
+            start(&mut host, 0, &shell("sleep 300"));
+            host.start(1, &Job { shares_slot: true, ..shell("sleep 300") }).unwrap();
+            assert_eq!(host.running.iter().map(|running| running.permit.is_some()).collect::<Vec<_>>(), [true, false]);
+            assert!(!host.has_spare_slot(), "the other one is for another call");
+            host.end_all(TERM);
+            assert!(host.has_spare_slot());
+            host.leave();
+            assert!(host.permit.is_none() && host.slots.is_none());
+        });
+    }
+
+    #[test]
+    fn without_their_folder_slots_limit_nothing() {
+        in_own_process(|| {
+            let room = Room::new();
+            let slot = room.slots(1, 1).try_take().unwrap();
+            let mut host = host(Some(room.slots(1, 2)), |_| None);
+            host.want(true);
+            assert!(!host.has_permit());
+            fs::remove_dir_all(room.path(&format!("zigrunk-slots-{}", system::user()))).unwrap();
+            assert!(matches!(host.next(), Event::Slot));
+            drop(slot);
+        });
+    }
+
+    #[test]
+    fn a_job_of_make_is_waited_for() {
+        in_own_process(|| {
+            let (read, write) = system::pipe().unwrap();
+            let server = Jobserver::open(&format!("{},{}", read.as_raw_fd(), write.as_raw_fd())).unwrap();
+            let mut host = host(None, |shared| Some(Tokens::new(server, shared)));
+            start(&mut host, 0, &shell("sleep 300"));
+            host.want(true);
+            assert!(!host.has_permit(), "the call has one job");
+            let giver = thread::spawn(move || {
+                sleep(Duration::from_millis(50));
+                assert!(system::write_byte(write.as_fd(), b'+'));
+                write
+            });
+            assert!(matches!(host.next(), Event::Slot));
+            let write = giver.join().unwrap();
+            host.start(1, &shell("sleep 300")).unwrap();
+            host.end_all(TERM);
+            host.leave();
+            let mut byte = 0;
+            assert!(
+                system::open_unblocked(&CString::new(format!("/proc/self/fd/{}", read.as_raw_fd())).unwrap(), false)
+                    .is_ok_and(|pipe| system::read_byte(pipe.as_fd(), &raw mut byte))
+            );
+            assert_eq!((byte, UNBLOCKED != 0), (b'+', true));
+            drop(write);
+        });
     }
 }

@@ -10,6 +10,8 @@ mod early;
 mod entries;
 mod environments;
 mod folder;
+#[cfg(test)]
+mod forked;
 mod guard;
 mod host;
 mod jobserver;

@@ -333,11 +333,15 @@ impl Status {
     }
 }
 
-/// A child that has ended, and how; nothing if none has.
-pub fn ended_child() -> io::Result<Option<(i32, Status)>> {
+/// How a child has ended; nothing if it runs. The ends of other children, which others wait for, stay.
+///
+/// # Errors
+///
+/// Those of `waitpid`: it is no child, or its end is told already.
+pub fn end_of(child: i32) -> io::Result<Option<Status>> {
     let mut state = 0;
-    let child = checked(unsafe { waitpid(-1, &raw mut state, 1) })?;
-    Ok((child != 0).then(|| (child, Status::of(state))))
+    let ended = checked(unsafe { waitpid(child, &raw mut state, 1) })?;
+    Ok((ended != 0).then(|| Status::of(state)))
 }
 
 /// Sends a signal to a process.
@@ -633,6 +637,8 @@ pub fn wait_for_child(child: i32) {
 #[cfg(test)]
 mod tests {
     use super::*;
+    use crate::forked::{dispositions, in_own_process, said_by, status_of};
+    use crate::streams::content;
     use std::fs;
     use std::io::{Read, Write};
     use std::os::fd::AsFd;
@@ -690,6 +696,221 @@ mod tests {
             assert_eq!(Status::of(state), wanted, "{state}");
         }
         assert!(status(0, None, false).succeeded() && !status(1, None, false).succeeded());
+    }
+
+    fn set(number: i32, handler: Handler) {
+        // SAFETY: in a process of its own.
+        unsafe { signal(number, handler) };
+    }
+
+    fn block(number: i32) {
+        let mut signals: SignalSet = [0; 16];
+        signals[0] = 1 << (number - 1);
+        // SAFETY: the set is as long.
+        unsafe { sigprocmask(0, &raw const signals, ptr::null_mut()) };
+    }
+
+    fn send_self(number: i32) {
+        signal_process(process(), number);
+    }
+
+    #[test]
+    fn the_end_of_a_child_is_its_own() {
+        in_own_process(|| {
+            let [first, second] = [3, 5].map(|status| fork_to(move || exit(status)).unwrap());
+            let status = |child| loop {
+                if let Some(status) = end_of(child).unwrap() {
+                    return status.code;
+                }
+                sleep(Duration::from_millis(1));
+            };
+            assert_eq!([status(second), status(first)], [5, 3]);
+            assert!(end_of(first).is_err());
+            let (read, write) = pipe().unwrap();
+            let waits = fork_to(|| {
+                close(write.as_raw_fd());
+                wait_for_end(read.as_fd());
+            });
+            let waits = waits.unwrap();
+            assert_eq!(end_of(waits).unwrap(), None);
+            drop(write);
+            wait_for_child(waits);
+            assert!(end_of(waits).is_err(), "it has been waited for");
+        });
+    }
+
+    #[test]
+    fn a_process_ends_by_a_signal_whatever_it_does_with_it() {
+        for number in [HUP, INT, TERM] {
+            let end = || {
+                set(number, IGNORED);
+                block(number);
+                end_by(number);
+            };
+            assert_eq!(status_of(end, |_| ()), Status { code: 128 + number, signal: Some(number), dumped: false });
+        }
+    }
+
+    const ALL: [i32; 6] = [HUP, INT, TERM, CHLD, CONT, TSTP];
+
+    #[test]
+    fn signals_come_by_a_file() {
+        let said = said_by(|| {
+            for number in ALL {
+                set(number, DEFAULT);
+            }
+            let signals = Signals::open().unwrap();
+            let open = dispositions(&ALL);
+            assert_eq!((signals.next(), wait_for(&[signals.number()], 0)), (None, vec![false]));
+            [TERM, TSTP, HUP, INT].into_iter().for_each(send_self);
+            assert_eq!(wait_for(&[signals.number()], 0), [true]);
+            let mut come: Vec<i32> = std::iter::from_fn(|| signals.next()).collect();
+            come.sort_unstable();
+            assert_eq!(come, [HUP, INT, TERM, TSTP]);
+            drop(signals);
+            format!("{open}, {}", dispositions(&ALL))
+        });
+        assert_eq!(said, "1B 2B 15B 17B 18 20BI , 1 2 15 17 18 20 ");
+    }
+
+    #[test]
+    fn what_the_caller_ignores_stays_ignored() {
+        let said = said_by(|| {
+            for number in ALL {
+                set(number, IGNORED);
+            }
+            let signals = Signals::open().unwrap();
+            let open = dispositions(&ALL);
+            drop(signals);
+            format!("{open}, {}", dispositions(&ALL))
+        });
+        // What has children can't ignore their ends.
+        assert_eq!(said, "1I 2I 15I 17B 18I 20I , 1I 2I 15I 17 18I 20I ");
+    }
+
+    #[test]
+    fn a_process_stops_until_it_is_continued() {
+        // Where nobody could continue it, as in a group whose shell is gone, the kernel doesn't stop it.
+        let stop = || {
+            let signals = Signals::open().unwrap();
+            send_self(TSTP);
+            assert_eq!(signals.next(), Some(TSTP));
+            Signals::stop();
+            assert_eq!((dispositions(&[TSTP]).as_str(), signals.next()), ("20BI ", None));
+        };
+        assert!(status_of(stop, |process| signal_process(process, CONT)).succeeded());
+    }
+
+    #[test]
+    fn a_process_goes_on_if_it_was_continued_before_it_stops() {
+        in_own_process(|| {
+            leave_group();
+            let signals = Signals::open().unwrap();
+            send_self(TSTP);
+            assert_eq!(signals.next(), Some(TSTP));
+            send_self(CONT);
+            Signals::stop();
+            assert_eq!(dispositions(&[TSTP]), "20BI ");
+        });
+    }
+
+    /// A script in a folder.
+    fn script(scratch: &Scratch, text: &str) -> CString {
+        let path = scratch.0.join("script");
+        fs::write(&path, text).unwrap();
+        fs::set_permissions(&path, std::os::unix::fs::PermissionsExt::from_mode(0o755)).unwrap();
+        CString::new(path.to_str().unwrap()).unwrap()
+    }
+
+    fn image(program: &CStr, words: &[&str], folder: Option<&str>) -> Image<'static> {
+        let text = |word: &&str| CString::new(*word).unwrap();
+        Image::new(program.to_owned(), words.iter().map(text).collect(), vec![Cow::Borrowed(c"A=b")], folder.as_ref().map(text))
+    }
+
+    /// What a started program prints, and its status.
+    fn started(image: &Image<'_>) -> (String, i32) {
+        let (out, errors) = (memory_file().unwrap(), memory_file().unwrap());
+        let mut status = 0;
+        let said = said_by(|| {
+            let signals = Signals::open().unwrap();
+            let null = File::open("/dev/null").unwrap();
+            // A page begins at a multiple of its size.
+            #[allow(clippy::cast_ptr_alignment)]
+            let page = shared_page().unwrap().cast::<i32>();
+            let child = image.start([null.as_raw_fd(), out.as_raw_fd(), errors.as_raw_fd()], &signals, page, c"it cannot run\n").unwrap();
+            // SAFETY: the page is there.
+            assert_eq!(unsafe { page.read_volatile() }, child);
+            loop {
+                wait_for(&[signals.number()], 20_000);
+                if let Some(status) = end_of(child).unwrap() {
+                    return status.code.to_string();
+                }
+            }
+        });
+        status += said.parse::<i32>().unwrap();
+        let text = |file: &File| String::from_utf8(content(file).unwrap()).unwrap();
+        (format!("{}{}", text(&out), text(&errors)), status)
+    }
+
+    #[test]
+    fn a_program_gets_words_variables_streams_and_a_folder() {
+        let scratch = Scratch::new("started");
+        let folder = fs::canonicalize(&scratch.0).unwrap();
+        let says = "echo \"$1 $2 $A\"; read line; pwd -P; ps=$(cut -d ' ' -f 5 /proc/$$/stat); [ $ps = $$ ] || echo group; echo err >&2; exit 7";
+        let wanted = format!("one two b\n{}\nerr\n", folder.display());
+        for begin in ["#!/bin/sh\n", "\n"] {
+            let program = script(&scratch, &format!("{begin}PATH=/usr/bin:/bin\n{says}\n"));
+            let image = image(&program, &["script", "one", "two"], scratch.0.to_str());
+            assert_eq!(started(&image), (wanted.clone(), 7), "{begin}");
+        }
+        let program = script(&scratch, "#!/missing/interpreter\n");
+        assert_eq!(started(&image(&program, &["script"], None)), ("it cannot run\n".into(), 127));
+        let program = script(&scratch, "#!/bin/sh\n");
+        assert_eq!(started(&image(&program, &["script"], Some("/missing"))), ("it cannot run\n".into(), 127));
+    }
+
+    #[test]
+    fn a_process_becomes_a_program() {
+        let scratch = Scratch::new("becomes");
+        let out = memory_file().unwrap();
+        for begin in ["#!/bin/sh\n", "\n"] {
+            let program = script(&scratch, &format!("{begin}echo \"$1 $2 $A\"; exit 7\n"));
+            let become_it = || {
+                // SAFETY: in a process of its own.
+                unsafe { dup2(out.as_raw_fd(), 1) };
+                drop(image(&program, &["script", "one", "two"], None).become_it());
+            };
+            assert_eq!(status_of(become_it, |_| ()).code, 7, "{begin}");
+        }
+        assert_eq!(content(&out).unwrap(), b"one two b\none two b\n");
+        assert_eq!(image(c"/missing/program", &["x"], None).become_it().kind(), io::ErrorKind::NotFound);
+    }
+
+    #[test]
+    fn closed_standard_streams_become_the_null_device() {
+        for closed in [vec![], vec![0], vec![1], vec![2], vec![0, 1, 2]] {
+            let (_read, write) = pipe().unwrap();
+            let said = said_by(|| {
+                (0..3).for_each(|number| assert_eq!(unsafe { dup2(write.as_raw_fd(), number) }, number));
+                closed.iter().copied().for_each(close);
+                open_standard_streams();
+                let is_null = |number: &i32| fs::read_link(format!("/proc/self/fd/{number}")).unwrap().to_str() == Some("/dev/null");
+                let flags = |number: i32| number_in(&format!("/proc/self/fdinfo/{number}"), "flags:", 8) & (CLOSE_ON_EXEC as u64 | 3);
+                let nulls: Vec<i32> = (0..3).filter(is_null).collect();
+                assert!(nulls.iter().all(|&number| flags(number) == CLOSE_ON_EXEC as u64 | 2), "read, written and not handed on");
+                format!("{nulls:?}")
+            });
+            assert_eq!(said, format!("{closed:?}"));
+        }
+    }
+
+    #[test]
+    fn a_process_leaves_its_streams() {
+        in_own_process(|| {
+            leave_streams();
+            let links = [0, 1, 2].map(|number| fs::read_link(format!("/proc/self/fd/{number}")).unwrap());
+            assert_eq!(links, [(); 3].map(|()| PathBuf::from("/dev/null")));
+        });
     }
 
     #[test]
