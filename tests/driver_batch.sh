@@ -612,6 +612,9 @@ places() {
         same 'no nvcc' "$? $(cat said)" '127 zigrunk-batch: cannot run missing-nvcc: not found'
         "$scratch/bin/zigrunk-batch" --unless-made > said 2>&1
         same 'no words' "$?$(cat said)" 2
+        mkdir "$room/own" && ln -s "$scratch/bin/zigrunk-batch" "$room/own/nvcc"
+        batch PATH="$room/own:/usr/bin:/bin"
+        same 'no other nvcc' "$status $(head -n 1 "$room/err")" '127 zigrunk-nvcc: nvcc is zigrunk-nvcc itself, and PATH has no other nvcc'
         mkdir gone && cd gone && rmdir "$room/work/gone"
         batch PWD="$room/work/gone"
         same 'no working directory' "$status $(grep zigrunk "$room/err")" '1 zigrunk-batch: there is no working directory'
