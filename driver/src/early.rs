@@ -4,18 +4,19 @@
 //! file at the end of its input, so it may parse beside cicc. A preprocessor for a device needs the host's only by the plan's rule that a
 //! missing header shows once, and a call prints nothing behind its first failure anyway.
 use crate::machine::Job;
-use crate::planner::PlannedCommand;
+use crate::planner::{PlannedCommand, list_of};
 use crate::run::Task;
 use crate::settings::Settings;
 use crate::streams::content_of;
 use crate::tasks::{OWN, program_of};
+use early_starts::renamed;
+use rattle_std::alloc::Global;
 use std::env;
 use std::fs;
 use std::io;
 use std::path::{Path, PathBuf};
 
-/// The words behind which cicc and cudafe++ name the module id's file, and the stub file.
-const MODULE_ID: &str = "--module_id_file_name";
+/// The option behind which cicc names the stub file.
 const STUB: &str = "--stub_file_name";
 
 /// How a task may begin before one that it needs has ended.
@@ -72,44 +73,15 @@ fn place_behind(option: &str, command: &PlannedCommand, program: &str) -> Option
     (program_of(command) == program && at < command.words.len()).then_some(at)
 }
 
-/// A file that a command's word names.
-fn named(command: &PlannedCommand, word: &str) -> PathBuf {
-    Path::new(&command.folder).join(word)
-}
-
-/// Whether by their records two commands touch a file that one of them writes, other than this one that the first writes and the second reads.
-fn touch_more(first: &PlannedCommand, second: &PlannedCommand, file: Option<&Path>) -> bool {
-    let written = |by: &PlannedCommand| by.writes.iter().chain(&by.may_write).map(PathBuf::from).collect::<Vec<_>>();
-    let (of_first, of_second) = (written(first), written(second));
-    let is_read = |files: &[PathBuf], by: &PlannedCommand| by.reads.iter().any(|read| Some(Path::new(read)) != file && files.contains(&read.into()));
-    is_read(&of_first, second) || is_read(&of_second, first) || of_first.iter().any(|written| of_second.contains(written))
-}
-
-/// The command beside which one may begin, and the place of the word that names what it reads late.
-fn beside(commands: &[PlannedCommand], number: usize) -> Option<(usize, usize)> {
-    let command = &commands[number];
-    let at = place_behind(MODULE_ID, command, "cicc")?;
-    let file = named(command, &command.words[at]);
-    let writes = |other: &PlannedCommand| other.writes.iter().any(|written| Path::new(written) == file);
-    let beside = command.needs.iter().copied().find(|&need| writes(&commands[need]))?;
-    place_behind(MODULE_ID, &commands[beside], "cudafe++")?;
-    (!touch_more(&commands[beside], command, Some(&file))).then_some((beside, at))
-}
-
-/// Whether a command needs another one only since both preprocess.
-fn may_go_ahead(command: &PlannedCommand, other: &PlannedCommand) -> bool {
-    command.preprocesses && other.preprocesses && !touch_more(other, command, None)
-}
-
 /// How the command of a number, with this job, may begin beside one that it needs.
-fn head_start(commands: &[PlannedCommand], number: usize, job: &Job, tmp: &str) -> Option<HeadStart> {
-    let (beside, at) = beside(commands, number)?;
-    let command = &commands[number];
+fn head_start(command: &PlannedCommand, number: usize, job: &Job, tmp: &str) -> Option<HeadStart> {
+    let early = command.early.as_ref()?;
     let withheld = format!("{tmp}/{OWN}/module_id.{number}");
+    let words = renamed(Global, &list_of(&command.words).ok()?, &withheld).ok()?;
     let mut job = job.clone();
-    let before = job.words.len().checked_sub(command.words.len())?;
-    job.words[before + at].clone_from(&withheld);
-    Some(HeadStart { beside, file: named(command, &command.words[at]), withheld: withheld.into(), job, has_one_name: false })
+    job.words.truncate(job.words.len().checked_sub(command.words.len())?);
+    job.words.extend(words.as_slice().iter().map(|word| word.as_str().to_owned()));
+    Some(HeadStart { beside: early.beside, file: PathBuf::from(&early.file), withheld: withheld.into(), job, has_one_name: false })
 }
 
 /// A stub file that cicc writes under another name.
@@ -144,62 +116,28 @@ impl MovedStub {
 
 /// Has preprocessors not wait for each other, unless they share a file.
 pub fn free_preprocessors(tasks: &mut [Task], commands: &[PlannedCommand]) {
-    for (task, command) in tasks.iter_mut().zip(commands).filter(|(_, command)| command.preprocesses) {
-        task.needs.retain(|&need| !may_go_ahead(command, &commands[need]));
+    for (task, command) in tasks.iter_mut().zip(commands) {
+        task.needs.retain(|need| !command.ahead_of.contains(need));
     }
 }
 
 /// Lets tasks begin before one that they need has ended. `tasks` are those of `commands`, but that others may follow the last but one.
 pub fn allow(tasks: &mut [Task], commands: &[PlannedCommand], tmp: &str) {
-    for (number, task) in tasks.iter_mut().enumerate().take(commands.len().saturating_sub(1)) {
-        task.head_start = head_start(commands, number, &task.job, tmp);
+    for ((number, task), command) in tasks.iter_mut().enumerate().zip(commands).take(commands.len().saturating_sub(1)) {
+        task.head_start = head_start(command, number, &task.job, tmp);
     }
 }
 
 #[cfg(test)]
 mod tests {
     use super::*;
+    use crate::planner::Early;
 
     fn command(words: &str, needs: &[usize], reads: &[&str], writes: &[&str]) -> PlannedCommand {
         let (program, words) = words.split_once(' ').unwrap();
         let words = words.split(' ').map(String::from).collect();
         let [reads, writes] = [reads, writes].map(|files| files.iter().map(|file| (*file).to_owned()).collect());
         PlannedCommand { program: program.into(), words, folder: "/w".into(), needs: needs.to_vec(), reads, writes, ..PlannedCommand::default() }
-    }
-
-    const CUDAFE: &str = "/b/cudafe++ --gen_module_id_file --module_id_file_name /t/k.module_id /t/k.ii";
-
-    /// Beside which command the last one may begin, and the place of the word.
-    fn of_last(commands: &[PlannedCommand]) -> Option<(usize, usize)> {
-        beside(commands, commands.len() - 1)
-    }
-
-    #[test]
-    fn cicc_begins_beside_the_writer_of_its_module_id() {
-        let written = ["/t/k.cpp", "/t/k.module_id"];
-        let front = [command("gcc -E k.cu", &[], &[], &["/t/k.ii"]), command(CUDAFE, &[0], &["/t/k.ii"], &written)];
-        let with = |cicc: PlannedCommand| [&front[..], &[cicc]].concat();
-        let words = "/n/cicc --module_id_file_name /t/k.module_id /t/k1.ii -o /t/k.ptx";
-        let cicc = command(words, &[0, 1], &["/t/k1.ii", "/t/k.module_id"], &["/t/k.ptx"]);
-        assert_eq!(of_last(&with(cicc.clone())), Some((1, 1)));
-        assert_eq!(of_last(&with(PlannedCommand { needs: vec![0], ..cicc.clone() })), None, "it doesn't need that command");
-        assert_eq!(of_last(&with(command("/n/cicc /t/k1.ii --module_id_file_name", &[1], &[], &[]))), None, "no file is named");
-        assert_eq!(of_last(&with(PlannedCommand { program: "/n/tool".into(), ..cicc.clone() })), None, "it isn't cicc");
-        for (reads, writes, may_write) in [("/t/k.cpp", "/t/k.ptx", "x"), ("x", "/t/k.ii", "x"), ("x", "/t/k.cpp", "x"), ("x", "x", "/t/k.module_id")]
-        {
-            let [reads, writes, may_write] = [reads, writes, may_write].map(|file| vec![file.to_owned()]);
-            let touches = PlannedCommand { reads, writes, may_write, ..cicc.clone() };
-            assert_eq!(of_last(&with(touches)), None, "it touches another file too");
-        }
-        let relative = PlannedCommand { folder: "/t".into(), ..command("cicc --module_id_file_name k.module_id", &[1], &[], &[]) };
-        assert_eq!(of_last(&with(relative)), Some((1, 1)));
-    }
-
-    #[test]
-    fn the_writer_is_cudafe() {
-        let writer = command("cicc --module_id_file_name /t/k.module_id", &[], &[], &["/t/k.module_id"]);
-        let cicc = command("cicc --module_id_file_name /t/k.module_id", &[0], &[], &[]);
-        assert_eq!(of_last(&[writer, cicc]), None);
     }
 
     #[test]
@@ -243,34 +181,26 @@ mod tests {
     }
 
     #[test]
-    fn preprocessors_do_not_wait_for_each_other() {
-        let preprocess =
-            |needs: &[usize], reads: &str, writes: &str| PlannedCommand { preprocesses: true, ..command("gcc -E", needs, &[reads], &[writes]) };
-        let commands = [
-            preprocess(&[], "/w/k.cu", "/t/k.ii"),
-            preprocess(&[0], "/w/k.cu", "/t/k1.ii"),
-            preprocess(&[0, 1], "/t/k.ii", "/t/k2.ii"),
-            preprocess(&[0, 1], "/w/k.cu", "/t/k.ii"),
-            command("cicc -x", &[1], &[], &["/t/k.ptx"]),
-            command("gcc -c k.cpp", &[4], &[], &[]),
-        ];
-        let mut tasks: Vec<Task> = commands.iter().map(|command| Task { needs: command.needs.clone(), ..Task::default() }).collect();
+    fn preprocessors_do_not_wait_for_those_that_they_go_ahead_of() {
+        let commands = [&[][..], &[0], &[]].map(|ahead_of| PlannedCommand { ahead_of: ahead_of.to_vec(), ..command("gcc -E", &[0], &[], &[]) });
+        let mut tasks: Vec<Task> = commands.iter().map(|_| Task { needs: vec![0, 1], ..Task::default() }).collect();
         free_preprocessors(&mut tasks, &commands);
         let needs: Vec<Vec<usize>> = tasks.into_iter().map(|task| task.needs).collect();
-        assert_eq!(needs, [vec![], vec![], vec![0], vec![0], vec![1], vec![4]]);
+        assert_eq!(needs, [vec![0, 1], vec![1], vec![0, 1]]);
     }
 
     #[test]
     fn the_job_names_another_file() {
-        let cicc = command("cicc -x --module_id_file_name /t/k.module_id k.ii", &[0], &[], &[]);
-        let commands = [command(CUDAFE, &[], &[], &["/t/k.module_id"]), cicc, command("gcc -c k.cpp", &[1], &[], &[])];
+        let words = "cicc -x --module_id_file_name /t/k.module_id k.ii";
+        let cicc = PlannedCommand { early: Some(Early { beside: 0, file: "/t/k.module_id".into() }), ..command(words, &[0], &[], &[]) };
+        let commands = [command("cudafe++ k.ii", &[], &[], &[]), cicc.clone(), cicc];
         let job = |command: &PlannedCommand| Job { words: [std::slice::from_ref(&command.program), &command.words[..]].concat(), ..Job::default() };
         let mut tasks: Vec<Task> = commands.iter().map(|command| Task { job: job(command), ..Task::default() }).collect();
         allow(&mut tasks, &commands, "/t");
-        assert_eq!((tasks[0].head_start.as_ref(), tasks[2].head_start.as_ref()), (None, None));
+        assert_eq!((tasks[0].head_start.as_ref(), tasks[2].head_start.as_ref()), (None, None), "the last one may be in two parts");
         let start = tasks[1].head_start.clone().unwrap();
         assert_eq!((start.beside, start.file, start.withheld), (0, "/t/k.module_id".into(), "/t/zigrunk.tmp/module_id.1".into()));
-        assert_eq!(start.job.words, ["cicc", "-x", MODULE_ID, "/t/zigrunk.tmp/module_id.1", "k.ii"]);
+        assert_eq!(start.job.words, ["cicc", "-x", "--module_id_file_name", "/t/zigrunk.tmp/module_id.1", "k.ii"]);
         assert_eq!(tasks[1].job.words[3], "/t/k.module_id", "its own job stays");
     }
 }

@@ -2,11 +2,12 @@
 use crate::programs::is_program;
 use crate::streams::content_of;
 use canonical_names::all_suffixes;
-use command_files::{files_and_needs, preprocesses};
+use command_files::{CommandFiles, files_and_needs, preprocesses};
 use command_groups::{CallToPlan, plan_with_origins_within};
 use compilers::command::{Cacheable, SingleCompileCommand};
 use compilers::compiler::NvccHostCompiler;
 use dry_runs::Which;
+use early_starts::{late_file, may_begin_beside, may_go_ahead};
 use nvcc_calls::{Answer, directory_name, file_names, read_call};
 use placed_commands::placed_command;
 use plan_scripts::Format;
@@ -80,6 +81,19 @@ pub struct PlannedCommand {
     pub may_write: Vec<String>,
     /// Whether these are all files that it touches.
     pub complete: bool,
+    /// The needed preprocessors that it needn't wait for, if it preprocesses.
+    pub ahead_of: Vec<usize>,
+    /// How it may begin before one that it needs has ended.
+    pub early: Option<Early>,
+}
+
+/// How a command may begin early.
+#[derive(Clone, PartialEq, Eq, Debug, Default)]
+pub struct Early {
+    /// The command beside which it begins.
+    pub beside: usize,
+    /// The file that it reads once that one has ended.
+    pub file: String,
 }
 
 /// How many bytes a file's name may have.
@@ -255,13 +269,32 @@ pub fn plan_file(format: &str, of: &ToPlan<'_>) -> Result<(String, Vec<PlannedCo
     Ok((string(&file), commands_of(&planned, |command| command.try_clone(Global))?))
 }
 
+/// How the command of a number may begin early, beside one of those that it needs.
+fn early_of(commands: &[Command], number: usize, needs: &[usize]) -> Result<Option<Early>, AllocError> {
+    let Some(file) = late_file(Global, &commands[number])? else { return Ok(None) };
+    for &beside in needs {
+        if may_begin_beside(Global, file.as_str(), &commands[beside], &commands[number])? {
+            return Ok(Some(Early { beside, file: file.as_str().to_owned() }));
+        }
+    }
+    Ok(None)
+}
+
+/// The needed preprocessors that the command of a number needn't wait for.
+fn ahead_of(commands: &[Command], number: usize, needs: &[usize]) -> Result<Vec<usize>, AllocError> {
+    let may_go = |&need: &usize| Ok((need, may_go_ahead(Global, &commands[need], &commands[number])?));
+    let asked: Vec<(usize, bool)> = needs.iter().map(may_go).collect::<Result<_, AllocError>>()?;
+    Ok(asked.into_iter().filter(|(_, may_go)| *may_go).map(|(need, _)| need).collect())
+}
+
 /// The commands of a plan as they run, with what each needs and writes. That is the same wherever a command runs.
 fn commands_of(planned: &PlanWithOrigins, as_it_runs: impl Fn(&Command) -> Result<Command, AllocError>) -> Result<Vec<PlannedCommand>, String> {
     let both = files_and_needs(Global, &planned.plan).map_err(out_of_memory)?;
     let commands = planned.plan.groups.as_slice().iter().flat_map(List::as_slice);
+    let commands: Vec<Command> = commands.map(as_it_runs).collect::<Result<_, _>>().map_err(out_of_memory)?;
     let facts = both.files.as_slice().iter().zip(both.needs.as_slice());
-    let command = |(command, (files, needs)): (&Command, (&command_files::CommandFiles, &List<usize>))| {
-        let command = as_it_runs(command).map_err(out_of_memory)?;
+    let command = |(number, (files, needs)): (usize, (&CommandFiles, &List<usize>))| {
+        let (command, needs) = (&commands[number], needs.as_slice());
         Ok(PlannedCommand {
             program: command.exe.as_str().to_owned(),
             words: strings(command.args.as_slice()),
@@ -269,14 +302,16 @@ fn commands_of(planned: &PlanWithOrigins, as_it_runs: impl Fn(&Command) -> Resul
             variables: command.env_vars.as_slice().iter().map(|(name, value)| (string(name), string(value))).collect(),
             cacheable: matches!(command.cacheable, Cacheable::Yes),
             preprocesses: preprocesses(command.args.as_slice()),
-            needs: needs.as_slice().to_vec(),
+            needs: needs.to_vec(),
             reads: strings(files.reads.as_slice()),
             writes: strings(files.writes.as_slice()),
             may_write: strings(files.may_write.as_slice()),
             complete: files.complete,
+            ahead_of: ahead_of(&commands, number, needs)?,
+            early: early_of(&commands, number, needs)?,
         })
     };
-    commands.zip(facts).map(command).collect()
+    facts.enumerate().map(command).collect::<Result<_, AllocError>>().map_err(out_of_memory)
 }
 
 #[cfg(test)]

@@ -133,8 +133,11 @@ pub fn may_go_ahead(
 ) -> Result<bool, AllocError>
     ensures { IfOk result (λ may. may ≡ spec.may_go_ahead earlier.now later.now) }
 {
+    let preprocess = preprocesses(earlier.args.as_slice()) && preprocesses(later.args.as_slice());
+    if !preprocess {
+        return Ok(false);
+    }
     let files = files_of(alloc, earlier)?;
     let others = files_of(alloc, later)?;
-    let preprocess = preprocesses(earlier.args.as_slice()) && preprocesses(later.args.as_slice());
-    Ok(preprocess && !follows(&files, &others))
+    Ok(!follows(&files, &others))
 }
