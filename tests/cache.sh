@@ -11,8 +11,6 @@
 #   TOOLS='nvcc ..'     only these of nvcc, ccache, sccache, zigrunk, zigrunk+cache, zigrunk+cache+late, zigrunk+sccache, ccache+zigrunk,
 #                       ccache+zigrunk+sccache
 #   STAGES='cold ..'    only these of cold, unchanged, comment, host, kernel, target
-#   EXAMPLE=PATH        the example cache.rs of the crate for Rust, as `cargo build --release --example cache` leaves it: then zigrunk+example is
-#                       a tool too, zigrunk-nvcc with that inside
 #   SCCACHE=PATH        sccache, if it isn't the one on the path. Versions before 0.9 don't know cicc, ptxas and cudafe++
 cd "$(dirname "$0")/.." || exit 1
 . tests/lib.sh
@@ -26,8 +24,7 @@ if [[ ${TOOLS-sccache} == *sccache* ]]; then
 fi
 wrapper=${DRIVER_BIN:-$PWD/out/rust/target/release}/zigrunk-nvcc
 tests=$PWD/tests
-example=${EXAMPLE:+$(realpath "$EXAMPLE")}
-read -ra tools <<< "${TOOLS:-nvcc ccache sccache zigrunk zigrunk+cache zigrunk+cache+late zigrunk+sccache ${EXAMPLE:+zigrunk+example} ccache+zigrunk ccache+zigrunk+sccache}"
+read -ra tools <<< "${TOOLS:-nvcc ccache sccache zigrunk zigrunk+cache zigrunk+cache+late zigrunk+sccache ccache+zigrunk ccache+zigrunk+sccache}"
 read -ra stages <<< "${STAGES:-cold unchanged comment host kernel target}"
 unset NVCC_PREPEND_FLAGS NVCC_APPEND_FLAGS MAKEFLAGS CUDAFLAGS CUDACXX CUDAARCHS "${!CMAKE_@}" "${!ZIGRUNK_@}" "${!SCCACHE_@}" "${!CCACHE_@}"
 trap 'kill ${servers[@]} 2> /dev/null; rm -rf "$scratch"' EXIT
@@ -38,15 +35,13 @@ port=$((20000 + RANDOM / 2))
 declare -A servers=() ports=()
 
 # by TOOL COMMAND..: runs a command with the environment of a tool: its caches, and the launcher of commands. What the last host compiler reads
-# has changed whenever ccache in front finds nothing, so it needs no look-up there. The example serves preprocessors too.
+# has changed whenever ccache in front finds nothing, so it needs no look-up there.
 by() {
     local settings=(CCACHE_DIR="$scratch/$1.ccache" SCCACHE_SERVER_PORT="${ports[$1]}")
     [[ $1 != zigrunk+sccache && $1 != *+sccache ]] || settings+=(ZIGRUNK_LAUNCHER="$sccache")
     [[ $1 != ccache*+sccache ]] || settings+=(ZIGRUNK_LAUNCHED='cudafe++ cicc ptxas')
     [[ $1 != zigrunk+cache* ]] || settings+=(ZIGRUNK_CACHE="$scratch/$1.entries" ZIGRUNK_LOG="$scratch/$1.log")
     [[ $1 != *+late ]] || settings+=(ZIGRUNK_LATE=1)
-    [ "$1" != zigrunk+example ] || settings+=(ZIGRUNK_LAUNCHER="$example" ZIGRUNK_LAUNCHED='-E cudafe++ cicc ptxas -c' \
-        CACHE_FOLDER="$scratch/$1.entries" CACHE_LOG="$scratch/$1.log")
     env "${settings[@]}" "${@:2}"
 }
 
@@ -87,10 +82,9 @@ work_of() {
     echo $(((fields[13] + fields[14] + fields[15] + fields[16]) * 100 / $(getconf CLK_TCK)))
 }
 
-# misses TOOL: how many commands sccache, or the example, answered and ran since its numbers were last set to zero.
+# misses TOOL: how many commands sccache answered and ran since its numbers were last set to zero.
 misses() {
     [[ $1 != zigrunk+cache* ]] || { echo "$(grep -o '"hit":true' "$scratch/$1.log" | wc -l) $(grep -o '"hit":false' "$scratch/$1.log" | wc -l)" && return; }
-    [ "$1" != zigrunk+example ] || { echo "$(grep -c '^hit' "$scratch/$1.log") $(grep -c '^miss' "$scratch/$1.log")" && return; }
     by "$1" "$sccache" --show-stats --stats-format json | python3 -c '
 import json, sys
 stats = json.load(sys.stdin)["stats"]
@@ -115,7 +109,6 @@ build() {
     count "run $1, $2, $3" "$([ "$status" = 0 ] || tail -n 20 "$scratch/$3.said")"
     case "$2 $3" in
     'unchanged zigrunk+sccache' | 'unchanged zigrunk+cache'*) same "run $1, hits and misses of $3" "$(misses "$3")" '72 0' ;;
-    'unchanged zigrunk+example') same "run $1, hits and misses of $3" "$(misses "$3")" '108 0' ;;
     esac
 }
 
