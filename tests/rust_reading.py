@@ -30,7 +30,7 @@ MODIFIERS = {"const", "unsafe", "async", "extern", "default"}
 SENTENCE = (r"(?:(?:Contracts|Clauses) see |`laws::|The laws of |What (?:they hold|it was started with) isn't known to contracts|"
             r"Its members `reading` and `writing` say )[^.\n]*(?:\n//[/!] [^.\n]*)*\.$")
 VIEWS = re.compile(rf"\n//[/!]\n//[/!] {SENTENCE}(?!\n//[/!] )|^//[/!] {SENTENCE}\n?|(?<=\.) {SENTENCE}|"
-                   r", seen in contracts as [^.\n]*(?=\.$)|; no clause says so(?=\.$)| \(`(?:laws::|specs/)[^)\n]*\)", re.M)
+                   r", seen in contracts as [^.\n]*(?=\.$)|; no clause says so(?=\.$)| \((?:`laws::|`specs/|the law `)[^)\n]*\)", re.M)
 # The method that says what each value of its type guarantees, and does nothing.
 ON_VALUES = "keeps_the_rule"
 # The places of a bound's end.

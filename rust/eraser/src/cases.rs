@@ -97,8 +97,8 @@ cases! {
         "/// A list. Contracts see it\n/// as a list.\nstruct A;\n\n/// Bytes, seen in contracts as numbers.\n///\n/// Contracts see it.\nstruct B;\n"
         => "/// A list.\nstruct A;\n\n/// Bytes.\nstruct B;\n";
     which_law_is_about_it:
-        "//! Alike (`laws::alike`). A\n//! text.\n\n/// Orders. `laws::orders` says more.\n///\n/// Variables (`specs/A` says which).\nfn a() {}\n"
-        => "//! Alike. A\n//! text.\n\n/// Orders.\n///\n/// Variables.\nfn a() {}\n";
+        "//! Alike (`laws::alike`). A\n//! text.\n\n/// Orders. `laws::orders` says more.\n///\n/// Variables (`specs/A` says which).\n/// Alike (the law `b`).\nfn a() {}\n"
+        => "//! Alike. A\n//! text.\n\n/// Orders.\n///\n/// Variables.\n/// Alike.\nfn a() {}\n";
     a_law_of_values:
         "impl A {\n    /// It holds.\n    pub fn law(&self)\n        ensures { a }\n    {\n        let _ = &self.b;\n    }\n\n    fn c(&self) -> u8 {\n        self.law();\n        self.b.law();\n        self.law()\n    }\n}\n"
         => "impl A {\n    fn c(&self) -> u8 {\n        self.b.law();\n        self.law()\n    }\n}\n";

@@ -18,7 +18,7 @@ const SENTENCES: [&str; 7] = [
 /// How the rest of a sentence begins that goes if the line ends with it.
 const RESTS: [&str; 2] = [", seen in contracts as ", "; no clause says so"];
 /// How a parenthesis begins that goes.
-const PARENTHESES: [&str; 2] = [" (`laws::", " (`specs/"];
+const PARENTHESES: [&str; 3] = [" (`laws::", " (`specs/", " (the law `"];
 
 /// Deletes what documentation says of contracts and laws.
 pub fn delete_of_documentation(source: &mut Source<'_>) {
