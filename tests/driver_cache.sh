@@ -408,9 +408,6 @@ real_calls() {
         same 'first' "$served" ''
         made "${two[@]}" -Iinc -c k.cu -o other.o
         same 'another product' "$missed" ''
-        sed -i '1i // a line' k.cu
-        made "${two[@]}" -Iinc -c k.cu -o k.o
-        same 'a line more' "$served" 'ptxas-sm_75 ptxas-sm_80'
         sed -i 's/return count/return count + 1/' k.cu
         made "${two[@]}" -Iinc -c k.cu -o k.o
         same 'a host function' "$served" 'ptxas-sm_75 ptxas-sm_80'
@@ -419,6 +416,60 @@ real_calls() {
         same 'a kernel' "$served" ''
         made "${two[@]}" -gencode arch=compute_90,code=sm_90 -Iinc -c k.cu -o k.o
         same 'a further target' "$served" 'cicc-compute_75 cicc-compute_80 ptxas-sm_75 ptxas-sm_80'
+        end
+    fi
+    if case_of 'nvcc: lines'; then
+        project
+        made "${two[@]}" -Iinc -c k.cu -o k.o
+        sed -i '1i // a line' k.cu inc/size.h
+        made "${two[@]}" -Iinc -c k.cu -o k.o
+        same 'a line more in a source and a header' "$missed" ''
+        sed -i 's/{/ {\n\n/; s/;/; \/* two\nlines *\//' k.cu
+        made "${two[@]}" -Iinc -c k.cu -o k.o
+        same 'blanks and comments' "$missed" ''
+        for words in -lineinfo '-g -O0' '-G -g' -cuda; do
+            for _ in 1 2; do
+                sed -i '1i // a line' k.cu
+                # shellcheck disable=SC2086 # several words
+                made -arch=sm_80 -Iinc $words ${words:+$([ "$words" = -cuda ] || echo -c)} k.cu
+            done
+            case $words in
+            -lineinfo) same 'what was served with -lineinfo' "$served" cudafe++ ;;
+            -g*) same 'what was served with -g' "$served" ptxas-sm_80 ;;
+            *) same "what was served with $words" "$served" '' ;;
+            esac
+        done
+        for line in __LINE__ '__builtin_LINE()'; do
+            echo "int line() { return $line; } __device__ int its_line = $line;" > l.cu
+            made -arch=sm_80 -c l.cu -o l.o
+            sed -i '1i // a line' l.cu
+            made -arch=sm_80 -c l.cu -o l.o
+            same "served with $line" "${served#ptxas-sm_80}" ''
+        done
+        end
+    fi
+    if case_of 'nvcc: lines in messages'; then
+        project
+        echo 'int narrow(double value) { return value; } __device__ int device_narrow(double value) { int never; return value; }' >> k.cu
+        for words in '' '-Xcompiler -Wconversion' '-Xcompiler -Wconversion,-Werror'; do
+            for _ in 1 2; do
+                sed -i '1i // a line' k.cu
+                # shellcheck disable=SC2086 # several words, or none
+                call ZIGRUNK_CACHE= -arch=sm_80 -Iinc $words -c k.cu -o k.o
+                cp "$room/err" "$room/plain" && plain=$status
+                # shellcheck disable=SC2086
+                call -arch=sm_80 -Iinc $words -c k.cu -o k.o
+                same "messages and status with '$words'" "$(cat "$room/err") $status" "$(cat "$room/plain") $plain"
+            done
+        done
+        sed -i 's/int never;//' k.cu
+        call -arch=sm_80 -Iinc -Xcompiler -Wconversion -c k.cu -o k.o
+        sed -i '1i // a line' k.cu
+        call ZIGRUNK_CACHE= -arch=sm_80 -Iinc -Xcompiler -Wconversion -c k.cu -o k.o
+        cp "$room/err" "$room/plain"
+        call ZIGRUNK_EXPLAIN=1 -arch=sm_80 -Iinc -Xcompiler -Wconversion -c k.cu -o k.o
+        same 'a warning of a text with other lines' "$(grep -v '^zigrunk' "$room/err")" "$(cat "$room/plain")"
+        same 'who made the call' "$(grep -c '^zigrunk-nvcc: nvcc itself: a message may name lines of an earlier text' "$room/err")" 1
         end
     fi
     if case_of 'nvcc: headers'; then

@@ -158,7 +158,7 @@ impl Call<'_> {
         let is_late = late.is_some();
         tasks.last_mut().into_iter().for_each(|last| last.include.clone_from(&late));
         let tasks = tasks::in_nvccs_order(tasks);
-        let habits = habits_of(&tasks, is_late, dry_runs, outline)?;
+        let habits = habits_of(&tasks, is_late || has_cache, dry_runs, outline)?;
         Ok(Planned { commands, tasks, is_late, habits })
     }
 
@@ -196,6 +196,9 @@ impl Call<'_> {
             done.iter_mut().enumerate().for_each(|(task, done)| done.hit = cache.had(task));
             cache.end();
         }
+        if maker.cache.as_ref().is_some_and(|cache| cache.misnames_lines(&tasks, &done)) {
+            return by_nvcc("a message may name lines of an earlier text");
+        }
         if is_late && late::went_wrong(&done) {
             return by_nvcc("its assembler fails, or says something");
         }
@@ -219,13 +222,13 @@ impl Call<'_> {
     }
 }
 
-/// How the voice of a call speaks that has these tasks.
-fn habits_of(tasks: &[Task], is_late: bool, dry_runs: &DryRuns, outline: &Outline) -> Result<Habits, Stop> {
+/// How the voice of a call speaks that has these tasks, and that may still go to nvcc once all have run.
+fn habits_of(tasks: &[Task], may_go_to_nvcc: bool, dry_runs: &DryRuns, outline: &Outline) -> Result<Habits, Stop> {
     let rule_speaks = outline.dependencies.is_some() && !tasks.iter().any(tasks::preprocesses_for_host);
     if rule_speaks && outline.keep_dir.is_some() {
         return by_nvcc("it keeps a file that only its dependencies need");
     }
-    Ok(Habits { holds_back: is_late || runs_devices_first(&dry_runs.first), has_threads: dry_runs.has_threads, rule_speaks })
+    Ok(Habits { holds_back: may_go_to_nvcc || runs_devices_first(&dry_runs.first), has_threads: dry_runs.has_threads, rule_speaks })
 }
 
 /// What of a line's outline nvcc has to make.

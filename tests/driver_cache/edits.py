@@ -20,9 +20,12 @@ HEADER = """#pragma once
 #define SIZE {size}
 #define OTHER {other}
 inline int blocks(int count) {{ return (count + SIZE - 1) / {block}; }}
+{lines}template <typename F> __device__ int applied(F f, int value) {{ return f(value); }}
 """
 SOURCE = """#include "size.h"
-// {comment}
+{lines}// {comment}
+#define WANTED(x) ((x) ? 0 : failed(#x, {line}))
+__host__ __device__ inline int failed(const char* text, int line) {{ return text[0] + line; }}
 template <int N> __global__ void scale_{name}(float* values) {{ values[threadIdx.x] *= N * SIZE + {kernel}; }}
 static __global__ void fill(int* values) {{
 #if __CUDA_ARCH__ >= 800
@@ -32,11 +35,15 @@ static __global__ void fill(int* values) {{
 #endif
 }}
 int calls_{name} = {host};
+{lines}int narrow_{name}(double value) {{ return value; }}
+__device__ int lambda_{name}(int value) {{ {unused}return applied([=](int x) {{ return x + value; }}, 2) + WANTED(value > 1); }}
+int checked_{name}(int value) {{ return WANTED(value > {host}); }}
 void run_{name}(float* values, int* numbers, int count) {{ {blank}scale_{name}<2><<<blocks(count), 32>>>(values); fill<<<1, 64>>>(numbers); }}
 """
 TARGETS = ["75", "80", "90"]
 Values = dict[str, object]
-KINDS = ["comment", "kernel", "newer", "older", "host", "size", "other", "block", "blank", "targets", "words", "umask", "early", "product", "touch",
+LINES = ["", "", "// a line\n", "\n", "/* two\nlines */\n"]
+KINDS = ["comment", "lines", "lines", "header_lines", "line", "unused", "kernel", "newer", "older", "host", "size", "other", "block", "blank", "targets", "words", "umask", "early", "product", "touch",
          "back", "same_time"]
 Build = tuple[int, bytes, int | None, bytes | None]
 
@@ -46,11 +53,12 @@ class Project:
 
     def __init__(self, folder: pathlib.Path, lot: random.Random) -> None:
         self.folder, self.lot = folder, lot
-        self.header: dict[str, int] = {"size": 64, "other": 1, "block": 32}
-        self.sources: dict[str, Values] = {name: {"comment": "one", "kernel": 1, "newer": 2, "older": 3, "host": 4, "blank": ""} for name in "ab"}
+        self.header: Values = {"size": 64, "other": 1, "block": 32, "lines": ""}
+        values: Values = {"comment": "one", "kernel": 1, "newer": 2, "older": 3, "host": 4, "blank": "", "lines": "", "line": 0, "unused": ""}
+        self.sources: dict[str, Values] = {name: dict(values) for name in "ab"}
         self.targets, self.umask, self.early, self.product = ["80"], 0o022, False, "{}.o"
         self.words: list[str] = []
-        self.earlier: list[tuple[dict[str, int], dict[str, Values], list[str]]] = []
+        self.earlier: list[tuple[Values, dict[str, Values], list[str]]] = []
         self.write()
 
     def write(self) -> None:
@@ -76,6 +84,8 @@ class Project:
         self.earlier.append((dict(self.header), {name: dict(values) for name, values in self.sources.items()}, list(self.targets)))
         if kind in ("size", "other", "block"):
             self.header[kind] = self.lot.randrange(1, 4)
+        elif kind == "header_lines":
+            self.header["lines"] = self.lot.choice(LINES)
         elif kind in self.sources[source]:
             self.edit_source(self.sources[source], kind)
         else:
@@ -88,6 +98,12 @@ class Project:
         lot = self.lot
         if kind == "comment":
             values[kind] = lot.choice(["one", "two", "three", "two\n// lines"])
+        elif kind == "lines":
+            values[kind] = lot.choice(LINES)
+        elif kind == "line":
+            values[kind] = lot.choice(["0", "__LINE__", "__builtin_LINE()"])
+        elif kind == "unused":
+            values[kind] = lot.choice(["", "int never; "])
         elif kind == "blank":
             values[kind] = " " * lot.randrange(3)
         else:
@@ -99,7 +115,7 @@ class Project:
         if kind == "targets":
             self.targets = sorted(lot.sample(TARGETS, lot.randrange(1, 3)))
         elif kind == "words":
-            self.words = lot.choice([[], ["-O3"], ["-lineinfo"], ["-dc"], ["-Xcompiler", "-fPIC"], ["-DX=1"], ["-std=c++20"], ["-MD"]])
+            self.words = lot.choice([[], ["-O3"], ["-lineinfo"], ["-dc"], ["-Xcompiler", "-fPIC"], ["-DX=1"], ["-std=c++20"], ["-MD"], ["-Xcompiler", "-Wconversion"]])
         elif kind == "umask":
             self.umask = lot.choice([0o022, 0o077, 0o002])
         elif kind == "early":
@@ -114,7 +130,7 @@ class Project:
         elif kind == "same_time":
             path = self.folder / "inc/size.h"
             status = path.stat()
-            self.header["size"] = 1 + self.header["size"] % 3
+            self.header["size"] = 1 + int(str(self.header["size"])) % 3
             self.write()
             os.utime(path, ns=(status.st_atime_ns, status.st_mtime_ns))
 

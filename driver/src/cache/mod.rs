@@ -15,12 +15,13 @@ mod words;
 use crate::host;
 use crate::machine::Ended;
 use crate::planner::PlannedCommand;
-use crate::run::{Step, Task};
+use crate::run::{Done, Step, Task};
 use crate::settings::Settings;
 use crate::streams::{complain, content_of, write_all};
 use crate::system::Status;
-use digest::Digest;
+use digest::{Digest, Hasher};
 use entry::{Entry, Made};
+use key::{Role, Text, key_by_texts, key_by_tokens};
 use marked::{Marked, contains};
 use recipe::{Output, Recipe};
 use std::collections::BTreeMap;
@@ -44,6 +45,13 @@ pub fn store_of(settings: &Settings, cwd: &str) -> Option<Store> {
     is_own.then_some(store)
 }
 
+/// The keys of a command.
+#[derive(Clone, Copy, PartialEq, Eq, Debug)]
+struct Keys {
+    texts: Digest,
+    tokens: Option<Digest>,
+}
+
 /// What becomes of a task.
 #[derive(Clone, Debug)]
 enum State {
@@ -53,8 +61,8 @@ enum State {
     Fresh,
     /// What it reads is preprocessed.
     Asked,
-    /// Nothing was found under its key, and it runs.
-    Missed(Digest, Vec<u8>),
+    /// Nothing was found under its keys, and it runs.
+    Missed(Keys, Vec<u8>),
     Hit,
 }
 
@@ -76,6 +84,8 @@ pub struct Session<'a> {
     begun: f64,
     /// Whether the user knows that nothing can be written.
     has_complained: bool,
+    /// Whether what a command made may have the lines of an earlier source, as what cudafe++ and cicc write for the host compiler has.
+    has_other_lines: bool,
 }
 
 /// What of a terminal shows in messages; nothing if they don't go to one.
@@ -117,12 +127,10 @@ fn names(text: &[u8], directory: &str) -> bool {
 impl<'a> Session<'a> {
     /// The cache for the tasks of a call's commands, whose files go to `tmp`. Tasks that aren't commands are left out.
     pub fn new(store: &'a Store, tmp: &'a str, commands: &[PlannedCommand], tasks: &[Task]) -> Session<'a> {
-        let candidate = |(number, task): (usize, &Task)| {
-            let recipe = Recipe::of(&commands[task.command?], &task.job, number, tmp)?;
-            Some((number, Candidate { recipe, state: State::Fresh, hit: None }))
-        };
-        let candidates = tasks.iter().enumerate().filter_map(candidate).collect();
-        Session { store, tools: Tools::new(store), tmp, candidates, terminal: terminal(), begun: host::now(), has_complained: false }
+        let of_plan = tasks.iter().enumerate().filter_map(|(number, task)| Some((number, &commands[task.command?], &task.job)));
+        let candidate = |(number, recipe)| (number, Candidate { recipe, state: State::Fresh, hit: None });
+        let candidates = recipe::recipes(of_plan, tmp).into_iter().map(candidate).collect();
+        Session { store, tools: Tools::new(store), tmp, candidates, terminal: terminal(), begun: host::now(), has_complained: false, has_other_lines: false }
     }
 
     /// What to do with a task that may start.
@@ -146,7 +154,7 @@ impl<'a> Session<'a> {
         let Some(candidate) = self.candidates.get(&task) else { return Step::Ended(ended) };
         match candidate.state.clone() {
             State::Asked if ended.status.succeeded() && ended.out.is_empty() && ended.errors.is_empty() => self.look_up(task, ended.times),
-            State::Missed(key, text) => self.ran(task, &key, &text, ended),
+            State::Missed(keys, text) => self.ran(task, &keys, &text, ended),
             _ => self.runs_alone(task),
         }
     }
@@ -174,39 +182,70 @@ impl<'a> Session<'a> {
         Step::Own
     }
 
-    /// The texts that a task's key has, or `None` if what it reads isn't known. The first one has its line markers.
-    fn texts(recipe: &Recipe) -> Option<Vec<Vec<u8>>> {
-        let preprocessed = recipe.question.iter().map(|(_, file)| file);
-        let texts: Vec<Vec<u8>> = preprocessed.chain(&recipe.reads).map(|path| content_of(path).ok()).collect::<Option<_>>()?;
-        let reads_more = recipe.assembles && recipe.kind == Kind::Host && texts.first().is_none_or(|text| host_text::reads_more(text));
+    /// Whether a command that read other lines than those of the sources may have said something of them, given what has become of the tasks.
+    pub fn misnames_lines(&self, tasks: &[Task], done: &[Done]) -> bool {
+        let is_silent = |ended: &Ended| ended.status.succeeded() && ended.out.is_empty() && ended.errors.is_empty();
+        let compiles = |task: &Task| !task.preprocesses && task.job.words.first().is_none_or(|program| Kind::of(program).is_none_or(|kind| kind == Kind::Host));
+        let speaks = |(task, done): (&Task, &Done)| compiles(task) && !done.ended.as_ref().is_none_or(is_silent);
+        self.has_other_lines && tasks.iter().zip(done).any(speaks)
+    }
+
+    /// The texts that a task reads, or `None` if they aren't known. The first one has its line markers.
+    fn texts(recipe: &Recipe) -> Option<Vec<Text>> {
+        let preprocessed = recipe.question.iter().map(|(_, file)| (file, Role::Preprocessed));
+        let own = recipe.reads.iter().map(|file| (file, recipe.role_of(file)));
+        let text = |(file, role): (&PathBuf, Role)| Some(Text { role, content: content_of(file).ok()? });
+        let texts: Vec<Text> = preprocessed.chain(own).map(text).collect::<Option<_>>()?;
+        let reads_more = recipe.assembles && recipe.kind == Kind::Host && texts.first().is_none_or(|text| host_text::reads_more(&text.content));
         (!reads_more).then_some(texts)
     }
 
-    fn key(&mut self, task: usize) -> Option<(Digest, Vec<u8>)> {
+    /// What counts of a task beside the texts that it reads, and these.
+    fn asked(&mut self, task: usize) -> Option<(Hasher, Vec<Text>)> {
         let recipe = &self.candidates.get(&task)?.recipe;
         let environment = recipe.environment();
         let (program, folder) = (Path::new(recipe.job.words.first()?), Path::new(&recipe.job.folder));
         let tool = self.tools.identity(&Run { kind: recipe.kind, program, folder, environment: &environment })?;
-        let texts = Session::texts(recipe)?;
-        let key = key::key_of(recipe, &tool, &environment, &texts)?;
-        Some((key, texts.into_iter().next()?))
+        Some((key::start_of(recipe, &tool, &environment)?, Session::texts(recipe)?))
     }
 
     fn look_up(&mut self, task: usize, times: (f64, f64)) -> Step {
-        let Some((key, text)) = self.key(task) else { return self.runs_alone(task) };
-        if let Some(entry) = self.store.read(&key).and_then(|bytes| Entry::of_bytes(&bytes)) {
-            if let Some(ended) = self.take(task, &entry, times) {
-                self.set(task, State::Hit, Some(true));
-                return Step::Ended(ended);
-            }
+        let Some((start, texts)) = self.asked(task) else { return self.runs_alone(task) };
+        let Some(candidate) = self.candidates.get(&task) else { return Step::Own };
+        let recipe = &candidate.recipe;
+        let Some(key) = key_by_texts(start.clone(), recipe, &texts) else { return self.runs_alone(task) };
+        if let Some(ended) = self.entry(&key).and_then(|entry| self.take(recipe, &entry, times)) {
+            return self.hit(task, ended);
         }
-        self.set(task, State::Missed(key, text), Some(false));
-        self.candidates.get(&task).map_or(Step::Own, |candidate| Step::Instead(candidate.recipe.job.clone()))
+        let tokens = key_by_tokens(start, recipe, &texts);
+        if let Some(ended) = tokens.and_then(|key| self.take_other(recipe, &key, times)) {
+            self.has_other_lines = true;
+            return self.hit(task, ended);
+        }
+        let job = recipe.job.clone();
+        let text = texts.into_iter().next().map(|text| text.content).unwrap_or_default();
+        self.set(task, State::Missed(Keys { texts: key, tokens }, text), Some(false));
+        Step::Instead(job)
+    }
+
+    fn entry(&self, key: &Digest) -> Option<Entry> {
+        self.store.read(key).and_then(|bytes| Entry::of_bytes(&bytes))
+    }
+
+    fn hit(&mut self, task: usize, ended: Ended) -> Step {
+        self.set(task, State::Hit, Some(true));
+        Step::Ended(ended)
+    }
+
+    /// The same for a command with the same tokens, if that said nothing.
+    fn take_other(&self, recipe: &Recipe, tokens: &Digest, times: (f64, f64)) -> Option<Ended> {
+        let other = Digest(self.store.read(tokens)?.try_into().ok()?);
+        let entry = self.entry(&other).filter(|entry| !entry.speaks())?;
+        self.take(recipe, &entry, times)
     }
 
     /// Makes and says what an entry has. `None` if it doesn't fit, or can't be made here.
-    fn take(&self, task: usize, entry: &Entry, times: (f64, f64)) -> Option<Ended> {
-        let recipe = &self.candidates.get(&task)?.recipe;
+    fn take(&self, recipe: &Recipe, entry: &Entry, times: (f64, f64)) -> Option<Ended> {
         if recipe.outputs.len() != entry.outputs.len() || (entry.speaks() && !self.may_say(recipe, entry)) {
             return None;
         }
@@ -229,7 +268,7 @@ impl<'a> Session<'a> {
     }
 
     /// What to do with a task that has run.
-    fn ran(&mut self, task: usize, key: &Digest, text: &[u8], ended: Ended) -> Step {
+    fn ran(&mut self, task: usize, keys: &Keys, text: &[u8], ended: Ended) -> Step {
         let Some(candidate) = self.candidates.get(&task) else { return Step::Ended(ended) };
         let recipe = &candidate.recipe;
         let has_products = recipe.has_products();
@@ -239,10 +278,17 @@ impl<'a> Session<'a> {
         }
         if ended.status.succeeded() {
             let entry = self.entry_of(recipe, text, &ended);
-            let written = entry.map_or(Ok(()), |entry| self.store.write(key, &entry.to_bytes()));
+            let written = entry.map_or(Ok(()), |entry| self.keep(keys, &entry));
             self.tell(written);
         }
         Step::Ended(ended)
+    }
+
+    /// Keeps an entry by its texts. One without messages is found by its tokens too.
+    fn keep(&self, keys: &Keys, entry: &Entry) -> io::Result<()> {
+        self.store.write(&keys.texts, &entry.to_bytes())?;
+        let tokens = keys.tokens.filter(|_| !entry.speaks());
+        tokens.map_or(Ok(()), |tokens| self.store.write(&tokens, &keys.texts.0))
     }
 
     /// Says once that the store can't be written.

@@ -1,11 +1,13 @@
 //! What the cache has to know of a command.
+use crate::cache::key::Role;
 use crate::cache::tool::Kind;
-use crate::cache::words::{self, Role};
+use crate::cache::words::{self, Role as WordRole};
 use crate::machine::Job;
 use crate::planner::PlannedCommand;
 use crate::tasks::OWN;
+use std::collections::{BTreeMap, BTreeSet};
 use std::env;
-use std::ffi::OsString;
+use std::ffi::{OsStr, OsString};
 use std::fs;
 use std::path::{Path, PathBuf};
 
@@ -35,6 +37,8 @@ pub struct Recipe {
     pub outputs: Vec<Output>,
     /// The directory whose path doesn't count; empty if names of files count.
     pub directory: String,
+    /// Whether lines and blanks of what it reads may reach a product of the call.
+    pub lines_count: bool,
     /// For a host compiler: the process that preprocesses what it reads, and the file for that.
     pub question: Option<(Job, PathBuf)>,
     /// Whether it runs the assembler.
@@ -60,11 +64,11 @@ fn words_of(kind: Kind, words: &[String], folder: &Path, reads: &[PathBuf], outp
     for (word, role) in words::roles(kind, words)? {
         let path = folder.join(word);
         let product = outputs.iter().position(|output| output.path == path && output.written_to != path);
-        let product = product.filter(|_| role == Role::TakesValue);
-        if role == Role::File && !reads.contains(&path) {
+        let product = product.filter(|_| role == WordRole::TakesValue);
+        if role == WordRole::File && !reads.contains(&path) {
             return None;
         }
-        if counts_all || !matches!(role, Role::Preprocessed | Role::PreprocessedValue) {
+        if counts_all || !matches!(role, WordRole::Preprocessed | WordRole::PreprocessedValue) {
             counted.push(product.map_or_else(|| word.to_owned(), |number| format!("output {number}")));
         }
         run.push(product.map_or_else(|| word.to_owned(), |number| outputs[number].written_to.to_string_lossy().into_owned()));
@@ -110,12 +114,21 @@ impl Recipe {
         let question = is_host.then(|| (question(&job, &file), file.into()));
         let assembles = run.iter().any(|word| word == "-c");
         let directory = if names_count { String::new() } else { tmp.to_owned() };
-        Some(Recipe { kind, counted, job, reads, outputs, directory, question, assembles })
+        Some(Recipe { kind, counted, job, reads, outputs, directory, lines_count: names_count, question, assembles })
     }
 
     /// Whether each product can be made by a new file in its place: nothing is there, or a plain file.
     pub fn has_plain_outputs(&self) -> bool {
         self.outputs.iter().all(|output| fs::symlink_metadata(&output.path).map_or(true, |status| status.is_file()))
+    }
+
+    /// What the text of a file is that the command reads.
+    pub fn role_of(&self, file: &Path) -> Role {
+        match file.extension().and_then(OsStr::to_str) {
+            _ if self.question.is_some() => Role::Source,
+            Some("ii") => Role::Preprocessed,
+            _ => Role::Other,
+        }
     }
 
     pub fn has_products(&self) -> bool {
@@ -129,6 +142,24 @@ impl Recipe {
         let further = self.job.variables.iter().filter_map(|(name, value)| Some((name.into(), value.as_ref()?.into())));
         own.chain(further).collect()
     }
+}
+
+/// The recipes of a call's commands. cudafe++ and cicc write lines for the host compiler. So lines count for them if they do there, or if
+/// something else than a known compile reads what cudafe++ writes.
+pub fn recipes<'a>(commands: impl Iterator<Item = (usize, &'a PlannedCommand, &'a Job)>, tmp: &str) -> BTreeMap<usize, Recipe> {
+    let (mut recipes, mut lined) = (BTreeMap::new(), BTreeSet::new());
+    for (number, command, job) in commands {
+        let recipe = Recipe::of(command, job, number, tmp);
+        if recipe.as_ref().is_none_or(|recipe| recipe.lines_count) {
+            lined.extend(command.reads.iter().map(PathBuf::from));
+        }
+        recipes.extend(recipe.map(|recipe| (number, recipe)));
+    }
+    let is_text = |output: &Output| output.path.extension().is_some_and(|extension| extension == "cpp") && lined.contains(&output.path);
+    if recipes.values().any(|recipe| recipe.kind == Kind::CudaFe && recipe.outputs.iter().any(is_text)) {
+        recipes.values_mut().filter(|recipe| matches!(recipe.kind, Kind::CudaFe | Kind::Cicc)).for_each(|recipe| recipe.lines_count = true);
+    }
+    recipes
 }
 
 #[cfg(test)]
@@ -160,13 +191,15 @@ mod tests {
             ("/b/gcc -DA -E -x c++ -O2 /t/x.cpp -o /t/zigrunk.tmp/cache.3.ii".into(), "/t/zigrunk.tmp/cache.3.ii".into())
         );
         assert!(made.has_products() && made.assembles && made.directory == "/t");
+        assert_eq!(made.role_of(Path::new("/t/x.cpp")), Role::Source);
     }
 
     #[test]
     fn what_is_generated_stays_where_it_is() {
         let made = recipe("/b/ptxas -arch=sm_80 -m64 /t/x.ptx -o /t/x.cubin", &["/t/x.ptx"], &["/t/x.cubin"]).unwrap();
-        assert_eq!((made.job.words.last().unwrap().as_str(), made.question, made.counted.len()), ("/t/x.cubin", None, 5));
+        assert_eq!((made.job.words.last().unwrap().as_str(), &made.question, made.counted.len()), ("/t/x.cubin", &None, 5));
         assert_eq!(made.outputs[0].written_to, made.outputs[0].path);
+        assert_eq!(["/t/x.ii", "/t/x.module_id", "/t/ii"].map(|file| made.role_of(Path::new(file))), [Role::Preprocessed, Role::Other, Role::Other]);
     }
 
     #[test]
@@ -176,6 +209,25 @@ mod tests {
         let words = "/b/ptxas -arch=sm_80 -g /t/x.ptx -o";
         assert!(recipe(&format!("{words} /t/x.cubin"), &["/t/x.ptx"], &["/t/x.cubin"]).is_some());
         assert_eq!(recipe(&format!("{words} k.cubin"), &["/t/x.ptx"], &["/w/k.cubin"]), None);
+    }
+
+    #[test]
+    fn lines_count_for_front_ends_as_for_the_compiler() {
+        let front = command("/b/cudafe++ --m64 --gen_c_file_name /t/x.cpp /t/x.ii", &["/t/x.ii"], &["/t/x.cpp"]);
+        let device = command("/b/cicc -m64 --stub_file_name /t/x.stub.c /t/x1.ii -o /t/x.ptx", &["/t/x1.ii"], &["/t/x.ptx", "/t/x.stub.c"]);
+        let counts = |others: &[(PlannedCommand, Job)]| {
+            let all = [&[front.clone(), device.clone()], others].concat();
+            let recipes = recipes(all.iter().enumerate().map(|(number, (command, job))| (number, command, job)), "/t");
+            assert_eq!(recipes[&0].lines_count, recipes[&1].lines_count);
+            (recipes[&0].lines_count, recipes.len())
+        };
+        let compile = |words: &str| command(&format!("/b/gcc {words} -c -x c++ /t/x.cpp -o k.o"), &["/t/x.cpp"], &["/w/k.o"]);
+        let ptxas = command("/b/ptxas -arch=sm_80 -g /t/x.ptx -o /t/x.cubin", &["/t/x.ptx"], &["/t/x.cubin"]);
+        assert_eq!(counts(&[compile("-O2"), ptxas]), (false, 4));
+        assert_eq!(counts(&[compile("-g")]), (true, 3));
+        assert_eq!(counts(&[compile("-O2"), compile("-gsplit-dwarf")]), (true, 3), "a word that isn't known");
+        let preprocessor = command("/b/gcc -E -x c++ /t/x.cpp -o k.ii", &["/t/x.cpp"], &["/w/k.ii"]);
+        assert_eq!(counts(&[(PlannedCommand { preprocesses: true, ..preprocessor.0 }, preprocessor.1)]), (true, 2));
     }
 
     #[test]
