@@ -43,8 +43,9 @@ void run_{name}(float* values, int* numbers, int count) {{ {blank}scale_{name}<2
 TARGETS = ["75", "80", "90"]
 Values = dict[str, object]
 LINES = ["", "", "// a line\n", "\n", "/* two\nlines */\n"]
-KINDS = ["comment", "lines", "lines", "header_lines", "line", "unused", "kernel", "newer", "older", "host", "size", "other", "block", "blank", "targets", "words", "umask", "early", "product", "touch",
-         "back", "same_time"]
+KINDS = ["comment", "lines", "lines", "header_lines", "line", "unused", "kernel", "newer", "older", "host", "size", "other", "block", "blank",
+         "targets", "words", "umask", "early", "product", "touch", "back", "same_time"]
+WORDS = [[], ["-O3"], ["-lineinfo"], ["-g"], ["-dc"], ["-Xcompiler", "-fPIC"], ["-DX=1"], ["-std=c++20"], ["-MD"], ["-Xcompiler", "-Wconversion"]]
 Build = tuple[int, bytes, int | None, bytes | None]
 
 
@@ -67,7 +68,8 @@ class Project:
         self.put("inc/size.h", HEADER.format(**self.header))
         early = self.folder / "early/size.h"
         if self.early:
-            self.put("early/size.h", HEADER.format(**{**self.header, "size": 7}))
+            early_header: Values = {**self.header, "size": 7}
+            self.put("early/size.h", HEADER.format(**early_header))
         elif early.exists():
             early.unlink()
         for name, values in self.sources.items():
@@ -115,7 +117,7 @@ class Project:
         if kind == "targets":
             self.targets = sorted(lot.sample(TARGETS, lot.randrange(1, 3)))
         elif kind == "words":
-            self.words = lot.choice([[], ["-O3"], ["-lineinfo"], ["-dc"], ["-Xcompiler", "-fPIC"], ["-DX=1"], ["-std=c++20"], ["-MD"], ["-Xcompiler", "-Wconversion"]])
+            self.words = lot.choice(WORDS)
         elif kind == "umask":
             self.umask = lot.choice([0o022, 0o077, 0o002])
         elif kind == "early":

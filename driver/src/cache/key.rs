@@ -196,7 +196,12 @@ mod tests {
         let one = tokens(&cicc, "# 1 \"k.cu\"\nint a;\n", &[]).unwrap();
         let same = ["# 1 \"k.cu\"\n\n\n  int a ;\n", "# 1 \"k.cu\"\n# 7 \"k.cu\"\nint a;\n", "# 1 \"k.cu\"\n/* x */ int a; // y\n"];
         assert_eq!(same.map(|text| tokens(&cicc, text, &[])), [Some(one); 3]);
-        let others = ["# 1 \"j.cu\"\nint a;\n", "# 1 \"k.cu\"\ninta;\n", "# 1 \"k.cu\"\n# 1 \"a.h\" 1\n# 2 \"k.cu\" 2\nint a;\n", "# 1 \"k.cu\"\n#pragma x\nint a;\n"];
+        let others = [
+            "# 1 \"j.cu\"\nint a;\n",
+            "# 1 \"k.cu\"\ninta;\n",
+            "# 1 \"k.cu\"\n# 1 \"a.h\" 1\n# 2 \"k.cu\" 2\nint a;\n",
+            "# 1 \"k.cu\"\n#pragma x\nint a;\n",
+        ];
         assert!(others.iter().all(|text| tokens(&cicc, text, &[]).is_some_and(|other| other != one)));
         assert_ne!(key(&cicc, &[], "int a;\n"), key(&cicc, &[], "int a; \n"));
         assert_ne!(tokens(&Recipe { kind: Kind::CudaFe, ..cicc }, "# 1 \"k.cu\"\nint a;\n", &[]), Some(one));
@@ -214,7 +219,12 @@ mod tests {
 
     #[test]
     fn where_lines_may_show_there_is_no_key_by_tokens() {
-        let cases = [("-g", "", "int a;\n"), ("-m64", "/t", "int a = __builtin_LINE();\n"), ("-m64", "/t", "#define A(x) #x // y\n"), ("-m64", "/t", "a \\\n b\n")];
+        let cases = [
+            ("-g", "", "int a;\n"),
+            ("-m64", "/t", "int a = __builtin_LINE();\n"),
+            ("-m64", "/t", "#define A(x) #x // y\n"),
+            ("-m64", "/t", "a \\\n b\n"),
+        ];
         for (words, directory, text) in cases {
             assert_eq!(tokens(&recipe(words, directory), text, &[]), None, "{words} {text}");
         }

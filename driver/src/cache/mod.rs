@@ -130,7 +130,16 @@ impl<'a> Session<'a> {
         let of_plan = tasks.iter().enumerate().filter_map(|(number, task)| Some((number, &commands[task.command?], &task.job)));
         let candidate = |(number, recipe)| (number, Candidate { recipe, state: State::Fresh, hit: None });
         let candidates = recipe::recipes(of_plan, tmp).into_iter().map(candidate).collect();
-        Session { store, tools: Tools::new(store), tmp, candidates, terminal: terminal(), begun: host::now(), has_complained: false, has_other_lines: false }
+        Session {
+            store,
+            tools: Tools::new(store),
+            tmp,
+            candidates,
+            terminal: terminal(),
+            begun: host::now(),
+            has_complained: false,
+            has_other_lines: false,
+        }
     }
 
     /// What to do with a task that may start.
@@ -185,7 +194,8 @@ impl<'a> Session<'a> {
     /// Whether a command that read other lines than those of the sources may have said something of them, given what has become of the tasks.
     pub fn misnames_lines(&self, tasks: &[Task], done: &[Done]) -> bool {
         let is_silent = |ended: &Ended| ended.status.succeeded() && ended.out.is_empty() && ended.errors.is_empty();
-        let compiles = |task: &Task| !task.preprocesses && task.job.words.first().is_none_or(|program| Kind::of(program).is_none_or(|kind| kind == Kind::Host));
+        let compiles =
+            |task: &Task| !task.preprocesses && task.job.words.first().is_none_or(|program| Kind::of(program).is_none_or(|kind| kind == Kind::Host));
         let speaks = |(task, done): (&Task, &Done)| compiles(task) && !done.ended.as_ref().is_none_or(is_silent);
         self.has_other_lines && tasks.iter().zip(done).any(speaks)
     }
