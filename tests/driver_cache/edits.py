@@ -45,7 +45,9 @@ Values = dict[str, object]
 LINES = ["", "", "// a line\n", "\n", "/* two\nlines */\n"]
 KINDS = ["comment", "lines", "lines", "header_lines", "line", "unused", "kernel", "newer", "older", "host", "size", "other", "block", "blank",
          "targets", "words", "umask", "early", "product", "touch", "back", "same_time"]
-WORDS = [[], ["-O3"], ["-lineinfo"], ["-g"], ["-dc"], ["-Xcompiler", "-fPIC"], ["-DX=1"], ["-std=c++20"], ["-MD"], ["-Xcompiler", "-Wconversion"]]
+WORDS: list[list[str]] = [
+    [], ["-O3"], ["-lineinfo"], ["-g"], ["-dc"], ["-DX=1"], ["-std=c++20"], ["-MD"], ["-Xcompiler", "-fPIC"], ["-Xcompiler", "-Wconversion"],
+]
 Build = tuple[int, bytes, int | None, bytes | None]
 
 
