@@ -1,11 +1,11 @@
 #!/usr/bin/env python3
 """Edits by lot what no contract sees, and looks whether a test fails.
 
-    tests/mutants_by_lot.py [--seed S] [--count N] [--only N] [--kind KIND] [--lanes N] [--bound PERCENT] [--draw]
+    tests/mutants_by_lot.py [--seed S] [--first N] [--count N] [--only N] [--kind KIND] [--lanes N] [--bound PERCENT] [--draw]
 
 An edit changes one line of code: it negates a condition, drops a call, and so on (RUST, SCRIPT). The seed and its number say which line and which
-operator, so --only makes one edit again. One that doesn't compile is drawn again, and so is one of tests/mutants_known.txt. Then the tests of its
-file run until one fails, the likeliest first. A part of a script counts if it fails twice. A test that takes too long counts as failed.
+operator, so --only makes one edit again, and --first begins at another than the first. One that doesn't compile is drawn again, and so is one of tests/mutants_known.txt. Then the tests of its
+file run until one fails, the likeliest first. Tests count if they fail twice. One that takes too long has failed.
 
 An edited driver may send any signal, remove any file and take all memory. So tests run where they see no other process, can write only below the
 folder of their lane, and have 4 GB each. That takes root, or a kernel that lets users make namespaces.
@@ -15,6 +15,7 @@ fewer than --bound percent were caught.
 """
 import argparse
 import difflib
+import hashlib
 import json
 import os
 import random
@@ -32,7 +33,7 @@ from typing import NamedTuple
 ROOT = Path(__file__).resolve().parent.parent
 WORK = Path(os.environ.get("MUTANTS_WORK", ROOT / "out/mutants"))
 # How many seconds the unit tests or a part of a script may take, and how many parts a lane runs side by side: they mostly wait.
-LONGEST, SIDE_BY_SIDE = 240, 3
+LONGEST, SIDE_BY_SIDE = 480, 3
 # As in a release: sums that overflow don't panic.
 BUILD = {"CARGO_PROFILE_DEV_DEBUG": "0", "CARGO_PROFILE_DEV_OVERFLOW_CHECKS": "false", "CARGO_PROFILE_DEV_DEBUG_ASSERTIONS": "false"}
 
@@ -43,7 +44,7 @@ SANDBOX = ["unshare", *([] if os.geteuid() == 0 else ["--user", "--map-root-user
            ' ulimit -v 4000000 && "${@:3}"; exit', "sandbox"]
 
 # The files of each kind, and the parts of its tests.
-DRIVER_PARTS = "driver: unit end_to_end folders compilers to_nvcc outputs products logs plans signals jobservers slots"
+DRIVER_PARTS = "driver: unit end_to_end folders early_starts late_starts compilers to_nvcc outputs products logs plans signals jobservers slots"
 BATCH_PARTS = "driver_batch: lists places failures products databases incremental reports stopped killed"
 KINDS = {
     "driver": (["driver/src/**/*.rs"], f"{DRIVER_PARTS} {BATCH_PARTS}"),
@@ -55,7 +56,8 @@ FIRST = {
     "src/jobserver": "driver: jobservers", "src/guard": "driver: folders jobservers", "src/folder": "driver: folders", "src/log": "driver: logs",
     "src/rule": "driver: products", "src/products": "driver: products", "src/programs": "driver: compilers", "src/dry_runs": "driver: to_nvcc",
     "src/json_values": "driver_batch: databases reports", "src/entries": "driver: logs", "src/streams": "driver: outputs driver_batch: failures",
-    "src/system": "driver: end_to_end signals folders", "src/host": "driver: end_to_end signals logs", "src/call": "driver: end_to_end to_nvcc",
+    "src/cache/": "driver_cache: stand_ins", "src/early": "driver: early_starts late_starts", "src/late": "driver: late_starts",
+    "src/withheld": "driver: early_starts", "src/run.": "driver: end_to_end early_starts outputs", "src/system": "driver: end_to_end signals folders", "src/host": "driver: end_to_end signals logs", "src/call": "driver: end_to_end to_nvcc",
 }
 # No other parts run anything of these files.
 ALONE = ("src/batch/", "src/report/", "src/plan_program")
@@ -187,16 +189,18 @@ class Lane:
             shutil.rmtree(self.sources / "driver", ignore_errors=True)
             shutil.copytree(ROOT / "driver", self.sources / "driver", copy_function=shutil.copy)
 
-    def build(self) -> bool:
-        """Builds the driver and its tests. Says whether they compile."""
-        if self.kind != "driver":
-            return True
-        words = ["cargo", "build", "--offline", "--quiet", "-p", "zigrunk-driver", "--bins", "--tests", "--message-format=json"]
-        made = subprocess.run(words, cwd=self.sources, env=os.environ | BUILD, capture_output=True, text=True, check=False)
-        found = [json.loads(line) for line in made.stdout.splitlines() if '"executable":"' in line]
-        self.tests = [Path(one["executable"]) for one in found if one["profile"]["test"]]
-        self.program = next((Path(one["executable"]) for one in found if not one["profile"]["test"]), self.program)
-        return made.returncode == 0
+    def build(self, *words: str) -> list[Path]:
+        """Runs cargo with these words. Says which programs it made: none, if something doesn't compile."""
+        command = ["cargo", *words, "--offline", "--quiet", "-p", "zigrunk-driver", "--message-format=json"]
+        made = subprocess.run(command, cwd=self.sources, env=os.environ | BUILD, capture_output=True, text=True, check=False)
+        found = [json.loads(line)["executable"] for line in made.stdout.splitlines() if '"executable":"' in line]
+        return [Path(program) for program in found] if made.returncode == 0 else []
+
+    def compiles(self, path: str) -> bool:
+        """Builds the unit tests. Says whether they compile. The program comes later, since most edits are found without it."""
+        if self.kind == "driver":
+            self.tests = self.build("test", "--no-run", "--lib", *["--test", "report"] * ("src/report/" in path))
+        return bool(self.tests) or self.kind != "driver"
 
     def run(self, words: list[str], **settings: str) -> tuple[int, str]:
         """Runs a test where it can do no harm. Says its status and what it printed."""
@@ -225,10 +229,12 @@ class Lane:
         return f"{script} {part}: {(failures or [said[-150:]])[0][:150]}" if status != 0 else ""
 
     def test(self, path: str) -> str:
-        """Runs the tests of a file until one fails. Says which, or nothing. A part of a script counts if it fails twice."""
+        """Runs the tests of a file until one fails, twice. Says which, or nothing."""
         parts = parts_of(path, self.kind)
-        if parts[0][1] == "unit" and (found := self.fault(*parts.pop(0))):
+        if parts[0][1] == "unit" and self.fault(*(unit := parts.pop(0))) and (found := self.fault(*unit)):
             return found
+        if self.kind == "driver":
+            self.program = next(iter(self.build("build", "--bins")), self.program)
         caught: list[str] = []
 
         def try_part(script_part: tuple[str, str]) -> None:
@@ -272,7 +278,7 @@ class Lot:
     def __init__(self, args: argparse.Namespace) -> None:
         self.args, self.known = args, known()
         self.lines = [(path, number) for path in sources(args.kind) for number in code_lines(path)]
-        self.numbers = iter([args.only] if args.only else range(1, args.count + 1))
+        self.numbers = iter([args.only] if args.only else range(args.first, args.first + args.count))
         self.lock, self.counts, self.caught = threading.Lock(), Counter[str](), Counter[str]()
 
     def edit(self, number: int, lane: Lane | None) -> Edit:
@@ -289,7 +295,7 @@ class Lot:
             lines = text.splitlines()
             lines[edit.line] = edit.new
             (lane.sources / edit.path).write_text("\n".join(lines) + "\n")
-            if lane.build():
+            if lane.compiles(str(edit.path)):
                 return edit
             self.counts["not compiled"] += 1
             (lane.sources / edit.path).write_text(text)
@@ -305,6 +311,11 @@ class Lot:
             what = f"caught by {failure}\n" if failure else f"no test fails\n{difference(edit, text)}"
             print(f"edit {number}, {edit.path}:{edit.line + 1}, {edit.operator}: {what}", end="", flush=True)
 
+    def state(self) -> str:
+        """The digest of what is edited and of all tests: as long as it stays, tests that passed without an edit needn't run so again."""
+        tests = [path for path in (ROOT / "tests").rglob("*") if path.is_file()]
+        return hashlib.sha256(b"".join(path.read_bytes() for path in sorted({*tests, *(path for path, _ in self.lines)}))).hexdigest()
+
     def next_number(self) -> int | None:
         with self.lock:
             return next(self.numbers, None)
@@ -313,6 +324,7 @@ class Lot:
 def main() -> int:
     parser = argparse.ArgumentParser(usage=__doc__)
     parser.add_argument("--seed", default="1")
+    parser.add_argument("--first", type=int, default=1)
     parser.add_argument("--count", type=int, default=100)
     parser.add_argument("--only", type=int, help="the number of an edit")
     parser.add_argument("--kind", choices=KINDS, default="driver")
@@ -327,10 +339,13 @@ def main() -> int:
     if args.draw:
         return 0
     lanes = [Lane(number, args.kind) for number in range(1, 1 + min(args.lanes, 1 if args.only else args.count))]
-    if not all([lane.build() for lane in lanes]):
+    if not all([lane.compiles("") for lane in lanes]):
         sys.exit("without an edit: it does not build")
-    if failure := lanes[0].test(""):
-        sys.exit(f"without an edit: {failure}")
+    passed = WORK / f"passed.{args.kind}"
+    if not passed.exists() or passed.read_text() != lot.state():
+        if failure := lanes[0].test(""):
+            sys.exit(f"without an edit: {failure}")
+        passed.write_text(lot.state())
     threads = [threading.Thread(target=lot.work, args=(lane,)) for lane in lanes]
     for thread in threads:
         thread.start()
