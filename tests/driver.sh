@@ -374,8 +374,8 @@ early_starts() {
         splits
         same 'what it reads, of which name' "$(cat "$room"/log.read.* "$room/log.name.cicc.80" | paste -sd ' ')" 'made made module_id.'
         same 'the command as it begins late' "$(grep -c '^+ cicc' "$room/log")" 2
-        for settings in ZIGRUNK_EARLY=0 ZIGRUNK_SLOTS=1 'ZIGRUNK_LAUNCHER=env' 'ZIGRUNK_RUNNER=env'; do
-            call ZIGRUNK_SLOTS=8 "$settings" TOOL_DOES="[ \"\$name\" != cudafe++ ] || sleep 0.3; $reads" -c k.cu -o k.o
+        for settings in ZIGRUNK_EARLY=0 ZIGRUNK_SLOTS=1 ZIGRUNK_LAUNCHER=env ZIGRUNK_RUNNER=env "ZIGRUNK_CACHE=$room/entries"; do
+            call ZIGRUNK_SLOTS=8 ZIGRUNK_LATE=1 "$settings" TOOL_DOES="[ \"\$name\" != cudafe++ ] || sleep 0.3; $reads" -c k.cu -o k.o
             splits "with $settings"
             same "what begins early with $settings" "$(sed '/^- cudafe/,$d' "$room/log" | grep -c '^+ cicc')" 0
         done
@@ -411,7 +411,7 @@ late_starts() {
         end
     fi
     if case_of 'the last compile waits'; then
-        for settings in ZIGRUNK_LATE=0 GCC_COMPARE_DEBUG= ZIGRUNK_LAUNCHER=env ZIGRUNK_RUNNER=env; do
+        for settings in ZIGRUNK_LATE=0 GCC_COMPARE_DEBUG= ZIGRUNK_LAUNCHER=env ZIGRUNK_RUNNER=env "ZIGRUNK_CACHE=$room/entries"; do
             call "${late[@]}" "$settings" TOOL_DOES="$reads" -c k.cu -o k.o
             splits "with $settings"
         done

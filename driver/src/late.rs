@@ -163,6 +163,61 @@ mod tests {
         assert_eq!(commands[1], command(compile, &["/w/k.o"]));
     }
 
+    /// The commands of a call for one target, whose files are in a folder, and with these further words of fatbinary and gcc.
+    fn commands(folder: &str, fatbinary: &str, gcc: &str) -> Vec<PlannedCommand> {
+        let in_folder = |name: &str| format!("{folder}/{name}");
+        let [cpp, stub, fatbin, product] = ["k.cudafe1.cpp", "k.cudafe1.stub.c", "k.fatbin.c", "k.o"].map(in_folder);
+        let plan = vec![
+            command("gcc -E -D__CUDACC_VER_MAJOR__=13 k.cu", &[]),
+            command("cudafe++ x", &[&cpp]),
+            command("cicc x", &[&stub]),
+            command("ptxas x", &[]),
+            command(&format!("fatbinary {fatbinary}--create=x --embedded-fatbin={fatbin} y"), &[&fatbin]),
+            command(&format!("gcc -c -x c++ {gcc}-m64 {cpp} -o {product}"), &[&product]),
+        ];
+        plan.into_iter().map(|command| PlannedCommand { cacheable: true, ..command }).collect()
+    }
+
+    #[test]
+    fn two_commands_take_the_place_of_the_last() {
+        let folder = env::temp_dir().join(format!("late-two-{}", std::process::id()));
+        fs::create_dir_all(folder.join(OWN)).unwrap();
+        let place = folder.to_str().unwrap();
+        for (words, section) in [("", ".nv_fatbin"), ("--device-c ", "__nv_relfatbin")] {
+            let (before, mut after) = (commands(place, words, ""), commands(place, words, ""));
+            let include = begin_early(&mut after, place).unwrap();
+            let own = |name: &str| format!("{place}/{OWN}/{name}");
+            assert_eq!((include.from.to_str(), include.to.to_str()), (Some(own("fatbin.c").as_str()), Some(own("fatbin.s").as_str())));
+            assert_eq!((after.len(), &after[..4]), (7, &before[..4]));
+            let fatbinary = before[4].words.iter().map(|word| word.replace(&format!("={place}/k.fatbin.c"), &format!("={}", own("fatbin.c"))));
+            assert_eq!(after[4].words, fatbinary.collect::<Vec<_>>());
+            let (compile, assemble) = (&after[5], &after[6]);
+            assert!(compile.words.contains(&"-S".into()) && compile.words.contains(&own("late.s")), "{:?}", compile.words);
+            assert_eq!((compile.needs.as_slice(), compile.writes.as_slice(), compile.cacheable), (&[1, 2][..], &[own("late.s")][..], false));
+            assert!(assemble.words.contains(&own("late.s")) && assemble.words.contains(&format!("{place}/k.o")), "{:?}", assemble.words);
+            assert_eq!((assemble.needs.as_slice(), assemble.writes.as_slice(), assemble.cacheable), (&[5][..], &before[5].writes[..], false));
+            let placeholder = fs::read_to_string(folder.join("k.fatbin.c")).unwrap();
+            assert!(placeholder.contains(&own("fatbin.s")) && placeholder.contains(section), "{placeholder}");
+            assert!(include.write().is_err(), "fatbinary's file is missing");
+            let text = placeholder.replace(&format!(".include \\\"{}\\\"\\n", own("fatbin.s")), ".text\\n");
+            fs::write(&include.from, &text).unwrap();
+            assert_eq!(include.write(), Ok(()), "{text}");
+            assert_eq!(fs::read_to_string(&include.to).unwrap(), ".text\n");
+        }
+        for (fatbinary, gcc) in [("", "-g "), ("", "-save-temps "), ("", "-o x ")] {
+            let mut after = commands(place, fatbinary, gcc);
+            assert_eq!((begin_early(&mut after, place), after), (None, commands(place, fatbinary, gcc)), "{gcc}");
+        }
+        let without = |number: usize| {
+            let mut left = commands(place, "", "");
+            left.remove(number);
+            begin_early(&mut left, place)
+        };
+        assert_eq!([0, 1, 2, 4].map(without), [const { None }; 4], "one is missing");
+        assert!(begin_early(&mut commands("/missing", "", ""), "/missing").is_none(), "it can't be written");
+        fs::remove_dir_all(folder).unwrap();
+    }
+
     #[test]
     fn a_product_needs_a_folder() {
         let folder = env::temp_dir().join(format!("late-{}", std::process::id()));
