@@ -375,8 +375,8 @@ early_starts() {
         same 'what it reads, of which name' "$(cat "$room"/log.read.* "$room/log.name.cicc.80" | paste -sd ' ')" 'made made module_id.'
         same 'the command as it begins late' "$(grep -c '^+ cicc' "$room/log")" 2
         for settings in ZIGRUNK_EARLY=0 ZIGRUNK_SLOTS=1 ZIGRUNK_LAUNCHER=env ZIGRUNK_RUNNER=env "ZIGRUNK_CACHE=$room/entries"; do
-            call ZIGRUNK_SLOTS=8 ZIGRUNK_LATE=1 "$settings" TOOL_DOES="[ \"\$name\" != cudafe++ ] || sleep 0.3; $reads" -c k.cu -o k.o
-            splits "with $settings"
+            call ZIGRUNK_SLOTS=8 "$settings" TOOL_DOES="[ \"\$name\" != cudafe++ ] || sleep 0.3; $reads" -c k.cu -o k.o
+            same "status and messages with $settings" "$status$(cat "$room/err")" 0
             same "what begins early with $settings" "$(sed '/^- cudafe/,$d' "$room/log" | grep -c '^+ cicc')" 0
         done
         end
@@ -395,7 +395,8 @@ early_starts() {
 }
 
 late_starts() {
-    late=(ZIGRUNK_LATE= ZIGRUNK_SLOTS=8 FATBIN="$stand_ins/fatbin.c")
+    unset ZIGRUNK_LATE
+    late=(ZIGRUNK_SLOTS=8 FATBIN="$stand_ins/fatbin.c")
     if case_of 'the last compile begins beside fatbinary'; then
         call "${late[@]}" EARLY=gcc-S TOOL_DOES="case \$name in fatbinary) $begins ;; gcc-c) cat \"\$TMPDIR/fatbin.s\" > \"\$LOG.assembled\" ;; esac; $reads" -c k.cu -o k.o
         same 'status, messages and product' "$status$(cat "$room/err" k.o)" 0made
@@ -413,7 +414,8 @@ late_starts() {
     if case_of 'the last compile waits'; then
         for settings in ZIGRUNK_LATE=0 GCC_COMPARE_DEBUG= ZIGRUNK_LAUNCHER=env ZIGRUNK_RUNNER=env "ZIGRUNK_CACHE=$room/entries"; do
             call "${late[@]}" "$settings" TOOL_DOES="$reads" -c k.cu -o k.o
-            splits "with $settings"
+            same "status, messages and product with $settings" "$status$(cat "$room/err" k.o)" 0made
+            same "what begins with $settings" "$(grep -c '^+ gcc-S' "$room/log") $(grep -c '^+ gcc-c' "$room/log")" '0 1'
         done
         call "${late[@]}" TOOL_DOES="$reads" --keep -c k.cu -o k.o
         splits 'with --keep'
@@ -427,6 +429,7 @@ late_starts() {
         by_nvcc "fatbinary's file has another form"
         end
     fi
+    export ZIGRUNK_LATE=0
 }
 
 # with_name NAME [BODY]: an nvcc in the folder NAME of the case: a link to the driver, or a script.
@@ -570,6 +573,7 @@ signalfd4:error=EMFILE|nvcc itself: no signals for the call
 clone:error=EAGAIN:when=1|nvcc itself: no process for a dry run
 clone:error=EAGAIN:when=3|nvcc itself: no process for the call
 mkdir:error=ENOSPC|nvcc itself: no room for temporary files
+pread64:error=EINTR:when=6..1006|nvcc itself: what a command said is lost: Interrupted system call (os error 4)
 pread64:error=EIO:when=6|nvcc itself: what a command said is lost: Input/output error (os error 5)
 wait4:error=EINVAL:when=1|nvcc itself: the end of a command is unknown: Invalid argument (os error 22)
 ROWS
@@ -707,6 +711,7 @@ products() {
         call --keep --keep-dir "$room/a dir" -c k.cu -o k.o
         splits
         same 'dry runs' "$(grep -c dryrun "$room/log")" 3
+        same 'its own name in a stub file' "$(sed -n 2p "$room/a dir/kernel.compute_90.cudafe1.stub.c")" "# 1 \"$room/a dir/kernel.compute_90.cudafe1.stub.c\""
         same 'kept files' "$(cd "$room/a dir" && ls | grep -c 'kernel\..*ptx$')$(ls -A "$room/a dir" | grep -c 'zigrunk')" 20
         end
     fi

@@ -86,6 +86,7 @@ most() { awk '{ now += $1 == "+" ? 1 : -1; if (now > most) most = now } END { pr
 end() {
     same 'files left' "$(cd "$room/tmp" && find . -mindepth 2; cd "$room/tmp" && ls -A | grep -vx "zigrunk-$user")" ''
     same 'calls that wait' "$(find "$room/run" -name 'wait-*')" ''
+    same 'processes' "$(pgrep -f "^$scratch/bin/zigrunk-batch")" ''
     end_case
 }
 
@@ -219,11 +220,12 @@ products() {
         end
     fi
     if case_of 'a product that a shared disk shows late'; then
-        printf '%s\n' '#!/bin/sh' '(sleep 1.5; echo made > p) > /dev/null 2>&1 &' > "$room/late"
-        chmod +x "$room/late"
+        mkdir "$room/bin"
+        printf '%s\n' '#!/bin/sh' 'echo "sleep $1" >> "$LOG"' '[ "$1" != 2 ] || echo made > p' > "$room/bin/sleep"
+        chmod +x "$room/bin/sleep"
         list='gcc -c a.c -o p'
-        batch ZIGRUNK_RUNNER="$room/late"
-        same 'status and messages' "$status$(complained)" 0
+        batch PATH="$room/bin:$PATH" LOSE=1 ZIGRUNK_RUNNER=runner
+        same 'status, messages and pauses' "$status$(complained) $(grep sleep "$room/log" | paste -sd ' ')" '0 sleep 1 sleep 2'
         rm -f p
         same 'files left beside it' "$(ls -A)" ''
         end
@@ -390,8 +392,8 @@ HELP
         for number in 1 2 3; do write "$number.cu" ':' && list+="-c $number.cu -o $number.o"$'\n'; done
         for number in $(seq 10 39); do
             with_few_files "$number" ZIGRUNK_SLOTS=0 -j 30
-            case $?,$(cat "$room/err") in
             # (a stand-in for nvcc is a script, which dash can't open with ten files)
+            case $?,$(cat "$room/err") in
             0,* | 2,'/bin/sh: 0: '*'Invalid argument'* | 1,*'zigrunk-batch: no process for '* | 1,*'zigrunk-batch: no temporary directory: '* | 1,*'Too many open files'*) ;;
             *) problems+="  with $number files: $(head -c 300 "$room/err")"$'\n' ;;
             esac

@@ -184,7 +184,7 @@ fn first_by_nvcc<M: Machine>(machine: &mut M, outline: &Outline) -> Result<Vec<u
 #[cfg(test)]
 mod tests {
     use super::*;
-    use crate::system::Status;
+    use crate::system::{INT, Status};
     use std::io;
 
     const COMMANDS: &str = "#$ cicc \"k.ii\" -o \"k.ptx\"\n";
@@ -201,6 +201,7 @@ mod tests {
         wants: bool,
         ended_by: Option<i32>,
         lost: bool,
+        signal: bool,
     }
 
     impl Machine for Fake {
@@ -214,6 +215,9 @@ mod tests {
             }
             if self.wants {
                 return Event::Slot;
+            }
+            if self.signal {
+                return Event::Signal(INT);
             }
             let (code, text) = &self.says[self.ended];
             let begun = (0..self.started.len()).rev().find(|&at| !self.started[at].shares_slot).unwrap();
@@ -327,6 +331,9 @@ mod tests {
         let mut machine = Fake { lost: true, ..fake(&[]) };
         assert_eq!(made(&mut machine, None), (to_nvcc("it is lost"), String::new()));
         assert_eq!(machine.ended_by, Some(TERM));
+        let mut machine = Fake { signal: true, ..fake(&[]) };
+        assert_eq!(made(&mut machine, None), (Err(Failed::Signal(INT)), TWO.into()));
+        assert_eq!(machine.ended_by, Some(INT));
     }
 
     #[test]

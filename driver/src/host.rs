@@ -592,7 +592,7 @@ mod tests {
             let of_path = Job { words: vec!["sh".into()], variables: vec![("PATH".into(), Some("/missing".into()))], ..Job::default() };
             start(&mut host, 4, &of_path);
             assert_eq!(next_end(&mut host), (4, 127, "zigrunk-nvcc: sh: not found\n".into()));
-            assert!(host.running.is_empty() && host.events.is_empty());
+            assert!(host.running.is_empty() && host.events.is_empty() && (host.now() - now()).abs() < 60.0);
         });
     }
 
@@ -716,9 +716,11 @@ mod tests {
             assert_eq!(host.running.iter().map(|running| running.permit.is_some()).collect::<Vec<_>>(), [true, false]);
             assert!(!host.has_spare_slot(), "the other one is for another call");
             host.end_all(TERM);
-            assert!(host.has_spare_slot());
+            let mut other = room.slots(2, 2);
+            assert!(host.has_spare_slot() && other.begin_to_wait());
             host.leave();
             assert!(host.permit.is_none() && host.slots.is_none());
+            assert_eq!(other.file().map(|file| system::wait_for(&[file], 0)), Some(vec![true]), "who waits hears of the slot");
         });
     }
 

@@ -254,6 +254,8 @@ mod tests {
             (r#""a\"\\\/\b\f\n\r\t\u0041\u00e4\ud83d\ude00""#, text("a\"\\/\u{8}\u{c}\n\r\tA\u{e4}\u{1f600}")),
             (r#""\ud800x""#, text("\u{fffd}x")),
             (r#""\ud800\u0041""#, text("\u{fffd}")),
+            (r#""\udc00\u0041""#, text("\u{fffd}A")),
+            (r#""\ud7ff\udbff\udfff""#, text("\u{d7ff}\u{10ffff}")),
             ("[]", Value::List(vec![])),
             ("[1, [ ] ,{}]", Value::List(vec![Value::Number(1.0), Value::List(vec![]), Value::Object(vec![])])),
             (

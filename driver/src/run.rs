@@ -303,7 +303,7 @@ impl<'a, M: Machine, W: Watch> Run<'a, M, W> {
 
     /// Ends what has begun early and isn't to run, since an earlier command failed.
     fn end_early(&mut self) {
-        if self.early.values().any(|early| early.ended.is_none()) {
+        if !self.early.is_empty() {
             self.machine.end_all(crate::system::TERM);
         }
     }

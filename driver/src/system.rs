@@ -96,7 +96,6 @@ unsafe extern "C" {
     fn signal(number: c_int, handler: Handler) -> Handler;
     fn signalfd(fd: c_int, set: *const SignalSet, flags: c_int) -> c_int;
     fn sigprocmask(how: c_int, set: *const SignalSet, old: *mut SignalSet) -> c_int;
-    fn tcgetattr(fd: c_int, modes: *mut [u32; 16]) -> c_int;
     fn tcsetattr(fd: c_int, when: c_int, modes: *const [u32; 16]) -> c_int;
     fn unlinkat(folder: c_int, name: *const c_char, flags: c_int) -> c_int;
     fn unlockpt(fd: c_int) -> c_int;
@@ -584,10 +583,7 @@ pub fn terminal() -> io::Result<(File, OwnedFd)> {
         checked(unlockpt(number))?;
         checked(-ptsname_r(number, name.as_mut_ptr(), name.len()))?;
         let program = owned(openat(-100, name.as_ptr(), 2 | 0o400 | CLOSE_ON_EXEC))?;
-        let mut modes = [0_u32; 16];
-        checked(tcgetattr(program.as_raw_fd(), &raw mut modes))?;
-        modes[1] = 0;
-        checked(tcsetattr(program.as_raw_fd(), 0, &raw const modes))?;
+        checked(tcsetattr(program.as_raw_fd(), 0, &[0; 16]))?;
         set_unblocked(number)?;
         Ok((File::from(owner), program))
     }
@@ -892,8 +888,11 @@ mod tests {
             let (_read, write) = pipe().unwrap();
             let said = said_by(|| {
                 (0..3).for_each(|number| assert_eq!(unsafe { dup2(write.as_raw_fd(), number) }, number));
-                closed.iter().copied().for_each(close);
+                // Nobody says that the next file is closed.
+                assert_eq!(unsafe { dup2(0, 3) }, 3);
+                closed.iter().copied().chain([3]).for_each(close);
                 open_standard_streams();
+                assert!(fs::read_link("/proc/self/fd/3").is_err(), "it isn't a standard stream");
                 let is_null = |number: &i32| fs::read_link(format!("/proc/self/fd/{number}")).unwrap().to_str() == Some("/dev/null");
                 let flags = |number: i32| number_in(&format!("/proc/self/fdinfo/{number}"), "flags:", 8) & (CLOSE_ON_EXEC as u64 | 3);
                 let nulls: Vec<i32> = (0..3).filter(is_null).collect();
@@ -907,9 +906,11 @@ mod tests {
     #[test]
     fn a_process_leaves_its_streams() {
         in_own_process(|| {
+            let (read, _write) = pipe().unwrap();
+            assert!((0..4).all(|number| unsafe { dup2(read.as_raw_fd(), number) } == number));
             leave_streams();
-            let links = [0, 1, 2].map(|number| fs::read_link(format!("/proc/self/fd/{number}")).unwrap());
-            assert_eq!(links, [(); 3].map(|()| PathBuf::from("/dev/null")));
+            let is_null = |number: i32| fs::read_link(format!("/proc/self/fd/{number}")).unwrap().to_str() == Some("/dev/null");
+            assert_eq!([0, 1, 2, 3].map(is_null), [true, true, true, false]);
         });
     }
 

@@ -64,7 +64,6 @@ fn weight_of(command: &PlannedCommand) -> usize {
         "cudafe++" => CommandKind::CudaFe,
         "cicc" => CommandKind::Cicc,
         "ptxas" => CommandKind::Ptxas,
-        "fatbinary" => CommandKind::Other,
         "-E" => CommandKind::Preprocess,
         _ if command.words.iter().any(|word| word == "assembler") => CommandKind::Other,
         _ if command.words.iter().any(|word| word == "-c" || word == "-S") => CommandKind::HostCompile,

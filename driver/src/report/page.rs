@@ -247,6 +247,20 @@ mod tests {
     }
 
     #[test]
+    fn tables_have_few_rows_and_bars_a_share() {
+        let mut log = Log::default();
+        for number in 0..30 {
+            log.add(SMALL.lines().next().unwrap().replace("a.cu", &format!("{number}.cu")).as_bytes());
+        }
+        let tables: Vec<usize> =
+            page(&log).split("<table>").skip(1).map(|table| table.split("</table>").next().unwrap().matches("<tr>").count()).collect();
+        assert_eq!(tables, [2, 2, 21, 3], "heads count too");
+        let width = |part, whole| bar(part, whole).split("width:").nth(1).unwrap().split('%').next().unwrap().to_owned();
+        assert_eq!([width(1.0, 0.0), width(1.0, 4.0), width(0.0, 4.0)], ["0.0", "25.0", "0.0"]);
+        assert_eq!([percent(1, 0), percent(1, 4), percent(0, 4)], ["none", "25 %", "0 %"]);
+    }
+
+    #[test]
     fn texts_of_a_log_are_no_code_of_the_page() {
         let mut log = Log::default();
         log.add(SMALL.replace("a.cu", "<b>&amp;\\u0022.cu").replace("it links", "<script>").as_bytes());

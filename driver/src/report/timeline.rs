@@ -260,6 +260,23 @@ mod tests {
     }
 
     #[test]
+    fn a_short_command_shows_in_a_long_log() {
+        let mut log = Log::default();
+        for (begin, end) in [(0.0, 1000.0), (500.0, 500.001)] {
+            log.add(format!(r#"{{"begin":{begin},"end":{end},"status":0,"reason":"x","commands":[],"words":[]}}"#).as_bytes());
+        }
+        let svg = drawing(&log, str::to_owned);
+        let attribute = |name: &str| {
+            svg.split("<rect")
+                .skip(1)
+                .map(|bar| bar.split(&format!(" {name}=\"")).nth(1).unwrap().split('"').next().unwrap().to_owned())
+                .collect::<Vec<_>>()
+        };
+        assert_eq!(attribute("width").last().map(String::as_str), Some("0.4"), "{svg}");
+        assert_eq!(attribute("x"), ["0.0", &format!("{:.1}", WIDTH / 2.0)]);
+    }
+
+    #[test]
     fn an_axis_has_few_marks() {
         let steps = [0.5, 1.0, 11.0, 60.0, 3600.0, 1e7].map(step);
         for (seconds, step) in [0.5, 1.0, 11.0, 60.0, 3600.0, 1e7].iter().zip(steps) {
