@@ -1,11 +1,12 @@
 #!/usr/bin/env python3
 """Measures what a call of the driver costs beside its commands, with stand-ins for nvcc and its tools that cost little.
 
-    tests/driver_cost.py [--calls N] [--batch N] DRIVER
+    tests/driver_cost.py [--calls N] [--batch N] [--many N] DRIVER
 
 Prints the processor's time of a call of seven commands, of those commands alone, and of what goes straight to nvcc beside nvcc alone; and how many
 processes such a call has. For a batch of N calls for ten targets, 60 unless you say so, it prints the processor's time and the memory of
-zigrunk-batch's own process for each call. All have to stay within the limits below. The last line is 'N passed, M failed'.
+zigrunk-batch's own process for each call. Of 100 calls at once whose commands wait, it prints when the first one ends, and the median,
+as parts of the time of all. All have to stay within the limits below. The last line is 'N passed, M failed'.
 
 With a real nvcc on PATH, it also prints how long after its begin a call starts its first compiler, beside what nvcc's dry run takes: both are
 times of the machine as it is, so neither has a limit.
@@ -31,6 +32,8 @@ MOST_PLAIN_MILLISECONDS = 1.0  # of what goes to nvcc at once, beside nvcc
 TARGETS = 10
 MOST_BATCH_MILLISECONDS = 10.0  # of a call of a batch for that many targets, in the batch's own process
 MOST_BATCH_KILOBYTES = 60.0
+SLOTS, WAIT = 4, 40  # of many calls at once, and the milliseconds that each of their commands waits
+MOST_FIRST, MOST_MEDIAN = 5.0, 60.0  # percent of the time that all of them take
 
 
 def cpu(words: list[str], environment: dict[str, str], folder: Path, calls: int) -> float:
@@ -106,6 +109,25 @@ def batch_rows(driver: list[str], environment: dict[str, str], folder: Path, cal
             ("KB of such a call there", (many[1] - few[1]) / more, MOST_BATCH_KILOBYTES)]
 
 
+def many_rows(driver: list[str], environment: dict[str, str], calls: int) -> list[tuple[str, float, float]]:
+    """When the first of many calls at once ends, and the median, as parts of the time of all."""
+    settings = {**environment, "PAUSE": str(WAIT), "ZIGRUNK_SLOTS": str(SLOTS)}
+    begun, ends = time.time(), list[float]()
+    words = ([*driver, "-c", "k.cu", "-o", f"k{number}.o", "-arch=sm_75"] for number in range(calls))
+    left = {os.posix_spawn(driver[0], call, settings, setsigdef=[]) for call in words}
+    while left:
+        process, status = os.waitpid(-1, 0)
+        if status != 0:
+            sys.exit(f"one of many calls fails, in {Path.cwd()}")
+        left.remove(process)
+        ends.append(time.time() - begun)
+    waited = calls * 7 * WAIT / 1000 / SLOTS
+    print(f"{ends[-1]:6.2f} s for {calls} calls at once, {ends[-1] / waited:.2f} of what their commands wait in {SLOTS} slots")
+    first, median = (100 * end / ends[-1] for end in (ends[0], statistics.median(ends)))
+    return [(f"% of the time of {calls} calls at once until the first one ends", first, MOST_FIRST),
+            ("% of the time of them until half of them have ended", median, MOST_MEDIAN)]
+
+
 def print_first_compiler(driver: list[str], folder: Path, calls: int) -> None:
     """How long after its begin a call starts its first compiler, if there is a real nvcc."""
     nvcc = shutil.which("nvcc")
@@ -130,6 +152,7 @@ def main() -> int:
     parser.add_argument("driver", type=Path)
     parser.add_argument("--calls", type=int, default=60)
     parser.add_argument("--batch", type=int, default=60)
+    parser.add_argument("--many", type=int, default=100)
     args = parser.parse_args()
     if not shutil.which("cc") or not shutil.which("strace"):
         print("cost: skipped, there is no C compiler or no strace\n0 passed, 0 failed, 1 skipped")
@@ -155,7 +178,7 @@ def main() -> int:
         rows = [("ms of a call beside its commands", whole - bare, MOST_MILLISECONDS),
                 ("processes of a call, its seven commands among them", count, MOST_PROCESSES),
                 ("ms of --version beside nvcc", plain - alone, MOST_PLAIN_MILLISECONDS),
-                *batch_rows(driver, environment, folder, args.batch)]
+                *batch_rows(driver, environment, folder, args.batch), *many_rows(driver, environment, args.many)]
         for what, value, most in rows:
             failed += value > most
             print(f"{value:6.1f} of {most:4.1f}  {what}")

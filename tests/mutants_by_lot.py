@@ -4,8 +4,9 @@
     tests/mutants_by_lot.py [--seed S] [--first N] [--count N] [--only N] [--kind KIND] [--lanes N] [--bound PERCENT] [--draw]
 
 An edit changes one line of code: it negates a condition, drops a call, and so on (RUST, SCRIPT). The seed and its number say which line and which
-operator, so --only makes one edit again, and --first begins at another than the first. One that doesn't compile is drawn again, and so is one of tests/mutants_known.txt. Then the tests of its
-file run until one fails, the likeliest first. Tests count if they fail twice. One that takes too long has failed.
+operator, so --only makes one edit again, and --first begins at another than the first. One that doesn't compile is drawn again, and so is one of
+tests/mutants_known.txt. Then the tests of its file run until one fails, the likeliest first. Tests count if they fail twice. One that takes too
+long has failed.
 
 An edited driver may send any signal, remove any file and take all memory. So tests run where they see no other process, can write only below the
 folder of their lane, and have 4 GB each. That takes root, or a kernel that lets users make namespaces.
@@ -57,7 +58,8 @@ FIRST = {
     "src/rule": "driver: products", "src/products": "driver: products", "src/programs": "driver: compilers", "src/dry_runs": "driver: to_nvcc",
     "src/json_values": "driver_batch: databases reports", "src/entries": "driver: logs", "src/streams": "driver: outputs driver_batch: failures",
     "src/cache/": "driver_cache: stand_ins", "src/early": "driver: early_starts late_starts", "src/late": "driver: late_starts",
-    "src/withheld": "driver: early_starts", "src/run.": "driver: end_to_end early_starts outputs", "src/system": "driver: end_to_end signals folders", "src/host": "driver: end_to_end signals logs", "src/call": "driver: end_to_end to_nvcc",
+    "src/withheld": "driver: early_starts", "src/run.": "driver: end_to_end early_starts outputs",
+    "src/system": "driver: end_to_end signals folders", "src/host": "driver: end_to_end signals logs", "src/call": "driver: end_to_end to_nvcc",
 }
 # No other parts run anything of these files.
 ALONE = ("src/batch/", "src/report/", "src/plan_program")
