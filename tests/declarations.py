@@ -1,7 +1,7 @@
 #!/usr/bin/env python3
 """Compares what bindings/c/zigrunk.h declares with the library's exports and the bindings: the types that each function takes and gives
 with the exports of crates/zigrunk_c, with Rust's declarations and with Python's, and each number with that of Python's enums. The layers
-for C, C++ and Go have to name numbers of the header, and Go all statuses. (How records are laid out is a test of each binding.) It needs
+for C, C++ and Go have to name numbers of the header, and Go all statuses; the words that a cache knows are the same in C and in Rust. (How records are laid out is a test of each binding.) It needs
 neither a library nor a compiler. Prints a line for each difference, and last 'N passed, M failed'; the status is 1 if something differs."""
 
 import ast
@@ -134,6 +134,11 @@ def numbers_by_name(path: str) -> set[str]:
     return {it for it in re.findall(r"\bZIGRUNK_([A-Z][A-Z_0-9]*)", read(path)) if not it.startswith("CALL_") and it not in ("HPP", "H")}
 
 
+def words_of(path: str, table: str) -> dict[str, list[str]]:
+    """The words of each tool that a layer's cache knows. `table` has a table's name and its body."""
+    return {name.lower(): re.findall(r'"([^"]*)"', body) for name, body in re.findall(table, read(path), re.DOTALL)}
+
+
 def differences(got: dict[str, Types], header: dict[str, Types]) -> list[str]:
     found = [f"{call} isn't in the header" for call in got if call not in header]
     return found + [f"{call} has {got[call]}, and the header {header[call]}" for call in got if call in header and got[call] != header[call]]
@@ -156,6 +161,9 @@ def main() -> int:
     counts.case("Python's enums", [f"{it} isn't compared" for it in unlisted if it not in ENUMS])
     for path in LAYERS:
         counts.case(path, [f"the header has no ZIGRUNK_{it}" for it in sorted(numbers_by_name(path)) if it not in numbers])
+    known = words_of("bindings/rust/src/cache.rs", r"\nconst (\w+): &\[&str\] = &\[(.*?)\];")
+    in_c = words_of(LAYERS[0], r"\nstatic const char \*const zigrunk_own_(\w+)\[\] = \{(.*?)\};")
+    counts.case("the words that caches know", [] if known == in_c and len(known) == 3 else [f"in Rust {known}, in C {in_c}"])
     go = numbers_by_name(LAYERS[-1])
     counts.case("Go's statuses", [f"Go lacks ZIGRUNK_{it}" for it in sorted(statuses_in_header()) if it not in go] or
                 ([] if statuses_in_header() else ["the header has no statuses"]))

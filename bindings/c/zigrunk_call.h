@@ -15,6 +15,7 @@
 
 #include <zigrunk.h>
 
+#include <dirent.h>
 #include <errno.h>
 #include <fcntl.h>
 #include <poll.h>
@@ -96,9 +97,17 @@ static int32_t zigrunk_call_plan(zigrunk_call *call);
  * zigrunk_plan_call, or 0. */
 static int32_t zigrunk_call_plan_of(zigrunk_call *call, zigrunk_text dry1, zigrunk_text dry2, size_t limit);
 
-/* The key of a command of a call's plan, which a cache hashes together with the contents of what the command reads and whatever tells one version of
- * the tool from another. The temporary directory doesn't count. Its length is 0 if there is none, and then the status says why. */
+/* The key of a command of a call's plan. A cache hashes it together with the contents of the tool's files and of what the command reads. Two
+ * commands for which all that is equal make files of equal contents, in whatever directories they run. One exception: if a source defines no
+ * external name, cudafe++ ends the module id in the number of its process.
+ *
+ * The length is 0 if a cache may not serve the command, and then the status is ZIGRUNK_BAD_LINE and the message says why: it isn't one of cudafe++,
+ * cicc and ptxas, whose words name all that it touches; a word of it isn't known, asks for debugging information, or names a further file; its
+ * program is a script; LD_PRELOAD is set. */
 static zigrunk_text zigrunk_call_key(zigrunk_call *call, const zigrunk_planned *command);
+
+/* The files that tell one version of a command's tool from another: its program, and for cicc the library of device code. NULL if no memory is left. */
+static char **zigrunk_call_tool_files(zigrunk_call *call, const zigrunk_planned *command);
 
 /* Frees a call and all that it gave. */
 static void zigrunk_call_free(zigrunk_call *call);
@@ -130,7 +139,7 @@ static void *zigrunk_own_room(zigrunk_call *call, size_t count, size_t size) {
     return room + 1;
 }
 
-static void zigrunk_call_free(zigrunk_call *call) {
+ZIGRUNK_CALL_UNUSED static void zigrunk_call_free(zigrunk_call *call) {
     if (call) {
         void *owned = call->owned;
         while (owned) {
@@ -892,12 +901,81 @@ static int32_t zigrunk_call_plan_of(zigrunk_call *call, zigrunk_text dry1, zigru
     return call->status;
 }
 
-/* Names and values of an environment. */
+/* Words of cudafe++ and of cicc. One that ends in `=` goes on, and one that ends in a blank has its value in the next word. A word that isn't here may
+ * read or write files that no record names. Words for debuggers aren't here: with them, products have names of files, times and directories. */
+static const char *const zigrunk_own_front_end[] = {
+    "--allow_managed", "--c++03", "--c++11", "--c++14", "--c++17", "--c++20", "--device-c", "--device-hidden-visibility", "--diag_error ",
+    "--diag_error=", "--diag_suppress ", "--diag_suppress=", "--diag_warn ", "--diag_warn=", "--display_error_number", "--extended-lambda",
+    "--gen_c_file_name ", "--gen_module_id_file", "--gnu_version=", "--keep-device-functions", "--m64", "--module_id_file_name ",
+    "--no-device-int128", "--no_warnings", "--orig_src_file_name ", "--orig_src_path_name ", "--parse_templates", "--promote_warnings",
+    "--relaxed_constexpr", "--simt-only", "--static-host-stub", "--stub_file_name ", "--unicode_source_kind=", NULL};
+
+/* Words of cicc beside those. */
+static const char *const zigrunk_own_cicc[] = {
+    "--gen_device_file_name ", "--include_file_name ", "--no-version-ident", "-O0", "-arch ", "-extra-device-vectorization", "-fmad=", "-ftz=",
+    "-m64", "-maxreg ", "-o ", "-prec_div=", "-prec_sqrt=", "-split-compile ", "-tused", NULL};
+
+static const char *const zigrunk_own_ptxas[] = {
+    "--compile-only", "--maxrregcount=", "--warning-as-error", "-O0", "-O1", "-O2", "-O3", "-arch=sm_", "-dlcm=", "-m64", "-maxrregcount=",
+    "-o ", "-split-compile=", "-v", NULL};
+
+/* What a list says of a word: 0 if it isn't there, 2 if the next word is its value, else 1. */
+static int zigrunk_own_role(const char *const *known, const char *word) {
+    for (; *known; known++) {
+        size_t size = strlen(*known);
+        char end = (*known)[size - 1];
+        if (end == ' ' && strlen(word) == size - 1 && strncmp(*known, word, size - 1) == 0) {
+            return 2;
+        }
+        if (end != ' ' && (strcmp(*known, word) == 0 || ((end == '=' || end == '_') && strncmp(*known, word, size) == 0))) {
+            return 1;
+        }
+    }
+    return 0;
+}
+
+/* What a word of a tool is to a cache: 0 if it isn't known, 2 if the next word is its value, else 1. */
+static int zigrunk_own_known(uint32_t tool, const char *word) {
+    int role = tool == ZIGRUNK_TOOL_PTXAS ? zigrunk_own_role(zigrunk_own_ptxas, word) : 0;
+    if (tool == ZIGRUNK_TOOL_CUDAFE || tool == ZIGRUNK_TOOL_CICC) {
+        role = zigrunk_own_role(zigrunk_own_front_end, word);
+    }
+    return role == 0 && tool == ZIGRUNK_TOOL_CICC ? zigrunk_own_role(zigrunk_own_cicc, word) : role;
+}
+
+/* The words of a command as a key has them, or NULL if a cache doesn't know one. Where the product goes doesn't count. */
+static zigrunk_text *zigrunk_own_counted(zigrunk_call *call, const zigrunk_planned *command, size_t *count) {
+    char **words = command->run.words;
+    const char *name = strrchr(words[0], '/');
+    zigrunk_text *counted = (zigrunk_text *)zigrunk_own_room(call, zigrunk_own_count(words) + 1, sizeof *counted);
+    *count = 0;
+    if (counted) {
+        counted[(*count)++] = zigrunk_own_text(name ? name + 1 : words[0]);
+    }
+    for (words++; counted && *words; words++) {
+        int role = zigrunk_own_known(command->tool, *words);
+        if (role == 0 && ((*words)[0] == '-' || !zigrunk_own_has(command->reads, zigrunk_own_joined(call, command->run.cwd, *words)))) {
+            return NULL;
+        }
+        counted[(*count)++] = zigrunk_own_text(*words);
+        if (role == 2) {
+            const char *option = *words++;
+            if (!*words) {
+                return NULL;
+            }
+            int is_product = strcmp(option, "-o") == 0 && zigrunk_own_has(command->writes, zigrunk_own_joined(call, command->run.cwd, *words));
+            counted[(*count)++] = zigrunk_own_text(is_product ? "product" : *words);
+        }
+    }
+    return counted;
+}
+
+/* Names and values of an environment, without the directory of the caller. */
 static zigrunk_variable *zigrunk_own_pairs(zigrunk_call *call, char *const *environment, size_t *count) {
     zigrunk_variable *pairs = (zigrunk_variable *)zigrunk_own_room(call, zigrunk_own_count(environment) + 1, sizeof *pairs);
     for (*count = 0; pairs && *environment; environment++) {
         const char *value = strchr(*environment, '=');
-        if (value) {
+        if (value && strncmp(*environment, "PWD=", 4) != 0) {
             pairs[*count].name.bytes = (const uint8_t *)*environment;
             pairs[*count].name.length = (size_t)(value - *environment);
             pairs[(*count)++].value = zigrunk_own_text(value + 1);
@@ -906,35 +984,98 @@ static zigrunk_variable *zigrunk_own_pairs(zigrunk_call *call, char *const *envi
     return pairs;
 }
 
-ZIGRUNK_CALL_UNUSED static zigrunk_text zigrunk_call_key(zigrunk_call *call, const zigrunk_planned *command) {
-    zigrunk_text key = {(const uint8_t *)"", 0}, root = zigrunk_own_text(call->tmp);
-    zigrunk_key_call asked;
-    memset(&asked, 0, sizeof asked);
-    asked.words_count = zigrunk_own_count(command->run.words);
-    zigrunk_text *words = (zigrunk_text *)zigrunk_own_room(call, asked.words_count + 1, sizeof *words);
-    asked.variables = zigrunk_own_pairs(call, command->run.environment, &asked.variables_count);
-    for (size_t i = 0; words && i < asked.words_count; i++) {
-        words[i] = zigrunk_own_text(command->run.words[i]);
+/* Whether the kernel runs a program itself. A script may run anything. */
+static int zigrunk_own_is_binary(const char *program) {
+    char begin[4] = {0, 0, 0, 0};
+    FILE *file = fopen(program, "rb");
+    size_t got = file ? fread(begin, 1, sizeof begin, file) : 0;
+    if (file) {
+        fclose(file);
     }
-    asked.words = words, asked.roots = &root, asked.roots_count = 1, asked.tool = command->tool;
-    zigrunk_text_answer answer = {ZIGRUNK_OUT_OF_MEMORY, 0};
-    uint8_t *bytes = NULL;
-    for (size_t size = 8192; words && asked.variables; size = answer.length) {
-        bytes = (uint8_t *)zigrunk_own_room(call, size + 1, 1);
+    return got == sizeof begin && memcmp(begin, "\177ELF", 4) == 0;
+}
+
+/* Why a cache may not serve a command, or NULL. */
+static const char *zigrunk_own_unserved(const zigrunk_planned *command) {
+    const char *preloaded = zigrunk_own_value(command->run.environment, "LD_PRELOAD");
+    if (command->reason != ZIGRUNK_IN_GROUP || !command->cacheable || command->missing != ZIGRUNK_NONE_MISSING) {
+        return "a cache may not serve this command, or its words don't name all that it touches";
+    }
+    if (preloaded && *preloaded) {
+        return "a cache may not serve a command with LD_PRELOAD";
+    }
+    return zigrunk_own_is_binary(command->run.words[0]) ? NULL : "a cache may not serve a command whose program is a script";
+}
+
+ZIGRUNK_CALL_UNUSED static zigrunk_text zigrunk_call_key(zigrunk_call *call, const zigrunk_planned *command) {
+    zigrunk_text key = {(const uint8_t *)"", 0}, none = zigrunk_own_text("");
+    zigrunk_key_call asked;
+    zigrunk_text_answer answer = {ZIGRUNK_BAD_LINE, 0};
+    const char *unserved = zigrunk_own_unserved(command);
+    memset(&asked, 0, sizeof asked);
+    zigrunk_own_refuse(call, ZIGRUNK_OK, "");
+    asked.words = unserved ? NULL : zigrunk_own_counted(call, command, &asked.words_count);
+    asked.variables = zigrunk_own_pairs(call, command->run.environment, &asked.variables_count);
+    asked.roots = &none, asked.tool = command->tool;
+    if (call->status == ZIGRUNK_OK && !asked.words) {
+        zigrunk_own_refuse(call, ZIGRUNK_BAD_LINE, unserved ? unserved : "a cache doesn't know a word of this command");
+    }
+    for (size_t size = 8192; call->status == ZIGRUNK_OK; size = answer.length) {
+        uint8_t *bytes = (uint8_t *)zigrunk_own_room(call, size + 1, 1);
         if (!bytes) {
             break;
         }
         answer = zigrunk_command_key(&asked, bytes, size);
-        if (answer.length <= size) {
+        if (answer.length <= size && answer.status == ZIGRUNK_OK) {
+            key.bytes = bytes, key.length = answer.length;
             break;
         }
+        if (answer.length <= size) {
+            zigrunk_own_refuse(call, answer.status, (const char *)bytes);
+        }
     }
-    if (answer.status != ZIGRUNK_OK || !bytes) {
-        zigrunk_own_refuse(call, answer.status ? answer.status : ZIGRUNK_OUT_OF_MEMORY, bytes ? (const char *)bytes : "out of memory");
-        return key;
-    }
-    key.bytes = bytes, key.length = answer.length;
     return key;
+}
+
+static int zigrunk_own_compare(const void *one, const void *other) {
+    return strcmp(*(char *const *)one, *(char *const *)other);
+}
+
+/* A list with the files of a folder added. A folder that isn't there has none. */
+static char **zigrunk_own_with_files(zigrunk_call *call, char **files, const char *folder) {
+    DIR *opened = folder ? opendir(folder) : NULL;
+    size_t count = zigrunk_own_count(files);
+    for (struct dirent *entry; opened && files && (entry = readdir(opened)) != NULL;) {
+        char **longer = entry->d_name[0] == '.' ? NULL : (char **)zigrunk_own_room(call, count + 2, sizeof *files);
+        if (longer) {
+            memcpy(longer, files, count * sizeof *files);
+            longer[count++] = (char *)zigrunk_own_joined(call, folder, entry->d_name);
+            files = longer;
+        }
+    }
+    if (opened) {
+        closedir(opened);
+    }
+    return files;
+}
+
+ZIGRUNK_CALL_UNUSED static char **zigrunk_call_tool_files(zigrunk_call *call, const zigrunk_planned *command) {
+    char **files = (char **)zigrunk_own_room(call, 2, sizeof *files);
+    char *beside = (char *)zigrunk_own_room(call, strlen(command->run.words[0]) + sizeof "/libdevice", 1);
+    if (!files || !beside) {
+        return NULL;
+    }
+    files[0] = command->run.words[0];
+    if (command->tool == ZIGRUNK_TOOL_CICC) {
+        strcpy(beside, command->run.words[0]);
+        for (int up = 0; up < 2 && strrchr(beside, '/'); up++) {
+            *strrchr(beside, '/') = '\0';
+        }
+        files = zigrunk_own_with_files(call, files, strcat(beside, "/libdevice"));
+        files = zigrunk_own_with_files(call, files, zigrunk_own_value(command->run.environment, "NVVMIR_LIBRARY_DIR"));
+        qsort(files + 1, zigrunk_own_count(files) - 1, sizeof *files, zigrunk_own_compare);
+    }
+    return call->status == ZIGRUNK_OUT_OF_MEMORY ? NULL : files;
 }
 
 #endif

@@ -152,14 +152,23 @@ public:
         return planned();
     }
 
-    // What a cache hashes of a command of the last plan, by its number: zigrunk_call_key says with what.
+    // What a cache hashes of a command of the last plan, by its number: zigrunk_call_key says with what, and when it throws.
     std::string key(std::size_t number) {
-        const zigrunk_text text = zigrunk_call_key(call_.get(), &call_->commands[number]);
+        const zigrunk_text text = zigrunk_call_key(call_.get(), &numbered(number));
         check(call_->status);
         return {reinterpret_cast<const char *>(text.bytes), text.length};
     }
 
+    // The files that tell one version of its tool from another.
+    Texts tool_files(std::size_t number) {
+        char **files = zigrunk_call_tool_files(call_.get(), &numbered(number));
+        return files ? own::texts(files) : throw std::bad_alloc();
+    }
+
 private:
+    const zigrunk_planned &numbered(std::size_t number) const {
+        return number < call_->count ? call_->commands[number] : throw Error(ZIGRUNK_BAD_NUMBER, {}, "the plan has no such command");
+    }
     void check(std::int32_t status) const {
         if (status != ZIGRUNK_OK) {
             throw Error(status, call_->place, call_->message);

@@ -224,16 +224,41 @@ func command(of *C.zigrunk_planned) Command {
 	}
 }
 
-// Key is what a cache hashes of a command of the call's last plan, by its number, together with the contents of what the command reads and whatever
-// tells one version of the tool from another. The directory for temporary files doesn't count.
-func (c *Call) Key(number int) ([]byte, error) {
-	defer runtime.KeepAlive(c)
+func (c *Call) numbered(number int) (*C.zigrunk_planned, error) {
 	if number < 0 || C.size_t(number) >= c.call.count {
 		return nil, &Error{Status: BadNumber, Message: "the plan has no such command"}
 	}
-	key := C.zigrunk_call_key(c.call, &unsafe.Slice(c.call.commands, c.call.count)[number])
+	return &unsafe.Slice(c.call.commands, c.call.count)[number], nil
+}
+
+// Key is what a cache hashes of a command of the call's last plan, by its number, together with the contents of ToolFiles and of what the command
+// reads. Two commands for which all that is equal make files of equal contents, in whatever directories they run. One exception: if a source
+// defines no external name, cudafe++ ends the module id in the number of its process. It's an error (BadLine) if a cache may not serve the
+// command: it isn't one of cudafe++, cicc and ptxas, whose words name all that it touches; a word of it isn't known, asks for debugging
+// information, or names a further file; its program is a script; LD_PRELOAD is set.
+func (c *Call) Key(number int) ([]byte, error) {
+	defer runtime.KeepAlive(c)
+	of, err := c.numbered(number)
+	if err != nil {
+		return nil, err
+	}
+	key := C.zigrunk_call_key(c.call, of)
 	if key.length == 0 {
 		return nil, c.refused()
 	}
 	return C.GoBytes(unsafe.Pointer(key.bytes), C.int(key.length)), nil
+}
+
+// ToolFiles are the files that tell one version of a command's tool from another: its program, and for cicc the library of device code.
+func (c *Call) ToolFiles(number int) ([]string, error) {
+	defer runtime.KeepAlive(c)
+	of, err := c.numbered(number)
+	if err != nil {
+		return nil, err
+	}
+	files := C.zigrunk_call_tool_files(c.call, of)
+	if files == nil {
+		return nil, &Error{Status: OutOfMemory, Message: "out of memory"}
+	}
+	return texts(files), nil
 }

@@ -18,6 +18,16 @@ static zigrunk_text text_of(const char *room, const char *name) {
     return text;
 }
 
+/* Whether keys are for cudafe++ alone, which is no script here, and a refusal leaves the call as it was. */
+static int has_keys(zigrunk_call *call) {
+    int has = zigrunk_call_key(call, &call->commands[1]).length > 0 && call->status == ZIGRUNK_OK;
+    has = has && zigrunk_call_key(call, &call->commands[0]).length == 0 && call->status == ZIGRUNK_BAD_LINE;
+    has = has && zigrunk_call_key(call, &call->commands[3]).length == 0 && call->status == ZIGRUNK_BAD_LINE;
+    has = has && zigrunk_call_key(call, &call->commands[1]).length > 0 && call->status == ZIGRUNK_OK;
+    char **files = zigrunk_call_tool_files(call, &call->commands[1]);
+    return has && files && strcmp(files[0], call->commands[1].run.words[0]) == 0 && !files[1];
+}
+
 int main(int count, char **arguments) {
     char name[64], tmp[64], first[64], second[64], rest[64], nvcc[4096], cwd[4096], folder[4096];
     char *words[] = {(char *)"-c", (char *)"kernel.cu", (char *)"-o", (char *)"kernel.o", NULL};
@@ -36,7 +46,7 @@ int main(int count, char **arguments) {
         }
         /* again, since a refusal leaves the call as it was */
         int32_t status = zigrunk_call_plan_of(call, dry1, dry2, 0);
-        if (zigrunk_call_plan_of(call, dry1, dry2, 0) != status) {
+        if (zigrunk_call_plan_of(call, dry1, dry2, 0) != status || (status == ZIGRUNK_OK && !has_keys(call))) {
             return 3;
         }
         printf("%s %d %u %zu\n", name, (int)status, (unsigned)call->place.field, call->place.line);

@@ -11,6 +11,21 @@ static std::string text_of(const std::string &path) {
     return {std::istreambuf_iterator<char>(file), {}};
 }
 
+// The status of asking for a command's key.
+static int status_of_key(zigrunk::Call &call, std::size_t number) {
+    try {
+        return call.key(number).empty() ? -1 : 0;
+    } catch (const zigrunk::Error &error) {
+        return error.status;
+    }
+}
+
+// Keys are for cudafe++ alone, which is no script here.
+static bool has_keys(zigrunk::Call &call, std::size_t count) {
+    return status_of_key(call, 0) == ZIGRUNK_BAD_LINE && status_of_key(call, 1) == 0 && status_of_key(call, count) == ZIGRUNK_BAD_NUMBER
+        && status_of_key(call, 1) == 0 && call.tool_files(1).size() == 1;
+}
+
 int main(int, char **arguments) {
     const std::string room = std::string(arguments[1]) + "/";
     for (std::string row; std::getline(std::cin, row);) {
@@ -19,8 +34,8 @@ int main(int, char **arguments) {
         words >> name >> tmp >> first >> second;
         try {
             zigrunk::Call call(room + "bin/nvcc", {"-c", "kernel.cu", "-o", "kernel.o"}, zigrunk::environment(), room + "w", room + tmp);
-            call.plan_of(text_of(room + first), text_of(room + second));
-            std::cout << name << " 0 0 0\n";
+            const std::size_t count = call.plan_of(text_of(room + first), text_of(room + second)).commands.size();
+            std::cout << name << (has_keys(call, count) ? " 0 0 0\n" : ": keys\n");
         } catch (const zigrunk::Error &error) {
             std::cout << name << ' ' << error.status << ' ' << error.place.field << ' ' << error.place.line << '\n';
         }

@@ -1,28 +1,29 @@
 //! Makes what nvcc makes, one command after the other, and prints a key for each command that a cache may serve: `keys CWD TMP NVCC WORD..`. A
-//! command with a key of before makes what it made then. The digest is that of the standard library: a real cache takes a better one.
+//! command with a key of before makes what it made then. Each line has the key, or `-`, the targets, the program, and the files that it may write, with
+//! tabs between them. The digest is that of the standard library: a real cache takes a better one.
 
 use std::collections::HashMap;
 use std::error::Error;
 use std::hash::{DefaultHasher, Hash, Hasher};
+use std::path::PathBuf;
 use std::{env, fs, process};
 
-use zigrunk::{Call, Command, KeyCall, NvccCall, Variable, command_key, variables};
+use zigrunk::{Call, Command, NvccCall, variables};
 
-/// What tells one version of a tool from another: its contents. Each tool is read once.
-type Tools<'a> = HashMap<&'a str, Vec<u8>>;
+/// The contents of the tools' files. Each is read once.
+type Tools = HashMap<PathBuf, Vec<u8>>;
 
-/// The key of a command: its words and variables without the temporary directory, its tool, and the contents of what it reads. None if a cache may not
-/// serve it, or if its words don't name all that it reads.
-fn key<'a>(command: Command<'a>, tmp: &str, tools: &mut Tools<'a>) -> Result<Option<u64>, Box<dyn Error>> {
-    let Some(tool) = command.tool().filter(|_| command.is_cacheable() && command.missing().is_none()) else { return Ok(None) };
-    let words: Vec<&str> = command.words().collect();
-    let variables: Vec<_> = command.variables().map(|(name, value)| Variable::new(name, value)).collect();
+/// The digest of all that a command's products depend on; none if a cache may not serve it.
+fn digest(command: Command<'_>, tools: &mut Tools) -> Result<Option<u64>, Box<dyn Error>> {
+    let Some(key) = command.cache_key()? else { return Ok(None) };
     let mut digest = DefaultHasher::new();
-    command_key(&KeyCall { tool, words: &words, variables: &variables, roots: &[tmp.as_ref()] })?.hash(&mut digest);
-    if !tools.contains_key(command.program()) {
-        tools.insert(command.program(), fs::read(command.program())?);
+    key.text.hash(&mut digest);
+    for path in key.tool {
+        if !tools.contains_key(&path) {
+            tools.insert(path.clone(), fs::read(&path)?);
+        }
+        tools[&path].hash(&mut digest);
     }
-    tools[command.program()].hash(&mut digest);
     for path in command.reads() {
         fs::read(path)?.hash(&mut digest);
     }
@@ -39,8 +40,9 @@ fn main() -> Result<(), Box<dyn Error>> {
     let plan = Call::new(&NvccCall { nvcc, words, variables: &variables(&environment), cwd, tmp })?.plan()?;
     let mut tools = Tools::new();
     for command in plan.commands() {
-        let key = key(command, tmp, &mut tools)?.map_or_else(|| "-".to_owned(), |key| format!("{key:016x}"));
-        println!("{key} {} {}", command.targets().join(","), command.program());
+        let key = digest(command, &mut tools)?.map_or_else(|| "-".to_owned(), |digest| format!("{digest:016x}"));
+        let files: Vec<&str> = command.writes().chain(command.may_write()).collect();
+        println!("{key}\t{}\t{}\t{}", command.targets().join(","), command.program(), files.join("\t"));
         let mut run = process::Command::new(command.program());
         let status = run.args(command.arguments()).current_dir(command.cwd()).env_clear().envs(command.variables()).status()?;
         if !status.success() {

@@ -39,6 +39,7 @@ mod backend;
 #[cfg(not(feature = "libzigrunk"))]
 #[path = "plain.rs"]
 mod backend;
+mod cache;
 mod call;
 mod error;
 mod headers;
@@ -54,6 +55,7 @@ mod tools;
 mod variable;
 mod words;
 
+pub use cache::CacheKey;
 pub use call::{Form, HostCompiler, PlanCall, plan_text};
 pub use error::{Error, ErrorKind, Field, Place};
 pub use headers::headers;

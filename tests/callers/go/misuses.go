@@ -19,13 +19,39 @@ func textOf(path string) []byte {
 	return text
 }
 
+func statusOfKey(call *zigrunk.Call, number int) zigrunk.Status {
+	_, err := call.Key(number)
+	refused := &zigrunk.Error{}
+	errors.As(err, &refused)
+	return refused.Status
+}
+
+// checkKeys: keys are for cudafe++ alone, which is no script here.
+func checkKeys(call *zigrunk.Call, count int) {
+	for _, it := range []struct {
+		number int
+		wanted zigrunk.Status
+	}{{0, zigrunk.BadLine}, {1, 0}, {-1, zigrunk.BadNumber}, {count, zigrunk.BadNumber}, {1, 0}} {
+		if got := statusOfKey(call, it.number); got != it.wanted {
+			log.Fatalf("the key of %d: %d, not %d", it.number, got, it.wanted)
+		}
+	}
+	if files, err := call.ToolFiles(1); err != nil || len(files) != 1 {
+		log.Fatal(files, err)
+	}
+}
+
 func main() {
 	room := os.Args[1] + "/"
 	for rows := bufio.NewScanner(os.Stdin); rows.Scan(); {
 		row := strings.Fields(rows.Text())
 		call, err := zigrunk.NewCall(room+"bin/nvcc", []string{"-c", "kernel.cu", "-o", "kernel.o"}, os.Environ(), room+"w", room+row[1])
+		var plan *zigrunk.Plan
 		if err == nil {
-			_, err = call.PlanOf(textOf(room+row[2]), textOf(room+row[3]), 0)
+			plan, err = call.PlanOf(textOf(room+row[2]), textOf(room+row[3]), 0)
+		}
+		if err == nil {
+			checkKeys(call, len(plan.Commands))
 		}
 		refused := &zigrunk.Error{}
 		if err != nil && !errors.As(err, &refused) {

@@ -59,25 +59,23 @@ func (c Cache) Put(of Named, _ *bool) error {
 	return os.Rename(file.Name(), c.path(of.Key))
 }
 
-// keyOf is the digest of all that a command's products depend on: its key, its program, and what it reads. There is none if no cache may serve it.
+// keyOf is the digest of all that a command's products depend on: its key, its tool, and what it reads. There is none if no cache may serve it.
 func keyOf(call *zigrunk.Call, number int, command *zigrunk.Command) string {
-	if !command.Cacheable || command.Missing != zigrunk.NoneMissing {
+	key, err := call.Key(number)
+	if err != nil {
 		return ""
 	}
+	tool, err := call.ToolFiles(number)
 	sum := sha256.New()
-	for _, path := range append([]string{command.Words[0]}, command.Reads...) {
-		content, err := os.ReadFile(path)
-		if err != nil {
+	sum.Write(key)
+	for _, path := range append(tool, command.Reads...) {
+		content, missing := os.ReadFile(path)
+		if err != nil || missing != nil {
 			return ""
 		}
 		digest := sha256.Sum256(content)
 		sum.Write(digest[:])
 	}
-	key, err := call.Key(number)
-	if err != nil {
-		return ""
-	}
-	sum.Write(key)
 	return hex.EncodeToString(sum.Sum(nil))
 }
 

@@ -3,7 +3,7 @@
 use std::error::Error;
 use std::{env, fs, io};
 
-use zigrunk::{Call, ErrorKind, Field, NvccCall, find_programs, variables};
+use zigrunk::{Call, CommandTool, ErrorKind, Field, NvccCall, find_programs, variables};
 
 /// The number of a field of a dry run in `zigrunk.h`.
 fn number(field: Field) -> u32 {
@@ -28,7 +28,12 @@ fn main() -> Result<(), Box<dyn Error>> {
             Call::new(&NvccCall { nvcc: &nvcc, words: &words, variables: &variables(&environment), cwd: &cwd, tmp: &tmp })?;
         let (first, second) = (fs::read(format!("{room}/{first}"))?, fs::read(format!("{room}/{second}"))?);
         match call.plan_of(&first, &second, &find_programs(&first, &second, &cwd)?, None) {
-            Ok(_) => println!("{name} 0 0 0"),
+            Ok(plan) => {
+                // (the other tools are scripts here)
+                let keyed = plan.commands().filter(|command| matches!(command.cache_key(), Ok(Some(_))));
+                assert_eq!(keyed.filter_map(|command| command.tool()).collect::<Vec<_>>(), [CommandTool::CudaFe]);
+                println!("{name} 0 0 0");
+            }
             Err(error) => {
                 let place = error.place();
                 let line = place.and_then(|it| it.line).unwrap_or(0);
