@@ -8,6 +8,7 @@ commands with equal keys make, byte for byte. First the variations of tests/call
     --count N    so many pairs by lot, 200 by default
     --jobs N     so many calls at once, 2 by default
     --only TEXT  only the variations whose names have this text, and no pairs
+    --first N    only the pairs from this one on, and no variations
 
 A false hit is a failure: two commands with one key make other files, or only one of them succeeds. All commands of the lot that ran in one place are
 compared with each other. It also counts false misses: commands at one place of two calls that make the same, with other keys or with none. Of the
@@ -96,7 +97,8 @@ def with_assembler(folder: Path, env: dict[str, str]) -> None:
 
 def toolkit(folder: Path, env: dict[str, str]) -> Path:
     """A toolkit of links, whose nvcc and library are its own. nvcc finds its tools by its own place."""
-    real = Path(path_of("nvcc")).resolve().parent.parent
+    said = subprocess.run(["nvcc", "--dryrun", "-c", "none.cu"], capture_output=True, text=True, env=env).stderr
+    real = Path(re.findall(r"^#\$ _HERE_=(.*)", said, re.MULTILINE)[0]).resolve().parent
     for name in ("bin", "nvvm"):
         (folder / name).mkdir(parents=True)
         for it in (real / name).iterdir():
@@ -111,6 +113,10 @@ def toolkit(folder: Path, env: dict[str, str]) -> Path:
     shutil.copytree(real / "nvvm/libdevice", folder / "nvvm/libdevice")
     env["PATH"] = f"{folder}/bin:{env['PATH']}"
     return folder
+
+
+def with_toolkit(folder: Path, env: dict[str, str]) -> None:
+    toolkit(folder, env)
 
 
 def with_library(folder: Path, env: dict[str, str]) -> None:
@@ -136,17 +142,21 @@ def with_host_function(cwd: Path, _: dict[str, str]) -> None:
 
 
 DO: dict[str, Callable[[Path, dict[str, str]], None]] = {"part": with_part, "touch": touched, "host": with_host_function}
-DO_BESIDE = {"assembler": with_assembler, "library": with_library, "wrapper": with_wrapper}
+DO_BESIDE = {"assembler": with_assembler, "toolkit": with_toolkit, "library": with_library, "wrapper": with_wrapper}
 
 
 def contents(path: str) -> bytes:
     return Path(path).read_bytes() if os.path.isfile(path) else b"none"
 
 
-def without_process(text: bytes, ids: set[bytes]) -> bytes:
-    """A text without the number of cudafe++'s process, in which the module id of a source without external names ends."""
+# How the module id of a source without an external name ends: in a sum and the number of cudafe++'s process, which are others each time.
+MADE_UP = re.compile(rb"_[0-9a-f]{8}_\d+$")
+
+
+def without_id(text: bytes, ids: set[bytes]) -> bytes:
+    """A text without what cudafe++ makes up of a module id."""
     for name in ids:
-        text = text.replace(name, name.rpartition(b"_")[0])
+        text = text.replace(name, MADE_UP.sub(b"", name))
     return text
 
 
@@ -171,11 +181,11 @@ class Maker:
         run = subprocess.run([self.keys, str(cwd), str(tmp), nvcc, *call.line(cwd)], cwd=cwd, env=env, stdin=subprocess.DEVNULL,
                              capture_output=True, text=True, errors="replace", timeout=600)
         lines = [line.split("\t") for line in run.stdout.splitlines() if re.match(r"([0-9a-f]{16}|-)\t", line)]
-        ids = {text for text in (contents(path) for *_, path in lines if path.endswith(".module_id")) if re.search(rb"_[0-9a-f]{8}_\d+$", text)}
+        ids = {text for _, _, _, *paths in lines for text in map(contents, paths) if len(text) < 1000 and MADE_UP.search(text)}
         ran = []
         for number, (key, _, of, *paths) in enumerate(lines):
             failed = run.returncode != 0 and number == len(lines) - 1
-            texts = [without_process(contents(path), ids) for path in paths]
+            texts = [without_id(contents(path), ids) for path in paths]
             made = "failed" if failed else sha256(b"".join(sha256(text).digest() for text in texts)).hexdigest()
             ran.append(Ran(os.path.basename(of), key, made))
         return ran or [Ran("nothing ran", "-", run.stderr[-300:])]
@@ -242,7 +252,7 @@ class Variation:
         made = Variation(one("name", ""), one("is", ""))
         both, do = values.pop("both", []), one("do", "")
         shared = Call(phase=one("phase", "-c"), source=one("source", "k.cu"), is_absolute=do == "absolute")
-        first = replace(shared, words=(*both, *values.pop("first", [])))
+        first = replace(shared, words=(*both, *values.pop("first", [])), do="toolkit" if do in ("library", "wrapper") else "")
         pairs = [tuple((it.partition("=")[0], it.partition("=")[2]) for it in values.pop(key, [])) for key in ("env", "file")]
         second = replace(shared, words=(*both, *(word for word in words if not word.startswith("@"))), product=one("product", ""),
                          cwd=one("cwd", "w"), tmp=one("tmp", "t"), env=pairs[0], files=pairs[1], do=do)
@@ -298,7 +308,7 @@ class Drawn:
 
 def draw(lot: random.Random) -> Drawn:
     words = tuple((name, lot.choice(choices) if lot.random() < 0.4 else ()) for name, choices in CHOICES.items())
-    phase = lot.choice(["-c", "-c", "-c", "-dc", "-fatbin"])
+    phase = lot.choice(["-c", "-dc", "-fatbin", "-cubin", "-cubin", "-ptx"])
     return Drawn(words, phase, lot.choice(HOST), lot.choice(KERNELS), lot.choice(["", "7"]), lot.choice(PLACES), lot.choice(["t", "other/t"]),
                  lot.choice(["k.cu", "k.cu", "k.cu", "static.cu", "sine.cu"]))
 
@@ -334,7 +344,8 @@ def lot_of(maker: Maker, known: Known, misses: Counter[str], numbers: list[int],
 
 
 def by_lot(args: argparse.Namespace, scratch: Path, counts: Counts) -> None:
-    numbers = range(1, args.count + 1)
+    first = args.first or 1
+    numbers = range(first, first + args.count)
     places = [(Maker(args.keys, scratch / f"lot{at}"), Known(), Counter[str]()) for at in range(args.jobs)]
     with concurrent.futures.ThreadPoolExecutor(args.jobs) as pool:
         found = list(pool.map(lambda at: lot_of(*places[at], [it for it in numbers if it % args.jobs == at], args.seed), range(args.jobs)))
@@ -343,7 +354,7 @@ def by_lot(args: argparse.Namespace, scratch: Path, counts: Counts) -> None:
     for what, count in sorted(misses.items()):
         print(f"    {count:4} {what}")
     counts.case(f"{args.count} pairs of seed {args.seed}, {pairs} commands with the key of another call", itertools.chain.from_iterable(found))
-    counts.case("the lot has hits", [] if pairs > args.count / 4 else [f"only {pairs}"])
+    counts.case("the lot has hits", [] if pairs > args.count / 8 else [f"only {pairs}"])
 
 
 def main() -> int:
@@ -352,11 +363,12 @@ def main() -> int:
     for name, usual in (("--seed", 1), ("--count", 200), ("--jobs", 2)):
         parser.add_argument(name, type=int, default=usual)
     parser.add_argument("--only", default="")
+    parser.add_argument("--first", type=int, default=0)
     args = parser.parse_args()
     if not shutil.which("nvcc"):
         return skip_all("keys", "nvcc is not on the path")
     lines = [line for line in (HERE / "callers/keys.txt").read_text().splitlines() if line and line[0] != "#"]
-    variations = [it for it in map(Variation.of, lines) if args.only in it.name]
+    variations = [it for it in map(Variation.of, lines) if args.only in it.name and not args.first]
     counts = Counts()
     with tempfile.TemporaryDirectory(prefix="keys.") as folder:
         scratch = Path(folder).resolve()

@@ -99,7 +99,7 @@ static int32_t zigrunk_call_plan_of(zigrunk_call *call, zigrunk_text dry1, zigru
 
 /* The key of a command of a call's plan. A cache hashes it together with the contents of the tool's files and of what the command reads. Two
  * commands for which all that is equal make files of equal contents, in whatever directories they run. One exception: if a source defines no
- * external name, cudafe++ ends the module id in the number of its process.
+ * external name, cudafe++ makes up another module id each time.
  *
  * The length is 0 if a cache may not serve the command, and then the status is ZIGRUNK_BAD_LINE and the message says why: it isn't one of cudafe++,
  * cicc and ptxas, whose words name all that it touches; a word of it isn't known, asks for debugging information, or names a further file; its

@@ -233,7 +233,7 @@ func (c *Call) numbered(number int) (*C.zigrunk_planned, error) {
 
 // Key is what a cache hashes of a command of the call's last plan, by its number, together with the contents of ToolFiles and of what the command
 // reads. Two commands for which all that is equal make files of equal contents, in whatever directories they run. One exception: if a source
-// defines no external name, cudafe++ ends the module id in the number of its process. It's an error (BadLine) if a cache may not serve the
+// defines no external name, cudafe++ makes up another module id each time. It's an error (BadLine) if a cache may not serve the
 // command: it isn't one of cudafe++, cicc and ptxas, whose words name all that it touches; a word of it isn't known, asks for debugging
 // information, or names a further file; its program is a script; LD_PRELOAD is set.
 func (c *Call) Key(number int) ([]byte, error) {

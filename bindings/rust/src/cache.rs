@@ -148,8 +148,8 @@ fn libraries(command: Command<'_>) -> io::Result<Vec<PathBuf>> {
 
 impl Command<'_> {
     /// What a cache hashes of this command. Two commands with equal keys, whose tools' files and inputs have equal contents, make files of equal
-    /// contents, in whatever directories they run. One exception: if a source defines no external name, cudafe++ ends the module id in the
-    /// number of its process.
+    /// contents, in whatever directories they run. One exception: if a source defines no external name, cudafe++ makes up another
+    /// module id each time.
     ///
     /// `None` if a cache may not serve the command: it isn't one of cudafe++, cicc or ptxas, whose words name all that it touches; a word of it
     /// isn't known, asks for debugging information, or names a further file; its program is a script; `LD_PRELOAD` is set.
