@@ -4,6 +4,8 @@
 # examples also make what nvcc makes if there is one. The last line is 'N passed, M failed'.
 #
 #   tests/callers.sh [FOLDER]   FOLDER: as `make install` or `make lib` leaves it, with lib and include; otherwise out, or what `make rust` built
+#
+# SEED=N draws other pairs of dry runs than those of seed 1.
 set -u
 cd "$(dirname "$0")/.." || exit 1
 . tests/lib.sh
@@ -53,6 +55,13 @@ has_ten_lines() { [ "$(block "$1" | grep -c '')" -le 10 ] && [ "$(block "$1" | g
 # misuses COMMAND..: whether a program says of each misuse what the table says.
 misuses() {
     diff <(misuse_rows | awk '{print $1, $5, $6, $7}') <(misuse_rows | "$@" "$room")
+}
+
+# alike PROGRAM..: whether the programs say the same of pairs of dry runs by lot as that for C, which has the checks of the compiler. Some of both
+# kinds are among them: those that are planned, and those that aren't.
+alike() {
+    "$scratch/misuses_c" "$room" < "$scratch/lot" > "$scratch/said_of_lot" && grep -q ' 0 0 0$' "$scratch/said_of_lot" &&
+        [ "$(grep -vc ' 0 0 0$' "$scratch/said_of_lot")" -ge 50 ] && diff "$scratch/said_of_lot" <("$@" "$room" < "$scratch/lot")
 }
 
 # sanitized FILE OUT: with the checks of the compiler.
@@ -140,12 +149,15 @@ check 'C: the header, by a compiler of C++' c++ -x c++ -std=c++11 "${strict[@]}"
 check 'C: misuses, with the checks of the compiler' sanitized tests/callers/misuses.c "$scratch/misuses_c"
 check 'C: what comes of them' misuses "$scratch/misuses_c"
 check 'C: without memory' without_memory
+python3 tests/callers/mutated.py "$room" "${SEED:-1}" 100 > "$scratch/lot"
 check 'C++: the program of the page' built_cpp "$scratch/first.cpp" "$scratch/first_cpp" "${flags[@]}"
 check 'C++: its plan' plans "$scratch/first_cpp"
 check 'C++: misuses' built_cpp tests/callers/misuses.cpp "$scratch/misuses_cpp" "${flags[@]}"
 check 'C++: what comes of them' misuses "$scratch/misuses_cpp"
+check 'C++: 100 pairs of dry runs by lot' alike "$scratch/misuses_cpp"
 check 'Python: its plan' plans python3 "$scratch/first.py"
 check 'Python: misuses' misuses python3 tests/callers/misuses.py
+check 'Python: 100 pairs of dry runs by lot' alike python3 tests/callers/misuses.py
 check 'Python: a wheel' in_wheel
 check 'Python: the auditor' audits
 check 'the lines of the scheduler' at_most 150 bindings/cpp/examples/scheduler.cpp
@@ -165,6 +177,7 @@ if command -v go > /dev/null; then
     check 'Go: its plan' plans "$scratch/first_go/first"
     check 'Go: misuses' built_go "$scratch/misuses_go" "$scratch/misuses_go/misuses"
     check 'Go: what comes of them' misuses "$scratch/misuses_go/misuses"
+    check 'Go: 100 pairs of dry runs by lot' alike "$scratch/misuses_go/misuses"
 else
     skip 'the module for Go' 'go is not on the path'
 fi

@@ -46,7 +46,7 @@ int main(int count, char **arguments) {
         }
         /* again, since a refusal leaves the call as it was */
         int32_t status = zigrunk_call_plan_of(call, dry1, dry2, 0);
-        if (zigrunk_call_plan_of(call, dry1, dry2, 0) != status || (status == ZIGRUNK_OK && !has_keys(call))) {
+        if (zigrunk_call_plan_of(call, dry1, dry2, 0) != status || (strcmp(name, "right") == 0 && status == ZIGRUNK_OK && !has_keys(call))) {
             return 3;
         }
         printf("%s %d %u %zu\n", name, (int)status, (unsigned)call->place.field, call->place.line);

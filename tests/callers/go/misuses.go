@@ -50,7 +50,7 @@ func main() {
 		if err == nil {
 			plan, err = call.PlanOf(textOf(room+row[2]), textOf(room+row[3]), 0)
 		}
-		if err == nil {
+		if err == nil && row[0] == "right" {
 			checkKeys(call, len(plan.Commands))
 		}
 		refused := &zigrunk.Error{}

@@ -31,7 +31,8 @@ fn main() -> Result<(), Box<dyn Error>> {
             Ok(plan) => {
                 // (the other tools are scripts here)
                 let keyed = plan.commands().filter(|command| matches!(command.cache_key(), Ok(Some(_))));
-                assert_eq!(keyed.filter_map(|command| command.tool()).collect::<Vec<_>>(), [CommandTool::CudaFe]);
+                let tools: Vec<_> = keyed.filter_map(|command| command.tool()).collect();
+                assert!(name != "right" || tools == [CommandTool::CudaFe], "{tools:?}");
                 println!("{name} 0 0 0");
             }
             Err(error) => {
