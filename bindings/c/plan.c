@@ -68,8 +68,8 @@ int main(int count, char **arguments) {
     call.programs = rows;
 
     /* The programs to look up, two texts each: if they fit, a row for each. */
-    zigrunk_list_answer asked = zigrunk_lookups(call.dry1.bytes, call.dry1.length, call.dry2.bytes, call.dry2.length,
-        call.cwd.bytes, call.cwd.length, ranges, 256, texts, sizeof texts);
+    zigrunk_list_answer asked = zigrunk_lookups_within(call.dry1.bytes, call.dry1.length, call.dry2.bytes, call.dry2.length,
+        call.cwd.bytes, call.cwd.length, call.limit, ranges, 256, texts, sizeof texts);
     if (asked.status != ZIGRUNK_OK || asked.count > 256 || asked.length > sizeof texts) {
         return 1;
     }

@@ -135,8 +135,8 @@ int main(int count, char **arguments) {
     char *dependencies = part(bytes, ranges[0]);
     zigrunk_plan_call call = {dry_run(part(bytes, ranges[1])), dry_run(part(bytes, ranges[2])), line.cwd, line.tmp,
         text_of(part(bytes, ranges[3])), no_text, &no_variable, 0, &no_text, 0, rows, 0, 0, 0, 0};
-    zigrunk_list_answer asked = zigrunk_lookups(call.dry1.bytes, call.dry1.length, call.dry2.bytes, call.dry2.length, call.cwd.bytes,
-        call.cwd.length, asked_at, 2 * PROGRAMS, asked_bytes, sizeof asked_bytes);
+    zigrunk_list_answer asked = zigrunk_lookups_within(call.dry1.bytes, call.dry1.length, call.dry2.bytes, call.dry2.length, call.cwd.bytes,
+        call.cwd.length, call.limit, asked_at, 2 * PROGRAMS, asked_bytes, sizeof asked_bytes);
     for (size_t i = 0; i < asked.count && asked.count <= 2 * PROGRAMS && asked.length <= sizeof asked_bytes; i += 2) {
         rows[call.programs_count++] = found(part(asked_bytes, asked_at[i]), part(asked_bytes, asked_at[i + 1]), call.cwd);
     }
