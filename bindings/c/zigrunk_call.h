@@ -460,6 +460,8 @@ static int32_t zigrunk_own_run_both(zigrunk_call *call, zigrunk_own_bytes *texts
         }
         if (call->status == ZIGRUNK_OK && processes[i] < 0) {
             zigrunk_own_refuse(call, ZIGRUNK_CALL_SYSTEM, "no process for a dry run");
+        } else if (call->status == ZIGRUNK_OK && WIFEXITED(status) && WEXITSTATUS(status) == 127 && texts[i].length == 0) {
+            zigrunk_own_refuse(call, ZIGRUNK_CALL_SYSTEM, "nvcc can't be started in the working directory");
         } else if (call->status == ZIGRUNK_OK && !(WIFEXITED(status) && WEXITSTATUS(status) == 0)) {
             zigrunk_own_refuse(call, ZIGRUNK_CALL_NVCC, texts[i].bytes ? (const char *)texts[i].bytes : "");
         }

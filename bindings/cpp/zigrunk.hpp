@@ -72,6 +72,18 @@ inline std::vector<char *> pointers(const Texts &list) {
     return made;
 }
 
+// What a text is to C, which ends at NUL.
+inline const char *plain(const std::string &text) {
+    return text.find('\0') == std::string::npos ? text.c_str() : throw Error(ZIGRUNK_BAD_LINE, {}, "a text contains NUL");
+}
+
+inline const Texts &plain(const Texts &texts) {
+    for (const std::string &text : texts) {
+        plain(text);
+    }
+    return texts;
+}
+
 inline Run run(const zigrunk_run &of) {
     return {texts(of.words), texts(of.environment), of.cwd ? of.cwd : ""};
 }
@@ -118,7 +130,8 @@ inline std::string quote(const Texts &words) {
 class Call {
 public:
     Call(const std::string &nvcc, const Texts &words, const Texts &environment, const std::string &cwd, const std::string &tmp)
-        : call_(zigrunk_call_of(nvcc.c_str(), own::pointers(words).data(), own::pointers(environment).data(), cwd.c_str(), tmp.c_str()),
+        : call_(zigrunk_call_of(own::plain(nvcc), own::pointers(own::plain(words)).data(), own::pointers(own::plain(environment)).data(), own::plain(cwd),
+                    own::plain(tmp)),
               zigrunk_call_free) {
         if (!call_) {
             throw std::bad_alloc();

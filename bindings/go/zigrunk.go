@@ -10,6 +10,7 @@ import "C"
 
 import (
 	"runtime"
+	"strings"
 	"unsafe"
 )
 
@@ -149,6 +150,11 @@ func run(of *C.zigrunk_run) Run {
 // NewCall reads a line of nvcc: its words without nvcc's name, all of its environment, as os.Environ gives it, its directory, and one for
 // temporary files, which has to be there. nvcc reads NVCC_PREPEND_FLAGS and NVCC_APPEND_FLAGS in the environment, and the commands run in it.
 func NewCall(nvcc string, words, environment []string, directory, tmp string) (*Call, error) {
+	for _, text := range append(append([]string{nvcc, directory, tmp}, words...), environment...) {
+		if strings.IndexByte(text, 0) >= 0 {
+			return nil, &Error{Status: BadLine, Message: "a text contains NUL"}
+		}
+	}
 	var names [3]*C.char
 	for i, name := range []string{nvcc, directory, tmp} {
 		names[i] = C.CString(name)

@@ -28,6 +28,15 @@ static int has_keys(zigrunk_call *call) {
     return has && files && strcmp(files[0], call->commands[1].run.words[0]) == 0 && !files[1];
 }
 
+/* Whether a call says why it can't be planned in a directory that isn't there. */
+static int refuses_directory(const char *nvcc, char **words, const char *tmp) {
+    zigrunk_call *call = zigrunk_call_of(nvcc, words, environ, "/nowhere", tmp);
+    int refuses = call && zigrunk_call_plan(call) == ZIGRUNK_CALL_SYSTEM && call->message[0];
+    int lacks_memory = !call || call->status == ZIGRUNK_OUT_OF_MEMORY;
+    zigrunk_call_free(call);
+    return refuses || lacks_memory;
+}
+
 int main(int count, char **arguments) {
     char name[64], tmp[64], first[64], second[64], rest[64], nvcc[4096], cwd[4096], folder[4096];
     char *words[] = {(char *)"-c", (char *)"kernel.cu", (char *)"-o", (char *)"kernel.o", NULL};
@@ -43,6 +52,9 @@ int main(int count, char **arguments) {
         zigrunk_text dry1 = text_of(room, first), dry2 = text_of(room, second);
         if (!call) {
             return 2;
+        }
+        if (strcmp(name, "right") == 0 && !refuses_directory(nvcc, words, folder)) {
+            return 4;
         }
         /* again, since a refusal leaves the call as it was */
         int32_t status = zigrunk_call_plan_of(call, dry1, dry2, 0);

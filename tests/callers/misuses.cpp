@@ -26,8 +26,21 @@ static bool has_keys(zigrunk::Call &call, std::size_t count) {
         && status_of_key(call, 1) == 0 && call.tool_files(1).size() == 1;
 }
 
+// A word with NUL is no word of a program, nor is what is in front of it.
+static bool refuses_nul(const std::string &room) {
+    try {
+        zigrunk::Call(room + "bin/nvcc", {"-c", std::string("kernel.cu\0x", 11)}, zigrunk::environment(), room + "w", room + "t");
+        return false;
+    } catch (const zigrunk::Error &error) {
+        return error.status == ZIGRUNK_BAD_LINE;
+    }
+}
+
 int main(int, char **arguments) {
     const std::string room = std::string(arguments[1]) + "/";
+    if (!refuses_nul(room)) {
+        return 3;
+    }
     for (std::string row; std::getline(std::cin, row);) {
         std::istringstream words(row);
         std::string name, tmp, first, second;

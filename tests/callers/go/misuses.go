@@ -43,6 +43,10 @@ func checkKeys(call *zigrunk.Call, count int) {
 
 func main() {
 	room := os.Args[1] + "/"
+	refusal := &zigrunk.Error{}
+	if _, err := zigrunk.NewCall(room+"bin/nvcc", []string{"-c", "kernel.cu\x00x"}, os.Environ(), room+"w", room+"t"); !errors.As(err, &refusal) || refusal.Status != zigrunk.BadLine {
+		log.Fatalf("a word with NUL: %v", err)
+	}
 	for rows := bufio.NewScanner(os.Stdin); rows.Scan(); {
 		row := strings.Fields(rows.Text())
 		call, err := zigrunk.NewCall(room+"bin/nvcc", []string{"-c", "kernel.cu", "-o", "kernel.o"}, os.Environ(), room+"w", room+row[1])
