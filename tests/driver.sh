@@ -341,7 +341,9 @@ ROWS
         end
     fi
     if case_of 'its directory vanishes'; then
-        start "${plain[@]}" TOOL_DOES='[ "$name" != cudafe++ ] || until rm -rf "$TMPDIR/../../../zigrunk-"* 2> /dev/null && [ ! -e "$TMPDIR" ]; do :; done' -c k.cu -o k.o
+        # Another command may write into the directory while it goes, so its path has to hold without a part of it.
+        does='all=$(cd "$TMPDIR/../../.." && pwd); until rm -rf "$all"/zigrunk-* 2> /dev/null && [ ! -e "$TMPDIR" ]; do :; done'
+        start "${plain[@]}" TOOL_DOES="[ \"\$name\" != cudafe++ ] || { $does; }" -c k.cu -o k.o
         within 20 has_begun cudafe++
         { wait "$process"; } 2> /dev/null
         status=$?
