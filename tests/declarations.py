@@ -1,8 +1,9 @@
 #!/usr/bin/env python3
 """Compares what bindings/c/zigrunk.h declares with the library's exports and the bindings: the types that each function takes and gives
 with the exports of crates/zigrunk_c, with Rust's declarations and with Python's, and each number with that of Python's enums. The layers
-for C, C++ and Go have to name numbers of the header, and Go all statuses; the words that a cache knows are the same in C and in Rust. (How records are laid out is a test of each binding.) It needs
-neither a library nor a compiler. Prints a line for each difference, and last 'N passed, M failed'; the status is 1 if something differs."""
+for C, C++ and Go have to name numbers of the header, and Go all statuses; the words that a cache knows are the same in C and in Rust. (How
+records are laid out is a test of each binding.) It needs neither a library nor a compiler. Prints a line for each difference, and last
+'N passed, M failed'; the status is 1 if something differs."""
 
 import ast
 import ctypes
