@@ -256,15 +256,17 @@ impl Host {
         has_begun && self.has_permit()
     }
 
-    /// Takes the signals that have come. A job's end, or a signal that ends the call, is an event.
+    /// Takes the signals that have come, and looks for ends of jobs even if no signal can be read. A job's end, or a signal that ends the
+    /// call, is an event.
     fn take_signals(&mut self) {
         while let Some(number) = self.signals.next() {
             match number {
-                CHLD => self.take_ends(),
+                CHLD => {}
                 TSTP => self.pause(),
                 _ => self.events.push_back(Event::Signal(number)),
             }
         }
+        self.take_ends();
     }
 
     /// Notes the jobs that have ended.

@@ -40,6 +40,9 @@ const PARENT_WAITS: c_int = 0x4000;
 /// How many parts of sixteen bytes a child's stack has.
 const CHILD_STACK: usize = 4096;
 
+/// How often a pipe that can't be read is tried again.
+const MOST_FAILURES: usize = 1000;
+
 const CREATE: c_int = 0o100;
 pub const UNBLOCKED: c_int = 0o4000;
 const CLOSE_ON_EXEC: c_int = 0o2_000_000;
@@ -275,11 +278,16 @@ pub fn wait_to_write(file: RawFd, milliseconds: i32) {
     }
 }
 
-/// Waits until nobody has the other end of a pipe.
+/// Waits until nobody has the other end of a pipe. If it can't be read again and again, though there is something to read, that is the end.
 pub fn wait_for_end(pipe: BorrowedFd<'_>) {
-    let mut byte = 0;
-    while unsafe { read(pipe.as_raw_fd(), (&raw mut byte).cast::<u8>().cast(), 1) } != 0 {
-        sleep(Duration::from_millis(1));
+    let (mut byte, mut failures) = (0_u8, 0);
+    while failures < MOST_FAILURES {
+        wait_for(&[pipe.as_raw_fd()], -1);
+        match unsafe { read(pipe.as_raw_fd(), (&raw mut byte).cast(), 1) } {
+            0 => return,
+            1 => {}
+            _ => failures += 1,
+        }
     }
 }
 
@@ -1034,8 +1042,11 @@ mod tests {
         sleep(Duration::from_millis(30));
         assert!(!waiter.is_finished());
         assert!(write_byte(write.as_fd(), b'a'));
+        sleep(Duration::from_millis(30));
+        assert!(!waiter.is_finished());
         drop(write);
         waiter.join().unwrap();
+        wait_for_end(File::options().write(true).open("/dev/null").unwrap().as_fd());
     }
 
     #[test]
