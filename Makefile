@@ -66,7 +66,8 @@ help:
 	@echo 'make lint             check shell, Python and Rust: shellcheck, mypy, flake8, clippy and rustfmt, as far as they are installed'
 	@echo 'make test-install     install into an empty directory, run the programs from there, uninstall'
 	@echo 'make dist             pack the sources as plain Rust, Debian packages of them, and the proved programs if built; in dist/'
-	@echo 'make dist-test        build the sources and install the package in fresh Debian roots, run all there, remove it; needs root'
+	@echo 'make dist-test        build the sources and install the package in fresh Debian roots, run all there, remove it; needs root;'
+	@echo '                      ROOTS=bookworm:arm64 takes this root alone, by qemu-user-static'
 	@echo 'make bench            time calls of the library'
 
 # A cicc line that is read and written back, and the plan of two real dry runs: the calls in demo/.
@@ -208,7 +209,7 @@ platforms:
 	@tests/platforms.sh
 
 dist-test:
-	@packaging/test.sh
+	@packaging/test.sh $(ROOTS)
 
 test-install:
 	@.ci/built check programs || $(MAKE) build

@@ -4,8 +4,9 @@
 # clone by the two commands of README, and the source tarball, and plans by the crate for Rust in a new project: there is no kit and, while
 # they build, no network. Needs root, debootstrap and the network, else it is skipped with a message. The last line is "N passed, M failed".
 #
-#   packaging/test.sh [ROOT..]     ROOT: a release, or RELEASE:ARCHITECTURE, for which the kernel has to have an emulator, or the folder of
-#                                  a root, which is copied. By default four releases, and arm64 if it can run here
+#   packaging/test.sh [ROOT..]     ROOT: a release, or RELEASE:ARCHITECTURE, or the folder of a root, which is copied. By default four
+#                                  releases, and arm64 if the kernel has an emulator. For an arm64 root that is named here, the script
+#                                  lends the kernel that of the package qemu-user-static
 set -u
 cd "$(dirname "$0")/.." || exit 1
 . tests/lib.sh
@@ -17,9 +18,24 @@ if [ ! -f "dist/zigrunk-$version.tar.gz" ]; then
     summary
     exit
 fi
-trap 'rm -rf --one-file-system "$scratch"' EXIT
+here=$(dpkg --print-architecture)
+handlers=/proc/sys/fs/binfmt_misc
+handler=/usr/lib/binfmt.d/qemu-aarch64.conf
+trap end EXIT
 # a root has no such folder
 unset TMPDIR
+
+# lend_emulator: has the kernel run programs of arm64 by qemu until this script ends, unless it does so already.
+lend_emulator() {
+    ! grep -qs enabled "$handlers/qemu-aarch64" && [ -f "$handler" ] || return 0
+    [ -e "$handlers/register" ] || mount -t binfmt_misc binfmt_misc "$handlers"
+    cat "$handler" > "$handlers/register" && lent=yes
+}
+
+end() {
+    [ -z "${lent-}" ] || echo -1 > "$handlers/qemu-aarch64"
+    rm -rf --one-file-system "$scratch"
+}
 
 # no_mention COMMAND..: whether a command succeeds and prints nothing about this project.
 no_mention() {
@@ -47,7 +63,8 @@ inside() {
 # offline COMMAND..: the same without a network. It has /proc, as a machine does: rustfmt 1.85 stops without it.
 offline() {
     # shellcheck disable=SC2016 # for sh
-    unshare --net --mount sh -c 'mount -t proc proc "$0/proc" && exec chroot "$0" "$@"' "$root" env -C /root LC_ALL=C CARGO_HOME=/root/cargo "$@"
+    unshare --net --mount sh -c 'mount -t proc proc "$0/proc" && exec chroot "$0" "$@"' "$root" env -C /root LC_ALL=C CARGO_HOME=/root/cargo \
+        "${profile[@]}" "$@"
 }
 
 # pages: the text of the installed pages.
@@ -149,41 +166,66 @@ END
     prints true offline env -C /root/planner cargo run --quiet --offline
 }
 
-# sources NAME TOOL..: a clone and the source tarball, with the packages that have rustc and cargo.
-sources() {
-    local name=$1
-    shift
+# demo: a line of cicc is in what the clone's demo prints.
+demo() {
+    offline make -s -C clone demo | grep 'cicc --c++17'
+}
+
+# clone NAME: a clone, by the two commands of README.
+clone() {
     mkdir -p "$root/root/clone"
     git archive HEAD | tar -x -C "$root/root/clone"
-    check "$name: cargo" inside apt-get install -y --no-install-recommends make gcc libc6-dev pkg-config "$@"
-    check "$name: make rust" offline make -s -C clone rust
-    check "$name: tests and examples compile" offline env -C /root/clone/out/rust cargo check --quiet --offline --workspace --all-targets
-    check "$name: make install" offline make -s -C clone install PREFIX=/usr/local
-    programs "$name, a clone"
-    in_c "$name, a clone" /usr/local
-    # shellcheck disable=SC2016 # for sh
-    check "$name: make demo" sh -c 'chroot "$1" make -s -C /root/clone demo | grep -q "cicc --c++17"' _ "$root"
-    check "$name: a new project in Rust" new_project /usr/local
+    check "$1: make rust" offline make -s -C clone rust
+    check "$1: make install" offline make -s -C clone install PREFIX=/usr/local
+    programs "$1, a clone"
+    in_c "$1, a clone" /usr/local
+    check "$1: make demo" demo
+}
+
+# crate NAME: the crate for Rust, and what a clone has of tests and examples in Rust.
+crate() {
+    check "$1: tests and examples compile" offline env -C /root/clone/out/rust cargo check --quiet --offline --workspace --all-targets
+    check "$1: a new project in Rust" new_project /usr/local
+}
+
+# tarball NAME: the source tarball.
+tarball() {
+    tar -x -C "$root/root" -f "dist/zigrunk-$version.tar.gz"
+    check "$1: the source tarball" offline make -s -C "zigrunk-$version" install PREFIX=/usr/local
+    programs "$1, the source tarball"
+    check "$1: removing it" inside make -s -C "zigrunk-$version" uninstall PREFIX=/usr/local
+    check "$1: nothing of the tarball stays" nothing_stays
+}
+
+# sources NAME TOOL..: a clone and the source tarball, with the packages that have rustc and cargo.
+sources() {
+    local name=$1 profile=()
+    check "$name: cargo" inside apt-get install -y --no-install-recommends make gcc libc6-dev pkg-config "${@:2}"
+    [ "$architecture" = "$here" ] || profile=(CARGO_PROFILE_RELEASE_OPT_LEVEL=0 CARGO_PROFILE_RELEASE_LTO=off)
+    clone "$name"
+    if [ "$architecture" = "$here" ]; then
+        crate "$name"
+    else
+        skip "$name, the crate and the source tarball" 'each would take the emulator as long as the clone, which it built without optimization'
+    fi
     check "$name: make uninstall" inside make -s -C clone uninstall PREFIX=/usr/local
     check "$name: nothing of the clone stays" nothing_stays
-    tar -x -C "$root/root" -f "dist/zigrunk-$version.tar.gz"
-    check "$name: the source tarball" offline make -s -C "zigrunk-$version" install PREFIX=/usr/local
-    programs "$name, the source tarball"
-    check "$name: removing it" inside make -s -C "zigrunk-$version" uninstall PREFIX=/usr/local
-    check "$name: nothing of the tarball stays" nothing_stays
+    [ "$architecture" != "$here" ] || tarball "$name"
 }
 
 if [ $# -eq 0 ]; then
     set -- bookworm trixie jammy noble
-    ! grep -qs enabled /proc/sys/fs/binfmt_misc/qemu-aarch64 || set -- "$@" bookworm:arm64
+    ! grep -qs enabled "$handlers/qemu-aarch64" || set -- "$@" bookworm:arm64
 fi
+[[ $* != *arm64* ]] || lend_emulator
 for release in "$@"; do
-    architecture=amd64
+    architecture=$here
     [[ $release != *:* ]] || architecture=${release#*:}
     root=$scratch/${release##*/}
     started=$SECONDS
     if [ -d "$release" ]; then
         cp -a --one-file-system "$release" "$root"
+        architecture=$(inside dpkg --print-architecture)
     elif ! bootstrap "${release%:*}" "$architecture" "$root" > "$scratch/said" 2>&1; then
         skip "$release" "$(tail -n 1 "$scratch/said")"
         continue
