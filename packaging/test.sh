@@ -13,11 +13,6 @@ cd "$(dirname "$0")/.." || exit 1
 [ "$(id -u)" -eq 0 ] || skip_all 'the packages' 'that needs root'
 require 'the packages' debootstrap git
 version=$(cat VERSION)
-if [ ! -f "dist/zigrunk-$version.tar.gz" ]; then
-    count 'dist' 'it has no packages; make dist makes them'
-    summary
-    exit
-fi
 here=$(dpkg --print-architecture)
 handlers=/proc/sys/fs/binfmt_misc
 handler=/usr/lib/binfmt.d/qemu-aarch64.conf
@@ -190,7 +185,7 @@ crate() {
 
 # tarball NAME: the source tarball.
 tarball() {
-    tar -x -C "$root/root" -f "dist/zigrunk-$version.tar.gz"
+    check "$1: unpacking the source tarball" tar -x -C "$root/root" -f "dist/zigrunk-$version.tar.gz"
     check "$1: the source tarball" offline make -s -C "zigrunk-$version" install PREFIX=/usr/local
     programs "$1, the source tarball"
     check "$1: removing it" inside make -s -C "zigrunk-$version" uninstall PREFIX=/usr/local
@@ -234,6 +229,8 @@ for release in "$@"; do
     check "$release: apt-get update" inside apt-get update
     if [ -f "dist/zigrunk_${version}_$architecture.deb" ]; then
         package "$release" "dist/zigrunk_${version}_$architecture.deb"
+    elif [ "$architecture" = "$here" ]; then
+        count "$release, the package" 'dist has none; make dist makes it'
     else
         skip "$release, the package" "dist has none for $architecture"
     fi
