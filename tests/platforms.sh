@@ -3,8 +3,11 @@
 # test drivers and of the C library there, as far as this machine can. Outside the gate: it needs root, debootstrap and the network,
 # else it is skipped with a message. The last line is "N passed, M failed".
 #
+# Debian has no library of Rust for musl and Windows. So cargo compiles that of Debian's rustc for them, from its sources.
+#
 #   tests/platforms.sh [ROOT]     ROOT: the folder of a root of Debian 13 to work in, made if it isn't there; by default one that
 #                                 is removed at the end. RT_JOBS is how many jobs cargo has, 2 unless it is set
+#   TARGETS='x86_64-unknown-linux-musl ..'   only these platforms
 set -u
 cd "$(dirname "$0")/.." || exit 1
 . tests/lib.sh
@@ -30,11 +33,38 @@ make_root() {
     chmod a+x "$scratch" "$root/root"
     inside dpkg --add-architecture arm64 && inside dpkg --add-architecture i386 && inside apt-get update &&
         inside apt-get install -y --no-install-recommends rustc cargo libc6-dev libstd-rust-dev-wasm32 qemu-user-static \
-            gcc-aarch64-linux-gnu libc6-dev-arm64-cross gcc-i686-linux-gnu libc6-dev-i386-cross &&
+            gcc-aarch64-linux-gnu libc6-dev-arm64-cross gcc-i686-linux-gnu libc6-dev-i386-cross musl-tools &&
         inside env -C /root/zigrunk/debs apt-get download libstd-rust-dev:arm64 libstd-rust-dev:i386 &&
         for deb in "$work"/debs/*.deb; do
             dpkg -x "$deb" "$root" || return 1
         done
+}
+
+# unpack PATTERN..: folders of rustc's sources.
+unpack() {
+    tar -x -C "$work/rustc" --strip-components=1 -f "$work"/debs/rustc_*.orig.tar.xz --wildcards "$@"
+}
+
+# library_sources: Rust's library, where cargo looks for it, and the crates that it needs.
+library_sources() {
+    local crates
+    [ ! -e "$root/usr/lib/rustlib/src/rust/library/Cargo.lock" ] || return 0
+    printf '%s\n' 'Types: deb-src' 'URIs: http://deb.debian.org/debian' 'Suites: trixie' 'Components: main' \
+        'Signed-By: /usr/share/keyrings/debian-archive-keyring.gpg' > "$root/etc/apt/sources.list.d/sources.sources"
+    # (the archive may lack a part that isn't needed here)
+    # shellcheck disable=SC2016 # for sh
+    inside apt-get update && { inside env -C /root/zigrunk/debs sh -c \
+        'apt-get source --download-only rustc="$(dpkg-query -W -f "\${source:Version}" rustc)"' || true; }
+    mkdir -p "$work/rustc" "$work/unwind" "$root/usr/lib/rustlib/src" "$root/root/cargo"
+    unpack '*/library' || return 1
+    mapfile -t crates < <(sed -n 's,^name = "\(.*\)"$,*/vendor/\1-[0-9]*,p' "$work/rustc/library/Cargo.lock")
+    # It hasn't all crates, since some are for no platform of Debian's. The library needs this one on WebAssembly.
+    unpack "${crates[@]}"
+    sed -i '/^dlmalloc = /d' "$work/rustc/library/std/Cargo.toml"
+    printf '%s\n' '[source.crates-io]' 'replace-with = "rustc"' '[source.rustc]' 'directory = "/root/zigrunk/rustc/vendor"' > "$root/root/cargo/config.toml"
+    ln -sfn ../../../../root/zigrunk/rustc "$root/usr/lib/rustlib/src/rust"
+    # what Rust's library for musl calls so is gcc's
+    ln -sf "$(inside gcc -print-file-name=libgcc_eh.a)" "$work/unwind/libunwind.a"
 }
 
 # copy_sources: the workspace with its test drivers, and what the tests in C need.
@@ -44,25 +74,33 @@ copy_sources() {
         cp -r bindings VERSION "$work"
 }
 
-# has_library TARGET: whether rustc has its library for a platform.
+# has_library TARGET: whether Debian has Rust's library for a platform.
 has_library() {
     # shellcheck disable=SC2016 # for sh
     inside sh -c '[ -d "$(rustc --print target-libdir --target "$1")" ]' _ "$1"
 }
 
+# by_cargo COMMAND TARGET WORD..: runs cargo for a platform. If Debian has no library of Rust for it, cargo compiles that too, which rustc
+# allows in versions under development. ($flags has words for rustc.)
+by_cargo() {
+    local library=() settings=("RUSTFLAGS=${flags-}")
+    has_library "$2" || { library=('-Zbuild-std=std,panic_abort') && settings+=(RUSTC_BOOTSTRAP=1); }
+    inside env "${settings[@]}" cargo "$1" "${library[@]}" --offline --quiet --jobs "$jobs" --manifest-path rust/Cargo.toml --target "$2" "${@:3}"
+}
+
 # built TARGET LINKER: all programs, static so that they need nothing of the platform, and the library. (Link-time optimization takes most
 # of the time, and is what a package is for.)
 built() {
-    local linker words=(cargo build --release --offline --quiet --jobs "$jobs" --manifest-path rust/Cargo.toml --target "$1")
+    local linker flags='-C target-feature=+crt-static'
     linker=CARGO_TARGET_$(tr a-z- A-Z_ <<< "$1")_LINKER
-    inside env "$linker=$2" CARGO_PROFILE_RELEASE_LTO=off RUSTFLAGS='-C target-feature=+crt-static' "${words[@]}" --bins &&
-        inside env "$linker=$2" CARGO_PROFILE_RELEASE_LTO=off "${words[@]}" -p zigrunk_c
+    [[ $1 != *-musl ]] || flags+=' -C link-self-contained=no -C relocation-model=static -L native=/root/zigrunk/unwind'
+    export "$linker=$2" CARGO_PROFILE_RELEASE_LTO=off
+    by_cargo build "$1" --release --bins && flags='' by_cargo build "$1" --release -p zigrunk_c
 }
 
 # checked TARGET: whether the crates are right for a platform that nothing here can run, but for the driver, which is for Linux, and tests.
 checked() {
-    inside cargo check --offline --quiet --jobs "$jobs" --manifest-path rust/Cargo.toml --target "$1" --workspace \
-        --exclude zigrunk-sys --exclude zigrunk-driver --exclude 'test_*' "${@:2}"
+    by_cargo check "$1" --workspace --exclude zigrunk-sys --exclude zigrunk-driver --exclude 'test_*'
 }
 
 # runner PROGRAM EMULATOR: a script that runs a program of another platform.
@@ -96,8 +134,8 @@ driven() {
 
 # in_c TARGET PREFIX EMULATOR: the tests in C, with the library for a platform.
 in_c() {
-    local name words
-    inside env CC="$2gcc" LD="$2ld" AR="$2ar" OBJCOPY="$2objcopy" bindings/c/library.sh "rust/target/$1/release/libzigrunk.a" "$1" || return 1
+    local name words tools=${2#musl-}
+    inside env CC="$2gcc" LD="${tools}ld" AR="${tools}ar" OBJCOPY="${tools}objcopy" bindings/c/library.sh "rust/target/$1/release/libzigrunk.a" "$1" || return 1
     for name in calls plans lines line_records keys limits; do
         inside "$2gcc" -std=c99 -D_POSIX_C_SOURCE=200809L -O1 -Itests/c "-DVERSION=\"$version\"" "-I$1/include" -static \
             "tests/c/$name.c" "$1/lib/libzigrunk.a" -o "$1/$name" || return 1
@@ -115,10 +153,7 @@ in_c() {
 # platform TARGET PREFIX EMULATOR: all that can be run.
 platform() {
     local bin=$work/rust/target/$1/release before=$failed
-    if ! has_library "$1"; then
-        skip "$1" 'Debian has no library of Rust for it'
-        return
-    fi
+    is_wanted_target "$1" || return
     check "$1: programs and library" built "$1" "$2gcc"
     [ "$failed" -eq "$before" ] || return
     check "$1: the version" prints "zigrunk $version" "$(runner "$bin/zigrunk" "$3")" --version
@@ -128,18 +163,20 @@ platform() {
     check "$1: the tests in C" in_c "$1" "$2" "${3:+${3##"$root"}}"
 }
 
+# is_wanted_target TARGET: whether the call asks for a platform.
+is_wanted_target() {
+    [[ " ${TARGETS-$1} " == *" $1 "* ]]
+}
+
 check 'a root of Debian 13' make_root
 [ "$failed" -eq 0 ] || { summary && exit; }
 check 'the sources' copy_sources
+check "the sources of Rust's library" library_sources
 platform aarch64-unknown-linux-gnu aarch64-linux-gnu- "$root/usr/bin/qemu-aarch64-static"
 platform i686-unknown-linux-gnu i686-linux-gnu- ''
 platform x86_64-unknown-linux-musl musl- ''
 for target in wasm32-unknown-unknown wasm32-wasip1 x86_64-pc-windows-gnu; do
-    if has_library "$target"; then
-        check "$target: all crates are right" checked "$target"
-    else
-        skip "$target" 'Debian has no library of Rust for it'
-    fi
+    ! is_wanted_target "$target" || check "$target: all crates are right" checked "$target"
 done
 [ ! -f "$scratch/counts" ] || cat "$scratch/counts"
 summary
