@@ -33,7 +33,7 @@ make_root() {
     chmod a+x "$scratch" "$root/root"
     inside dpkg --add-architecture arm64 && inside dpkg --add-architecture i386 && inside apt-get update &&
         inside apt-get install -y --no-install-recommends rustc cargo libc6-dev libstd-rust-dev-wasm32 qemu-user-static \
-            gcc-aarch64-linux-gnu libc6-dev-arm64-cross gcc-i686-linux-gnu libc6-dev-i386-cross musl-tools &&
+            gcc-aarch64-linux-gnu libc6-dev-arm64-cross gcc-i686-linux-gnu libc6-dev-i386-cross musl-tools binutils-mingw-w64-x86-64 &&
         inside env -C /root/zigrunk/debs apt-get download libstd-rust-dev:arm64 libstd-rust-dev:i386 &&
         for deb in "$work"/debs/*.deb; do
             dpkg -x "$deb" "$root" || return 1
