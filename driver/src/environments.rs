@@ -24,6 +24,16 @@ impl Environment {
         Environment(env::vars_os().filter_map(|(name, value)| assigned(&name, &value)).collect())
     }
 
+    /// That of these variables, without those that have a NUL.
+    pub fn of(variables: impl Iterator<Item = Vec<u8>>) -> Environment {
+        Environment(variables.filter_map(|variable| CString::new(variable).ok()).collect())
+    }
+
+    /// The variables, each as `NAME=VALUE`.
+    pub fn variables(&self) -> impl Iterator<Item = &[u8]> {
+        self.0.iter().map(|variable| variable.to_bytes())
+    }
+
     /// The same with a variable in place of what it had.
     pub fn with(mut self, name: &str, value: &OsStr) -> Environment {
         self.0.retain(|variable| value_of(variable, name).is_none());

@@ -70,6 +70,8 @@ pub struct Host {
     tokens: Option<Tokens>,
     null: File,
     shows_colours: bool,
+    /// Files that the guard closes.
+    hidden: Vec<RawFd>,
     environment: Environment,
     wants: bool,
     permit: Option<Permit>,
@@ -176,6 +178,7 @@ impl Host {
             tokens,
             null: File::options().read(true).write(true).open("/dev/null")?,
             shows_colours: io::IsTerminal::is_terminal(&io::stderr()),
+            hidden: Vec::new(),
             environment,
             wants: false,
             permit: None,
@@ -191,7 +194,7 @@ impl Host {
         let Some(folder) = self.unguarded.take() else { return Ok(()) };
         let permits = self.running.iter().filter_map(|running| running.permit.as_ref()).chain(&self.permit);
         let slots = permits.filter_map(|permit| permit.slot.as_ref()).map(Slot::file);
-        let locks: Vec<RawFd> = slots.chain(self.slots.as_ref().and_then(Slots::file)).collect();
+        let locks: Vec<RawFd> = slots.chain(self.slots.as_ref().and_then(Slots::file)).chain(self.hidden.iter().copied()).collect();
         let tokens = self.tokens.as_ref().map(|tokens| tokens.server().writer());
         self.guard = Some(Guard::start(self.shared, &folder, tokens, &locks)?);
         Ok(())
@@ -199,6 +202,43 @@ impl Host {
 
     pub fn signals(&self) -> &Signals {
         &self.signals
+    }
+
+    /// Has the guard close a file, whose other end would miss this process's end. It counts until the first event is looked for.
+    pub fn hide(&mut self, file: RawFd) {
+        self.hidden.push(file);
+    }
+
+    /// Says whether commands see a terminal, if it isn't this process that knows.
+    pub fn set_terminal(&mut self, is_there: bool) {
+        self.shows_colours = is_there;
+    }
+
+    /// What has come by now, for a machine that also waits for others.
+    pub fn look(&mut self) -> Option<Event> {
+        self.take_signals();
+        self.running.iter_mut().for_each(|running| running.errors.drain());
+        if self.start_guard().is_err() {
+            return Some(Event::Lost("no process for the call".into()));
+        }
+        self.events.pop_front()
+    }
+
+    /// The files that can be read once something has come.
+    pub fn files(&self) -> Vec<RawFd> {
+        let terminals = self.running.iter().filter_map(|running| match &running.errors {
+            Printed::Terminal(file, ..) => Some(file.as_raw_fd()),
+            Printed::Memory(_) => None,
+        });
+        [self.signals.number()].into_iter().chain(terminals).collect()
+    }
+
+    /// Sends a signal to the job of a number, which goes on if it is stopped.
+    pub fn signal(&self, number: usize, signal: i32) {
+        for running in self.running.iter().filter(|running| running.number == number) {
+            system::signal_group(running.process, signal);
+            system::signal_group(running.process, CONT);
+        }
     }
 
     /// Has nothing any more that another call may want. The guard ends.
@@ -328,14 +368,10 @@ impl Host {
     /// Waits until there is something to look at.
     fn wait(&mut self) {
         let waits = self.slots.as_ref().and_then(Slots::file);
-        let mut files: Vec<RawFd> = vec![self.signals.number()];
+        let mut files = self.files();
         files.extend(waits);
         let lacks_token = self.wants && self.permit.as_ref().is_none_or(|permit| permit.token.is_none());
         files.extend(self.tokens.as_ref().filter(|_| lacks_token).map(Tokens::file));
-        files.extend(self.running.iter().filter_map(|running| match &running.errors {
-            Printed::Terminal(file, ..) => Some(file.as_raw_fd()),
-            Printed::Memory(_) => None,
-        }));
         let holds = self.permit.is_some() || !self.running.is_empty();
         let longest = if self.running.iter().any(|running| self.listened == Some(running.number)) {
             HEARING
@@ -396,6 +432,31 @@ impl Host {
         let in_memory = || system::memory_file().map(Printed::Memory);
         let errors = terminal.map_or_else(in_memory, |(owner, program)| Ok(Printed::Terminal(owner, program, Vec::new())))?;
         Ok((system::memory_file()?, errors))
+    }
+
+    /// Starts a job that reads this file as its standard input.
+    ///
+    /// # Errors
+    ///
+    /// If there is no process or no file for it.
+    pub fn start_with(&mut self, number: usize, job: &Job, input: RawFd) -> io::Result<()> {
+        let (place, (out, errors)) = (self.free_place()?, self.streams()?);
+        let begun = now();
+        let image = match self.image_of(job) {
+            Ok(image) => image,
+            Err(complaint) => {
+                let status = Status { code: 127, signal: None, dumped: false };
+                let errors = format!("zigrunk-nvcc: {complaint}\n").into_bytes();
+                self.events.push_back(Event::Ended(number, Ended { status, out: Vec::new(), errors, times: (begun, begun) }));
+                return Ok(());
+            }
+        };
+        let complaint = CString::new(format!("zigrunk-nvcc: cannot run {}\n", job.words.first().map(String::as_str).unwrap_or_default()))?;
+        let streams = [input, out.as_raw_fd(), errors.target()];
+        let process = image.start(streams, &self.signals, self.shared.group(place), &complaint)?;
+        let permit = if job.shares_slot { None } else { self.permit.take() };
+        self.running.push(Running { number, process, place, permit, out, errors, heard: 0, begun });
+        Ok(())
     }
 
     /// A place for a group that nobody has.
@@ -459,23 +520,7 @@ impl Machine for Host {
     }
 
     fn start(&mut self, number: usize, job: &Job) -> io::Result<()> {
-        let (place, (out, errors)) = (self.free_place()?, self.streams()?);
-        let begun = now();
-        let image = match self.image_of(job) {
-            Ok(image) => image,
-            Err(complaint) => {
-                let status = Status { code: 127, signal: None, dumped: false };
-                let errors = format!("zigrunk-nvcc: {complaint}\n").into_bytes();
-                self.events.push_back(Event::Ended(number, Ended { status, out: Vec::new(), errors, times: (begun, begun) }));
-                return Ok(());
-            }
-        };
-        let complaint = CString::new(format!("zigrunk-nvcc: cannot run {}\n", job.words.first().map(String::as_str).unwrap_or_default()))?;
-        let streams = [self.null.as_raw_fd(), out.as_raw_fd(), errors.target()];
-        let process = image.start(streams, &self.signals, self.shared.group(place), &complaint)?;
-        let permit = if job.shares_slot { None } else { self.permit.take() };
-        self.running.push(Running { number, process, place, permit, out, errors, heard: 0, begun });
-        Ok(())
+        self.start_with(number, job, self.null.as_raw_fd())
     }
 
     fn end_all(&mut self, signal: i32) {

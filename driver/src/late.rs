@@ -37,10 +37,10 @@ impl Include {
 /// A variable by which gcc does more than its words say.
 const ODD_VARIABLE: &str = "GCC_COMPARE_DEBUG";
 
-/// Whether a call's commands may be begun so. A cache and a runner get the plan's own.
+/// Whether a call's commands may be begun so. A cache, a runner and workers get the plan's own.
 pub fn is_on(settings: &Settings) -> bool {
     let is_off = env::var_os("ZIGRUNK_LATE").is_some_and(|value| value == "0");
-    !is_off && env::var_os(ODD_VARIABLE).is_none() && settings.launcher.is_empty() && settings.runner.is_empty()
+    !is_off && env::var_os(ODD_VARIABLE).is_none() && settings.launcher.is_empty() && settings.runs_here()
 }
 
 /// Whether a command is gcc's by its program's name, as `g++-12`.

@@ -9,6 +9,7 @@ mod dry_runs;
 mod early;
 mod entries;
 mod environments;
+mod farm;
 mod folder;
 #[cfg(test)]
 mod forked;
@@ -43,7 +44,7 @@ pub use system::open_standard_streams;
 use std::ffi::{OsStr, OsString};
 use std::path::Path;
 
-const USAGE: &str = "usage: zigrunk-driver nvcc|batch|plan|report|cache WORD..";
+const USAGE: &str = "usage: zigrunk-driver nvcc|batch|plan|report|cache|worker WORD..";
 
 /// What is run under a name.
 fn run_as(name: &OsStr, words: &[OsString]) -> Option<i32> {
@@ -52,6 +53,7 @@ fn run_as(name: &OsStr, words: &[OsString]) -> Option<i32> {
         "zigrunk-batch" => Some(batch::main(words)),
         "zigrunk-report" => Some(report::run(words)),
         "zigrunk-cache" => Some(cache::program::run(words)),
+        "zigrunk-worker" => Some(farm::worker::run(words)),
         other if other.ends_with("nvcc") => Some(call::make(name, words)),
         _ => None,
     }

@@ -14,6 +14,8 @@ pub struct Settings {
     pub launched: Vec<String>,
     /// What runs each command: a program and its words, or nothing.
     pub runner: Vec<String>,
+    /// Whether workers on other machines run each command.
+    pub has_workers: bool,
     /// How many commands of all the user's calls run at once, if that is a number.
     pub slots: Option<usize>,
     /// The directory that other machines share.
@@ -53,6 +55,7 @@ impl Settings {
             launcher: words("ZIGRUNK_LAUNCHER"),
             launched: words("ZIGRUNK_LAUNCHED"),
             runner: words("ZIGRUNK_RUNNER"),
+            has_workers: false,
             slots: env::var("ZIGRUNK_SLOTS").ok().as_deref().and_then(number),
             shared: variable("ZIGRUNK_TMP").map(PathBuf::from),
             temporary: variable("TMPDIR").map_or_else(|| "/tmp".into(), PathBuf::from),
@@ -60,6 +63,11 @@ impl Settings {
             explains: variable("ZIGRUNK_EXPLAIN").is_some(),
             inside: variable("ZIGRUNK_INSIDE").unwrap_or_default(),
         }
+    }
+
+    /// Whether this process's machine runs the commands, as far as it knows.
+    pub fn runs_here(&self) -> bool {
+        self.runner.is_empty() && !self.has_workers
     }
 
     /// The directory below which the files of plans are.

@@ -261,6 +261,17 @@ pub fn wait_for(files: &[RawFd], milliseconds: i32) -> Vec<bool> {
     fds.iter().map(|it| count > 0 && it.ready != 0).collect()
 }
 
+/// Waits until one of these files can be read, or written if that counts too, at most so many milliseconds. Says of each whether it can be read
+/// and whether it can be written; a connection that is gone can be read.
+pub fn wait_for_streams(files: &[(RawFd, bool)], milliseconds: i32) -> Vec<[bool; 2]> {
+    let mut fds: Vec<PollFd> = files.iter().map(|&(fd, writes)| PollFd { fd, events: if writes { 5 } else { 1 }, ready: 0 }).collect();
+    let count = unsafe { poll(fds.as_mut_ptr(), fds.len() as c_ulong, milliseconds) };
+    if count < 0 {
+        sleep(Duration::from_millis(1));
+    }
+    fds.iter().map(|it| [count > 0 && it.ready & !4 != 0, count > 0 && it.ready & 4 != 0]).collect()
+}
+
 /// Has an open file not wait.
 ///
 /// # Errors
@@ -1016,6 +1027,18 @@ mod tests {
         assert!(write_byte(second_end.as_fd(), b'a'));
         assert_eq!(wait_for(&files, -1), [false, true]);
         assert_eq!(wait_for(&files[..1], 0), [false]);
+    }
+
+    #[test]
+    fn streams_are_waited_for_both_ways() {
+        let (read, write) = pipe().unwrap();
+        let files = |writes| [(read.as_raw_fd(), false), (write.as_raw_fd(), writes)];
+        assert_eq!(wait_for_streams(&files(false), 0), [[false, false]; 2]);
+        assert_eq!(wait_for_streams(&files(true), -1), [[false, false], [false, true]]);
+        assert!(write_byte(write.as_fd(), b'a'));
+        assert_eq!(wait_for_streams(&files(false), -1), [[true, false], [false, false]]);
+        drop(read);
+        assert_eq!(wait_for_streams(&[(write.as_raw_fd(), false)], -1), [[true, false]], "its reader is gone");
     }
 
     #[test]

@@ -241,7 +241,7 @@ impl Making<'_> {
     fn check_products(&mut self, products: &[Product]) {
         for pause in ["1", "2", ""] {
             let Some(late) = products.iter().find(|product| !product.is_new()) else { return };
-            if pause.is_empty() || self.context.settings.runner.is_empty() {
+            if pause.is_empty() || self.context.settings.runs_here() {
                 self.made.complain(&format!("zigrunk-batch: no new {}, though the call ended with 0", late.path.display()));
                 self.made.status = 1;
                 return;

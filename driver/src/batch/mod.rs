@@ -11,9 +11,11 @@ mod turns;
 
 use crate::call::FEWEST_FILES;
 use crate::environments::Environment;
+use crate::farm::Farm;
 use crate::folder::CallFolder;
 use crate::host::Host;
 use crate::jobserver::Make;
+use crate::machine::Machine;
 use crate::places::{absolute, working_directory};
 use crate::programs;
 use crate::rule::Refusals;
@@ -36,6 +38,9 @@ use std::path::{Path, PathBuf};
 use std::rc::Rc;
 use std::sync::Arc;
 use turns::Maker;
+
+/// How many commands run at once at most.
+const MOST_AT_ONCE: usize = 1 << 20;
 
 /// The calls of a list, and what messages call one of them.
 struct List {
@@ -166,9 +171,14 @@ impl Calls for Told<'_> {
     }
 }
 
+/// The environment of a batch's commands.
+fn environment(settings: &Settings, folder: &CallFolder) -> Environment {
+    Environment::own().with("ZIGRUNK_INSIDE", &settings.inside).with("ZIGRUNK_BATCH", folder.path().as_os_str())
+}
+
 /// This machine, for a batch with this directory.
 fn machine(settings: &Settings, folder: &Rc<CallFolder>) -> Result<Host, String> {
-    let environment = Environment::own().with("ZIGRUNK_INSIDE", &settings.inside).with("ZIGRUNK_BATCH", folder.path().as_os_str());
+    let environment = environment(settings, folder);
     let host = Host::of_process(settings, Make::of_environment(), environment, Rc::clone(folder));
     host.map_err(|lacks| format!("no {lacks} for the batch"))
 }
@@ -176,7 +186,9 @@ fn machine(settings: &Settings, folder: &Rc<CallFolder>) -> Result<Host, String>
 /// How many commands run at once, and how many calls are planned, on this machine.
 fn limits(options: &Options, settings: &Settings) -> Limits {
     let of_variable = env::var("ZIGRUNK_JOBS").ok().as_deref().and_then(options::positive);
-    let at_once = options.jobs.or(of_variable).unwrap_or_else(system::processors);
+    // Workers say themselves how many commands they run.
+    let usual = || if settings.has_workers { MOST_AT_ONCE } else { system::processors() };
+    let at_once = options.jobs.or(of_variable).unwrap_or_else(usual);
     let planned_at_once = if settings.runner.is_empty() { at_once } else { system::processors() };
     Limits { at_once, planned_at_once, failures: options.failures }
 }
@@ -188,7 +200,8 @@ fn limits(options: &Options, settings: &Settings) -> Limits {
 /// What keeps it from making them.
 fn make(options: &Options) -> Result<i32, String> {
     let has_few_files = system::spare_files() < FEWEST_FILES;
-    let settings = Settings::of_environment();
+    let settings = Settings { has_workers: options.workers.is_some(), ..Settings::of_environment() };
+    check(&settings)?;
     let list = list(options.list.as_ref(), &settings)?;
     if list.calls.is_empty() {
         return Ok(0);
@@ -203,12 +216,27 @@ fn make(options: &Options) -> Result<i32, String> {
     let folder = Rc::new(CallFolder::take(&temporary, "batch").map_err(|error| format!("no temporary directory: {error}"))?);
     let scratch = settings.shared.is_none().then(|| folder.path().join("tmp"));
     let made = scratch.as_ref().map_or(Ok(()), fs::create_dir).map_err(|error| error.to_string());
-    let outcomes = made.and_then(|()| machine(&settings, &folder)).and_then(|mut host| {
-        let limits = limits(options, &settings);
-        let scratch = scratch.map(|path| path.to_string_lossy().into_owned());
-        let context = Context { settings, temporary, scratch, at_once: limits.at_once, records, refusals: Refusals::default(), has_few_files };
-        let outcomes = run(&mut host, list, context, limits, form(options));
-        host.leave();
+    let limits = limits(options, &settings);
+    let scratch = scratch.map(|path| path.to_string_lossy().into_owned());
+    let outcomes = made.and_then(|()| {
+        let context = Context {
+            settings: settings.clone(),
+            temporary,
+            scratch,
+            at_once: limits.at_once,
+            records,
+            refusals: Refusals::default(),
+            has_few_files,
+        };
+        let Some(workers) = &options.workers else {
+            let mut host = machine(&settings, &folder)?;
+            let outcomes = run(&mut host, list, context, limits, form(options));
+            host.leave();
+            return outcomes;
+        };
+        let mut farm = Farm::new(workers.clone(), &settings, environment(&settings, &folder), &folder)?;
+        let outcomes = run(&mut farm, list, context, limits, form(options));
+        farm.leave();
         outcomes
     });
     folder.remove();
@@ -225,8 +253,19 @@ fn form(options: &Options) -> Form {
     }
 }
 
-/// Makes calls on this machine.
-fn run(host: &mut Host, mut list: List, context: Context, limits: Limits, form: Form) -> Result<Outcomes, String> {
+/// What keeps workers from making calls.
+fn check(settings: &Settings) -> Result<(), String> {
+    if settings.has_workers && settings.shared.is_none() {
+        return Err("--workers needs ZIGRUNK_TMP, a directory that all machines share".into());
+    }
+    if settings.has_workers && !settings.runner.is_empty() {
+        return Err("--workers and ZIGRUNK_RUNNER exclude each other".into());
+    }
+    Ok(())
+}
+
+/// Makes calls on a machine.
+fn run<M: Machine>(host: &mut M, mut list: List, context: Context, limits: Limits, form: Form) -> Result<Outcomes, String> {
     let calls: Vec<Arc<BatchCall>> = std::mem::take(&mut list.calls).into_iter().map(Arc::new).collect();
     let count = calls.len();
     let mut told = Told { list: &list, calls, context: Arc::new(context) };

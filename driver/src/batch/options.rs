@@ -1,7 +1,9 @@
 //! The words of zigrunk-batch.
+use crate::farm::Conditions;
 use std::ffi::{OsStr, OsString};
+use std::time::Duration;
 
-pub const USAGE: &str = "usage: zigrunk-batch [-j N] [-k N] [--progress] [--incremental] [FILE]";
+pub const USAGE: &str = "usage: zigrunk-batch [-j N] [-k N] [--progress] [--incremental] [--workers COMMAND].. [FILE]";
 
 pub const HELP: &str = "
 Makes the calls of a list, split into their commands, side by side.
@@ -11,11 +13,19 @@ FILE          a call on each line, as you would type it, or a compile_commands.j
 -k N          start nothing more once N calls have failed; 0, as without it, makes all other calls
 --progress    say how far it is, also if standard error is no terminal
 --incremental leave out the calls whose words, products and files are as they were when --incremental made them last
+--workers COMMAND    run all commands on the machines where COMMAND starts zigrunk-worker; give it again for more machines
+--wait N      fail once there has been no worker for N seconds; 120, unless set
+--give-up N   run a worker's commands elsewhere once it has said nothing for N seconds; 10, unless set
+--timeout N   end a worker's command once it takes N seconds; without it, there is no limit
 --unless-made NVCC WORD..    make one call, unless a batch with --incremental has made it in this directory: a launcher for CMake
 --version     print the version
 -h, --help    print this text
 
 The status is that of the first call in the list that failed. man zigrunk-batch has the rest.";
+
+/// How long a worker may be silent, and how long the batch waits without one, unless that is said.
+const PATIENCE: Duration = Duration::from_secs(10);
+const WAIT: Duration = Duration::from_secs(120);
 
 /// What is asked for.
 #[derive(Clone, PartialEq, Eq, Debug)]
@@ -35,6 +45,8 @@ pub struct Options {
     pub failures: Option<usize>,
     pub progress: bool,
     pub incremental: bool,
+    /// The workers that run the commands, if some do.
+    pub workers: Option<Conditions>,
     /// The list, if it isn't standard input.
     pub list: Option<OsString>,
 }
@@ -56,6 +68,52 @@ fn number(option: &str, value: Option<&OsStr>) -> Result<usize, String> {
     }
 }
 
+/// What a user says of workers, as far as it is said.
+#[derive(Default)]
+struct Workers {
+    commands: Vec<String>,
+    wait: Option<Duration>,
+    patience: Option<Duration>,
+    limit: Option<Duration>,
+}
+
+/// The value of an option with a number of seconds.
+fn seconds(option: &str, value: Option<&OsString>) -> Result<Option<Duration>, String> {
+    number(option, value.map(OsString::as_os_str)).map(|number| Some(Duration::from_secs(number as u64)))
+}
+
+impl Workers {
+    /// Takes an option's value. Says whether it is one of these options.
+    fn take(&mut self, option: &str, value: Option<&OsString>) -> Result<bool, String> {
+        match option {
+            "--workers" => {
+                let command = value.map(|value| value.to_string_lossy().into_owned()).filter(|command| !command.trim().is_empty());
+                self.commands.push(command.ok_or("--workers needs a command")?);
+            }
+            "--wait" => self.wait = seconds(option, value)?,
+            "--give-up" => self.patience = seconds(option, value)?,
+            "--timeout" => self.limit = seconds(option, value)?,
+            _ => return Ok(false),
+        }
+        Ok(true)
+    }
+
+    /// What all of it says, if there are workers.
+    fn conditions(self) -> Result<Option<Conditions>, String> {
+        let is_said = self.wait.or(self.patience).or(self.limit).is_some();
+        match (self.commands.is_empty(), is_said) {
+            (true, false) => Ok(None),
+            (true, true) => Err("--wait, --give-up and --timeout need --workers".into()),
+            (false, _) => Ok(Some(Conditions {
+                commands: self.commands,
+                patience: self.patience.unwrap_or(PATIENCE),
+                wait: self.wait.unwrap_or(WAIT),
+                limit: self.limit,
+            })),
+        }
+    }
+}
+
 /// Parses the words.
 ///
 /// # Errors
@@ -64,9 +122,13 @@ fn number(option: &str, value: Option<&OsStr>) -> Result<usize, String> {
 pub fn parse(words: &[OsString]) -> Result<Wanted, String> {
     let mut options = Options::default();
     let mut rest = words.iter();
-    let mut lists = Vec::new();
+    let (mut lists, mut workers) = (Vec::new(), Workers::default());
     while let Some(word) = rest.next() {
         let text = word.to_string_lossy();
+        if workers.take(&text, rest.as_slice().first())? {
+            rest.next();
+            continue;
+        }
         match text.as_ref() {
             "-h" | "--help" => return Ok(Wanted::Help),
             "--version" => return Ok(Wanted::Version),
@@ -89,6 +151,7 @@ pub fn parse(words: &[OsString]) -> Result<Wanted, String> {
         [list] => options.list = Some((*list).clone()).filter(|list| list != "-"),
         [_, second, ..] => return Err(format!("one list at a time, not {} too", second.to_string_lossy())),
     }
+    options.workers = workers.conditions()?;
     Ok(Wanted::Batch(options))
 }
 
@@ -122,6 +185,23 @@ mod tests {
     }
 
     #[test]
+    fn words_about_workers_are_read() {
+        let of = |line: &str| match read(line) {
+            Ok(Wanted::Batch(Options { workers, list, .. })) => (workers, list),
+            other => panic!("{other:?}"),
+        };
+        let seconds = Duration::from_secs;
+        let conditions = |commands: &[&str], patience, wait, limit| {
+            let commands = commands.iter().map(|&command| command.to_owned()).collect();
+            Some(Conditions { commands, patience: seconds(patience), wait: seconds(wait), limit })
+        };
+        assert_eq!(of("--workers w"), (conditions(&["w"], 10, 120, None), None));
+        let line = "--timeout 7 --workers w --wait 3 --workers x --give-up 5 list";
+        assert_eq!(of(line), (conditions(&["w", "x"], 5, 3, Some(seconds(7))), Some("list".into())));
+        assert_eq!(of("-- --workers"), (None, Some("--workers".into())));
+    }
+
+    #[test]
     fn wrong_words_are_said() {
         for (line, wanted) in [
             ("one two", "one list at a time, not two too"),
@@ -133,6 +213,11 @@ mod tests {
             ("-k 01", "-k needs a number from 1, not 01"),
             ("-jx", "-j needs a number from 1, not x"),
             ("--version1", "unexpected option --version1"),
+            ("--workers", "--workers needs a command"),
+            ("--workers w --wait 0", "--wait needs a number from 1, not 0"),
+            ("--workers w --give-up", "--give-up needs a number"),
+            ("--timeout x", "--timeout needs a number from 1, not x"),
+            ("--timeout 9", "--wait, --give-up and --timeout need --workers"),
             ("a -j2", "one list at a time, not -j2 too"),
         ] {
             assert_eq!(read(line), Err(wanted.into()), "{line}");

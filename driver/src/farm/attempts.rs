@@ -1,0 +1,117 @@
+//! Attempts at a job of the batch: on which worker, what it makes, and what its end means.
+use super::drafts::Drafts;
+use super::messages::Answer;
+use crate::machine::{Ended, Job};
+use std::time::{Duration, Instant};
+
+/// How often a job may lose its worker before it counts as failed: it may be what brings machines down.
+pub const MOST_LOST: usize = 5;
+/// On how many machines a command is tried that fails for what may be the machine's own fault.
+pub const MOST_MACHINES: usize = 3;
+/// How long the batch waits for a product to be here as the worker sees it.
+pub const LATE: Duration = Duration::from_secs(10);
+
+/// What a worker says of its own lacks, in messages of compilers. A command that says so may succeed elsewhere.
+const LACKS: [&str; 12] = [
+    "No space left on device",
+    "Disk quota exceeded",
+    "Read-only file system",
+    "Input/output error",
+    "Stale file handle",
+    "Transport endpoint is not connected",
+    "No such file or directory",
+    "Cannot allocate memory",
+    "out of memory",
+    "memory exhausted",
+    "virtual memory exhausted",
+    "Resource temporarily unavailable",
+];
+
+/// Whether a failure may be the machine's: the command couldn't start, was killed, or complains of disk or memory.
+pub fn may_be_the_machines(answer: &Answer, errors: &[u8]) -> bool {
+    let has = |part: &&str| errors.windows(part.len()).any(|window| window == part.as_bytes());
+    match (answer.code, answer.signal) {
+        (0, _) => false,
+        (126 | 127, _) | (_, Some(6 | 7 | 9 | 11 | 15)) | (137 | 143, _) => true,
+        _ => LACKS.iter().any(has),
+    }
+}
+
+/// An attempt at a job. It runs on a worker, or waits for one.
+#[derive(Debug)]
+pub struct Attempt {
+    /// The number by which the batch knows the job.
+    pub number: usize,
+    pub job: Job,
+    pub drafts: Drafts,
+    /// The number of the worker, once it runs.
+    pub member: usize,
+    /// What it has printed.
+    pub said: [Vec<u8>; 2],
+    pub started: Option<Instant>,
+    /// Whether its time was up.
+    pub is_ended: bool,
+    /// How often its worker was lost.
+    pub lost: usize,
+    /// How it ended before where that may have been the machine's fault, and the machines.
+    pub failed: Option<Ended>,
+    pub avoided: Vec<String>,
+}
+
+impl Attempt {
+    pub fn new(number: usize, job: Job) -> Attempt {
+        Attempt {
+            number,
+            job,
+            drafts: Drafts::default(),
+            member: usize::MAX,
+            said: Default::default(),
+            started: None,
+            is_ended: false,
+            lost: 0,
+            failed: None,
+            avoided: Vec::new(),
+        }
+    }
+
+    /// The command's name, for messages.
+    pub fn name(&self) -> &str {
+        self.job.words.first().map_or("", |word| word.rsplit('/').next().unwrap_or_default())
+    }
+
+    /// Leaves what the attempt has made and said, so that another begins.
+    pub fn clear(&mut self) {
+        self.drafts.remove();
+        self.drafts = Drafts::default();
+        self.said = Default::default();
+        (self.started, self.is_ended) = (None, false);
+    }
+}
+
+#[cfg(test)]
+mod tests {
+    use super::*;
+
+    #[test]
+    fn some_failures_may_be_the_machines() {
+        let cases = [
+            (0, None, "No space left on device", false),
+            (1, None, "k.cu(3): error: expected a \";\"", false),
+            (2, None, "", false),
+            (126, None, "", true),
+            (127, None, "", true),
+            (137, Some(9), "", true),
+            (137, None, "", true),
+            (143, None, "", true),
+            (139, Some(11), "", true),
+            (136, Some(8), "", false),
+            (1, None, "as: /t/x.o: No space left on device\n", true),
+            (1, None, "fatal error: k.h: No such file or directory", true),
+            (1, None, "cc1plus: out of memory allocating 9 bytes", true),
+        ];
+        for (code, signal, errors, wanted) in cases {
+            let answer = Answer { code, signal, ..Answer::default() };
+            assert_eq!(may_be_the_machines(&answer, errors.as_bytes()), wanted, "{code} {errors}");
+        }
+    }
+}

@@ -1,0 +1,136 @@
+//! What a worker says of its machine before it gets work, and whether that will do.
+use super::fields::Bytes;
+use super::messages::{Evidence, Terms};
+use super::toolkits;
+use crate::host::nanoseconds;
+use crate::streams::content_of;
+use std::path::{Path, PathBuf};
+use std::thread::sleep;
+use std::time::Duration;
+
+/// How many nanoseconds two machines' clocks may be apart, beside the time that the answer took.
+const MOST_APART: u64 = 10_000_000_000;
+/// How often a worker looks for what a shared disk may show late, and how long it waits between.
+const LOOKS: usize = 6;
+const PAUSE: Duration = Duration::from_millis(500);
+
+/// Looks again and again for what a shared disk may show late.
+pub fn once_there<T>(look: impl Fn() -> Option<T>) -> Option<T> {
+    (0..LOOKS).find_map(|number| {
+        if number > 0 {
+            sleep(PAUSE);
+        }
+        look()
+    })
+}
+
+/// What a worker says, whose folder for temporary files is this one.
+pub fn gathered(terms: &Terms, temporary: &Path) -> Evidence {
+    let shared = once_there(|| content_of(&terms.shared).ok());
+    let lack_of_room = crate::products::lack_of_room(temporary);
+    Evidence { tools: toolkits::digests_of(&terms.tools), shared: shared.map(Bytes), lack_of_room, time: nanoseconds() }
+}
+
+/// What the batch knows of its own machine.
+pub struct Wanted {
+    pub tools: Vec<(PathBuf, [u8; 32])>,
+    /// The directory that all machines share, and the text of the file there.
+    pub directory: PathBuf,
+    pub shared: Vec<u8>,
+}
+
+/// When the evidence was asked for and came, in nanoseconds.
+pub struct Times {
+    pub asked: u64,
+    pub came: u64,
+}
+
+/// Whether a worker gets work.
+///
+/// # Errors
+///
+/// Why it doesn't.
+pub fn judge(evidence: &Evidence, wanted: &Wanted, times: &Times) -> Result<(), String> {
+    let shared = wanted.directory.display();
+    match &evidence.shared {
+        Some(text) if text.0 == wanted.shared => {}
+        Some(_) => return Err(format!("its {shared} isn't the shared one")),
+        None => return Err(format!("it doesn't see {shared}, which ZIGRUNK_TMP says that all machines share")),
+    }
+    if evidence.tools.len() != wanted.tools.len() {
+        return Err("it says nothing of some tools".into());
+    }
+    for ((path, digest), found) in wanted.tools.iter().zip(&evidence.tools) {
+        match found {
+            Some(found) if found == digest => {}
+            Some(_) => return Err(format!("its {} has other contents", path.display())),
+            None => return Err(format!("it has no {}", path.display())),
+        }
+    }
+    if !evidence.lack_of_room.is_empty() {
+        return Err(evidence.lack_of_room.trim_start_matches([':', ' ']).to_owned());
+    }
+    let ahead = evidence.time.saturating_sub(times.came);
+    let behind = times.asked.saturating_sub(evidence.time);
+    if ahead > MOST_APART || behind > MOST_APART {
+        let (apart, way) = if ahead > 0 { (ahead, "ahead") } else { (behind, "behind") };
+        return Err(format!("its clock is {} seconds {way}", apart / 1_000_000_000));
+    }
+    Ok(())
+}
+
+#[cfg(test)]
+mod tests {
+    use super::*;
+
+    const SECOND: u64 = 1_000_000_000;
+
+    #[test]
+    fn a_worker_shows_what_its_machine_has() {
+        let tools = vec![("/b/nvcc".into(), [1; 32]), ("/b/ptxas".into(), [2; 32])];
+        let wanted = Wanted { tools, directory: "/s/zigrunk".into(), shared: b"word".to_vec() };
+        let good = Evidence {
+            tools: vec![Some([1; 32]), Some([2; 32])],
+            shared: Some(Bytes(b"word".to_vec())),
+            lack_of_room: String::new(),
+            time: 100 * SECOND,
+        };
+        let judged = |change: fn(&mut Evidence)| {
+            let mut evidence = good.clone();
+            change(&mut evidence);
+            judge(&evidence, &wanted, &Times { asked: 99 * SECOND, came: 103 * SECOND }).err().unwrap_or_default()
+        };
+        let cases: [(fn(&mut Evidence), &str); 12] = [
+            (|_| {}, ""),
+            (|it| it.tools[1] = Some([3; 32]), "its /b/ptxas has other contents"),
+            (|it| it.tools[0] = None, "it has no /b/nvcc"),
+            (|it| it.tools.truncate(1), "it says nothing of some tools"),
+            (|it| it.shared = None, "it doesn't see /s/zigrunk, which ZIGRUNK_TMP says that all machines share"),
+            (|it| it.shared = Some(Bytes(b"old".to_vec())), "its /s/zigrunk isn't the shared one"),
+            (|it| it.lack_of_room = ": there is no room in /t".into(), "there is no room in /t"),
+            (|it| it.time = 113 * SECOND, ""),
+            (|it| it.time = 114 * SECOND, "its clock is 11 seconds ahead"),
+            (|it| it.time = 89 * SECOND, ""),
+            (|it| it.time = 88 * SECOND, "its clock is 11 seconds behind"),
+            (|it| it.time = 0, "its clock is 99 seconds behind"),
+        ];
+        for (change, wanted) in cases {
+            assert_eq!(judged(change), wanted);
+        }
+    }
+
+    #[test]
+    fn a_machine_shows_its_own() {
+        let folder = std::env::temp_dir().join(format!("evidence-{}", std::process::id()));
+        std::fs::create_dir_all(&folder).unwrap();
+        std::fs::write(folder.join("tool"), "tool").unwrap();
+        let tools: Vec<PathBuf> = ["tool", "missing"].map(|name| folder.join(name)).into();
+        let mut terms = Terms { shared: folder.join("tool"), tools, ..Terms::default() };
+        let evidence = gathered(&terms, &folder);
+        assert_eq!((evidence.shared, evidence.lack_of_room.as_str()), (Some(Bytes(b"tool".to_vec())), ""));
+        assert_eq!(evidence.tools, [toolkits::digest_of(&folder.join("tool")), None]);
+        terms.shared = folder.join("missing");
+        assert_eq!(gathered(&terms, Path::new("/missing")).lack_of_room, ": there is no room in /missing");
+        std::fs::remove_dir_all(&folder).unwrap();
+    }
+}

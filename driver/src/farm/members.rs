@@ -1,0 +1,226 @@
+//! The workers of a batch, as it sees them: from their first message to their end.
+use super::connections::Connection;
+use super::evidence::{self, Times, Wanted};
+use super::messages::{Answer, Introduction, Message, VERSION};
+use super::secrets::{self, Once, Secret, Side};
+use crate::host::nanoseconds;
+use std::io;
+use std::net::TcpStream;
+use std::time::{Duration, Instant};
+
+/// How long somebody who connects may take to show that he knows the secret.
+const STRANGE: Duration = Duration::from_secs(20);
+/// How long a worker may take to show what its machine has: it reads hundreds of megabytes, which a shared disk may have.
+const SHOWING: Duration = Duration::from_secs(120);
+
+/// How far a worker is.
+#[derive(Clone, Debug)]
+enum Stage {
+    Stranger,
+    /// It has said its own number.
+    Greeted(Once),
+    /// It shows what its machine has, since this time in nanoseconds.
+    Shows(u64),
+    Ready,
+}
+
+/// Somebody who has connected.
+#[derive(Debug)]
+pub struct Member {
+    pub number: usize,
+    pub connection: Connection,
+    pub worker: Introduction,
+    /// How many commands of its slots run.
+    pub taken: usize,
+    stage: Stage,
+    since: Instant,
+    once: Once,
+}
+
+/// What a member's message means to the batch.
+#[derive(Clone, PartialEq, Eq, Debug)]
+pub enum Heard {
+    Nothing,
+    /// It knows the secret, and says who it is.
+    Introduced,
+    Ready,
+    Said(u64, bool, Vec<u8>),
+    Ended(u64, Answer),
+    /// It doesn't get work, and why.
+    Unfit(String),
+    /// It isn't one of ours.
+    Stranger,
+    Gone,
+}
+
+impl Member {
+    /// # Errors
+    ///
+    /// If the connection can't be used, or there are no random bytes.
+    pub fn new(number: usize, stream: TcpStream) -> io::Result<Member> {
+        Ok(Member {
+            number,
+            connection: Connection::new(stream)?,
+            worker: Introduction::default(),
+            taken: 0,
+            stage: Stage::Stranger,
+            since: Instant::now(),
+            once: secrets::random()?,
+        })
+    }
+
+    pub fn is_ready(&self) -> bool {
+        matches!(self.stage, Stage::Ready)
+    }
+
+    /// Whether it has shown that it knows the secret.
+    pub fn is_known(&self) -> bool {
+        matches!(self.stage, Stage::Ready | Stage::Shows(_))
+    }
+
+    /// How many more commands it may run.
+    pub fn free(&self) -> usize {
+        if self.is_ready() { (self.worker.slots as usize).saturating_sub(self.taken) } else { 0 }
+    }
+
+    /// Whether it has said nothing for too long, if a worker with work may be silent for so long.
+    pub fn is_silent(&self, patience: Duration) -> bool {
+        match self.stage {
+            Stage::Stranger | Stage::Greeted(_) => self.since.elapsed() > STRANGE,
+            Stage::Shows(_) => self.since.elapsed() > SHOWING,
+            Stage::Ready => self.connection.silence() > patience,
+        }
+    }
+
+    /// Takes a message.
+    pub fn hear(&mut self, message: Message, secret: &Secret, wanted: &Wanted) -> Heard {
+        match (self.stage.clone(), message) {
+            (Stage::Stranger, Message::Greeting { version, once }) => self.greet(version, once, secret),
+            (Stage::Greeted(of_worker), Message::Hello { proof, worker }) => {
+                if !secrets::is_same(&proof, &secret.proof(Side::Worker, &of_worker, &self.once)) {
+                    return Heard::Stranger;
+                }
+                (self.worker, self.stage, self.since) = (worker, Stage::Shows(nanoseconds()), Instant::now());
+                self.connection.trust();
+                Heard::Introduced
+            }
+            (Stage::Shows(asked), Message::Evidence(evidence)) => {
+                let times = Times { asked, came: nanoseconds() };
+                if let Err(reason) = evidence::judge(&evidence, wanted, &times) {
+                    return Heard::Unfit(reason);
+                }
+                self.stage = Stage::Ready;
+                Heard::Ready
+            }
+            (Stage::Ready, Message::Said(number, is_error, part)) => Heard::Said(number, is_error, part.0),
+            (Stage::Ready, Message::Ended(number, answer)) => Heard::Ended(number, answer),
+            (Stage::Ready | Stage::Shows(_), Message::Beat) => Heard::Nothing,
+            (Stage::Ready | Stage::Shows(_), Message::Bye) => Heard::Gone,
+            (Stage::Ready | Stage::Shows(_), _) => Heard::Unfit("it says what a worker doesn't say".into()),
+            (Stage::Stranger | Stage::Greeted(_), _) => Heard::Stranger,
+        }
+    }
+
+    fn greet(&mut self, version: u32, of_worker: Once, secret: &Secret) -> Heard {
+        if version != VERSION {
+            self.connection.send(&Message::Refusal(format!("the batch has version {VERSION} of the messages, and the worker {version}")));
+            return Heard::Stranger;
+        }
+        let proof = secret.proof(Side::Batch, &of_worker, &self.once);
+        self.connection.send(&Message::Challenge { once: self.once, proof });
+        self.stage = Stage::Greeted(of_worker);
+        Heard::Nothing
+    }
+}
+
+#[cfg(test)]
+mod tests {
+    use super::*;
+    use crate::farm::messages::{Evidence, Terms};
+    use std::net::TcpListener;
+
+    /// A member, and the other end of its connection.
+    fn member() -> (Member, TcpStream) {
+        let listener = TcpListener::bind("127.0.0.1:0").unwrap();
+        let stream = TcpStream::connect(listener.local_addr().unwrap()).unwrap();
+        (Member::new(3, listener.accept().unwrap().0).unwrap(), stream)
+    }
+
+    /// A batch with one member.
+    struct Room {
+        secret: Secret,
+        wanted: Wanted,
+        member: Member,
+        _stream: TcpStream,
+    }
+
+    impl Room {
+        fn new() -> Room {
+            let (member, stream) = member();
+            let wanted = Wanted { tools: Vec::new(), directory: "/s".into(), shared: b"word".to_vec() };
+            Room { secret: Secret::new().unwrap(), wanted, member, _stream: stream }
+        }
+
+        fn hear(&mut self, message: Message) -> Heard {
+            self.member.hear(message, &self.secret, &self.wanted)
+        }
+
+        fn hello(&self, secret: &Secret) -> Message {
+            let worker = Introduction { name: "n1".into(), process: [1; 32], slots: 2 };
+            Message::Hello { proof: secret.proof(Side::Worker, &[7; 32], &self.member.once), worker }
+        }
+    }
+
+    fn greeting() -> Message {
+        Message::Greeting { version: VERSION, once: [7; 32] }
+    }
+
+    fn evidence(word: &str) -> Message {
+        Message::Evidence(Evidence { shared: Some(crate::farm::fields::Bytes(word.into())), time: nanoseconds(), ..Evidence::default() })
+    }
+
+    #[test]
+    fn a_worker_gets_work_once_it_has_shown_what_it_has() {
+        let mut room = Room::new();
+        assert_eq!(room.hear(greeting()), Heard::Nothing);
+        let hello = room.hello(&room.secret);
+        assert_eq!((room.hear(hello), room.member.is_known(), room.member.free()), (Heard::Introduced, true, 0));
+        assert_eq!(room.hear(Message::Beat), Heard::Nothing);
+        assert_eq!((room.hear(evidence("word")), room.member.free()), (Heard::Ready, 2));
+        room.member.taken = 3;
+        assert_eq!(room.member.free(), 0);
+        assert_eq!(room.hear(Message::Ended(4, Answer::default())), Heard::Ended(4, Answer::default()));
+        assert_eq!(room.hear(Message::Bye), Heard::Gone);
+    }
+
+    #[test]
+    fn who_does_not_know_the_secret_is_a_stranger() {
+        for message in [Message::Ended(1, Answer::default()), Message::Bye, Message::Beat, evidence("word"), Message::Terms(Terms::default())] {
+            let mut room = Room::new();
+            assert_eq!(room.hear(message.clone()), Heard::Stranger);
+            let mut room = Room::new();
+            room.hear(greeting());
+            assert_eq!(room.hear(message), Heard::Stranger);
+        }
+        let mut room = Room::new();
+        let hello = room.hello(&room.secret);
+        assert_eq!(room.hear(hello), Heard::Stranger, "it hasn't greeted");
+        let mut room = Room::new();
+        room.hear(greeting());
+        let hello = room.hello(&Secret::new().unwrap());
+        assert_eq!((room.hear(hello), room.member.is_known()), (Heard::Stranger, false));
+        let mut room = Room::new();
+        assert_eq!(room.hear(Message::Greeting { version: VERSION + 1, once: [7; 32] }), Heard::Stranger);
+    }
+
+    #[test]
+    fn a_worker_that_is_not_fit_is_told_why() {
+        let mut room = Room::new();
+        room.hear(greeting());
+        let hello = room.hello(&room.secret);
+        room.hear(hello);
+        assert!(matches!(room.hear(evidence("other")), Heard::Unfit(reason) if reason.contains("isn't the shared one")));
+        assert!(!room.member.is_ready());
+        assert!(matches!(room.hear(Message::End(1, 2)), Heard::Unfit(_)));
+    }
+}

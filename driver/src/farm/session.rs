@@ -1,0 +1,247 @@
+//! A worker's time with a batch: it starts the commands that come, and says how they ended.
+use super::connections::Connection;
+use super::evidence;
+use super::fields::Bytes;
+use super::messages::{Answer, Message, Order, Terms, Witness};
+use super::toolkits;
+use super::worker::End;
+use crate::environments::Environment;
+use crate::folder::CallFolder;
+use crate::host::Host;
+use crate::jobserver::{Make, MakeFlags};
+use crate::machine::{Ended, Event, Job, Machine};
+use crate::settings::Settings;
+use crate::system::{self, KILL, TERM};
+use std::collections::BTreeMap;
+use std::env;
+use std::fs::{File, Metadata};
+use std::io;
+use std::os::unix::fs::MetadataExt;
+use std::path::{Path, PathBuf};
+use std::rc::Rc;
+use std::thread;
+use std::time::{Duration, Instant};
+
+/// How many milliseconds to wait for something to happen.
+const LOOK: i32 = 200;
+/// The same while a command waits for a folder that a shared disk shows late.
+const SOON: i32 = 20;
+/// How long a command waits for what a shared disk shows late.
+const LATE: Duration = Duration::from_secs(5);
+/// How long a command may take to end after a signal.
+const GRACE: Duration = Duration::from_millis(700);
+/// How many bytes of what a command has printed go into a message.
+const PART: usize = 1 << 20;
+
+/// A command that waits to begin.
+struct Pending {
+    number: u64,
+    order: Order,
+    since: Instant,
+}
+
+/// A command that runs.
+struct Running {
+    number: u64,
+    products: Vec<PathBuf>,
+    /// When it was told to end.
+    ends: Option<Instant>,
+}
+
+/// A worker's time with a batch.
+pub struct Session {
+    connection: Connection,
+    terms: Terms,
+    host: Host,
+    folder: Rc<CallFolder>,
+    pending: Vec<Pending>,
+    running: BTreeMap<usize, Running>,
+    /// Digests of tools that aren't the terms'.
+    digests: BTreeMap<PathBuf, Option<[u8; 32]>>,
+}
+
+/// A file as a machine sees it that opens it, which has a shared disk look again.
+fn status_of(path: &Path) -> Option<Metadata> {
+    File::open(path).and_then(|file| file.metadata()).ok()
+}
+
+/// A folder for temporary files: where the batch has its own, or else where this machine has them.
+fn own_folder(of_batch: &Path) -> io::Result<CallFolder> {
+    let own = env::var_os("TMPDIR").filter(|value| !value.is_empty()).map_or_else(|| "/tmp".into(), PathBuf::from);
+    CallFolder::take(of_batch, "worker").or_else(|_| CallFolder::take(&own, "worker"))
+}
+
+impl Session {
+    /// # Errors
+    ///
+    /// If there is no folder for temporary files, or this machine can't run commands.
+    pub fn new(mut connection: Connection, terms: Terms) -> io::Result<Session> {
+        let folder = Rc::new(own_folder(&terms.temporary)?);
+        let temporary = folder.path().to_owned();
+        let shown = terms.clone();
+        let gathering = thread::Builder::new().spawn(move || evidence::gathered(&shown, &temporary))?;
+        while !gathering.is_finished() {
+            connection.beat(Duration::from_millis(terms.patience / 4));
+            thread::sleep(Duration::from_millis(10));
+        }
+        let evidence = gathering.join().map_err(|_| io::ErrorKind::Other)?;
+        connection.send(&Message::Evidence(evidence));
+        let environment = Environment::of(terms.environment.iter().map(|variable| variable.0.clone()));
+        let settings = Settings { slots: Some(0), ..Settings::default() };
+        let no_make = Make { flags: MakeFlags::default(), server: None };
+        let host = Host::of_process(&settings, no_make, environment, Rc::clone(&folder));
+        let mut host = host.map_err(|lacks| io::Error::other(format!("no {lacks}")))?;
+        host.set_terminal(terms.has_terminal);
+        Ok(Session { connection, terms, host, folder, pending: Vec::new(), running: BTreeMap::new(), digests: BTreeMap::new() })
+    }
+
+    /// Leaves nothing behind.
+    pub fn leave(&mut self) {
+        self.host.end_all(KILL);
+        self.folder.remove();
+        self.host.leave();
+    }
+
+    /// Works until there is an end.
+    pub fn run(&mut self) -> End {
+        loop {
+            while let Some(event) = self.host.look() {
+                match event {
+                    Event::Ended(place, ended) => self.answer(place, ended),
+                    Event::Signal(number) => {
+                        self.host.end_all(number);
+                        self.connection.send(&Message::Bye);
+                        return End::Signal(number);
+                    }
+                    Event::Lost(_) => return End::Lost,
+                    Event::Slot | Event::Printed(..) => {}
+                }
+            }
+            if let Some(end) = self.hear() {
+                return end;
+            }
+            self.begin_pending();
+            self.end_stubborn();
+            self.connection.beat(Duration::from_millis(self.terms.patience / 4));
+            self.wait();
+        }
+    }
+
+    fn wait(&self) {
+        let mut files: Vec<(i32, bool)> = self.host.files().into_iter().map(|file| (file, false)).collect();
+        files.push((self.connection.file(), self.connection.is_behind()));
+        system::wait_for_streams(&files, if self.pending.is_empty() { LOOK } else { SOON });
+    }
+
+    /// Takes what the batch says.
+    fn hear(&mut self) -> Option<End> {
+        self.connection.flush();
+        let read = self.connection.read();
+        loop {
+            match self.connection.next() {
+                Ok(Some(Message::Start(number, order))) => self.pending.push(Pending { number, order, since: Instant::now() }),
+                Ok(Some(Message::End(number, signal))) => self.end(number, signal),
+                Ok(Some(Message::Refusal(reason))) => return Some(End::Refused(reason)),
+                Ok(Some(Message::Bye)) => return Some(End::Bye),
+                Ok(Some(_)) => {}
+                Ok(None) => break,
+                Err(_) => return Some(End::Lost),
+            }
+        }
+        let patience = Duration::from_millis(self.terms.patience);
+        (read.is_err() || self.connection.silence() > patience).then_some(End::Lost)
+    }
+
+    /// Starts the commands that wait, once all is there that they need.
+    fn begin_pending(&mut self) {
+        for pending in std::mem::take(&mut self.pending) {
+            match self.begin(&pending) {
+                Ok(()) => {}
+                Err(_) if pending.since.elapsed() < LATE => self.pending.push(pending),
+                Err(fault) => self.connection.send(&Message::Ended(pending.number, Answer { fault, ..Answer::default() })),
+            }
+        }
+    }
+
+    fn begin(&mut self, pending: &Pending) -> Result<(), String> {
+        let order = &pending.order;
+        self.check(order)?;
+        let place = (0..).find(|place| !self.running.contains_key(place)).unwrap_or_default();
+        let own = self.folder.path().to_string_lossy().into_owned();
+        let given = |(name, value): &(String, Option<String>)| {
+            let is_shared = name == "TMPDIR" && value.as_ref().is_some_and(|value| Path::new(value) == self.terms.temporary);
+            (name.clone(), if is_shared { Some(own.clone()) } else { value.clone() })
+        };
+        let variables = order.variables.iter().map(given).collect();
+        let job = Job { words: order.words.clone(), folder: order.folder.clone(), variables, shares_slot: false };
+        self.host.start(place, &job).map_err(|error| format!("it has no process for a command: {error}"))?;
+        self.running.insert(place, Running { number: pending.number, products: order.products.clone(), ends: None });
+        Ok(())
+    }
+
+    /// Whether this machine is as an order needs it.
+    fn check(&mut self, order: &Order) -> Result<(), String> {
+        let own = Path::new(&order.folder);
+        for folder in order.folders.iter().map(PathBuf::as_path).chain((!order.folder.is_empty()).then_some(own)) {
+            if !folder.is_dir() {
+                return Err(format!("it has no {}", folder.display()));
+            }
+        }
+        for Witness { path, size, changed } in &order.witnesses {
+            let found = status_of(path).ok_or_else(|| format!("it has no {}", path.display()))?;
+            if found.len() != *size || found.mtime() != *changed {
+                return Err(format!("its {} isn't the batch's", path.display()));
+            }
+        }
+        if let Some((path, digest)) = &order.tool {
+            let found = self.digests.entry(path.clone()).or_insert_with(|| toolkits::digest_of(path));
+            if *found != Some(*digest) {
+                return Err(format!("its {} has other contents", path.display()));
+            }
+        }
+        Ok(())
+    }
+
+    /// Says how a command has ended.
+    fn answer(&mut self, place: usize, ended: Ended) {
+        let Some(running) = self.running.remove(&place) else { return };
+        for (is_error, text) in [(false, &ended.out), (true, &ended.errors)] {
+            for part in text.chunks(PART) {
+                self.connection.send(&Message::Said(running.number, is_error, Bytes(part.to_vec())));
+            }
+        }
+        let products = running.products.iter().map(|product| status_of(product).map(|status| status.len())).collect();
+        let seconds = Duration::try_from_secs_f64(ended.times.1 - ended.times.0).unwrap_or_default();
+        let answer = Answer {
+            code: ended.status.code,
+            signal: ended.status.signal,
+            dumped: ended.status.dumped,
+            took: u64::try_from(seconds.as_micros()).unwrap_or(u64::MAX),
+            products,
+            fault: String::new(),
+        };
+        self.connection.send(&Message::Ended(running.number, answer));
+    }
+
+    /// Ends a command by a signal.
+    fn end(&mut self, number: u64, signal: i32) {
+        if let Some(at) = self.pending.iter().position(|pending| pending.number == number) {
+            self.pending.remove(at);
+            let answer = Answer { code: 128 + TERM, signal: Some(TERM), ..Answer::default() };
+            self.connection.send(&Message::Ended(number, answer));
+        }
+        for (place, running) in self.running.iter_mut().filter(|(_, running)| running.number == number) {
+            running.ends = Some(Instant::now());
+            self.host.signal(*place, signal);
+        }
+    }
+
+    /// Kills what hasn't ended by a signal.
+    fn end_stubborn(&self) {
+        for (place, running) in &self.running {
+            if running.ends.is_some_and(|since| since.elapsed() > GRACE) {
+                self.host.signal(*place, KILL);
+            }
+        }
+    }
+}

@@ -1,0 +1,403 @@
+#!/usr/bin/env bash
+# Tests of zigrunk-batch --workers and of zigrunk-worker, with stand-ins for nvcc and its tools (tests/driver/dry_run.c, tests/faults/tool.c). Nodes are
+# processes of this machine: they are killed, stopped, cut off, or have another file system.
+# Prints a line for each case that fails, and last 'N passed, M failed'; the status is 1 if one failed.
+#
+#   tests/farm.sh [DRIVER]    DRIVER is a built zigrunk-driver; else the one that tests/driver.sh builds
+#
+# ONLY=TEXT runs the cases whose names have this text. PARTS="work deaths" runs these parts, of those in the last line but one. STOP_EARLY, if set,
+# ends the run at the first failure.
+# shellcheck disable=SC2016 # shells of the batch expand what cases give them
+cd "$(dirname "$0")/.." || exit 1
+. tests/lib.sh
+trap 'kill $(jobs -p) 2> /dev/null; rm -rf "$scratch"' EXIT
+unset NVCC_PREPEND_FLAGS NVCC_APPEND_FLAGS CDPATH MAKEFLAGS MFLAGS "${!ZIGRUNK@}" "${!SLURM@}"
+user=$(id -u)
+shell=(farm)
+end_shell() { summary; exit 1; }
+driver=$(realpath "${1:-out/rust/target/release/zigrunk-driver}")
+[ -x "$driver" ] || skip_all 'the farm' "there is no $driver: tests/driver.sh builds it"
+require 'the farm' cc python3
+
+# The toolkit of the stand-ins. What a tool writes depends on all that it reads, and a file that is written in part is refused.
+export CUDA=$scratch/cuda DATA=$PWD/tests/drivers/test_plans/data/dry_runs ZIGRUNK_LATE=0
+real_path=$PATH
+mkdir -p "$CUDA/bin" "$CUDA/nvvm/bin" "$CUDA/nvvm/libdevice" "$scratch/bin"
+cc -O2 -w -o "$CUDA/nvvm/bin/cicc" tests/faults/tool.c && cc -O2 -w -o "$CUDA/bin/nvcc" tests/driver/dry_run.c || exit 1
+for tool in gcc cudafe++ ptxas fatbinary; do cp "$CUDA/nvvm/bin/cicc" "$CUDA/bin/$tool"; done
+echo library > "$CUDA/nvvm/libdevice/libdevice.10.bc"
+cp "$driver" "$scratch/bin/zigrunk-batch"
+ln -s zigrunk-batch "$scratch/bin/zigrunk-worker"
+proxy=$PWD/tests/cluster/proxy.py
+export PATH=$CUDA/bin:$scratch/bin:$PATH
+
+# case_of NAME: begins a case, if it is one of those to run.
+case_of() {
+    [[ $1 == *${ONLY-}* ]] || return 1
+    room=$scratch/room
+    begin "$1"
+    mkdir "$room/run" "$room/share" && chmod 700 "$room/run"
+    export LOG=$room/log TMPDIR=$room/tmp XDG_RUNTIME_DIR=$room/run ZIGRUNK_TMP=$room/share PAUSE=0
+    : > "$LOG"
+}
+
+# sources COUNT: so many sources, a list of calls that compile them, and what comes of it without workers.
+sources() {
+    local number
+    for number in $(seq "$1"); do
+        echo "source $number" > "k$number.cu"
+        echo "-c k$number.cu -o k$number.o"
+    done > list
+    PAUSE=0 ZIGRUNK_SLOTS=0 zigrunk-batch list > "$room/alone" 2>&1 || problems+="  without workers: $(cat "$room/alone")"$'\n'
+    mkdir wanted && mv ./*.o wanted
+}
+
+# products: a problem for each object that isn't as without workers.
+products() {
+    local object
+    for object in wanted/*.o; do cmp -s "$object" "${object##*/}" || problems+="  ${object##*/} is wrong or missing"$'\n'; done
+    same 'unfinished inputs' "$(cat "$room/PARTIAL" 2> /dev/null)" ''
+}
+
+# worker NAME [WORD..]: the shell's words that start a worker of this name, for two commands at once.
+worker() { echo "${*:2} exec zigrunk-worker --name $1 -j2"; }
+
+# farm WORD..: runs the batch with these words.
+farm() {
+    timeout 300 zigrunk-batch "$@" > "$room/out" 2> "$room/err"
+    status=$?
+}
+
+# start WORD..: the same in the background, with the signals as a user's shell leaves them.
+start() {
+    env --default-signal=HUP,INT,TERM zigrunk-batch "$@" > "$room/out" 2> "$room/err" &
+    process=$!
+}
+
+# ended STATUS: a problem, unless the batch ends with this status.
+ended() {
+    within 60 has_ended || { problems+='  it ends late'$'\n'; kill -KILL "$process"; }
+    { wait "$process"; } 2> /dev/null
+    same status "$?" "$1"
+}
+has_ended() { [[ $(cut -d ' ' -f 3 "/proc/$process/stat" 2> /dev/null) != [A-Ya-y] ]]; }
+
+# within SECONDS COMMAND..: waits until the command succeeds, and fails if it takes longer than so many seconds of an idle machine. A busy one
+# may take four times as long.
+within() {
+    local last=$((SECONDS + $1 * 4))
+    until "${@:2}"; do
+        [ "$SECONDS" -le "$last" ] || return
+        sleep 0.02
+    done
+}
+none_run() { ! pgrep -f "$room|zigrunk-worker --name" > /dev/null; }
+said() { grep -q "$1" "$room/err"; }
+has_objects() { [ "$(find . -maxdepth 1 -name '*.o' | wc -l)" -ge "$1" ]; }
+
+# node NAME: the process of a worker. It is the oldest of that name: a guard is a younger one.
+node() { pgrep -o -f "^zigrunk-worker --name $1 "; }
+
+# all_of NAME: the processes of a worker, its guard's and its commands' among them.
+all_of() { pgrep -f "^zigrunk-worker --name $1 "; pgrep -P "$(pgrep -d , -f "^zigrunk-worker --name $1 ")"; }
+
+# end: counts the case. Nothing stays but the user's folders.
+end() {
+    within 10 none_run || problems+="  processes: $(pgrep -af "$room|zigrunk-worker --name")"$'\n'
+    same 'files left' "$(cd "$room" && find tmp share -mindepth 2; find work -name '.zigrunk*')" ''
+    end_case
+}
+
+work() {
+    if case_of 'two workers make what is made without'; then
+        sources 6
+        farm --workers "$(worker n1)" --workers "$(worker n2)" list
+        same 'status and messages' "$status$(cat "$room/err" "$room/out")" 0
+        products
+        end
+    fi
+    if case_of 'words, folders, variables and streams arrive as they are'; then
+        mkdir 'sub folder'
+        printf '%s\n' '[{"directory": "sub folder", "file": "a", "arguments": ["sh", "-c", "pwd; printf \"[%s]\" \"$@\" \"$NAME\"; echo; echo err >&2; cat; exit 4", "x", "a b", "", "\"", "é\\n"]}]' > calls.json
+        NAME=$'two\nlines' farm --workers "$(worker n1)" calls.json < /dev/zero
+        same 'status and output' "$status $(cat "$room/out")" "4 $PWD/sub folder"$'\n[a b][]["][é\\n][two\nlines]'
+        same messages "$(cat "$room/err")" $'err\nzigrunk-batch: entry 1: exit status 4: a'
+        end
+    fi
+    if case_of 'much output'; then
+        echo 'head -c 9000000 /dev/zero | tr "\0" x; head -c 3000000 /dev/zero | tr "\0" y >&2' > list
+        farm --workers "$(worker n1)" list
+        same 'status, output and messages' "$status $(tr -d x < "$room/out")$(wc -c < "$room/out") $(tr -d y < "$room/err")$(wc -c < "$room/err")" '0 9000000 3000000'
+        end
+    fi
+    if case_of 'calls are told in the order of the list'; then
+        for number in 3 1 2; do echo "sleep 0.$number; echo $number; exit $number"; done > list
+        farm --workers "$(worker n1)" --workers "$(worker n2)" list
+        same 'status and output' "$status $(cat "$room/out")" $'3 3\n1\n2'
+        end
+    fi
+    if case_of 'as many commands at once as workers take'; then
+        for _ in $(seq 12); do echo 'echo + >> ends; sleep 0.2; echo - >> ends'; done > list
+        farm --workers "$(worker n1)" --workers "$(worker n2) -j1" list
+        same 'status and most' "$status $(awk '{ now += $1 == "+" ? 1 : -1; if (now > most) most = now } END { print most }' ends)" '0 3'
+        rm ends
+        farm -j 1 --workers "$(worker n1)" --workers "$(worker n2)" list
+        same 'status and most with -j 1' "$status $(awk '{ now += $1 == "+" ? 1 : -1; if (now > most) most = now } END { print most }' ends)" '0 1'
+        end
+    fi
+    if case_of 'nobody sees the secret'; then
+        echo 'echo "secret: ${ZIGRUNK_WORKERS-}"; grep -lF "$(cut -d " " -f 2 ../invitation)" /proc/[0-9]*/cmdline; stat -c %a ../invitation > /dev/null' > list
+        farm --workers 'echo "$ZIGRUNK_WORKERS" > ../invitation; '"$(worker n1)" list
+        same 'status and output' "$status $(cat "$room/out")" '0 secret: '
+        same 'the secret' "$(cut -d ' ' -f 2 "$room/invitation" | tr -d 0-9a-f | wc -c) $(cut -d ' ' -f 2 "$room/invitation" | wc -c)" '1 65'
+        end
+    fi
+    if case_of 'an invitation by standard input'; then
+        echo 'echo made' > list
+        farm --workers "env -u ZIGRUNK_WORKERS zigrunk-worker --name n1" list
+        same 'status and output' "$status $(cat "$room/out")" '0 made'
+        end
+    fi
+    if case_of 'strangers on the port'; then
+        sources 3
+        strangers='import os, socket, sys, time
+port, host = int(os.environ["ZIGRUNK_WORKERS"].split()[0]), "127.0.0.1"
+kept = []
+for text in [b"", b"GET / HTTP/1.1\r\n\r\n", bytes(4), b"\xff" * 5000, b"\x25\0\0\0\0\1\0\0\0" + bytes(32), b"\x25\0\0\0\0\2\0\0\0" + bytes(32)] * 60:
+    stranger = socket.create_connection((host, port))
+    stranger.sendall(text)
+    kept.append(stranger)
+    if len(kept) > 300: kept.pop(0)
+open("met", "w").close()
+time.sleep(100)'
+        printf '%s\n' "$strangers" > ../strangers.py
+        farm --workers 'python3 ../strangers.py & until [ -e met ]; do sleep 0.05; done; zigrunk-worker --name n1; kill $!' list
+        same 'status and messages' "$status$(cat "$room/err")" 0
+        products
+        end
+    fi
+    if case_of 'who does not know the secret gets no work'; then
+        echo 'echo made >> made' > list
+        farm --wait 2 --workers 'ZIGRUNK_WORKERS="$(echo "$ZIGRUNK_WORKERS" | sed "s/ [0-9a-f]* / $(printf "%064d" 0) /")" zigrunk-worker --name n1' list
+        same 'status and products' "$status $(cat made 2> /dev/null)" '1 '
+        end
+    fi
+    if case_of 'wrong usage'; then
+        echo true > list
+        ZIGRUNK_TMP='' farm --workers true list
+        same 'no shared directory' "$status $(cat "$room/err")" '1 zigrunk-batch: --workers needs ZIGRUNK_TMP, a directory that all machines share'
+        ZIGRUNK_RUNNER=env farm --workers true list
+        same 'a runner' "$status $(cat "$room/err")" '1 zigrunk-batch: --workers and ZIGRUNK_RUNNER exclude each other'
+        zigrunk-worker < /dev/null 2> "$room/err"
+        same 'no invitation' "$? $(cat "$room/err")" '2 zigrunk-worker: neither ZIGRUNK_WORKERS nor standard input says where the batch is: zigrunk-batch --workers starts it'
+        zigrunk-worker --odd 2> "$room/err"
+        same 'an odd word' "$? $(cat "$room/err")" $'2 zigrunk-worker: unexpected word --odd\nusage: zigrunk-worker [-j N] [--name NAME]'
+        same help "$(zigrunk-worker --help | grep -c '^-j N\|^--name NAME\|^usage: ')" 3
+        end
+    fi
+    if case_of 'real nvcc'; then
+        if ! PATH=$real_path command -v nvcc > /dev/null; then
+            problems='' name='real nvcc' && skip 'real nvcc' 'nvcc is not on the path' && cd "$scratch" && return
+        fi
+        printf '%s\n' '__global__ void k(float *x) { x[threadIdx.x] *= 2; }' 'void c(float *x) { k<<<1, 32>>>(x); }' > k.cu
+        words='-gencode=arch=compute_80,code=sm_80 -gencode=arch=compute_90,code=[sm_90,compute_90] -c k.cu'
+        for more in '' -lineinfo -rdc=true '-Xcompiler -g' '-MD -MF k.d'; do
+            # shellcheck disable=SC2086 # several words
+            PATH=$real_path nvcc $words $more -o wanted.o
+            [ ! -e k.d ] || mv k.d wanted.d
+            echo "nvcc $words $more -o k.o" > list
+            PATH=$scratch/bin:$real_path ZIGRUNK_EXPLAIN=1 farm --workers "$(worker n1)" --workers "$(worker n2)" list
+            same "status and messages, $more" "$status$(cat "$room/err")" 0
+            same "object, $more" "$(objcopy --strip-unneeded wanted.o a && objcopy --strip-unneeded k.o b && cmp a b 2>&1)" ''
+            [ ! -e wanted.d ] || same "dependencies, $more" "$(sed s/wanted/k/g wanted.d | diff - k.d)" ''
+        done
+        end
+    fi
+}
+
+# two_nodes [WORD..]: starts a batch of six calls whose commands take a while, on two workers, of which n1 starts as the words before it say. Waits
+# until n1 runs commands.
+two_nodes() {
+    sources 6
+    PAUSE=150 start --give-up 2 --wait 5 ${options+"${options[@]}"} --workers "$(worker n1 "$@")" --workers "$(worker n2)" list
+    within 30 runs_at n1 || problems+='  n1 gets no commands'$'\n'
+}
+
+# runs_at NAME: whether a worker runs commands, beside its guard.
+runs_at() { [ "$(pgrep -c -P "$(node "$1" || echo 0)")" -ge 2 ]; }
+
+# signal NAME WHOM SIGNAL: a signal to a worker, or to it and all that it runs.
+signal() {
+    # shellcheck disable=SC2046 # several ids
+    kill -s "$3" $("$2" "$1")
+}
+
+deaths() {
+    for whom in node all_of; do
+        if case_of "a killed worker, $whom"; then
+            two_nodes
+            signal n1 "$whom" KILL
+            ended 0
+            products
+            said '^zigrunk-batch: n1 has gone, so [0-9]* commands\? of it run elsewhere$' || problems+="  messages: $(cat "$room/err")"$'\n'
+            end
+        fi
+        if case_of "a stopped worker that goes on once all is made, $whom"; then
+            two_nodes
+            stopped=$(all_of n1)
+            [ "$whom" = all_of ] || stopped=$(node n1)
+            # shellcheck disable=SC2086 # several ids
+            kill -s STOP $stopped
+            within 30 said '^zigrunk-batch: n1 has been silent for 2 seconds, so ' || problems+="  messages: $(cat "$room/err")"$'\n'
+            within 60 has_objects 6 || problems+='  the others make less'$'\n'
+            # shellcheck disable=SC2086 # several ids
+            kill -s CONT $stopped
+            ended 0
+            products
+            within 10 none_run || problems+="  processes: $(pgrep -af zigrunk-worker)"$'\n'
+            products
+            end
+        fi
+    done
+    if case_of 'a network that is gone for a moment'; then
+        two_nodes "exec $proxy ../hole"
+        touch "$room/hole" && sleep 1 && rm "$room/hole"
+        ended 0
+        products
+        same messages "$(cat "$room/err")" ''
+        end
+    fi
+    if case_of 'a network that is gone for longer than a worker may be silent'; then
+        two_nodes "exec $proxy ../hole"
+        touch "$room/hole"
+        within 30 said '^zigrunk-batch: n1 has been silent' || problems+="  messages: $(cat "$room/err")"$'\n'
+        within 10 eval '! runs_at n1' || problems+='  commands of the worker go on'$'\n'
+        rm "$room/hole"
+        ended 0
+        products
+        end
+    fi
+    if case_of 'a worker that comes back gets work again'; then
+        for number in $(seq 40); do echo "sleep 0.3; echo \$PPID >> ran"; done > list
+        start --give-up 2 --workers "exec $proxy ../hole zigrunk-worker --name n1 -j2" list
+        within 30 runs_at n1 || problems+='  n1 gets no commands'$'\n'
+        touch "$room/hole"
+        within 30 said '^zigrunk-batch: n1 has been silent' || problems+="  messages: $(cat "$room/err")"$'\n'
+        rm "$room/hole"
+        ended 0
+        same 'commands that ran, without those that ran again' "$(($(wc -l < ran) >= 40)) $(sort -u ran | wc -l)" '1 1'
+        end
+    fi
+    if case_of 'a worker that comes later'; then
+        sources 6
+        PAUSE=100 start --workers "$(worker n1)" --workers "until has_objects=\$(ls *.o 2> /dev/null) && [ -n \"\$has_objects\" ]; do sleep 0.05; done; $(worker n2)" list
+        within 60 runs_at n2 || problems+='  n2 gets no commands'$'\n'
+        ended 0
+        products
+        end
+    fi
+    if case_of 'all workers are gone'; then
+        two_nodes
+        signal n1 all_of KILL
+        signal n2 all_of KILL
+        ended 1
+        said '^zigrunk-batch: there is no worker$' || problems+="  messages: $(cat "$room/err")"$'\n'
+        end
+    fi
+    if case_of 'no worker ever comes'; then
+        echo 'echo made >> made' > list
+        farm --wait 2 --workers 'sleep 300' list
+        same 'status and messages' "$status $(cat "$room/err")" '1 zigrunk-batch: there has been no worker for 2 seconds'
+        farm --workers 'echo "no such cluster" >&2; exit 7' list
+        same 'what starts workers fails' "$status $(cat "$room/err")" $'1 zigrunk-batch: what starts workers has ended with status 7: echo "no such cluster" >&2; exit 7\nno such cluster\nzigrunk-batch: there is no worker'
+        same made "$(cat made 2> /dev/null)" ''
+        end
+    fi
+    if case_of 'the batch is killed'; then
+        two_nodes
+        kill -KILL "$process"
+        { wait "$process"; } 2> /dev/null
+        same status "$?" 137
+        within 20 none_run || problems+="  processes: $(pgrep -af "$room|zigrunk-worker --name")"$'\n'
+        PAUSE=0 farm --workers "$(worker n1)" list
+        same 'status and messages of the next one' "$status$(cat "$room/err")" 0
+        products
+        end
+    fi
+    for number in TERM:143 INT:130 HUP:129; do
+        if case_of "the signal ${number%:*}"; then
+            two_nodes
+            kill -s "${number%:*}" "$process"
+            ended "${number#*:}"
+            same messages "$(cat "$room/err")" ''
+            end
+        fi
+    done
+    if case_of 'a signal to a worker'; then
+        two_nodes
+        kill -TERM "$(node n1)"
+        ended 0
+        products
+        end
+    fi
+    if case_of 'a command that hangs'; then
+        printf '%s\n' 'echo "$$" >> ran; sleep 300' 'sleep 0.5; echo made' > list
+        farm --timeout 2 --workers "$(worker n1)" --workers "$(worker n2)" list
+        same 'status, output and tries' "$status $(cat "$room/out") $(wc -l < ran)" '124 made 2'
+        same messages "$(cat "$room/err")" $'zigrunk-batch: sh took longer than 2 seconds\nzigrunk-batch: line 1: exit status 124: echo "$$" >> ran; sleep 300'
+        end
+    fi
+    if case_of 'a command that ends its worker each time'; then
+        echo 'kill -KILL "$PPID"; sleep 300' > list
+        farm --workers 'for number in 1 2 3 4 5 6 7; do zigrunk-worker --name n1; done' list
+        same 'status and messages' "$status $(tail -n 2 "$room/err" | head -n 1)" '1 zigrunk-batch: sh has lost 5 workers'
+        end
+    fi
+    if case_of 'a worker on which commands fail'; then
+        sources 6
+        farm --workers "ulimit -f 0; $(worker n1)" --workers "sleep 1; $(worker n2)" list
+        same status "$status" 0
+        products
+        said '^zigrunk-batch: n1 gets no work: [a-z+]* ended with status [0-9]* there, and otherwise on another machine$' || problems+="  messages: $(cat "$room/err")"$'\n'
+        end
+    fi
+    if case_of 'two workers of one name'; then
+        sources 3
+        farm --workers "$(worker n1)" --workers "sleep 0.5; $(worker n1)" list
+        same status "$status" 0
+        products
+        end
+    fi
+}
+
+# elsewhere NAME COMMAND..: the words that start a worker with a file system of its own, in which the shell's command has changed something.
+elsewhere() { echo "unshare -m sh -c '${*:2} && $(worker "$1")'"; }
+
+unfit() {
+    unshare -m true 2> /dev/null || { skip 'machines that differ' 'there is no file system of its own for a process'; return; }
+    local what change wanted
+    while IFS='|' read -r what change wanted; do
+        if case_of "a machine $what"; then
+            sources 4
+            sed 's/injected/INJECTED/g; s/END/DNE/g' "$CUDA/bin/ptxas" > "$room/other" && chmod +x "$room/other"
+            mkdir "$room/empty"
+            change=${change//ROOM/$room} wanted=${wanted//ROOM/$room}
+            farm --workers "$(elsewhere n1 "${change//CUDA/$CUDA}")" --workers "sleep 1; $(worker n2)" list
+            same status "$status" 0
+            products
+            grep -q "^zigrunk-batch: n1 gets no work: ${wanted//CUDA/$CUDA}\$" "$room/err" || problems+="  messages: $(cat "$room/err")"$'\n'
+            end
+        fi
+    done << 'END'
+with another ptxas of the same size|mount --bind ROOM/other CUDA/bin/ptxas|its CUDA/bin/ptxas has other contents
+with another device library|mount --bind list CUDA/nvvm/libdevice/libdevice.10.bc|its CUDA/nvvm/libdevice/libdevice.10.bc has other contents
+without a toolkit|mount --bind ROOM/empty CUDA/bin|it has no CUDA/bin/nvcc
+without the shared directory|mount --bind ROOM/empty ROOM/share|it doesn't see ROOM/share, which ZIGRUNK_TMP says that all machines share
+with an old copy of the shared directory|cp -r ROOM/share ROOM/copy \&\& find ROOM/copy -name shared -exec sh -c "echo old > \$0" {} \\; \&\& mount --bind ROOM/copy ROOM/share|its ROOM/share isn't the shared one
+without the sources|mount --bind ROOM/empty ROOM/work|it has no ROOM/work/k[0-9].cu
+with old sources|mkdir ROOM/old \&\& cp k*.cu ROOM/old \&\& mount --bind ROOM/old ROOM/work \&\& cd ROOM/work|its ROOM/work/k[0-9].cu isn't the batch's
+END
+}
+
+for part in ${PARTS-work deaths unfit}; do "$part"; done
+summary
