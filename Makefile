@@ -100,7 +100,7 @@ lib:
 # The proved sources as crates of plain Rust (docs/PLAIN_RUST.md), and programs and library of them: no kit, no network.
 rust: rust-sources
 	cd out/rust && cargo build --release
-	for name in nvcc plan batch report cache; do ln -sf zigrunk-driver out/rust/target/release/zigrunk-$$name; done
+	for name in nvcc plan batch report cache worker; do ln -sf zigrunk-driver out/rust/target/release/zigrunk-$$name; done
 
 rust-sources:
 	cargo run --quiet --manifest-path rust/Cargo.toml -p eraser -- . out/rust

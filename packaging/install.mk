@@ -10,7 +10,7 @@ install-programs:
 	install -D -m 755 $(zigrunk) "$(target)/bin/zigrunk"
 	@$(driver_from)
 	if [ -x $(driver) ]; then install -D -m 755 $(driver) "$(target)/bin/zigrunk-nvcc"; \
-		for name in plan batch report cache; do ln -sf zigrunk-nvcc "$(target)/bin/zigrunk-$$name"; done; fi
+		for name in plan batch report cache worker; do ln -sf zigrunk-nvcc "$(target)/bin/zigrunk-$$name"; done; fi
 	install -D -m 644 man/zigrunk.1 "$(target)/share/man/man1/zigrunk.1"
 	install -D -m 644 man/zigrunk-nvcc.1 "$(target)/share/man/man1/zigrunk-nvcc.1"
 	install -D -m 644 man/zigrunk-batch.1 "$(target)/share/man/man1/zigrunk-batch.1"
@@ -18,6 +18,7 @@ install-programs:
 	ln -sf zigrunk.1 "$(target)/share/man/man1/cudaplan.1"
 	ln -sf zigrunk-nvcc.1 "$(target)/share/man/man1/zigrunk-report.1"
 	ln -sf zigrunk-nvcc.1 "$(target)/share/man/man1/zigrunk-plan.1"
+	ln -sf zigrunk-batch.1 "$(target)/share/man/man1/zigrunk-worker.1"
 	install -D -m 644 completions/zigrunk.bash "$(target)/share/bash-completion/completions/zigrunk"
 	ln -sf zigrunk "$(target)/share/bash-completion/completions/cudaplan"
 	ln -sf zigrunk "$(target)/share/bash-completion/completions/zigrunk-nvcc"
@@ -47,7 +48,7 @@ install-rust:
 uninstall:
 	rm -f "$(target)/bin/cudaplan" "$(target)/bin/zigrunk" "$(target)/bin/zigrunk-nvcc" "$(target)/bin/zigrunk-batch"
 	rm -f "$(target)/share/man/man1/zigrunk.1" "$(target)/share/man/man1/zigrunk-nvcc.1" "$(target)/share/man/man1/cudaplan.1"
-	for name in slot report plan cache; do rm -f "$(target)/bin/zigrunk-$$name" "$(target)/share/man/man1/zigrunk-$$name.1"; done
+	for name in slot report plan cache worker; do rm -f "$(target)/bin/zigrunk-$$name" "$(target)/share/man/man1/zigrunk-$$name.1"; done
 	rm -f "$(target)/share/man/man1/zigrunk-batch.1" "$(target)/share/man/man3/zigrunk.h.3"
 	rm -f "$(target)/share/bash-completion/completions/zigrunk" "$(target)/share/bash-completion/completions/cudaplan"
 	rm -f "$(target)/share/bash-completion/completions/zigrunk-nvcc" "$(target)/share/bash-completion/completions/zigrunk-batch" \

@@ -282,11 +282,11 @@ failures() {
         for words in 'one two:one list at a time, not two too' '-x:unexpected option -x' '-j:-j needs a number' '-j 0:-j needs a number from 1, not 0' '-k 01:-k needs a number from 1, not 01'; do
             # shellcheck disable=SC2086 # several words
             batch ${words%:*}
-            same "status and messages, $words" "$status $(cat "$room/err")" "2 zigrunk-batch: ${words##*:}"$'\n''usage: zigrunk-batch [-j N] [-k N] [--progress] [--incremental] [FILE]'
+            same "status and messages, $words" "$status $(cat "$room/err")" "2 zigrunk-batch: ${words##*:}"$'\n''usage: zigrunk-batch [-j N] [-k N] [--progress] [--incremental] [--workers COMMAND].. [FILE]'
         done
         batch --help
         same 'status and help' "$status $(cat "$room/out")" "0 $(cat << 'HELP'
-usage: zigrunk-batch [-j N] [-k N] [--progress] [--incremental] [FILE]
+usage: zigrunk-batch [-j N] [-k N] [--progress] [--incremental] [--workers COMMAND].. [FILE]
 
 Makes the calls of a list, split into their commands, side by side.
 
@@ -295,6 +295,10 @@ FILE          a call on each line, as you would type it, or a compile_commands.j
 -k N          start nothing more once N calls have failed; 0, as without it, makes all other calls
 --progress    say how far it is, also if standard error is no terminal
 --incremental leave out the calls whose words, products and files are as they were when --incremental made them last
+--workers COMMAND    run all commands on the machines where COMMAND starts zigrunk-worker; give it again for more machines
+--wait N      fail once there has been no worker for N seconds; 120, unless set
+--give-up N   run a worker's commands elsewhere once it has said nothing for N seconds; 10, unless set
+--timeout N   end a worker's command once it takes N seconds; without it, there is no limit
 --unless-made NVCC WORD..    make one call, unless a batch with --incremental has made it in this directory: a launcher for CMake
 --version     print the version
 -h, --help    print this text

@@ -59,8 +59,8 @@ products() {
     same 'unfinished inputs' "$(cat "$room/PARTIAL" 2> /dev/null)" ''
 }
 
-# worker NAME [WORD..]: the shell's words that start a worker of this name, for two commands at once.
-worker() { echo "${*:2} exec zigrunk-worker --name $1 -j2"; }
+# worker NAME [WORD..]: the shell's words that start a worker of this name, for two commands at once, by the program that words name.
+worker() { echo "exec ${*:2} $scratch/bin/zigrunk-worker --name $1 -j2"; }
 
 # farm WORD..: runs the batch with these words.
 farm() {
@@ -91,19 +91,22 @@ within() {
         sleep 0.02
     done
 }
-none_run() { ! pgrep -f "$room|zigrunk-worker --name" > /dev/null; }
+none_run() { ! pgrep -f "$room|$scratch/bin/zigrunk-worker" > /dev/null; }
 said() { grep -q "$1" "$room/err"; }
 has_objects() { [ "$(find . -maxdepth 1 -name '*.o' | wc -l)" -ge "$1" ]; }
 
 # node NAME: the process of a worker. It is the oldest of that name: a guard is a younger one.
-node() { pgrep -o -f "^zigrunk-worker --name $1 "; }
+node() { pgrep -o -f "^$scratch/bin/zigrunk-worker --name $1 "; }
 
 # all_of NAME: the processes of a worker, its guard's and its commands' among them.
-all_of() { pgrep -f "^zigrunk-worker --name $1 "; pgrep -P "$(pgrep -d , -f "^zigrunk-worker --name $1 ")"; }
+all_of() {
+    local ids
+    ids=$(pgrep -d , -f "^$scratch/bin/zigrunk-worker --name $1 ") && echo "${ids//,/ }" && pgrep -P "$ids"
+}
 
 # end: counts the case. Nothing stays but the user's folders.
 end() {
-    within 10 none_run || problems+="  processes: $(pgrep -af "$room|zigrunk-worker --name")"$'\n'
+    within 10 none_run || problems+="  processes: $(pgrep -af "$room|$scratch/bin/zigrunk-worker")"$'\n'
     same 'files left' "$(cd "$room" && find tmp share -mindepth 2; find work -name '.zigrunk*')" ''
     end_case
 }
@@ -219,17 +222,21 @@ time.sleep(100)'
 # until n1 runs commands.
 two_nodes() {
     sources 6
-    PAUSE=150 start --give-up 2 --wait 5 ${options+"${options[@]}"} --workers "$(worker n1 "$@")" --workers "$(worker n2)" list
+    PAUSE=300 start --give-up 2 --wait 5 ${options+"${options[@]}"} --workers "$(worker n1 "$@")" --workers "$(worker n2)" list
     within 30 runs_at n1 || problems+='  n1 gets no commands'$'\n'
 }
 
 # runs_at NAME: whether a worker runs commands, beside its guard.
-runs_at() { [ "$(pgrep -c -P "$(node "$1" || echo 0)")" -ge 2 ]; }
+runs_at() {
+    local id
+    id=$(node "$1") && [ "$(pgrep -c -P "$id")" -ge 2 ]
+}
 
-# signal NAME WHOM SIGNAL: a signal to a worker, or to it and all that it runs.
+# signal NAME WHOM SIGNAL: a signal to a worker, or to it and all that it runs, whose ids are $ids then.
 signal() {
-    # shellcheck disable=SC2046 # several ids
-    kill -s "$3" $("$2" "$1")
+    ids=$("$2" "$1")
+    # shellcheck disable=SC2086 # several ids
+    [ -n "$ids" ] && kill -s "$3" $ids || problems+="  $1 doesn't run"$'\n'
 }
 
 deaths() {
@@ -239,28 +246,27 @@ deaths() {
             signal n1 "$whom" KILL
             ended 0
             products
+            # A worker that comes later to this machine would remove it.
+            [ "$whom" = node ] || rm -rf "$room/tmp/zigrunk-$user"/worker*
             said '^zigrunk-batch: n1 has gone, so [0-9]* commands\? of it run elsewhere$' || problems+="  messages: $(cat "$room/err")"$'\n'
             end
         fi
         if case_of "a stopped worker that goes on once all is made, $whom"; then
             two_nodes
-            stopped=$(all_of n1)
-            [ "$whom" = all_of ] || stopped=$(node n1)
-            # shellcheck disable=SC2086 # several ids
-            kill -s STOP $stopped
+            signal n1 "$whom" STOP
             within 30 said '^zigrunk-batch: n1 has been silent for 2 seconds, so ' || problems+="  messages: $(cat "$room/err")"$'\n'
             within 60 has_objects 6 || problems+='  the others make less'$'\n'
             # shellcheck disable=SC2086 # several ids
-            kill -s CONT $stopped
+            kill -s CONT $ids
             ended 0
             products
-            within 10 none_run || problems+="  processes: $(pgrep -af zigrunk-worker)"$'\n'
+            within 10 none_run || problems+="  processes: $(pgrep -af "$scratch/bin/zigrunk-worker")"$'\n'
             products
             end
         fi
     done
     if case_of 'a network that is gone for a moment'; then
-        two_nodes "exec $proxy ../hole"
+        two_nodes "$proxy" ../hole
         touch "$room/hole" && sleep 1 && rm "$room/hole"
         ended 0
         products
@@ -268,7 +274,7 @@ deaths() {
         end
     fi
     if case_of 'a network that is gone for longer than a worker may be silent'; then
-        two_nodes "exec $proxy ../hole"
+        two_nodes "$proxy" ../hole
         touch "$room/hole"
         within 30 said '^zigrunk-batch: n1 has been silent' || problems+="  messages: $(cat "$room/err")"$'\n'
         within 10 eval '! runs_at n1' || problems+='  commands of the worker go on'$'\n'
@@ -279,7 +285,7 @@ deaths() {
     fi
     if case_of 'a worker that comes back gets work again'; then
         for number in $(seq 40); do echo "sleep 0.3; echo \$PPID >> ran"; done > list
-        start --give-up 2 --workers "exec $proxy ../hole zigrunk-worker --name n1 -j2" list
+        start --give-up 2 --workers "$(worker n1 "$proxy" ../hole)" list
         within 30 runs_at n1 || problems+='  n1 gets no commands'$'\n'
         touch "$room/hole"
         within 30 said '^zigrunk-batch: n1 has been silent' || problems+="  messages: $(cat "$room/err")"$'\n'
@@ -301,6 +307,7 @@ deaths() {
         signal n1 all_of KILL
         signal n2 all_of KILL
         ended 1
+        rm -rf "$room/tmp/zigrunk-$user"/worker*
         said '^zigrunk-batch: there is no worker$' || problems+="  messages: $(cat "$room/err")"$'\n'
         end
     fi
@@ -318,7 +325,7 @@ deaths() {
         kill -KILL "$process"
         { wait "$process"; } 2> /dev/null
         same status "$?" 137
-        within 20 none_run || problems+="  processes: $(pgrep -af "$room|zigrunk-worker --name")"$'\n'
+        within 20 none_run || problems+="  processes: $(pgrep -af "$room|$scratch/bin/zigrunk-worker")"$'\n'
         PAUSE=0 farm --workers "$(worker n1)" list
         same 'status and messages of the next one' "$status$(cat "$room/err")" 0
         products
@@ -335,7 +342,7 @@ deaths() {
     done
     if case_of 'a signal to a worker'; then
         two_nodes
-        kill -TERM "$(node n1)"
+        signal n1 node TERM
         ended 0
         products
         end
@@ -354,11 +361,17 @@ deaths() {
         end
     fi
     if case_of 'a worker on which commands fail'; then
-        sources 6
-        farm --workers "ulimit -f 0; $(worker n1)" --workers "sleep 1; $(worker n2)" list
-        same status "$status" 0
-        products
-        said '^zigrunk-batch: n1 gets no work: [a-z+]* ended with status [0-9]* there, and otherwise on another machine$' || problems+="  messages: $(cat "$room/err")"$'\n'
+        for number in 1 2 3; do echo "echo >> began; sleep 2; head -c 100000 /dev/zero > k$number.o"; done > list
+        farm --workers "ulimit -f 128; $(worker n1)" --workers "until [ -e began ]; do sleep 0.05; done; $(worker n2)" list
+        same 'status and sizes' "$status $(stat -c %s k*.o | sort -u)" '0 100000'
+        said '^zigrunk-batch: n1 gets no work: sh ended with status 153 there, and otherwise on another machine$' || problems+="  messages: $(cat "$room/err")"$'\n'
+        end
+    fi
+    if case_of 'a command that fails everywhere as a bad machine would let it'; then
+        printf '%s\n' 'echo >> ran; echo "k.h: No such file or directory" >&2; exit 3' 'missing-program' > list
+        farm --workers "$(worker n1)" --workers "$(worker n2)" list
+        same 'status, messages and tries' "$status $(grep -c '^k.h: No such file\|^zigrunk-nvcc: missing-program: not found' "$room/err") $(($(wc -l < ran) <= 2))" '3 2 1'
+        same 'machines left out' "$(grep -c 'gets no work' "$room/err")" 0
         end
     fi
     if case_of 'two workers of one name'; then
@@ -390,12 +403,12 @@ unfit() {
         fi
     done << 'END'
 with another ptxas of the same size|mount --bind ROOM/other CUDA/bin/ptxas|its CUDA/bin/ptxas has other contents
-with another device library|mount --bind list CUDA/nvvm/libdevice/libdevice.10.bc|its CUDA/nvvm/libdevice/libdevice.10.bc has other contents
+with another device library|mount --bind list CUDA/nvvm/libdevice/libdevice.10.bc|its CUDA/bin/../nvvm/libdevice/libdevice.10.bc has other contents
 without a toolkit|mount --bind ROOM/empty CUDA/bin|it has no CUDA/bin/nvcc
 without the shared directory|mount --bind ROOM/empty ROOM/share|it doesn't see ROOM/share, which ZIGRUNK_TMP says that all machines share
-with an old copy of the shared directory|cp -r ROOM/share ROOM/copy \&\& find ROOM/copy -name shared -exec sh -c "echo old > \$0" {} \\; \&\& mount --bind ROOM/copy ROOM/share|its ROOM/share isn't the shared one
+with an old copy of the shared directory|cp -r ROOM/share ROOM/copy && find ROOM/copy -name shared -exec sh -c "echo old > \$0" {} \; && mount --bind ROOM/copy ROOM/share|its ROOM/share isn't the shared one
 without the sources|mount --bind ROOM/empty ROOM/work|it has no ROOM/work/k[0-9].cu
-with old sources|mkdir ROOM/old \&\& cp k*.cu ROOM/old \&\& mount --bind ROOM/old ROOM/work \&\& cd ROOM/work|its ROOM/work/k[0-9].cu isn't the batch's
+with old sources|mkdir ROOM/old && cp k*.cu ROOM/old && mount --bind ROOM/old ROOM/work && cd ROOM/work|its ROOM/work/k[0-9].cu isn't the batch's
 END
 }
 

@@ -12,7 +12,7 @@ pub const MOST_MACHINES: usize = 3;
 pub const LATE: Duration = Duration::from_secs(10);
 
 /// What a worker says of its own lacks, in messages of compilers. A command that says so may succeed elsewhere.
-const LACKS: [&str; 12] = [
+const LACKS: [&str; 13] = [
     "No space left on device",
     "Disk quota exceeded",
     "Read-only file system",
@@ -25,6 +25,7 @@ const LACKS: [&str; 12] = [
     "memory exhausted",
     "virtual memory exhausted",
     "Resource temporarily unavailable",
+    "signal terminated program",
 ];
 
 /// Whether a failure may be the machine's: the command couldn't start, was killed, or complains of disk or memory.
@@ -32,7 +33,7 @@ pub fn may_be_the_machines(answer: &Answer, errors: &[u8]) -> bool {
     let has = |part: &&str| errors.windows(part.len()).any(|window| window == part.as_bytes());
     match (answer.code, answer.signal) {
         (0, _) => false,
-        (126 | 127, _) | (_, Some(6 | 7 | 9 | 11 | 15)) | (137 | 143, _) => true,
+        (126 | 127 | 137 | 143 | 152 | 153, _) | (_, Some(6 | 7 | 11)) => true,
         _ => LACKS.iter().any(has),
     }
 }
@@ -104,7 +105,10 @@ mod tests {
             (137, None, "", true),
             (143, None, "", true),
             (139, Some(11), "", true),
+            (134, Some(6), "", true),
+            (153, Some(25), "", true),
             (136, Some(8), "", false),
+            (1, None, "g++: fatal error: Killed signal terminated program cc1plus", true),
             (1, None, "as: /t/x.o: No space left on device\n", true),
             (1, None, "fatal error: k.h: No such file or directory", true),
             (1, None, "cc1plus: out of memory allocating 9 bytes", true),

@@ -55,8 +55,7 @@ const DERIVING: [&str; 15] = [
 ];
 
 fn is_host_compiler(name: &str) -> bool {
-    let stem =
-        name.split_once("-").and_then(|_| name.rsplit_once('-')).filter(|(_, version)| version.starts_with(|digit: char| digit.is_ascii_digit()));
+    let stem = name.rsplit_once('-').filter(|(_, version)| version.starts_with(|digit: char| digit.is_ascii_digit()));
     let stem = stem.map_or(name, |(stem, _)| stem);
     stem == "cc" || stem == "clang" || stem.ends_with("gcc") || stem.ends_with("++")
 }
@@ -81,13 +80,14 @@ impl Tool {
 
     /// Whether an option names a product.
     fn names_product(self, option: &str, makes_id: bool) -> bool {
-        match (self, option) {
-            (_, "--module_id_file_name") => makes_id,
-            (Tool::Cicc, "-o" | "--gen_c_file_name" | "--gen_device_file_name" | "--stub_file_name") => true,
-            (Tool::CudaFe, "--gen_c_file_name") | (Tool::Ptxas, "-o" | "--output-file") => true,
-            (Tool::Fatbinary, "--create" | "--embedded-fatbin") | (Tool::Host, "-o") => true,
-            _ => false,
-        }
+        let options: &[&str] = match self {
+            Tool::Cicc => &["-o", "--gen_c_file_name", "--gen_device_file_name", "--stub_file_name"],
+            Tool::CudaFe => &["--gen_c_file_name"],
+            Tool::Ptxas => &["-o", "--output-file"],
+            Tool::Fatbinary => &["--create", "--embedded-fatbin"],
+            Tool::Host => &["-o"],
+        };
+        options.contains(&option) || (makes_id && option == "--module_id_file_name")
     }
 }
 

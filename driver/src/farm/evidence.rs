@@ -85,6 +85,9 @@ mod tests {
 
     const SECOND: u64 = 1_000_000_000;
 
+    /// What makes evidence worse.
+    type Change = fn(&mut Evidence);
+
     #[test]
     fn a_worker_shows_what_its_machine_has() {
         let tools = vec![("/b/nvcc".into(), [1; 32]), ("/b/ptxas".into(), [2; 32])];
@@ -100,7 +103,7 @@ mod tests {
             change(&mut evidence);
             judge(&evidence, &wanted, &Times { asked: 99 * SECOND, came: 103 * SECOND }).err().unwrap_or_default()
         };
-        let cases: [(fn(&mut Evidence), &str); 12] = [
+        let cases: [(Change, &str); 12] = [
             (|_| {}, ""),
             (|it| it.tools[1] = Some([3; 32]), "its /b/ptxas has other contents"),
             (|it| it.tools[0] = None, "it has no /b/nvcc"),

@@ -1,7 +1,7 @@
 //! The workers of a batch, as it sees them: from their first message to their end.
 use super::connections::Connection;
 use super::evidence::{self, Times, Wanted};
-use super::messages::{Answer, Introduction, Message, VERSION};
+use super::messages::{Answer, Introduction, Message, Terms, VERSION};
 use super::secrets::{self, Once, Secret, Side};
 use crate::host::nanoseconds;
 use std::io;
@@ -19,6 +19,8 @@ enum Stage {
     Stranger,
     /// It has said its own number.
     Greeted(Once),
+    /// It has said who it is, and waits for the terms.
+    Waits,
     /// It shows what its machine has, since this time in nanoseconds.
     Shows(u64),
     Ready,
@@ -75,7 +77,18 @@ impl Member {
 
     /// Whether it has shown that it knows the secret.
     pub fn is_known(&self) -> bool {
-        matches!(self.stage, Stage::Ready | Stage::Shows(_))
+        matches!(self.stage, Stage::Ready | Stage::Shows(_) | Stage::Waits)
+    }
+
+    /// How long it has waited for the terms, if it does.
+    pub fn waits(&self) -> Option<Duration> {
+        matches!(self.stage, Stage::Waits).then(|| self.since.elapsed())
+    }
+
+    /// Sends it the terms. It shows what its machine has.
+    pub fn admit(&mut self, terms: &Terms) {
+        (self.stage, self.since) = (Stage::Shows(nanoseconds()), Instant::now());
+        self.connection.send(&Message::Terms(terms.clone()));
     }
 
     /// How many more commands it may run.
@@ -87,7 +100,7 @@ impl Member {
     pub fn is_silent(&self, patience: Duration) -> bool {
         match self.stage {
             Stage::Stranger | Stage::Greeted(_) => self.since.elapsed() > STRANGE,
-            Stage::Shows(_) => self.since.elapsed() > SHOWING,
+            Stage::Shows(_) | Stage::Waits => self.since.elapsed() > SHOWING,
             Stage::Ready => self.connection.silence() > patience,
         }
     }
@@ -100,7 +113,7 @@ impl Member {
                 if !secrets::is_same(&proof, &secret.proof(Side::Worker, &of_worker, &self.once)) {
                     return Heard::Stranger;
                 }
-                (self.worker, self.stage, self.since) = (worker, Stage::Shows(nanoseconds()), Instant::now());
+                (self.worker, self.stage, self.since) = (worker, Stage::Waits, Instant::now());
                 self.connection.trust();
                 Heard::Introduced
             }
@@ -114,9 +127,9 @@ impl Member {
             }
             (Stage::Ready, Message::Said(number, is_error, part)) => Heard::Said(number, is_error, part.0),
             (Stage::Ready, Message::Ended(number, answer)) => Heard::Ended(number, answer),
-            (Stage::Ready | Stage::Shows(_), Message::Beat) => Heard::Nothing,
-            (Stage::Ready | Stage::Shows(_), Message::Bye) => Heard::Gone,
-            (Stage::Ready | Stage::Shows(_), _) => Heard::Unfit("it says what a worker doesn't say".into()),
+            (Stage::Ready | Stage::Shows(_) | Stage::Waits, Message::Beat) => Heard::Nothing,
+            (Stage::Ready | Stage::Shows(_) | Stage::Waits, Message::Bye) => Heard::Gone,
+            (Stage::Ready | Stage::Shows(_) | Stage::Waits, _) => Heard::Unfit("it says what a worker doesn't say".into()),
             (Stage::Stranger | Stage::Greeted(_), _) => Heard::Stranger,
         }
     }
@@ -136,7 +149,7 @@ impl Member {
 #[cfg(test)]
 mod tests {
     use super::*;
-    use crate::farm::messages::{Evidence, Terms};
+    use crate::farm::messages::Evidence;
     use std::net::TcpListener;
 
     /// A member, and the other end of its connection.
@@ -185,6 +198,9 @@ mod tests {
         assert_eq!(room.hear(greeting()), Heard::Nothing);
         let hello = room.hello(&room.secret);
         assert_eq!((room.hear(hello), room.member.is_known(), room.member.free()), (Heard::Introduced, true, 0));
+        assert!(room.member.waits().is_some());
+        room.member.admit(&Terms::default());
+        assert!(room.member.waits().is_none());
         assert_eq!(room.hear(Message::Beat), Heard::Nothing);
         assert_eq!((room.hear(evidence("word")), room.member.free()), (Heard::Ready, 2));
         room.member.taken = 3;
@@ -219,6 +235,7 @@ mod tests {
         room.hear(greeting());
         let hello = room.hello(&room.secret);
         room.hear(hello);
+        room.member.admit(&Terms::default());
         assert!(matches!(room.hear(evidence("other")), Heard::Unfit(reason) if reason.contains("isn't the shared one")));
         assert!(!room.member.is_ready());
         assert!(matches!(room.hear(Message::End(1, 2)), Heard::Unfit(_)));

@@ -306,7 +306,9 @@ mod tests {
 
     fn bytes_of(messages: &[Message]) -> Vec<u8> {
         let mut bytes = Vec::new();
-        messages.iter().for_each(|message| message.add_to(&mut bytes));
+        for message in messages {
+            message.add_to(&mut bytes);
+        }
         bytes
     }
 
@@ -375,7 +377,7 @@ mod tests {
         };
         for _ in 0..20_000 {
             let mut bytes = whole.clone();
-            for _ in 0..1 + lot() % 4 {
+            for _ in 0..=lot() % 4 {
                 let at = lot() % bytes.len();
                 bytes[at] = lot().to_le_bytes()[0];
             }

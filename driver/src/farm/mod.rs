@@ -348,23 +348,22 @@ impl Farm {
 
     /// A worker has said its name. It gets the terms, unless its machine is left out, or has another worker.
     fn introduced(&mut self, at: usize) {
-        let worker = self.members[at].worker.clone();
-        let other = self.members.iter().position(|it| it.is_known() && it.worker.name == worker.name && it.number != self.members[at].number);
-        let reason = match other {
-            Some(old) if self.members[old].worker.process == worker.process => {
-                self.lose(old, "has come again");
-                None
+        let (number, worker) = (self.members[at].number, self.members[at].worker.clone());
+        let is_other = |it: &Member| it.is_known() && it.worker.name == worker.name && it.number != number;
+        let other = self.members.iter().position(is_other);
+        if let Some(reason) = self.left_out.get(&worker.name) {
+            self.members[at].connection.send(&Message::Refusal(reason.clone()));
+            self.members.remove(at);
+        } else if let Some(old) = other.filter(|&old| self.members[old].worker.process == worker.process) {
+            self.lose(old, "has come again");
+            if let Some(at) = self.place(number) {
+                self.members[at].admit(&self.terms);
             }
-            Some(_) => Some("there is another worker of this name".to_owned()),
-            None => self.left_out.get(&worker.name).cloned(),
-        };
-        let Some(at) = self.members.iter().position(|it| it.is_known() && it.worker.process == worker.process) else { return };
-        match reason {
-            None => self.members[at].connection.send(&Message::Terms(self.terms.clone())),
-            Some(reason) => {
-                self.members[at].connection.send(&Message::Refusal(reason));
-                self.members.remove(at);
-            }
+        } else if other.is_none() {
+            self.members[at].admit(&self.terms);
+        } else if self.members[at].waits().is_some_and(|waited| waited > 2 * self.conditions.patience) {
+            self.members[at].connection.send(&Message::Refusal("there is another worker of this name".into()));
+            self.members.remove(at);
         }
     }
 
@@ -431,7 +430,7 @@ impl Farm {
             self.suspect(attempt, at, ended);
         } else {
             let ended = ended_of(&attempt, &answer);
-            self.conclude(attempt, ended);
+            self.conclude(&attempt, ended);
         }
     }
 
@@ -484,7 +483,7 @@ impl Farm {
             Seen::Whole => {
                 let ended = ended_of(&attempt, &answer);
                 match attempt.drafts.publish() {
-                    Ok(()) => self.conclude(attempt, ended),
+                    Ok(()) => self.conclude(&attempt, ended),
                     Err(error) => {
                         let text = format!("zigrunk-batch: cannot rename what {} made: {error}\n", attempt.name());
                         attempt.drafts.remove();
@@ -511,7 +510,7 @@ impl Farm {
     }
 
     /// An attempt has come to an end that counts. Machines on which it failed otherwise get no more work.
-    fn conclude(&mut self, attempt: Attempt, ended: Ended) {
+    fn conclude(&mut self, attempt: &Attempt, ended: Ended) {
         attempt.drafts.remove();
         for name in &attempt.avoided {
             if let Some(at) = self.members.iter().position(|member| member.worker.name == *name) {
@@ -538,6 +537,11 @@ impl Farm {
         for member in self.members.iter_mut().filter(|member| member.is_known()) {
             member.connection.beat(patience / 8);
         }
+        for number in self.members.iter().filter(|member| member.waits().is_some()).map(|member| member.number).collect::<Vec<_>>() {
+            if let Some(at) = self.place(number) {
+                self.introduced(at);
+            }
+        }
         self.end_long_ones();
         self.look_for_workers();
     }
@@ -551,7 +555,9 @@ impl Farm {
             let member = self.members.iter_mut().find(|member| member.number == attempt.member);
             if took > limit && !attempt.is_ended {
                 attempt.is_ended = true;
-                member.into_iter().for_each(|member| member.connection.send(&Message::End(*number, TERM)));
+                if let Some(member) = member {
+                    member.connection.send(&Message::End(*number, TERM));
+                }
             } else if took > limit + GRACE {
                 stubborn.push(attempt.member);
             }
@@ -663,8 +669,9 @@ impl Machine for Farm {
         (self.wants, self.is_ending) = (false, true);
         self.waiting.clear();
         for (number, attempt) in &self.attempts {
-            let member = self.members.iter_mut().find(|member| member.number == attempt.member);
-            member.into_iter().for_each(|member| member.connection.send(&Message::End(*number, signal)));
+            if let Some(member) = self.members.iter_mut().find(|member| member.number == attempt.member) {
+                member.connection.send(&Message::End(*number, signal));
+            }
         }
         let begun = Instant::now();
         while !self.attempts.is_empty() && begun.elapsed() < LAST_GRACE {

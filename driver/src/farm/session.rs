@@ -107,7 +107,7 @@ impl Session {
         loop {
             while let Some(event) = self.host.look() {
                 match event {
-                    Event::Ended(place, ended) => self.answer(place, ended),
+                    Event::Ended(place, ended) => self.answer(place, &ended),
                     Event::Signal(number) => {
                         self.host.end_all(number);
                         self.connection.send(&Message::Bye);
@@ -166,7 +166,7 @@ impl Session {
     fn begin(&mut self, pending: &Pending) -> Result<(), String> {
         let order = &pending.order;
         self.check(order)?;
-        let place = (0..).find(|place| !self.running.contains_key(place)).unwrap_or_default();
+        let place = (0..=self.running.len()).find(|place| !self.running.contains_key(place)).unwrap_or_default();
         let own = self.folder.path().to_string_lossy().into_owned();
         let given = |(name, value): &(String, Option<String>)| {
             let is_shared = name == "TMPDIR" && value.as_ref().is_some_and(|value| Path::new(value) == self.terms.temporary);
@@ -203,7 +203,7 @@ impl Session {
     }
 
     /// Says how a command has ended.
-    fn answer(&mut self, place: usize, ended: Ended) {
+    fn answer(&mut self, place: usize, ended: &Ended) {
         let Some(running) = self.running.remove(&place) else { return };
         for (is_error, text) in [(false, &ended.out), (true, &ended.errors)] {
             for part in text.chunks(PART) {

@@ -116,11 +116,8 @@ fn work(invitation: &Invitation, worker: &Introduction) -> Result<End, End> {
 fn serve(invitation: &Invitation, worker: &Introduction) -> i32 {
     let mut heard = Instant::now();
     loop {
-        let worked = work(invitation, worker);
-        if worked.is_ok() {
-            heard = Instant::now();
-        }
-        match worked.unwrap_or_else(|end| end) {
+        let end = work(invitation, worker).inspect(|_| heard = Instant::now());
+        match end.unwrap_or_else(|end| end) {
             End::Bye => return 0,
             End::Signal(number) => return 128 + number,
             End::Refused(reason) => {
