@@ -128,7 +128,7 @@ work() {
         end
     fi
     if case_of 'much output'; then
-        echo 'head -c 9000000 /dev/zero | tr "\0" x; head -c 3000000 /dev/zero | tr "\0" y >&2' > list
+        printf '%s\n' 'head -c 9000000 /dev/zero | tr "\0" x; head -c 3000000 /dev/zero | tr "\0" y >&2' > list
         farm --workers "$(worker n1)" list
         same 'status, output and messages' "$status $(tr -d x < "$room/out")$(wc -c < "$room/out") $(tr -d y < "$room/err")$(wc -c < "$room/err")" '0 9000000 3000000'
         end
@@ -189,7 +189,7 @@ time.sleep(100)'
         echo true > list
         ZIGRUNK_TMP='' farm --workers true list
         same 'no shared directory' "$status $(cat "$room/err")" '1 zigrunk-batch: --workers needs ZIGRUNK_TMP, a directory that all machines share'
-        ZIGRUNK_RUNNER=env farm --workers true list
+        ZIGRUNK_RUNNER='env' farm --workers true list
         same 'a runner' "$status $(cat "$room/err")" '1 zigrunk-batch: --workers and ZIGRUNK_RUNNER exclude each other'
         zigrunk-worker < /dev/null 2> "$room/err"
         same 'no invitation' "$? $(cat "$room/err")" '2 zigrunk-worker: neither ZIGRUNK_WORKERS nor standard input says where the batch is: zigrunk-batch --workers starts it'
@@ -204,16 +204,19 @@ time.sleep(100)'
         fi
         printf '%s\n' '__global__ void k(float *x) { x[threadIdx.x] *= 2; }' 'void c(float *x) { k<<<1, 32>>>(x); }' > k.cu
         words='-gencode=arch=compute_80,code=sm_80 -gencode=arch=compute_90,code=[sm_90,compute_90] -c k.cu'
-        for more in '' -lineinfo -rdc=true '-Xcompiler -g' '-MD -MF k.d'; do
+        forms=('' '-lineinfo' '-rdc=true' '-Xcompiler -g' '-MD -MF k.d')
+        for form in "${!forms[@]}"; do
             # shellcheck disable=SC2086 # several words
-            PATH=$real_path nvcc $words $more -o wanted.o
-            [ ! -e k.d ] || mv k.d wanted.d
-            echo "nvcc $words $more -o k.o" > list
-            PATH=$scratch/bin:$real_path ZIGRUNK_EXPLAIN=1 farm --workers "$(worker n1)" --workers "$(worker n2)" list
-            same "status and messages, $more" "$status$(cat "$room/err")" 0
-            same "object, $more" "$(objcopy --strip-unneeded wanted.o a && objcopy --strip-unneeded k.o b && cmp a b 2>&1)" ''
-            [ ! -e wanted.d ] || same "dependencies, $more" "$(sed s/wanted/k/g wanted.d | diff - k.d)" ''
+            PATH=$real_path nvcc $words ${forms[form]} -o wanted$form.o
+            echo "nvcc $words ${forms[form]} -o k$form.o" >> list
         done
+        mv k.d wanted.d
+        PATH=$scratch/bin:$real_path ZIGRUNK_EXPLAIN=1 farm --workers "$(worker n1)" --workers "$(worker n2)" list
+        same 'status and messages' "$status$(cat "$room/err")" 0
+        for form in "${!forms[@]}"; do
+            same "object, ${forms[form]}" "$(objcopy --strip-unneeded "wanted$form.o" a && objcopy --strip-unneeded "k$form.o" b && cmp a b 2>&1)" ''
+        done
+        same dependencies "$(sed s/wanted4/k4/g wanted.d | diff - k.d)" ''
         end
     fi
 }
@@ -235,8 +238,10 @@ runs_at() {
 # signal NAME WHOM SIGNAL: a signal to a worker, or to it and all that it runs, whose ids are $ids then.
 signal() {
     ids=$("$2" "$1")
+    [ -n "$ids" ] || problems+="  $1 doesn't run"$'\n'
+    # Some command may have ended by now.
     # shellcheck disable=SC2086 # several ids
-    [ -n "$ids" ] && kill -s "$3" $ids || problems+="  $1 doesn't run"$'\n'
+    kill -s "$3" $ids 2> /dev/null
 }
 
 deaths() {
@@ -257,7 +262,7 @@ deaths() {
             within 30 said '^zigrunk-batch: n1 has been silent for 2 seconds, so ' || problems+="  messages: $(cat "$room/err")"$'\n'
             within 60 has_objects 6 || problems+='  the others make less'$'\n'
             # shellcheck disable=SC2086 # several ids
-            kill -s CONT $ids
+            kill -s CONT $ids 2> /dev/null
             ended 0
             products
             within 10 none_run || problems+="  processes: $(pgrep -af "$scratch/bin/zigrunk-worker")"$'\n'
