@@ -28,7 +28,7 @@ for tool in gcc cudafe++ ptxas fatbinary; do cp "$CUDA/nvvm/bin/cicc" "$CUDA/bin
 echo library > "$CUDA/nvvm/libdevice/libdevice.10.bc"
 cp "$driver" "$scratch/bin/zigrunk-batch"
 ln -s zigrunk-batch "$scratch/bin/zigrunk-worker"
-proxy=$PWD/tests/cluster/proxy.py
+proxy=$PWD/tests/cluster/proxy.py crowd=$PWD/tests/cluster/crowd.py
 export PATH=$CUDA/bin:$scratch/bin:$PATH
 
 # case_of NAME: begins a case, if it is one of those to run.
@@ -107,7 +107,7 @@ all_of() {
 # end: counts the case. Nothing stays but the user's folders.
 end() {
     within 10 none_run || problems+="  processes: $(pgrep -af "$room|$scratch/bin/zigrunk-worker")"$'\n'
-    same 'files left' "$(cd "$room" && find tmp share -mindepth 2; find work -name '.zigrunk*')" ''
+    same 'files left' "$(cd "$room" && find tmp share -mindepth 2; find work -name '.zigrunk.*')" ''
     end_case
 }
 
@@ -379,6 +379,25 @@ deaths() {
         same 'machines left out' "$(grep -c 'gets no work' "$room/err")" 0
         end
     fi
+    if case_of 'a worker that says it made more than it made'; then
+        sources 2
+        farm --workers "LIES=1 python3 $crowd 1 1 0" --workers "until ls -d ../share/*/*/.zigrunk.*; do sleep 0.05; done > /dev/null 2>&1; $(worker n2)" list
+        same status "$status" 0
+        products
+        said '^zigrunk-batch: s0 gets no work: [a-z+]* ended with status 1 there, and otherwise on another machine$' || problems+="  messages: $(cat "$room/err")"$'\n'
+        end
+    fi
+    if case_of 'a batch that was killed goes on where it was'; then
+        for number in $(seq 40); do echo "int x$number;" > "x$number.c" && echo "cc -MD -c x$number.c -o x$number.o"; done > list
+        start --incremental --workers "$(worker n1)" list
+        within 60 has_objects 9 || problems+='  no objects'$'\n'
+        kill -KILL "$process"
+        { wait "$process"; } 2> /dev/null
+        within 20 none_run || problems+="  processes: $(pgrep -af "$scratch/bin/zigrunk-worker")"$'\n'
+        farm --incremental --progress --workers "$(worker n1)" list
+        same 'status, objects, and less than all commands' "$status $(find . -name '*.o' | wc -l) $(($(grep -o '40 of 40 calls, [0-9]*' "$room/err" | tail -n 1 | cut -d ' ' -f 5) < 36))" '0 40 1'
+        end
+    fi
     if case_of 'two workers of one name'; then
         sources 3
         farm --workers "$(worker n1)" --workers "sleep 0.5; $(worker n1)" list
@@ -413,6 +432,8 @@ without a toolkit|mount --bind ROOM/empty CUDA/bin|it has no CUDA/bin/nvcc
 without the shared directory|mount --bind ROOM/empty ROOM/share|it doesn't see ROOM/share, which ZIGRUNK_TMP says that all machines share
 with an old copy of the shared directory|cp -r ROOM/share ROOM/copy && find ROOM/copy -name shared -exec sh -c "echo old > \$0" {} \; && mount --bind ROOM/copy ROOM/share|its ROOM/share isn't the shared one
 without the sources|mount --bind ROOM/empty ROOM/work|it has no ROOM/work/k[0-9].cu
+without room for temporary files|mount -t tmpfs -o size=16k none ROOM/tmp|there is no room in ROOM/tmp/.*
+that may not write to the shared directory|mount --bind ROOM/share ROOM/share && mount -o remount,bind,ro ROOM/share|there is no room in ROOM/share/.*
 with old sources|mkdir ROOM/old && cp k*.cu ROOM/old && mount --bind ROOM/old ROOM/work && cd ROOM/work|its ROOM/work/k[0-9].cu isn't the batch's
 END
 }

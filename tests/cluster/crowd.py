@@ -4,7 +4,7 @@
     tests/cluster/crowd.py COUNT SLOTS SECONDS
 
 COUNT workers of SLOTS slots each connect to the batch that ZIGRUNK_WORKERS names. A command takes SECONDS, and a dry run none: it prints the recorded one
-of DATA, with the toolkit CUDA, as tests/driver/dry_run.c does.
+of DATA, with the toolkit CUDA, as tests/driver/dry_run.c does. With LIES, the workers say that each file is longer than it is.
 """
 import hashlib
 import heapq
@@ -135,7 +135,7 @@ class Worker:
             file = os.open(product, os.O_WRONLY | os.O_CREAT, 0o666)
             os.write(file, b"made\n")
             os.close(file)
-            sizes += struct.pack("<BQ", 1, 5)
+            sizes += struct.pack("<BQ", 1, 6 if os.environ.get("LIES") else 5)
         self.send(9, struct.pack("<QiBBQ", number, 0, 0, 0, 1000) + sizes + text(b""))
 
 

@@ -3,6 +3,7 @@ use super::fields::Bytes;
 use super::messages::{Evidence, Terms};
 use super::toolkits;
 use crate::host::nanoseconds;
+use crate::products;
 use crate::streams::content_of;
 use std::path::{Path, PathBuf};
 use std::thread::sleep;
@@ -27,7 +28,8 @@ pub fn once_there<T>(look: impl Fn() -> Option<T>) -> Option<T> {
 /// What a worker says, whose folder for temporary files is this one.
 pub fn gathered(terms: &Terms, temporary: &Path) -> Evidence {
     let shared = once_there(|| content_of(&terms.shared).ok());
-    let lack_of_room = crate::products::lack_of_room(temporary);
+    let folders = [Some(temporary), terms.shared.parent()];
+    let lack_of_room = folders.into_iter().flatten().map(products::lack_of_room).find(|lack| !lack.is_empty()).unwrap_or_default();
     Evidence { tools: toolkits::digests_of(&terms.tools), shared: shared.map(Bytes), lack_of_room, time: nanoseconds() }
 }
 
@@ -134,6 +136,8 @@ mod tests {
         assert_eq!(evidence.tools, [toolkits::digest_of(&folder.join("tool")), None]);
         terms.shared = folder.join("missing");
         assert_eq!(gathered(&terms, Path::new("/missing")).lack_of_room, ": there is no room in /missing");
+        terms.shared = "/missing/shared".into();
+        assert_eq!(gathered(&terms, &folder).lack_of_room, ": there is no room in /missing");
         std::fs::remove_dir_all(&folder).unwrap();
     }
 }

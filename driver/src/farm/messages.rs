@@ -46,7 +46,7 @@ pub struct Evidence {
     pub tools: Vec<Option<[u8; 32]>>,
     /// The text of the shared file, if there is one.
     pub shared: Option<Bytes>,
-    /// Why there is no room for temporary files; empty if there is.
+    /// Why it can't write temporary files, or to the shared directory; empty if it can.
     pub lack_of_room: String,
     /// The time in nanoseconds.
     pub time: u64,
