@@ -300,11 +300,10 @@ deaths() {
         end
     fi
     if case_of 'a worker that comes later'; then
-        sources 6
-        PAUSE=100 start --workers "$(worker n1)" --workers "until has_objects=\$(ls *.o 2> /dev/null) && [ -n \"\$has_objects\" ]; do sleep 0.05; done; $(worker n2)" list
-        within 60 runs_at n2 || problems+='  n2 gets no commands'$'\n'
-        ended 0
-        products
+        wait_for='echo >> began; until [ -e go ]; do sleep 0.05; done'
+        printf '%s\n' "$wait_for" "$wait_for" 'touch go' > list
+        farm --workers "$(worker n1)" --workers "until [ \"\$(wc -l < began)\" = 2 ]; do sleep 0.05; done 2> /dev/null; $(worker n2)" list
+        same 'status and messages' "$status$(cat "$room/err")" 0
         end
     fi
     if case_of 'all workers are gone'; then
