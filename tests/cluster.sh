@@ -74,10 +74,10 @@ calls() {
     for number in $(seq "$3"); do echo "$1 $targets -c k$number.cu -o k$number.$2"; done
 }
 
-# batch NODES LIST [NAME=VALUE..]: the batch form in an allocation, each command as a step.
+# batch NODES LIST [NAME=VALUE..]: a batch in an allocation, by workers.
 batch() {
-    salloc -Q --no-kill -p "$partition" -N"$1" -n"$1" env STEP_WRAPPER="$examples/attempts.bash" \
-        ZIGRUNK_RUNNER="$examples/slurm/step.sh" ZIGRUNK_JOBS=$(($1 * 2)) "${@:3}" zigrunk-batch "$2" 2> err > out
+    workers "$1"
+    salloc -Q --no-kill -p "$partition" -N"$1" -n"$1" env "${@:3}" zigrunk-batch "${words[@]}" "$2" 2> err > out
 }
 
 # array LIST: an array job. sbatch --wait looks for the end only after 10 s and 42 s, so squeue says when that was, and array_statuses waits.
@@ -131,7 +131,7 @@ END
     toolkit=$(nvcc --dryrun -c k1.cu 2>&1 | sed -n 's/^#\$ _HERE_=//p')
     toolkit=$(cd "$toolkit/.." && pwd -P)
     # shellcheck disable=SC2016 # the script expands them
-    printf '%s\n' '#!/bin/sh' 'sleep 0.3' 'while [ "$#" -gt 1 ]; do [ "$1" != -o ] || : > "$2"; shift; done' > nap
+    printf '%s\n' '#!/bin/sh' 'sleep 0.3' 'while [ "$#" -gt 0 ]; do' 'case $1 in -o | --gen_c_file_name) : > "$2" ;; --embedded-fatbin=*) : > "${1#*=}" ;; esac' 'shift; done' > nap
     chmod +x nap
 }
 
@@ -194,7 +194,7 @@ cancelled() {
 # Commands that only sleep show what Slurm costs.
 sleeping_batch() {
     calls nvcc nap "$sleeping" > by_batch
-    timed batch 3 by_batch STEP_WRAPPER="$PWD/nap" ZIGRUNK_JOBS="${NAP_JOBS:-9}"
+    timed batch 3 by_batch ZIGRUNK_LAUNCHER="$PWD/nap" ZIGRUNK_LAUNCHED='-E cudafe++ cicc ptxas fatbinary -c'
     same 'status of sleeping commands' "$status" 0
     echo "$((sleeping * 13)) commands of 0.3 s by the batch form on three nodes: $seconds s, ideal $((sleeping * 13 / 10)) s"
 }
@@ -276,8 +276,8 @@ one_by_one() {
 # shellcheck disable=SC2046 # several names
 side_by_side() {
     beside commands 1 $(chosen in_preprocessor in_cicc in_ptxas two_nodes)
-    beside nodes 4 $(chosen in_last_compile no_toolkit other_toolkit full_disk tries_run_out)
-    beside others 7 $(chosen compile_error cancelled frozen)
+    beside nodes 4 $(chosen in_last_compile no_toolkit other_toolkit full_disk no_share tries_run_out)
+    beside others 7 $(chosen compile_error cancelled frozen killed_worker killed_stepd blackhole cancelled_step)
     beside lot 10 $(chosen drawn_by_lot)
     beside controller 29 $(chosen controller)
     beside ssh 22 $(chosen by_ssh by_files)
@@ -287,6 +287,7 @@ side_by_side() {
 
 all_parts() {
     start_nodes 31 || skip_all cluster 'no network namespaces here'
+    export ZIGRUNK_HOST=$address
     start_slurm 0 || skip_all cluster 'Slurm does not start'
     stand_in
     cd "$scratch/work" && sources || exit 1

@@ -93,7 +93,7 @@ within() {
 }
 none_run() { ! pgrep -f "$room|$scratch/bin/zigrunk-worker" > /dev/null; }
 said() { grep -q "$1" "$room/err"; }
-has_objects() { [ "$(find . -maxdepth 1 -name '*.o' | wc -l)" -ge "$1" ]; }
+has_objects() { [ "$(find . -maxdepth 1 -name '*.o' 2> /dev/null | wc -l)" -ge "$1" ]; }
 
 # node NAME: the process of a worker. It is the oldest of that name: a guard is a younger one.
 node() { pgrep -o -f "^$scratch/bin/zigrunk-worker --name $1 "; }
@@ -225,7 +225,7 @@ time.sleep(100)'
 # until n1 runs commands.
 two_nodes() {
     sources 6
-    PAUSE=300 start --give-up 2 --wait 5 ${options+"${options[@]}"} --workers "$(worker n1 "$@")" --workers "$(worker n2)" list
+    PAUSE=300 start --give-up 3 --wait 5 ${options+"${options[@]}"} --workers "$(worker n1 "$@")" --workers "$(worker n2)" list
     within 30 runs_at n1 || problems+='  n1 gets no commands'$'\n'
 }
 
@@ -253,13 +253,13 @@ deaths() {
             products
             # A worker that comes later to this machine would remove it.
             [ "$whom" = node ] || rm -rf "$room/tmp/zigrunk-$user"/worker*
-            said '^zigrunk-batch: n1 has gone, so [0-9]* commands\? of it run elsewhere$' || problems+="  messages: $(cat "$room/err")"$'\n'
+            said '^zigrunk-batch: n1 has \(gone\|been silent for 3 seconds\), so [0-9]* commands\? of it run elsewhere$' || problems+="  messages: $(cat "$room/err")"$'\n'
             end
         fi
         if case_of "a stopped worker that goes on once all is made, $whom"; then
             two_nodes
             signal n1 "$whom" STOP
-            within 30 said '^zigrunk-batch: n1 has been silent for 2 seconds, so ' || problems+="  messages: $(cat "$room/err")"$'\n'
+            within 30 said '^zigrunk-batch: n1 has been silent for 3 seconds, so ' || problems+="  messages: $(cat "$room/err")"$'\n'
             within 60 has_objects 6 || problems+='  the others make less'$'\n'
             # shellcheck disable=SC2086 # several ids
             kill -s CONT $ids 2> /dev/null
@@ -290,7 +290,7 @@ deaths() {
     fi
     if case_of 'a worker that comes back gets work again'; then
         for number in $(seq 40); do echo "sleep 0.3; echo \$PPID >> ran"; done > list
-        start --give-up 2 --workers "$(worker n1 "$proxy" ../hole)" list
+        start --give-up 3 --workers "$(worker n1 "$proxy" ../hole)" list
         within 30 runs_at n1 || problems+='  n1 gets no commands'$'\n'
         touch "$room/hole"
         within 30 said '^zigrunk-batch: n1 has been silent' || problems+="  messages: $(cat "$room/err")"$'\n'

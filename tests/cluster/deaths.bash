@@ -14,7 +14,8 @@ stand_in() {
     cd "$scratch/stand_in" || return
     for number in $(seq 24); do echo "int a$number;" > "k$number.cu"; done
     calls_of_two right 24 > list
-    PATH=$tools:$PATH zigrunk-batch list > out 2>&1
+    # The stand-ins read their files at once.
+    ZIGRUNK_EARLY=0 ZIGRUNK_LATE=0 PATH=$tools:$PATH zigrunk-batch list > out 2>&1
     same 'status on this machine alone' "$?$(cat out)" 0
     cd "$OLDPWD" || return
 }
@@ -25,15 +26,20 @@ calls_of_two() {
     for number in $(seq "$2"); do echo "nvcc $targets_of_two -c k$number.cu -o k$number.$1"; done
 }
 
-# begin SUFFIX NODES COUNT [NAME=VALUE..]: starts a build of so many sources in the background, with a job of so many nodes of the lane.
+# workers NODES: the words of the batch that start a worker on each node of the job.
+workers() {
+    words=(--give-up 5 --workers "srun -Q -K0 --no-kill -N$1 --ntasks-per-node=1 zigrunk-worker")
+}
+
+# begin SUFFIX NODES COUNT [NAME=VALUE..]: starts a build of so many sources in the background, by workers on so many nodes of the lane.
 begin() {
     suffix=$1 count=$3
     cd "$scratch/stand_in" || return
     : > "$TOOL_LOG"
-    : > repeats
     calls_of_two "$1" "$3" > list
+    workers "$2"
     PATH=$tools:$PATH TOOL_SECONDS=${TOOL_SECONDS:-0.2} salloc -Q --no-kill -p "$partition" -N"$2" -n"$2" \
-        env ZIGRUNK_RUNNER="$examples/slurm/step.sh" STEP_LOG="$PWD/repeats" ZIGRUNK_JOBS=$(($2 * 2)) "${@:4}" zigrunk-batch list > out 2> err &
+        env "${@:4}" zigrunk-batch "${words[@]}" list > out 2> err &
     job=$!
 }
 
@@ -56,11 +62,13 @@ finish() {
     wait "$job"
     same "status $1" $? 0
     same "objects $1" "$(wrong)" ''
-    same "messages $1" "$(grep -v -e '^salloc: error: Node failure' ${2:+-e "$2"} out err)" ''
+    same "messages $1" "$(grep -h -v -e '^salloc: error: Node failure' -e "$lost" -e '^zigrunk-batch: what starts workers' -e '^srun: ' -e '^slurmstepd: ' -e '^$' ${2:+-e "$2"} out err)" ''
     same "calls that nvcc made $1" "$(grep -c ^whole "$TOOL_LOG")" 0
-    echo "$1: steps repeated: $(wc -l < repeats)"
+    echo "$1: workers lost: $(grep -c "$lost" err)"
     cd "$OLDPWD" || return
 }
+
+lost='^zigrunk-batch: n[0-9]* has \(gone\|come again\|been silent for 5 seconds\), so [0-9]* commands\? of it run elsewhere$'
 
 # back NUMBER..: these nodes are on again.
 back() {
@@ -75,7 +83,7 @@ vanishes() {
     moment 1 "^start n$second $2"
     power_off "$second"
     finish "with a node that vanished in $1"
-    same "a step that was repeated, $1" "$([ -s "$scratch/stand_in/repeats" ] && echo yes)" yes
+    same "a worker that was lost, $1" "$(grep -q "$lost" "$scratch/stand_in/err" && echo yes)" yes
     back "$second"
 }
 
@@ -142,25 +150,25 @@ prepared() {
     begin "$2" 3 6 "${@:4}"
     finish "with a node with $2" "$3"
     same "$2: the node's commands" "$(grep -c "^end n$second" "$TOOL_LOG")" 0
-    same "$2: messages that name the node" "$(grep -c "left out: n$second, .*" "$scratch/stand_in/err" | sed 's/^[1-9][0-9]*$/some/')" some
+    same "$2: messages that name the node" "$(grep -c "^zigrunk-batch: n$second gets no work: " "$scratch/stand_in/err" | sed 's/^[1-9][0-9]*$/some/')" some
     end_processes "$second"
     start_node "$second"
     wait_idle
 }
 
 no_toolkit() {
-    prepared "mount -t tmpfs none '$tools'" 'no_toolkit' "step.sh: left out: n$second, "
+    prepared "mount -t tmpfs none '$tools'" 'no_toolkit' "n$second gets no work: "
 }
 
 other_toolkit() {
     cp "$tools/tool.py" "$scratch/other.py" && echo '# of another version' >> "$scratch/other.py"
-    prepared "mount --bind '$scratch/other.py' '$tools/tool.py'" 'other_toolkit' "step.sh: left out: n$second, "
+    prepared "mount --bind '$scratch/other.py' '$tools/tool.py'" 'other_toolkit' "n$second gets no work: "
 }
 
 full_disk() {
     mkdir "$scratch/disk"
     prepared "mount -t tmpfs -o size=4k none '$scratch/disk' && head -c 8192 /dev/zero 2> /dev/null > '$scratch/disk/full' || :" \
-        'full_disk' "step.sh: left out: n$second, " TOOL_DISK="$scratch/disk"
+        'full_disk' "n$second gets no work: " TOOL_DISK="$scratch/disk"
 }
 
 # tries_run_out: no node can run the command. The messages name the nodes.
@@ -171,6 +179,48 @@ tries_run_out() {
     same 'nodes that could not' "$(sed -n 's/^step.sh: nothing failed on//p' err | tr ' ' '\n' | sort | tr '\n' ' ')" \
         "$(printf '%s\n' '' "n$first" "n$second" | sort | tr '\n' ' ')"
     cd "$OLDPWD" || return
+}
+
+# What a worker's machine can meet that Slurm doesn't notice: a killed worker, a killed slurmstepd, a step that is cancelled, a network that is gone for
+# 15 seconds, and a machine without the directory that all share.
+killed_worker() {
+    begin killed 3 6
+    moment 1 "^start n$second cicc"
+    kill -9 "$(processes_of "$second" | xargs -r ps -o pid=,args= -p | awk '/zigrunk-worker/ { print $1; exit }')"
+    finish 'with a killed worker'
+}
+
+killed_stepd() {
+    begin stepd 3 6
+    moment 1 "^start n$second cicc"
+    # shellcheck disable=SC2046 # several ids
+    kill -9 $(processes_of "$second" | xargs -r ps -o pid=,args= -p | awk '/slurmstepd/ { print $1 }')
+    finish 'with a killed slurmstepd'
+    wait_idle
+}
+
+cancelled_step() {
+    begin cancelled 3 6
+    moment 1 "^start n$second cicc"
+    scancel "$(squeue -h -p "$partition" -s -o %i | grep -v -e extern -e interactive | head -n 1)"
+    wait "$job"
+    same 'a cancelled step: status, if all of it' "$(($? != 0)) $(grep -c '^zigrunk-batch: there is no worker$' err)" '1 1'
+    cd "$OLDPWD" || return
+    wait_idle
+}
+
+blackhole() {
+    begin blackhole 3 6
+    moment 1 "^start n$second cicc"
+    link "$second" down
+    sleep 15
+    link "$second" up
+    finish 'with a network that was gone for 15 seconds'
+    wait_idle
+}
+
+no_share() {
+    prepared "mount -t tmpfs none '$scratch/tmp'" 'no_share' "n$second gets no work: it doesn't see $scratch/tmp"
 }
 
 # Deaths at moments drawn from SEED: in each of three builds ten of twelve nodes vanish one after the other, with old objects there before.
