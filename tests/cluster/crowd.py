@@ -119,6 +119,7 @@ class Worker:
         fields.texts()
         fields.number("B")
         fields.text()
+        fields.number("B")
         tools, shared = fields.texts(), fields.text()
         digests = b"".join(b"\1" + hashlib.blake2b(Path(os.fsdecode(tool)).read_bytes(), digest_size=32).digest() for tool in tools)
         word = Path(os.fsdecode(shared)).read_bytes()

@@ -29,8 +29,10 @@ pub struct Terms {
     pub environment: Vec<Bytes>,
     /// Whether commands see a terminal.
     pub has_terminal: bool,
-    /// The folder for temporary files. A worker has one of its own below.
+    /// The folder for temporary files.
     pub temporary: PathBuf,
+    /// Whether commands get one that goes with the worker in place of it. A cache may start a server, whose folder has to stay.
+    pub has_own_temporary: bool,
     /// Files whose contents have to be those that they have where the batch runs.
     pub tools: Vec<PathBuf>,
     /// A file with a random text, in the directory that all machines share.
@@ -148,7 +150,7 @@ macro_rules! records {
 }
 records! {
     Introduction { name, process, slots }
-    Terms { environment, has_terminal, temporary, tools, shared, patience }
+    Terms { environment, has_terminal, temporary, has_own_temporary, tools, shared, patience }
     Evidence { tools, shared, lack_of_room, time }
     Witness { path, size, changed }
     Order { words, folder, variables, tool, folders, witnesses, products }
@@ -270,6 +272,7 @@ mod tests {
                 environment: vec![Bytes(b"A=\xff".to_vec()), Bytes::default()],
                 has_terminal: true,
                 temporary: "/t".into(),
+                has_own_temporary: true,
                 tools: vec!["/b/nvcc".into()],
                 shared: "/s/file".into(),
                 patience: 6000,

@@ -148,6 +148,7 @@ impl Farm {
             temporary: crate::places::absolute(&settings.temporary, &cwd),
             tools: tools.iter().map(|(path, _)| path.clone()).collect(),
             shared,
+            has_own_temporary: settings.launcher.is_empty(),
             // A worker ends its commands before the batch gives it up.
             patience: u64::try_from(conditions.patience.as_millis() * 6 / 10).unwrap_or(u64::MAX),
         };
@@ -301,7 +302,13 @@ impl Farm {
 
     /// Takes all who connect.
     fn accept(&mut self) {
-        while let Ok((stream, _)) = self.listener.accept() {
+        loop {
+            let stream = match self.listener.accept() {
+                Ok((stream, _)) => stream,
+                Err(error) if error.kind() == io::ErrorKind::WouldBlock => return,
+                // There may be no file for it, until a worker goes.
+                Err(_) => return std::thread::sleep(Duration::from_millis(10)),
+            };
             let strangers = self.members.iter().filter(|member| !member.is_known()).count();
             if let Some(oldest) = self.members.iter().position(|member| !member.is_known()).filter(|_| strangers >= MOST_STRANGERS) {
                 self.members.remove(oldest);
@@ -644,7 +651,8 @@ impl Machine for Farm {
             if let Some(event) = self.events.pop_front() {
                 return event;
             }
-            if self.wants && self.waiting.is_empty() && self.free_member(&[]).is_some() {
+            // Attempts that still wait can't use the slots that are free.
+            if self.wants && self.free_member(&[]).is_some() {
                 return Event::Slot;
             }
             self.wait(if self.late.is_empty() { LOOK } else { LOOK / 5 });

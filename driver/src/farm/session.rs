@@ -169,8 +169,8 @@ impl Session {
         let place = (0..=self.running.len()).find(|place| !self.running.contains_key(place)).unwrap_or_default();
         let own = self.folder.path().to_string_lossy().into_owned();
         let given = |(name, value): &(String, Option<String>)| {
-            let is_shared = name == "TMPDIR" && value.as_ref().is_some_and(|value| Path::new(value) == self.terms.temporary);
-            (name.clone(), if is_shared { Some(own.clone()) } else { value.clone() })
+            let is_usual = name == "TMPDIR" && value.as_ref().is_some_and(|value| Path::new(value) == self.terms.temporary);
+            (name.clone(), if is_usual && self.terms.has_own_temporary { Some(own.clone()) } else { value.clone() })
         };
         let variables = order.variables.iter().map(given).collect();
         let job = Job { words: order.words.clone(), folder: order.folder.clone(), variables, shares_slot: false };
