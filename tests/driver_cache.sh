@@ -5,7 +5,7 @@
 #
 #   tests/driver_cache.sh [DRIVER]    DRIVER is zigrunk-driver in a workspace's folder; else the one that `make rust` leaves
 #
-# ONLY=TEXT runs the cases whose names have this text. PARTS="stand_ins nvcc" runs these parts.
+# ONLY=TEXT runs the cases whose names have this text. PARTS="stand_ins nvcc whole" runs these parts.
 # shellcheck disable=SC2016 # the stand-ins expand what cases give them
 cd "$(dirname "$0")/.." || exit 1
 . tests/lib.sh
@@ -554,12 +554,188 @@ real_calls() {
     fi
 }
 
+# settle: waits until nothing here has only just been changed. What is newer may be changed again while it is read, and isn't kept.
+settle() {
+    while [ -n "$(find . "$room"/bin* -newerct '0.2 seconds ago' -print -quit 2> /dev/null)" ]; do sleep 0.05; done
+}
+
+# whole WANTED WORD..: makes a call with the cache, once and without. A problem, unless the cache has served the whole call ('whole') or not (''),
+# and all that the call makes and says is the same.
+whole() {
+    local wanted=$1 settings=()
+    shift
+    while [[ ${1-} == *=* && $1 != -* ]]; do settings+=("$1") && shift; done
+    call "${settings[@]}" ZIGRUNK_CACHE= ZIGRUNK_LOG= "$@"
+    rm -rf "$room/plain" && mkdir "$room/plain" && cp "$room/err" "$room/plain.err"
+    for product in k.o k.d; do [ ! -f $product ] || mv $product "$room/plain"; done
+    settle
+    : > "$room/calls"
+    call "${settings[@]}" "$@"
+    same "what served $*" "$([ "$(commands true)" = nvcc ] && echo whole)" "$wanted"
+    for product in k.o k.d; do [ ! -f "$room/plain/$product" ] || same "$product of $*" "$(cmp $product "$room/plain/$product" 2>&1)" ''; done
+    same "status and messages of $*" "$status $(cat "$room/err")" "0 $(cat "$room/plain.err")"
+}
+
+# twice WORD..: makes a call that is kept, and again.
+twice() { whole '' "$@" && whole whole "$@"; }
+
+whole_calls() {
+    command -v nvcc > /dev/null || { skip 'whole calls' 'nvcc is not on the path' && return; }
+    local usual=(-arch=sm_80 -Iearly -Iinc -c k.cu -o k.o)
+    if case_of 'whole: an unchanged call'; then
+        project
+        twice -MD -MF k.d "${usual[@]}"
+        same 'whole calls in the statistics' "$("$scratch/bin/zigrunk-cache" stats | grep '^whole')" 'whole calls: 1'
+        whole '' ZIGRUNK_CALLS=0 -MD -MF k.d "${usual[@]}"
+        (umask 077 && rm k.o && call -MD -MF k.d "${usual[@]}")
+        same 'modes with umask 077' "$(stat -c %a k.o)" 600
+        touch k.cu inc/size.h
+        whole whole -MD -MF k.d "${usual[@]}"
+        edit_entries 'del data[len(data) // 2:]'
+        twice -MD -MF k.d "${usual[@]}"
+        end
+    fi
+    if case_of 'whole: messages and failures'; then
+        project
+        echo 'int warns() { int never; return 0; }' >> k.cu
+        twice "${usual[@]}"
+        same 'it warns' "$(grep -q never "$room/err" && echo told)" told
+        echo 'error' >> k.cu
+        for _ in 1 2; do
+            call "${usual[@]}"
+            same 'a failing call' "$status $(grep -q error "$room/err" && echo told)" '2 told'
+        done
+        end
+    fi
+    if case_of 'whole: contents'; then
+        project
+        ln -s inc link
+        mkdir other && echo '#define SIZE 99' > other/size.h
+        local words=(-arch=sm_80 -Ilink -c k.cu -o k.o)
+        twice "${words[@]}"
+        for file in k.cu inc/size.h; do
+            touch -r $file "$room/time"
+            sed -i 's/128/256/; s/= 4/= 5/' $file && touch -r "$room/time" $file
+            twice "${words[@]}"
+        done
+        ln -sfn other link
+        twice "${words[@]}"
+        ln -sfn inc link
+        whole whole "${words[@]}"
+        sed -i 's/256/128/; s/= 5/= 4/' k.cu inc/size.h
+        call "${words[@]}"
+        rm inc/size.h
+        call "${words[@]}"
+        same 'without a header' "$([ "$status" != 0 ] && grep -q size.h "$room/err" && echo told)" told
+        end
+    fi
+    if case_of 'whole: a file that appears'; then
+        project
+        printf '%s\n' '#if __has_include("asked.h")' '#include "asked.h"' '#endif' '#define NAME "inc.h"' '#include NAME' >> k.cu
+        echo '// nothing' > inc/inc.h
+        twice "${usual[@]}"
+        for file in early/size.h size.h asked.h early/inc.h inc.h; do
+            [[ $file != early/* ]] || mkdir early
+            printf '%s\n' '#undef SIZE' '#define SIZE 512' > $file
+            whole '' "${usual[@]}"
+            rm $file && rm -rf early
+        done
+        mkdir early
+        whole '' "${usual[@]}"
+        whole whole "${usual[@]}"
+        echo > early/other.h
+        whole whole "${usual[@]}"
+        echo '#define SIZE 512' > early/size.h
+        whole '' "${usual[@]}"
+        end
+    fi
+    if case_of 'whole: what is never kept'; then
+        project
+        echo data > data
+        for line in 'const char* d = __DATE__;' 'const char* t = __TIME__;' 'const char* s = __TIMESTAMP__;' 'asm(".globl m\nm: .incbin \"data\"\n");'; do
+            echo "$line" > k.cu
+            call "${usual[@]}"
+            settle
+            call "${usual[@]}"
+            same "served with $line" "$status $([ "$(commands true)" = nvcc ] && echo whole)" '0 '
+        done
+        echo -O2 > words
+        echo 'int a;' > k.cu
+        for words in '--options-file words' '-Xcompiler -MD' '-Xcompiler -imacros,k.h' '-Xcompiler -H'; do
+            echo > k.h
+            # shellcheck disable=SC2086 # several words
+            { call "${usual[@]}" $words && settle && call "${usual[@]}" $words; }
+            same "served with $words" "$status $([ "$(commands true)" = nvcc ] && echo whole)" '0 '
+        done
+        end
+    fi
+    if case_of 'whole: tools and variables'; then
+        project
+        mkdir "$room/bin.1" "$room/bin.2" "$room/more" && echo '#define MORE' > "$room/more/more.h"
+        printf '#!/bin/sh\nexec %s "$@"\n' "$(command -v nvcc)" > "$room/bin.1/nvcc" && chmod +x "$room/bin.1/nvcc"
+        local path=$room/bin.2:$room/bin.1:$PATH
+        printf '%s\n' '#if __has_include(<more.h>)' '#include <more.h>' '#endif' >> k.cu
+        twice PATH="$path" "${usual[@]}"
+        whole whole PATH="$path" TERM=other HOME=/ "${usual[@]}"
+        twice PATH="$path" CPATH="$room/more" "${usual[@]}"
+        whole '' PATH="$path" ANY=value "${usual[@]}"
+        printf '#!/bin/sh\nexec %s "$@"\n' "$(command -v as)" > "$room/bin.2/as" && chmod +x "$room/bin.2/as"
+        whole '' PATH="$path" "${usual[@]}"
+        rm "$room/bin.2/as"
+        whole whole PATH="$path" "${usual[@]}"
+        printf '#!/bin/sh\nexec %s -DOTHER "$@"\n' "$(command -v gcc)" > "$room/bin.2/gcc" && chmod +x "$room/bin.2/gcc"
+        whole '' PATH="$path" "${usual[@]}"
+        rm "$room/bin.2/gcc"
+        printf '#!/bin/sh\nexec %s -DX "$@"\n' "$(command -v nvcc)" > "$room/bin.1/nvcc"
+        whole '' PATH="$path" "${usual[@]}"
+        whole '' PATH="$path" "${usual[@]}"
+        end
+    fi
+    if case_of 'whole: folders'; then
+        project
+        source=$PWD
+        local words=(-arch=sm_80 -I"$source/inc" -c "$source/k.cu" -o k.o)
+        twice "${words[@]}"
+        mkdir "$room/build" && cp cuda_runtime.h "$room/build" && cd "$room/build" || return
+        whole '' "${words[@]}"
+        rm cuda_runtime.h
+        cd "$source" && rm cuda_runtime.h && twice "${words[@]}"
+        cd "$room/build" || return
+        whole whole "${words[@]}"
+        whole '' "${words[@]}" -g
+        cd "$source" && whole '' "${words[@]}" -g
+        cp -r . "$room/other" && cd "$room/other" || return
+        for words in '-Iinc -c k.cu' "-I$PWD/inc -c $PWD/k.cu"; do
+            # shellcheck disable=SC2086 # several words
+            whole '' -arch=sm_80 $words -o k.o
+        done
+        cd "$source" || return
+        end
+    fi
+    if case_of 'whole: odd products'; then
+        project
+        twice "${usual[@]}"
+        cp k.o first.o
+        echo target > target && ln -sf target k.o
+        call "${usual[@]}"
+        same 'the target of a link' "$(cat target)" target
+        rm k.o && ln first.o k.o && cp first.o copy.o
+        call "${usual[@]}"
+        same 'a file with two names' "$(stat -c %h first.o) $(cmp first.o copy.o 2>&1)" '1 '
+        rm k.o && mkdir k.o
+        call "${usual[@]}"
+        same 'a folder' "$([ "$status" != 0 ] && [ -d k.o ] && echo kept)" kept
+        end
+    fi
+}
+
 toolkit_path=$PATH
-for part in ${PARTS:-stand_ins nvcc}; do
+for part in ${PARTS:-stand_ins nvcc whole}; do
     case $part in
     # The stand-in for fatbinary writes no file for an assembler.
-    stand_ins) export ZIGRUNK_LATE=0 && stand_ins ;;
-    nvcc) unset ZIGRUNK_LATE && PATH=$toolkit_path && real_calls ;;
+    stand_ins) export ZIGRUNK_LATE=0 ZIGRUNK_CALLS=0 && stand_ins ;;
+    nvcc) unset ZIGRUNK_LATE && export ZIGRUNK_CALLS=0 && PATH=$toolkit_path && real_calls ;;
+    whole) unset ZIGRUNK_LATE ZIGRUNK_CALLS && PATH=$toolkit_path && whole_calls ;;
     esac
 done
 summary

@@ -1,5 +1,6 @@
 //! The dependency file of a call, made from what its preprocessors have written.
 use crate::cache::Session;
+use crate::cache::calls::Product;
 use crate::machine::Ended;
 use crate::planner::{PlannedCommand, Words, list_of};
 use crate::run::{Done, Step, Watch};
@@ -29,6 +30,8 @@ pub struct RuleMaker<'a, 'b> {
     pub voice: Voice<'b>,
     /// The driver's own cache, if the call uses it.
     pub cache: Option<Session<'a>>,
+    /// The dependency file that it has made.
+    pub made: Option<Product>,
 }
 
 /// The words of commands.
@@ -50,18 +53,21 @@ impl RuleMaker<'_, '_> {
         rule_text(Global, rule, &self.written()?).ok()?
     }
 
-    fn try_make(&self) -> Option<()> {
+    fn try_make(&self) -> Option<Product> {
         let command = self.asked?;
         let words = list_of(&command.words).ok()?;
         let rule = rule_asked(&words)?;
         let text = self.text_of(&rule)?;
-        write_all(&File::create(Path::new(&command.folder).join(rule.file)).ok()?, text.as_slice()).ok()
+        let path = Path::new(&command.folder).join(rule.file);
+        write_all(&File::create(&path).ok()?, text.as_slice()).ok()?;
+        Some(Product { path, is_new: false, text: text.as_slice().to_vec() })
     }
 }
 
 impl Watch for RuleMaker<'_, '_> {
     fn make_rule(&mut self) -> bool {
-        self.try_make().is_some()
+        self.made = self.try_make();
+        self.made.is_some()
     }
 
     fn refused(&mut self, tool: &str) {
@@ -129,7 +135,7 @@ mod tests {
             let words = Words { folder: self.0.to_str().unwrap().into(), words: asked.split(' ').map(String::from).collect() };
             let mut nobody = |_: bool, _: &[u8]| ();
             let voice = Voice::new(&[], Habits::default(), &mut nobody);
-            let mut maker = RuleMaker { commands, asked: Some(&words), launcher: "", refusals: &Refusals::default(), voice, cache: None };
+            let mut maker = RuleMaker { commands, asked: Some(&words), launcher: "", refusals: &Refusals::default(), voice, cache: None, made: None };
             maker.make_rule().then(|| fs::read_to_string(self.0.join("k.d")).unwrap())
         }
     }

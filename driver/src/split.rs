@@ -1,4 +1,5 @@
 //! A call that is split, from its line to what its commands said. A call alone and one of a batch take these steps.
+use crate::cache::whole::Finished;
 use crate::cache::{self, Session};
 use crate::caches::{self, Counts};
 use crate::dry_runs::{self, DryRuns, Failed};
@@ -19,6 +20,7 @@ use dry_run_pairs::runs_devices_first;
 use std::env;
 use std::fs;
 use std::path::Path;
+use std::time::SystemTime;
 
 /// Why a call doesn't come to its end here.
 #[derive(Clone, PartialEq, Eq, Debug)]
@@ -177,7 +179,7 @@ impl Call<'_> {
     ///
     /// Why nvcc makes the call, or the signal that ends it.
     pub fn run<M: Machine>(&self, machine: &mut M, outline: &Outline, say: &mut Say<'_>) -> Result<Outcome, Stop> {
-        let (line, tmp) = (self.line, self.tmp()?);
+        let (line, tmp, begun) = (self.line, self.tmp()?, SystemTime::now());
         machine.plans(true);
         let asked = dry_runs::Line { nvcc: &line.nvcc, words: &with_flags(&line.words), outline, tmp, cwd: &line.cwd };
         let make_own = || fs::create_dir(Path::new(tmp).join(tasks::OWN)).map_err(|_| "no room for temporary files".into());
@@ -187,10 +189,16 @@ impl Call<'_> {
         let Planned { commands, tasks, is_late, habits } = self.planned(outline, &dry_runs, store.is_some())?;
         let launcher = self.settings.launcher.first().map(String::as_str).unwrap_or_default();
         let before = caches::counts(machine, self.settings)?;
+        let mut said = Said::new();
+        let mut say = |is_error: bool, text: &[u8]| {
+            said.extend(store.is_some().then(|| (is_error, text.to_vec())));
+            say(is_error, text);
+        };
         say(true, &dry_runs.messages);
-        let voice = Voice::new(&tasks, habits, say);
+        let voice = Voice::new(&tasks, habits, &mut say);
         let cache = store.as_ref().map(|store| Session::new(store, tmp, &commands, &tasks));
-        let mut maker = RuleMaker { commands: &commands, asked: outline.dependencies.as_ref(), launcher, refusals: self.refusals, voice, cache };
+        let mut maker =
+            RuleMaker { commands: &commands, asked: outline.dependencies.as_ref(), launcher, refusals: self.refusals, voice, cache, made: None };
         let mut done = run::run(machine, &mut maker, &tasks, outline.jobs.unwrap_or(self.at_once))?;
         if let Some(cache) = &maker.cache {
             done.iter_mut().enumerate().for_each(|(task, done)| done.hit = cache.had(task));
@@ -207,12 +215,16 @@ impl Call<'_> {
             name_stubs(tmp, folder);
         }
         let counted = before.zip(caches::counts(machine, self.settings)?).map(<[Counts; 2]>::from);
-        let commands = if self.settings.log.is_some() { log::commands(&tasks, &done) } else { Vec::new() };
-        let End { status, is_silent } = maker.voice.end(&done);
+        let logged = if self.settings.log.is_some() { log::commands(&tasks, &done) } else { Vec::new() };
+        let RuleMaker { voice, mut cache, made, .. } = maker;
+        let End { status, is_silent } = voice.end(&done);
         if status != 0 && is_silent {
             say(true, self.words_of_silence(status).as_bytes());
         }
-        Ok(Outcome { status, commands, counted })
+        if let Some(cache) = cache.as_mut().filter(|_| status == 0) {
+            cache.keep_call(&Finished { line, commands: &commands, tasks: &tasks, rule: made, said, begun });
+        }
+        Ok(Outcome { status, commands: logged, counted })
     }
 
     /// What to say of a call of which a command failed without a message.

@@ -8,27 +8,32 @@ const NAME: &str = "counts-";
 /// A file that is longer becomes one line.
 const LONGEST: u64 = 1 << 20;
 
-/// Commands that the cache had, and those that it was asked for and hadn't.
+/// Commands that the cache had, those that it was asked for and hadn't, and calls that it had as a whole.
 #[derive(Clone, Copy, PartialEq, Eq, Debug, Default)]
 pub struct Counts {
     pub hits: u64,
     pub misses: u64,
+    pub calls: u64,
 }
 
 impl Counts {
     fn plus(self, other: Counts) -> Counts {
-        Counts { hits: self.hits + other.hits, misses: self.misses + other.misses }
+        Counts { hits: self.hits + other.hits, misses: self.misses + other.misses, calls: self.calls + other.calls }
     }
 
     fn line(self) -> String {
-        format!("{} {}\n", self.hits, self.misses)
+        format!("{} {} {}\n", self.hits, self.misses, self.calls)
     }
 }
 
-/// The counts of a line; none if it has another form.
+/// The counts of a line; none if it has another form. Lines without a third number are of earlier versions.
 fn counts_in(line: &str) -> Counts {
-    let numbers = line.split_once(' ').map(|(hits, misses)| (hits.parse(), misses.parse()));
-    if let Some((Ok(hits), Ok(misses))) = numbers { Counts { hits, misses } } else { Counts::default() }
+    let numbers: Option<Vec<u64>> = line.split(' ').map(|number| number.parse().ok()).collect();
+    match numbers.as_deref() {
+        Some(&[hits, misses]) => Counts { hits, misses, calls: 0 },
+        Some(&[hits, misses, calls]) => Counts { hits, misses, calls },
+        _ => Counts::default(),
+    }
 }
 
 fn file(folder: &Path) -> PathBuf {
@@ -77,7 +82,7 @@ mod tests {
     #[test]
     fn counts_add_up() {
         let folder = std::env::temp_dir().join(format!("counts-{}", std::process::id()));
-        let counts = |hits, misses| Counts { hits, misses };
+        let counts = |hits, misses| Counts { hits, misses, calls: 0 };
         add(&folder, counts(1, 2));
         assert_eq!(of(&folder), counts(0, 0), "no folder");
         fs::create_dir_all(&folder).unwrap();
@@ -85,11 +90,13 @@ mod tests {
         assert_eq!(fs::read_dir(&folder).unwrap().count(), 0);
         add(&folder, counts(1, 2));
         add(&folder, counts(30, 0));
-        fs::write(folder.join("counts-other"), "5 7\nodd\n1 x\n").unwrap();
+        fs::write(folder.join("counts-other"), "5 7\nodd\n1 x\n1 2 3 4\n").unwrap();
         assert_eq!(of(&folder), counts(36, 9));
+        add(&folder, Counts { calls: 4, ..counts(0, 0) });
+        assert_eq!(of(&folder), Counts { calls: 4, ..counts(36, 9) });
         fs::write(file(&folder), "1 1\n".repeat(300_000)).unwrap();
         add(&folder, counts(1, 1));
-        assert_eq!((of(&folder), fs::metadata(file(&folder)).unwrap().len()), (counts(300_006, 300_008), 14));
+        assert_eq!((of(&folder), fs::metadata(file(&folder)).unwrap().len()), (counts(300_006, 300_008), 16));
         clear(&folder);
         assert_eq!(of(&folder), counts(0, 0));
         fs::remove_dir_all(folder).unwrap();

@@ -23,11 +23,11 @@ pub struct Entry {
     pub terminal: Vec<u8>,
 }
 
-fn put_number(to: &mut Vec<u8>, number: usize) {
+pub fn put_number(to: &mut Vec<u8>, number: usize) {
     to.extend((number as u64).to_le_bytes());
 }
 
-fn put_text(to: &mut Vec<u8>, text: &[u8]) {
+pub fn put_text(to: &mut Vec<u8>, text: &[u8]) {
     put_number(to, text.len());
     to.extend(text);
 }
@@ -40,20 +40,20 @@ fn put_marked(to: &mut Vec<u8>, text: &Marked) {
 }
 
 /// What is still to read of a text.
-struct Rest<'a>(&'a [u8]);
+pub struct Rest<'a>(pub &'a [u8]);
 
 impl<'a> Rest<'a> {
-    fn bytes(&mut self, size: usize) -> Option<&'a [u8]> {
+    pub fn bytes(&mut self, size: usize) -> Option<&'a [u8]> {
         let (taken, rest) = self.0.split_at_checked(size)?;
         self.0 = rest;
         Some(taken)
     }
 
-    fn number(&mut self) -> Option<usize> {
+    pub fn number(&mut self) -> Option<usize> {
         usize::try_from(u64::from_le_bytes(self.bytes(8)?.try_into().ok()?)).ok()
     }
 
-    fn text(&mut self) -> Option<Vec<u8>> {
+    pub fn text(&mut self) -> Option<Vec<u8>> {
         let size = self.number()?;
         self.bytes(size).map(<[u8]>::to_vec)
     }
@@ -64,18 +64,26 @@ impl<'a> Rest<'a> {
     }
 
     fn output(&mut self) -> Option<Made> {
+        if self.flag()? { self.marked().map(Made::File) } else { Some(Made::Nothing) }
+    }
+
+    pub fn digest(&mut self) -> Option<Digest> {
+        Some(Digest(self.bytes(32)?.try_into().ok()?))
+    }
+
+    pub fn flag(&mut self) -> Option<bool> {
         match self.bytes(1)? {
-            [0] => Some(Made::Nothing),
-            [1] => self.marked().map(Made::File),
+            [0] => Some(false),
+            [1] => Some(true),
             _ => None,
         }
     }
 
     fn shown(&mut self) -> Option<(Vec<u8>, Digest)> {
-        Some((self.text()?, Digest(self.bytes(32)?.try_into().ok()?)))
+        Some((self.text()?, self.digest()?))
     }
 
-    fn list<T>(&mut self, mut one: impl FnMut(&mut Rest<'a>) -> Option<T>) -> Option<Vec<T>> {
+    pub fn list<T>(&mut self, mut one: impl FnMut(&mut Rest<'a>) -> Option<T>) -> Option<Vec<T>> {
         let count = self.number()?;
         (0..count).map(|_| one(self)).collect()
     }

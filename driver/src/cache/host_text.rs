@@ -36,6 +36,24 @@ fn name_in(line: &[u8]) -> Option<&[u8]> {
     between_quotes(line.strip_prefix(b"# ")?).filter(|name| !name.is_empty() && !name.starts_with(b"<"))
 }
 
+/// The files that a preprocessor has entered, by its text's line markers. `None` if a name is quoted in a way that may mean another.
+pub fn files_entered(text: &[u8]) -> Option<BTreeSet<&[u8]>> {
+    let markers = text.split(|&byte| byte == b'\n').filter(|line| line.starts_with(b"# ") && line.get(2).is_some_and(u8::is_ascii_digit));
+    let enters = |line: &&[u8]| line.iter().rposition(|&byte| byte == b'"').is_some_and(|end| line[end + 1..].starts_with(b" 1"));
+    let names: BTreeSet<&[u8]> = markers.filter(enters).filter_map(between_quotes).collect();
+    names.iter().all(|name| !name.contains(&b'\\')).then(|| names.into_iter().filter(|name| !name.starts_with(b"<")).collect())
+}
+
+/// Whether a text has what `__DATE__`, `__TIME__` or `__TIMESTAMP__` may have become: a time of day, or a year at the end of a string.
+pub fn tells_time(text: &[u8]) -> bool {
+    let is_digit = |place: usize| text.get(place).is_some_and(u8::is_ascii_digit);
+    let are_digits = |begin: usize, count: usize| (begin..begin + count).all(is_digit);
+    let is_time = |place: usize| place >= 2 && are_digits(place - 2, 2) && are_digits(place + 1, 2) && text.get(place + 3) == Some(&b':');
+    let is_year = |place: usize| place >= 8 && are_digits(place - 4, 4) && text[place - 5] == b' ' && is_digit(place - 6) && text[place - 8] == b' ';
+    let tells = |(place, byte): (usize, &u8)| (*byte == b':' && is_time(place)) || (*byte == b'"' && is_year(place));
+    text.iter().enumerate().any(tells)
+}
+
 /// The files of a text's line markers that messages name.
 pub fn shown_files<'a>(text: &'a [u8], messages: &[u8]) -> BTreeSet<&'a [u8]> {
     let names: BTreeSet<&[u8]> = text.split(|&byte| byte == b'\n').filter_map(name_in).collect();
@@ -102,6 +120,31 @@ mod tests {
         let shown: Vec<&[u8]> = shown_files(text, b"k.cu:3: x\nIn file included from a b.h:2").into_iter().collect();
         assert_eq!(shown, [&b"a b.h"[..], b"k.cu"]);
         assert!(shown_files(text, b"").is_empty());
+    }
+
+    #[test]
+    fn markers_say_what_was_entered() {
+        let text =
+            b"# 0 \"k.cu\"\n# 1 \"a.h\" 1\n# 1 \"/usr/b.h\" 1 3 4\n# 12 \"a.h\" 2\n# 5 \"c.y\"\n# 1 \"<command-line>\" 1\n#pragma x 1\nint a;\n";
+        assert_eq!(files_entered(text).unwrap().into_iter().collect::<Vec<_>>(), [&b"/usr/b.h"[..], b"a.h"]);
+        assert_eq!(files_entered(b"# 1 \"a\\\\b.h\" 1\n"), None);
+    }
+
+    #[test]
+    fn dates_and_times_are_seen() {
+        let cases = [
+            ("const char* s = \"12:34:56\";", true),
+            ("\"Nov  8 2026\"", true),
+            ("\"Sat Nov 28 09:21:06 2026\"", true),
+            ("std::vector<int> a; b ? 12:34; \"1:23:45\" \"copyright 2026\" 2026", false),
+            ("", false),
+            ("12:34:", true),
+            ("2:34:56", false),
+            ("12:34", false),
+        ];
+        for (text, wanted) in cases {
+            assert_eq!(tells_time(text.as_bytes()), wanted, "{text}");
+        }
     }
 
     #[test]

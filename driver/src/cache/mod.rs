@@ -1,15 +1,20 @@
 //! The cache of commands: what a command of the same tool, words and inputs has made and said before is made and said again.
-mod counts;
+pub mod calls;
+pub mod counts;
 pub mod digest;
 mod entry;
 mod host_text;
+mod includes;
 mod key;
+mod manifest;
 mod marked;
 mod place;
 pub mod program;
 mod recipe;
+mod searches;
 mod store;
 mod tool;
+pub mod whole;
 mod words;
 
 use crate::host;
@@ -19,6 +24,7 @@ use crate::run::{Done, Step, Task};
 use crate::settings::Settings;
 use crate::streams::{complain, content_of, write_all};
 use crate::system::Status;
+use calls::Product;
 use digest::{Digest, Hasher};
 use entry::{Entry, Made};
 use key::{Role, Text, key_by_texts, key_by_tokens};
@@ -63,6 +69,8 @@ enum State {
     Asked,
     /// Nothing was found under its keys, and it runs.
     Missed(Keys, Vec<u8>),
+    /// It has run, and the cache has what it made.
+    Kept,
     Hit,
 }
 
@@ -84,6 +92,8 @@ pub struct Session<'a> {
     begun: f64,
     /// Whether the user knows that nothing can be written.
     has_complained: bool,
+    /// What the call's commands have put in places outside its directory.
+    products: Vec<Product>,
     /// Whether what a command made may have the lines of an earlier source, as what cudafe++ and cicc write for the host compiler has.
     has_other_lines: bool,
 }
@@ -105,10 +115,10 @@ fn new_modes() -> Option<u32> {
 }
 
 /// Puts a file in its place as a tool does: a compiler makes a new one, the others write to what is there.
-fn put(kind: Kind, path: &Path, text: &[u8]) -> io::Result<()> {
+fn put(is_new: bool, path: &Path, text: &[u8]) -> io::Result<()> {
     match fs::symlink_metadata(path) {
         Ok(status) if !status.is_file() => return Err(ErrorKind::AlreadyExists.into()),
-        Ok(_) if kind == Kind::Host => fs::remove_file(path)?,
+        Ok(_) if is_new => fs::remove_file(path)?,
         _ => {}
     }
     let written = File::create(path).and_then(|file| write_all(&file, text));
@@ -116,6 +126,21 @@ fn put(kind: Kind, path: &Path, text: &[u8]) -> io::Result<()> {
         let _ = fs::remove_file(path);
     }
     written
+}
+
+/// What was taken from the cache.
+struct Taken {
+    ended: Ended,
+    products: Vec<Product>,
+}
+
+impl Recipe {
+    /// Puts an output in its place. Gives it, if that is outside the call's directory.
+    fn put(&self, output: &Output, text: Vec<u8>) -> io::Result<Option<Product>> {
+        let is_new = self.kind == Kind::Host;
+        put(is_new, &output.path, &text)?;
+        Ok((output.path != output.written_to).then(|| Product { path: output.path.clone(), is_new, text }))
+    }
 }
 
 /// Whether a directory's path, or its own name, is in a text.
@@ -138,6 +163,7 @@ impl<'a> Session<'a> {
             terminal: terminal(),
             begun: host::now(),
             has_complained: false,
+            products: Vec::new(),
             has_other_lines: false,
         }
     }
@@ -176,7 +202,7 @@ impl<'a> Session<'a> {
     /// Notes how many commands the cache had.
     pub fn end(&self) {
         let count = |hit| self.candidates.values().filter(|candidate| candidate.hit == Some(hit)).count() as u64;
-        counts::add(self.store.folder(), counts::Counts { hits: count(true), misses: count(false) });
+        counts::add(self.store.folder(), counts::Counts { hits: count(true), misses: count(false), calls: 0 });
     }
 
     fn set(&mut self, task: usize, state: State, hit: Option<bool>) {
@@ -224,13 +250,13 @@ impl<'a> Session<'a> {
         let Some(candidate) = self.candidates.get(&task) else { return Step::Own };
         let recipe = &candidate.recipe;
         let Some(key) = key_by_texts(start.clone(), recipe, &texts) else { return self.runs_alone(task) };
-        if let Some(ended) = self.entry(&key).and_then(|entry| self.take(recipe, &entry, times)) {
-            return self.hit(task, ended);
+        if let Some(taken) = self.entry(&key).and_then(|entry| self.take(recipe, &entry, times)) {
+            return self.hit(task, taken);
         }
         let tokens = key_by_tokens(start, recipe, &texts);
-        if let Some(ended) = tokens.and_then(|key| self.take_other(recipe, &key, times)) {
+        if let Some(taken) = tokens.and_then(|key| self.take_other(recipe, &key, times)) {
             self.has_other_lines = true;
-            return self.hit(task, ended);
+            return self.hit(task, taken);
         }
         let job = recipe.job.clone();
         let text = texts.into_iter().next().map(|text| text.content).unwrap_or_default();
@@ -242,33 +268,35 @@ impl<'a> Session<'a> {
         self.store.read(key).and_then(|bytes| Entry::of_bytes(&bytes))
     }
 
-    fn hit(&mut self, task: usize, ended: Ended) -> Step {
+    fn hit(&mut self, task: usize, taken: Taken) -> Step {
         self.set(task, State::Hit, Some(true));
-        Step::Ended(ended)
+        self.products.extend(taken.products);
+        Step::Ended(taken.ended)
     }
 
     /// The same for a command with the same tokens, if that said nothing.
-    fn take_other(&self, recipe: &Recipe, tokens: &Digest, times: (f64, f64)) -> Option<Ended> {
+    fn take_other(&self, recipe: &Recipe, tokens: &Digest, times: (f64, f64)) -> Option<Taken> {
         let other = Digest(self.store.read(tokens)?.try_into().ok()?);
         let entry = self.entry(&other).filter(|entry| !entry.speaks())?;
         self.take(recipe, &entry, times)
     }
 
     /// Makes and says what an entry has. `None` if it doesn't fit, or can't be made here.
-    fn take(&self, recipe: &Recipe, entry: &Entry, times: (f64, f64)) -> Option<Ended> {
+    fn take(&self, recipe: &Recipe, entry: &Entry, times: (f64, f64)) -> Option<Taken> {
         if recipe.outputs.len() != entry.outputs.len() || (entry.speaks() && !self.may_say(recipe, entry)) {
             return None;
         }
-        let directory = self.tmp.as_bytes();
+        let (directory, mut products) = (self.tmp.as_bytes(), Vec::new());
         for (output, text) in recipe.outputs.iter().zip(&entry.outputs) {
             match text {
-                Made::File(text) => put(recipe.kind, &output.path, &text.filled(directory)).ok()?,
+                Made::File(text) => products.extend(recipe.put(output, text.filled(directory)).ok()?),
                 Made::Nothing if output.path.exists() => return None,
                 Made::Nothing => {}
             }
         }
         let status = Status { code: 0, signal: None, dumped: false };
-        Some(Ended { status, out: entry.out.filled(directory), errors: entry.errors.filled(directory), times })
+        let ended = Ended { status, out: entry.out.filled(directory), errors: entry.errors.filled(directory), times };
+        Some(Taken { ended, products })
     }
 
     /// Whether an entry's messages would be the same now.
@@ -281,16 +309,16 @@ impl<'a> Session<'a> {
     fn ran(&mut self, task: usize, keys: &Keys, text: &[u8], ended: Ended) -> Step {
         let Some(candidate) = self.candidates.get(&task) else { return Step::Ended(ended) };
         let recipe = &candidate.recipe;
-        let has_products = recipe.has_products();
         let says_where = recipe.outputs.iter().any(|output| output.path != output.written_to && speaks_of(&ended, &output.written_to));
-        if has_products && (!ended.status.succeeded() || says_where || move_products(recipe).is_none()) {
-            return self.runs_alone(task);
-        }
-        if ended.status.succeeded() {
-            let entry = self.entry_of(recipe, text, &ended);
-            let written = entry.map_or(Ok(()), |entry| self.keep(keys, &entry));
+        let may_move = !recipe.has_products() || (ended.status.succeeded() && !says_where);
+        let Some(products) = may_move.then(|| move_products(recipe)).flatten() else { return self.runs_alone(task) };
+        let entry = if ended.status.succeeded() { self.entry_of(recipe, text, &ended) } else { None };
+        if let Some(entry) = entry {
+            let written = self.keep(keys, &entry);
             self.tell(written);
+            self.set(task, State::Kept, None);
         }
+        self.products.extend(products);
         Step::Ended(ended)
     }
 
@@ -369,10 +397,7 @@ fn speaks_of(ended: &Ended, file: &Path) -> bool {
 }
 
 /// Puts the products of a command in their places.
-fn move_products(recipe: &Recipe) -> Option<()> {
-    for output in recipe.outputs.iter().filter(|output| output.path != output.written_to) {
-        let text = content_of(&output.written_to).ok()?;
-        put(recipe.kind, &output.path, &text).ok()?;
-    }
-    Some(())
+fn move_products(recipe: &Recipe) -> Option<Vec<Product>> {
+    let products = recipe.outputs.iter().filter(|output| output.path != output.written_to);
+    products.map(|output| recipe.put(output, content_of(&output.written_to).ok()?).ok()?).collect()
 }

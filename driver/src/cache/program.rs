@@ -22,13 +22,14 @@ fn stats(store: &Store) -> i32 {
     let share = (counts.hits * 100).checked_div(counts.hits + counts.misses);
     let share = share.map(|share| format!(" ({share} %)")).unwrap_or_default();
     tell(&format!(
-        "folder: {}\nentries: {}\nsize: {}\nlimit: {}\nhits: {}{share}\nmisses: {}\n",
+        "folder: {}\nentries: {}\nsize: {}\nlimit: {}\nhits: {}{share}\nmisses: {}\nwhole calls: {}\n",
         store.folder().display(),
         content.entries,
         shown(content.bytes),
         shown(place::limit()),
         counts.hits,
         counts.misses,
+        counts.calls,
     ))
 }
 

@@ -140,13 +140,19 @@ impl<'a> Tools<'a> {
         Some(digest)
     }
 
-    fn known(&mut self, path: &Path, is_tool: bool) -> Option<Digest> {
+    /// The digest of a file's contents, which is to be a program or not.
+    pub fn known(&mut self, path: &Path, is_tool: bool) -> Option<Digest> {
         if let Some(known) = self.known.get(path) {
             return *known;
         }
         let digest = self.digest(path, is_tool);
         self.known.insert(path.to_owned(), digest);
         digest
+    }
+
+    /// The files that were looked at, and their digests.
+    pub fn all(&self) -> impl Iterator<Item = (&Path, Digest)> {
+        self.known.iter().filter_map(|(path, digest)| Some((path.as_path(), (*digest)?)))
     }
 
     /// The digest of all that a tool consists of: the program; for gcc also cc1plus and the assembler that it runs, for cicc the files of

@@ -242,6 +242,33 @@ pub fn is_compile(words: &[String]) -> bool {
     count(&["-c", "-S"]) == 1 && (count(&["-x"]), languages) == (1, 1) && count(&["-o"]) == 1
 }
 
+/// Whether all words of a preprocessor are known: it reads what its text's line markers name, and writes that text alone.
+pub fn is_preprocess(words: &[String]) -> bool {
+    let mut others = Vec::with_capacity(words.len());
+    let mut rest = words.iter();
+    while let Some(word) = rest.next() {
+        match word.as_str() {
+            "-E" => {}
+            "-include" => drop(rest.next()),
+            _ => others.push(word.clone()),
+        }
+    }
+    let is_other = |word: &String| matches!(word.as_str(), "-c" | "-S");
+    roles(Kind::Host, &others).is_some() && !others.iter().any(is_other)
+}
+
+/// The files that the words of a preprocessor have it include first.
+pub fn included(words: &[String]) -> Vec<&str> {
+    words.windows(2).filter(|pair| pair[0] == "-include").map(|pair| pair[1].as_str()).collect()
+}
+
+/// The words of a preprocessor that say where it looks for what it includes.
+pub fn search_words(words: &[String]) -> Vec<String> {
+    let is_value = |place: usize| place > 0 && words[place - 1] == PREPROCESSED_WITH_VALUE;
+    let counts = |place: &usize| is_value(*place) || words[*place] == PREPROCESSED_WITH_VALUE || goes_on(&words[*place], "-I");
+    (0..words.len()).filter(counts).map(|place| words[place].clone()).collect()
+}
+
 #[cfg(test)]
 mod tests {
     use super::*;
@@ -323,6 +350,17 @@ mod tests {
         ];
         for (kind, words, wanted) in cases {
             assert_eq!(names_count(kind, &list(words)), wanted, "{words}");
+        }
+    }
+
+    #[test]
+    fn words_of_preprocessors_are_known() {
+        let nvccs = "-D__CUDA_ARCH__=750 -E -x c++ -DA -I/i -isystem /s -include cuda_runtime.h -m64 k.cu -o k.ii";
+        assert!(is_preprocess(&list(nvccs)));
+        assert_eq!(included(&list(nvccs)), ["cuda_runtime.h"]);
+        assert_eq!(search_words(&list(nvccs)), ["-I/i", "-isystem", "/s"]);
+        for word in ["-c", "-MD", "-imacros m.h", "-dD", "-C", "-P", "-H", "-nostdinc", "-iquote q", "-idirafter d", "-fdirectives-only", "-B."] {
+            assert!(!is_preprocess(&list(&format!("{nvccs} {word}"))), "{word}");
         }
     }
 

@@ -1,0 +1,248 @@
+//! Whole calls: what an equal call has made and said is made and said again, without a dry run, if all that it read is as it was.
+//!
+//! A call's key leads to a manifest, the files that were read and the places where some were sought in vain. Their digests lead to what the
+//! call made.
+use crate::cache::digest::{Digest, Hasher};
+use crate::cache::entry::{Rest, put_number, put_text};
+use crate::cache::manifest::Manifest;
+use crate::cache::store::Store;
+use crate::cache::{put, terminal};
+use crate::planner::Line;
+use crate::split::Said;
+use std::env;
+use std::ffi::{OsStr, OsString};
+use std::os::unix::ffi::OsStrExt;
+use std::path::{Path, PathBuf};
+
+/// Variables that nothing of what a call makes depends on. All others count, since a profile of nvcc may use any.
+const FREE_VARIABLES: [&str; 39] = [
+    "COLUMNS",
+    "DISPLAY",
+    "EDITOR",
+    "GCC_COLORS",
+    "HISTFILE",
+    "HISTSIZE",
+    "HOME",
+    "HOSTNAME",
+    "INVOCATION_ID",
+    "JOURNAL_STREAM",
+    "LESSCLOSE",
+    "LESSOPEN",
+    "LINES",
+    "LOGNAME",
+    "LS_COLORS",
+    "MAIL",
+    "MAKEFLAGS",
+    "MAKELEVEL",
+    "MAKEOVERRIDES",
+    "MAKE_TERMERR",
+    "MAKE_TERMOUT",
+    "MFLAGS",
+    "NINJA_STATUS",
+    "OLDPWD",
+    "PAGER",
+    "PS1",
+    "PWD",
+    "SHELL",
+    "SHLVL",
+    "STY",
+    "TERM",
+    "TERM_PROGRAM",
+    "TMPDIR",
+    "TMUX",
+    "TMUX_PANE",
+    "USER",
+    "VISUAL",
+    "WINDOWID",
+    "_",
+];
+/// The same for those that begin so.
+const FREE_BEGINNINGS: [&str; 9] = ["CCACHE_", "CMAKE_", "DBUS_", "GITHUB_", "SLURM_", "SSH_", "VSCODE_", "XDG_", "ZIGRUNK_"];
+
+fn is_free(name: &OsStr) -> bool {
+    let name = name.as_bytes();
+    FREE_VARIABLES.iter().any(|free| name == free.as_bytes()) || FREE_BEGINNINGS.iter().any(|begin| name.starts_with(begin.as_bytes()))
+}
+
+/// A file that a call has made.
+#[derive(Clone, PartialEq, Eq, Debug)]
+pub struct Product {
+    /// Its path, seen from the call's working directory.
+    pub path: PathBuf,
+    /// Whether it takes the place of what was there.
+    pub is_new: bool,
+    pub text: Vec<u8>,
+}
+
+/// What a call has made and said.
+#[derive(Clone, PartialEq, Eq, Debug, Default)]
+pub struct Answer {
+    pub products: Vec<Product>,
+    pub said: Said,
+    /// The kind of terminal for which its messages are.
+    pub terminal: Vec<u8>,
+}
+
+impl Answer {
+    fn to_bytes(&self) -> Vec<u8> {
+        let mut bytes = Vec::new();
+        put_number(&mut bytes, self.products.len());
+        for product in &self.products {
+            put_text(&mut bytes, product.path.as_os_str().as_bytes());
+            bytes.push(u8::from(product.is_new));
+            put_text(&mut bytes, &product.text);
+        }
+        put_number(&mut bytes, self.said.len());
+        for (is_error, text) in &self.said {
+            bytes.push(u8::from(*is_error));
+            put_text(&mut bytes, text);
+        }
+        put_text(&mut bytes, &self.terminal);
+        bytes
+    }
+
+    fn of_bytes(bytes: &[u8]) -> Option<Answer> {
+        let mut rest = Rest(bytes);
+        let product = |rest: &mut Rest<'_>| {
+            let path = PathBuf::from(OsStr::from_bytes(&rest.text()?));
+            Some(Product { path, is_new: rest.flag()?, text: rest.text()? })
+        };
+        let products = rest.list(product)?;
+        let said = rest.list(|rest| Some((rest.flag()?, rest.text()?)))?;
+        let terminal = rest.text()?;
+        rest.0.is_empty().then_some(Answer { products, said, terminal })
+    }
+
+    /// Whether its messages would be the same now.
+    fn may_be_said(&self) -> bool {
+        self.said.iter().all(|(_, text)| text.is_empty()) || self.terminal == terminal()
+    }
+}
+
+/// The keys under which a call may be: with no folder, and with its own.
+fn keys(line: &Line, nvcc: &Path) -> [Digest; 2] {
+    [None, Some(line.cwd.as_str())].map(|folder| key(line, nvcc, folder, env::vars_os()))
+}
+
+/// The key of a call: its nvcc, its words and its variables, and its folder if that counts.
+fn key(line: &Line, nvcc: &Path, folder: Option<&str>, variables: impl Iterator<Item = (OsString, OsString)>) -> Digest {
+    let mut hasher = Hasher::default();
+    hasher.add(b"zigrunk call 1");
+    hasher.add(folder.unwrap_or_default().as_bytes());
+    hasher.add(nvcc.as_os_str().as_bytes());
+    hasher.update(&(line.words.len() as u64).to_le_bytes());
+    line.words.iter().for_each(|word| hasher.add(word.as_bytes()));
+    let mut variables: Vec<_> = variables.filter(|(name, _)| !is_free(name)).collect();
+    variables.sort();
+    for (name, value) in variables {
+        hasher.add(name.as_bytes());
+        hasher.add(value.as_bytes());
+    }
+    hasher.finish()
+}
+
+/// Whether calls are kept whole: unless `ZIGRUNK_CALLS` is 0.
+pub fn is_on() -> bool {
+    env::var_os("ZIGRUNK_CALLS").is_none_or(|value| value != "0")
+}
+
+/// Makes what the store has of a whole call, and gives what it said. `None` if the call has to be made.
+pub fn serve(store: &Store, line: &Line, nvcc: &Path) -> Option<Said> {
+    let cwd = Path::new(&line.cwd);
+    keys(line, nvcc).iter().find_map(|key| serve_by(store, key, cwd))
+}
+
+fn serve_by(store: &Store, key: &Digest, cwd: &Path) -> Option<Said> {
+    let manifest = Manifest::of_bytes(&store.read(key)?)?;
+    let now = manifest.again(cwd)?;
+    let answer = Answer::of_bytes(&store.read(&now.digest(key))?).filter(Answer::may_be_said)?;
+    for product in &answer.products {
+        put(product.is_new, &cwd.join(&product.path), &product.text).ok()?;
+    }
+    if now.is_better_than(&manifest) {
+        let _ = store.write(key, &now.to_bytes());
+    }
+    Some(answer.said)
+}
+
+/// Keeps what a call has made, if the store can be written.
+pub fn keep(store: &Store, line: &Line, nvcc: &Path, folder_counts: bool, manifest: &Manifest, answer: &Answer) {
+    let key = keys(line, nvcc)[usize::from(folder_counts)];
+    let _ = store.write(&manifest.digest(&key), &answer.to_bytes()).and_then(|()| store.write(&key, &manifest.to_bytes()));
+}
+
+#[cfg(test)]
+mod tests {
+    use super::*;
+    use crate::cache::manifest::{Lacking, Seen, Vain};
+    use std::fs;
+
+    fn line(words: &str, cwd: &str) -> Line {
+        Line { cwd: cwd.into(), nvcc: "nvcc".into(), words: words.split(' ').map(String::from).collect(), variables: Vec::new() }
+    }
+
+    fn key_of(words: &str, folder: Option<&str>, nvcc: &str, variables: &[(&str, &str)]) -> Digest {
+        let variables = variables.iter().map(|(name, value)| (name.into(), value.into()));
+        key(&line(words, "/w"), Path::new(nvcc), folder, variables)
+    }
+
+    #[test]
+    fn words_variables_and_the_compiler_count() {
+        let usual = key_of("-c k.cu", None, "/b/nvcc", &[("A", "1"), ("PATH", "/bin")]);
+        let same = [("PATH", "/bin"), ("TERM", "xterm"), ("A", "1"), ("ZIGRUNK_LOG", "x"), ("XDG_RUNTIME_DIR", "/run")];
+        assert_eq!(key_of("-c k.cu", None, "/b/nvcc", &same), usual);
+        let others = [
+            key_of("-c k.cu -O2", None, "/b/nvcc", &[("A", "1"), ("PATH", "/bin")]),
+            key_of("-c j.cu", None, "/b/nvcc", &[("A", "1"), ("PATH", "/bin")]),
+            key_of("-c k.cu", Some("/w"), "/b/nvcc", &[("A", "1"), ("PATH", "/bin")]),
+            key_of("-c k.cu", None, "/c/nvcc", &[("A", "1"), ("PATH", "/bin")]),
+            key_of("-c k.cu", None, "/b/nvcc", &[("A", "2"), ("PATH", "/bin")]),
+            key_of("-c k.cu", None, "/b/nvcc", &[("A", "1"), ("PATH", "/bin"), ("INCLUDES", "-I/x")]),
+        ];
+        assert!(others.iter().all(|other| *other != usual));
+    }
+
+    fn answer() -> Answer {
+        let product = |path: &str, is_new: bool| Product { path: path.into(), is_new, text: path.into() };
+        Answer { products: vec![product("k.o", true), product("k.d", false)], said: vec![(true, b"warns".to_vec())], terminal: terminal() }
+    }
+
+    #[test]
+    fn answers_are_read_back() {
+        let bytes = answer().to_bytes();
+        assert_eq!(Answer::of_bytes(&bytes), Some(answer()));
+        for size in 0..bytes.len() {
+            assert_eq!(Answer::of_bytes(&bytes[..size]), None, "{size}");
+        }
+        assert!(answer().may_be_said() && !Answer { terminal: b"other".to_vec(), ..answer() }.may_be_said());
+        assert!(Answer { terminal: b"other".to_vec(), said: Vec::new(), ..answer() }.may_be_said());
+    }
+
+    #[test]
+    fn a_kept_call_is_served_while_all_is_as_it_was() {
+        let room = env::temp_dir().join(format!("calls-{}", std::process::id()));
+        let _ = fs::remove_dir_all(&room);
+        fs::create_dir_all(&room).unwrap();
+        let (store, line, nvcc) = (Store::new(room.join("store"), 1 << 20), line("-c k.cu", room.to_str().unwrap()), Path::new("/b/nvcc"));
+        let keep = |text: &str, folder_counts: bool| {
+            fs::write(room.join("k.cu"), text).unwrap();
+            let vain = Vain::now(Path::new(""), vec![Lacking { name: b"a.h".to_vec(), may_be_folder: true }], &room).unwrap();
+            let manifest = Manifest { files: vec![Seen::now(Path::new("k.cu"), &room).unwrap()], vain: vec![vain] };
+            super::keep(&store, &line, nvcc, folder_counts, &manifest, &Answer { said: vec![(false, text.into())], ..answer() });
+        };
+        let served = || serve(&store, &line, nvcc).map(|said| String::from_utf8(said[0].1.clone()).unwrap());
+        keep("one", false);
+        assert_eq!((served(), fs::read_to_string(room.join("k.d")).unwrap()), (Some("one".into()), "k.d".into()));
+        fs::write(room.join("k.cu"), "two").unwrap();
+        assert_eq!(served(), None);
+        keep("two", true);
+        assert_eq!(served().as_deref(), Some("two"), "by its folder");
+        fs::write(room.join("k.cu"), "one").unwrap();
+        assert_eq!(served().as_deref(), Some("one"), "as it was before");
+        fs::remove_file(room.join("k.o")).unwrap();
+        assert!(served().is_some() && room.join("k.o").exists());
+        fs::write(room.join("a.h"), "").unwrap();
+        assert_eq!(served(), None);
+        fs::remove_dir_all(room).unwrap();
+    }
+}

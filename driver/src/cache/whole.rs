@@ -1,0 +1,300 @@
+//! Keeps a whole call: finds out what was read for it, and where something was sought in vain.
+use crate::cache::calls::{self, Answer, Product};
+use crate::cache::host_text::{files_entered, tells_time};
+use crate::cache::includes::{self, Folders, names_in};
+use crate::cache::manifest::{Manifest, Seen, Stamp, is_older};
+use crate::cache::searches::{MARGIN, Search};
+use crate::cache::{Session, State, names, terminal, words};
+use crate::machine::Job;
+use crate::planner::{Line, PlannedCommand};
+use crate::programs;
+use crate::run::Task;
+use crate::split::Said;
+use crate::streams::content_of;
+use std::collections::{BTreeMap, BTreeSet};
+use std::env;
+use std::ffi::{OsStr, OsString};
+use std::fs;
+use std::os::unix::ffi::OsStrExt;
+use std::path::{Path, PathBuf};
+use std::process::{Command, Stdio};
+use std::time::SystemTime;
+
+/// A call that has come to its end, and has succeeded.
+pub struct Finished<'a> {
+    pub line: &'a Line,
+    pub commands: &'a [PlannedCommand],
+    pub tasks: &'a [Task],
+    /// Its dependency file, if it has one.
+    pub rule: Option<Product>,
+    pub said: Said,
+    /// When it began, before anything was read for it.
+    pub begun: SystemTime,
+}
+
+impl Finished<'_> {
+    fn cwd(&self) -> &Path {
+        Path::new(&self.line.cwd)
+    }
+
+    /// The tasks of the plan's commands, with their numbers.
+    fn of_plan(&self) -> impl Iterator<Item = (usize, &Task, &PlannedCommand)> {
+        self.tasks.iter().enumerate().filter_map(|(number, task)| Some((number, task, &self.commands[task.command?])))
+    }
+}
+
+/// A variable of a job.
+fn variable(job: &Job, name: &str) -> OsString {
+    let given = job.variables.iter().rev().find(|(other, _)| other == name);
+    given.map_or_else(|| env::var_os(name).unwrap_or_default(), |(_, value)| value.clone().unwrap_or_default().into())
+}
+
+/// The folders where a preprocessor looks for what it includes: gcc says them itself.
+fn folders_of(job: &Job) -> Option<Folders> {
+    let (program, words) = job.words.split_first()?;
+    let mut gcc = Command::new(program);
+    for (name, value) in &job.variables {
+        match value {
+            Some(value) => gcc.env(name, value),
+            None => gcc.env_remove(name),
+        };
+    }
+    gcc.args(words::search_words(words)).args(["-v", "-E", "-x", "c++", "/dev/null", "-o", "/dev/null"]);
+    gcc.current_dir(&job.folder).env("LC_ALL", "C").stdin(Stdio::null()).stdout(Stdio::null());
+    let said = gcc.output().ok().filter(|said| said.status.success())?;
+    includes::folders(std::str::from_utf8(&said.stderr).ok()?)
+}
+
+/// The program that a script of one line runs with the script's own words.
+fn run_by(script: &[u8]) -> Option<&Path> {
+    let line = script.strip_prefix(b"#!/bin/sh\nexec ")?.strip_suffix(b" \"$@\"\n")?;
+    let is_plain = |byte: &u8| byte.is_ascii_alphanumeric() || matches!(byte, b'/' | b'.' | b'_' | b'-' | b'+');
+    (line.starts_with(b"/") && line.iter().all(is_plain)).then(|| Path::new(OsStr::from_bytes(line)))
+}
+
+/// What an nvcc consists of: scripts that only run another program, the program, and the profiles that it may read. `None` if it's something else.
+fn parts_of_nvcc(nvcc: &Path) -> Option<(Vec<PathBuf>, BTreeSet<PathBuf>)> {
+    let mut parts = vec![nvcc.to_owned()];
+    while let Some(part) = parts.last().filter(|_| parts.len() < 9) {
+        let real = fs::canonicalize(part).ok()?;
+        // A program is large, and a script that counts is short.
+        let is_short = fs::metadata(part).is_ok_and(|status| status.len() < 4096);
+        let script = if is_short { content_of(part).ok()? } else { Vec::new() };
+        if script.is_empty() {
+            let profiles = [part.as_path(), &real].into_iter().filter_map(|part| Some(part.parent()?.join("nvcc.profile"))).collect();
+            return Some((parts, profiles));
+        }
+        let next = run_by(&script)?.to_owned();
+        parts.push(next);
+    }
+    None
+}
+
+/// What of a call was gathered.
+struct Gathered<'a> {
+    search: Search<'a>,
+    begun: SystemTime,
+    seen: BTreeMap<PathBuf, Seen>,
+}
+
+impl Gathered<'_> {
+    /// Notes a file whose contents are known. `None` if it may have been another when the call read it.
+    fn add(&mut self, seen: Seen, cwd: &Path) -> Option<()> {
+        let status = fs::metadata(cwd.join(&seen.path)).ok()?;
+        let is_same = seen.stamp.is_none_or(|stamp| stamp == Stamp::of(&status));
+        if !is_same || !is_older(&status, self.begun, MARGIN) {
+            return None;
+        }
+        self.seen.insert(seen.path.clone(), seen);
+        Some(())
+    }
+}
+
+impl Session<'_> {
+    /// Keeps a call as a whole, if all that it depends on is known.
+    pub fn keep_call(&mut self, call: &Finished<'_>) -> Option<()> {
+        let nvcc = programs::find(call.line.nvcc.as_ref(), &env::var_os("PATH").unwrap_or_default(), call.cwd())?;
+        if !calls::is_on() || !self.is_known(call) {
+            return None;
+        }
+        let folders = self.folders(call)?;
+        let mut gathered = Gathered { search: Search::new(call.cwd(), &folders, call.begun), begun: call.begun, seen: BTreeMap::new() };
+        self.gather_files(call, &mut gathered)?;
+        self.gather_programs(call, &nvcc, &mut gathered)?;
+        let manifest = Manifest { files: gathered.seen.into_values().collect(), vain: gathered.search.vain()? };
+        let answer = self.answer(call)?;
+        calls::keep(self.store, call.line, &nvcc, self.folder_counts(call), &manifest, &answer);
+        Some(())
+    }
+
+    /// Whether each command is one of which all inputs and outputs are known, and the cache has seen all products.
+    fn is_known(&self, call: &Finished<'_>) -> bool {
+        let stays = |command: &PlannedCommand| command.writes.iter().chain(&command.may_write).all(|path| path.starts_with(self.tmp));
+        let is_known = |(number, task, command): (usize, &Task, &PlannedCommand)| match self.candidates.get(&number) {
+            Some(candidate) => matches!(candidate.state, State::Hit | State::Kept),
+            None if command.preprocesses => stays(command) && task.job.folder == call.line.cwd && words::is_preprocess(&command.words),
+            None => command.program.ends_with("/fatbinary") && command.complete && stays(command),
+        };
+        let has_lists = call.line.words.iter().any(|word| word.starts_with('@') || word.starts_with("-optf") || word.starts_with("--options-file"));
+        let made = self.candidates.values().flat_map(|candidate| &candidate.recipe.outputs).filter(|output| output.path != output.written_to).count();
+        let has_rule = call.rule.is_some() == call.tasks.iter().any(|task| task.is_rule);
+        !has_lists && has_rule && made == self.products.len() && call.of_plan().all(is_known)
+    }
+
+    /// The processes of a call that preprocess, each with the file that has its text.
+    fn preprocessors<'b>(&'b self, call: &'b Finished<'_>) -> impl Iterator<Item = (&'b Job, PathBuf)> {
+        let questions = self.candidates.values().filter_map(|candidate| candidate.recipe.question.as_ref());
+        let own = call.of_plan().filter(|(_, _, command)| command.preprocesses);
+        let own = own.filter_map(|(_, task, command)| Some((&task.job, PathBuf::from(command.writes.first()?))));
+        own.chain(questions.map(|(job, file)| (job, file.clone())))
+    }
+
+    /// The folders where the call's preprocessors look. `None` if they differ.
+    fn folders(&self, call: &Finished<'_>) -> Option<Folders> {
+        let asked = |job: &Job| (job.words.first().cloned(), words::search_words(&job.words), job.folder.clone(), variable(job, "CPATH"));
+        let mut jobs = self.preprocessors(call).map(|(job, _)| job);
+        let first = jobs.next()?;
+        jobs.all(|job| asked(job) == asked(first)).then(|| folders_of(first))?
+    }
+
+    /// Notes what preprocessors have read, and where they have looked.
+    fn gather_files(&self, call: &Finished<'_>, gathered: &mut Gathered<'_>) -> Option<()> {
+        let mut files: BTreeSet<PathBuf> = BTreeSet::new();
+        for (job, text) in self.preprocessors(call) {
+            let text = content_of(&text).ok().filter(|text| !tells_time(text))?;
+            files.extend(files_entered(&text)?.into_iter().map(|name| PathBuf::from(OsStr::from_bytes(name))));
+            words::included(&job.words).into_iter().try_for_each(|name| gathered.search.seek_given(name))?;
+        }
+        files.extend(call.commands.iter().filter(|command| command.preprocesses).flat_map(|command| &command.reads).map(PathBuf::from));
+        files.retain(|file| !file.starts_with(self.tmp));
+        let any: BTreeSet<Vec<u8>> = files.iter().flat_map(|file| gathered.search.names_of(file)).collect();
+        for file in &files {
+            let (seen, text) = Seen::with_text(file, call.cwd())?;
+            gathered.add(seen, call.cwd())?;
+            let names = names_in(&text);
+            if names.is_odd {
+                return None;
+            }
+            gathered.search.seek_all(file, &names, &any)?;
+        }
+        gathered.search.seek_anywhere(&any)
+    }
+
+    /// Notes which programs nvcc has run, and where they were sought.
+    fn gather_programs(&mut self, call: &Finished<'_>, nvcc: &Path, gathered: &mut Gathered<'_>) -> Option<()> {
+        let (parts, profiles) = parts_of_nvcc(nvcc)?;
+        for (place, part) in parts.iter().enumerate() {
+            self.tools.known(part, place + 1 == parts.len())?;
+        }
+        profiles.into_iter().try_for_each(|profile| self.gather_if_there(profile, gathered))?;
+        for (_, task, command) in call.of_plan() {
+            self.tools.known(Path::new(&command.program), true)?;
+            gathered.search.seek_program(Path::new(&command.program), &variable(&task.job, "PATH"))?;
+        }
+        self.gather_parts(call, gathered)?;
+        for (path, digest) in self.tools.all() {
+            let stamp = fs::metadata(path).ok().as_ref().and_then(Stamp::settled);
+            gathered.add(Seen { path: path.to_owned(), digest, stamp }, call.cwd())?;
+        }
+        Some(())
+    }
+
+    /// Notes a file that a tool reads if it's there.
+    fn gather_if_there(&mut self, path: PathBuf, gathered: &mut Gathered<'_>) -> Option<()> {
+        if path.exists() {
+            self.tools.known(&path, false).map(drop)
+        } else {
+            gathered.search.lacks(path);
+            Some(())
+        }
+    }
+
+    /// Notes where gcc looks for its assembler and its specs before it finds them.
+    fn gather_parts(&mut self, call: &Finished<'_>, gathered: &mut Gathered<'_>) -> Option<()> {
+        let path = call.of_plan().find(|(_, _, command)| command.preprocesses).map(|(_, task, _)| variable(&task.job, "PATH"))?;
+        let parts: Vec<PathBuf> = self.tools.all().map(|(path, _)| path.to_owned()).collect();
+        for part in &parts {
+            match part.file_name().and_then(OsStr::to_str) {
+                Some("as") => gathered.search.seek_program(part, &path)?,
+                Some("cc1plus") => {
+                    let places = ["as", "specs"].map(|name| part.with_file_name(name));
+                    places.into_iter().try_for_each(|place| self.gather_if_there(place, gathered))?;
+                }
+                _ => {}
+            }
+        }
+        Some(())
+    }
+
+    /// Whether a product may have the call's folder in it: debugging information has it, and the module id has a source's whole path.
+    fn folder_counts(&self, call: &Finished<'_>) -> bool {
+        let preprocessors = call.commands.iter().filter(|command| command.preprocesses);
+        let mut words = preprocessors.flat_map(|command| &command.words);
+        let has_names = self.candidates.values().any(|candidate| candidate.recipe.directory.is_empty());
+        has_names || words.any(|word| !word.starts_with('-') && !word.starts_with('/') && call.cwd().join(word).is_file())
+    }
+
+    /// What the call has made and said. `None` if that has the name of its directory.
+    fn answer(&self, call: &Finished<'_>) -> Option<Answer> {
+        let mut products: Vec<Product> = self.products.iter().chain(&call.rule).cloned().collect();
+        for product in &mut products {
+            if let Ok(path) = product.path.strip_prefix(call.cwd()) {
+                product.path = path.to_owned();
+            }
+        }
+        let is_named = call.said.iter().any(|(_, text)| names(text, self.tmp));
+        let speaks = call.said.iter().any(|(_, text)| !text.is_empty());
+        let terminal = if speaks { terminal() } else { Vec::new() };
+        (!is_named).then(|| Answer { products, said: call.said.clone(), terminal })
+    }
+}
+
+#[cfg(test)]
+mod tests {
+    use super::*;
+    use std::os::unix::fs::symlink;
+
+    #[test]
+    fn a_script_may_only_run_a_program() {
+        let cases: [(&str, Option<&str>); 9] = [
+            ("#!/bin/sh\nexec /opt/cuda/bin/nvcc \"$@\"\n", Some("/opt/cuda/bin/nvcc")),
+            ("#!/bin/sh\nexec /opt/cuda/bin/nvcc -DX \"$@\"\n", None),
+            ("#!/bin/sh\nexec nvcc \"$@\"\n", None),
+            ("#!/bin/sh\nexec /opt/$V/bin/nvcc \"$@\"\n", None),
+            ("#!/bin/sh\nexec /opt/nvcc $@\n", None),
+            ("#!/bin/sh\n. /etc/cuda\nexec /opt/nvcc \"$@\"\n", None),
+            ("#!/bin/sh\nexec /opt/nvcc \"$@\"\nexit\n", None),
+            ("#!/bin/bash\nexec /opt/nvcc \"$@\"\n", None),
+            ("", None),
+        ];
+        for (script, wanted) in cases {
+            assert_eq!(run_by(script.as_bytes()), wanted.map(Path::new), "{script}");
+        }
+    }
+
+    #[test]
+    fn an_nvcc_has_scripts_a_program_and_profiles() {
+        let room = env::temp_dir().join(format!("nvcc-{}", std::process::id()));
+        let _ = fs::remove_dir_all(&room);
+        fs::create_dir_all(room.join("bin")).unwrap();
+        fs::create_dir_all(room.join("real")).unwrap();
+        let path = |name: &str| room.join(name);
+        fs::write(path("real/nvcc"), [0; 5000]).unwrap();
+        symlink(path("real/nvcc"), path("bin/link")).unwrap();
+        let script = |to: &str| format!("#!/bin/sh\nexec {} \"$@\"\n", path(to).display());
+        fs::write(path("bin/nvcc"), script("bin/link")).unwrap();
+        fs::write(path("bin/circle"), script("bin/circle")).unwrap();
+        fs::write(path("bin/other"), "#!/bin/sh\n").unwrap();
+        let profiles = ["bin/nvcc.profile", "real/nvcc.profile"].map(path);
+        assert_eq!(parts_of_nvcc(&path("bin/nvcc")), Some((vec![path("bin/nvcc"), path("bin/link")], profiles.into())));
+        assert_eq!(["bin/circle", "bin/other", "bin/missing"].map(|name| parts_of_nvcc(&path(name))), [None, None, None]);
+        fs::remove_dir_all(room).unwrap();
+    }
+
+    #[test]
+    fn a_jobs_variable_comes_before_the_own() {
+        let job = Job { variables: vec![("PATH".into(), Some("/a".into())), ("HOME".into(), None)], ..Job::default() };
+        assert_eq!([variable(&job, "PATH"), variable(&job, "HOME")], [OsString::from("/a"), OsString::new()]);
+        assert_eq!(variable(&Job::default(), "PATH"), env::var_os("PATH").unwrap_or_default());
+    }
+}
