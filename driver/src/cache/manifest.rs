@@ -309,16 +309,16 @@ mod tests {
         let after = |name: &str, is_folder: bool| {
             let path = scratch.0.join("inc").join(name);
             if is_folder {
-                fs::create_dir(&path).unwrap()
+                fs::create_dir(&path).unwrap();
             } else {
-                fs::write(&path, "").unwrap()
-            };
+                fs::write(&path, "").unwrap();
+            }
             let is_free = manifest.again(&scratch.0).is_some();
             if is_folder {
-                fs::remove_dir(&path).unwrap()
+                fs::remove_dir(&path).unwrap();
             } else {
-                fs::remove_file(&path).unwrap()
-            };
+                fs::remove_file(&path).unwrap();
+            }
             is_free
         };
         let cases = [("b.h", false, true), ("a.h", false, false), ("a.h", true, true), ("sub", true, false), ("sub", false, false)];
