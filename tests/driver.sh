@@ -158,7 +158,7 @@ end_to_end() {
         for words in odd '' 'odd nvcc'; do
             # shellcheck disable=SC2086 # several words, or none
             as=$driver call $words
-            same "status and messages with '$words'" "$status $(cat "$room/err")" '2 usage: zigrunk-driver nvcc|batch|plan|report|cache WORD..'
+            same "status and messages with '$words'" "$status $(cat "$room/err")" '2 usage: zigrunk-driver nvcc|batch|plan|report|cache|worker WORD..'
         done
         end
     fi
