@@ -312,14 +312,15 @@ def check_crate(crate: Crate, folder: Path, needs: set[str], crates: set[str], c
 
 
 def let_chains(tokens: list[Token]) -> Iterator[int]:
-    """Lines of conditions that join a `let` with `&&`. Newer rustcs than 1.85 take them."""
+    """Lines of conditions that join a `let` with `&&`. Newer rustcs than 1.85 take them. A condition ends before `{`, that of a `match` arm
+    before `=>`."""
     for place, head in enumerate(tokens):
         if head.text not in ("if", "while"):
             continue
         depth, condition = 0, list[str]()
         for token in tokens[place + 1:]:
             depth += (token.text in ("(", "[")) - (token.text in (")", "]"))
-            if depth == 0 and token.text == "{":
+            if depth == 0 and token.text in ("{", "=>"):
                 break
             condition += [token.text] if depth == 0 else []
         if "let" in condition and "&&" in condition:
