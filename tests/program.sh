@@ -1389,56 +1389,102 @@ wrong_usage() {
     local plan='CWD TMP FLAG DRY1 DRY2 SUFFIX..' options='[--limit BYTES] [--keep] [--whole]' one=$scratch/kernel two=$scratch/kernel.2 name form
     misuse "$none" "$all"
     misuse "$none" "$all" --limit 5
+    misuse "$none" "$all" --keep --whole
     misuse "$none" "$all" calls /w /t nvcc -c k.cu -o $'\xff'
     misuse "$none" "$all" $'\xff'
-    misuse 'unknown command ' "$all" ''
-    misuse 'unknown command nija' "$all" nija
-    misuse 'unknown command Ninja' "$all" Ninja /w /t -c "$one" "$two"
-    misuse 'unknown command a\u{1}b' "$all" $'a\x01b' --limit 5
-    misuse 'unknown command graph' "$all" --limit 5 graph /w /t -c "$one" "$two"
-    misuse "$odd --hlep" "$all" --hlep
-    misuse "$odd --keep" "$all" --keep ninja /w /t -c "$one" "$two"
-    misuse "$odd --limit=5" "$all" --limit=5 json /w /t -c "$one" "$two"
-    misuse "$odd --limit" "$all" --limit 5 --limit 5 json /w /t -c "$one" "$two"
+    misuse 'unknown command  (word 1)' "$all" ''
+    misuse 'unknown command nija (word 1)' "$all" nija
+    misuse 'unknown command Ninja (word 1)' "$all" Ninja /w /t -c "$one" "$two"
+    misuse 'unknown command a\u{1}b (word 1)' "$all" $'a\x01b' --limit 5
+    misuse 'unknown command graph (word 3)' "$all" --limit 5 graph /w /t -c "$one" "$two"
+    misuse 'unknown command graph (word 5)' "$all" --whole --limit 5 --keep graph /w /t -c "$one" "$two"
+    misuse "$odd --hlep (word 1)" "$all" --hlep
+    misuse "$odd --limit=5 (word 1)" "$all" --limit=5 json /w /t -c "$one" "$two"
+    misuse "$odd --limt (word 4)" "$all" --keep --limit 5 --limt 5 json /w /t -c "$one" "$two"
     misuse "$bytes" "$all" --limit
-    misuse "$bytes, not json" "$all" --limit json
-    misuse "$bytes, not x" "json $options $plan" --limit x json /w /t -c "$one" "$two"
-    misuse "$bytes, not -1" "json $options $plan" --limit -1 json /w /t -c "$one" "$two"
-    misuse "$bytes, not 2M" "dot $options $plan" --limit 2M dot /w /t -c "$one" "$two"
-    misuse "$bytes, not 18446744073709551616" "json $options $plan" --limit 18446744073709551616 json /w /t -c "$one" "$two"
-    misuse "$bytes, not 3k" "shell $options $plan" shell --keep --limit 3k /w /t -c "$one" "$two"
+    misuse "$bytes" "$all" --limit 5 --limit
+    misuse "$bytes, not json (word 2)" "$all" --limit json
+    misuse "$bytes, not x (word 2)" "$all" --limit x json /w /t -c "$one" "$two"
+    misuse "$bytes, not -1 (word 2)" "$all" --limit -1 json /w /t -c "$one" "$two"
+    misuse "$bytes, not 2M (word 3)" "$all" --whole --limit 2M dot /w /t -c "$one" "$two"
+    misuse "$bytes, not 18446744073709551616 (word 2)" "$all" --limit 18446744073709551616 json /w /t -c "$one" "$two"
+    misuse "$bytes, not 3k (word 4)" "shell $options $plan" shell --keep --limit 3k /w /t -c "$one" "$two"
     misuse "$bytes" "shell $options $plan" shell --whole --limit
     for name in shell ninja json dot compdb makeflow text; do
         form="$name $options $plan"
         misuse "$name needs CWD" "$form" "$name"
         misuse "$name needs DRY2" "$form" "$name" /w /t -c "$one"
         misuse "$name needs DRY1" "$form" --limit 9 "$name" --whole --keep /w /t -c
-        misuse "$odd --kep" "$form" "$name" --kep /w /t -c "$one" "$two"
-        misuse "$odd --dependencies" "$form" "$name" --dependencies /w /t -c "$one" "$two"
-        misuse "$odd --slot" "$form" "$name" --slot s /w /t -c "$one" "$two"
+        misuse "$odd --kep (word 2)" "$form" "$name" --kep /w /t -c "$one" "$two"
+        misuse "$odd --dependencies (word 2)" "$form" "$name" --dependencies /w /t -c "$one" "$two"
+        misuse "$odd --slot (word 3)" "$form" "$name" --keep --slot s /w /t -c "$one" "$two"
     done
-    misuse "$odd --keep" "json $options $plan" json --keep --keep --whole --keep /w /t -c "$one" "$two"
-    misuse "$odd -" "json $options $plan" json - /t -c "$one" "$two"
+    misuse "$odd - (word 2)" "json $options $plan" json - /t -c "$one" "$two"
     misuse 'ninja needs TMP' "ninja $options $plan" ninja --keep /w
     misuse 'ninja needs FLAG' "ninja $options $plan" ninja --limit 5 /w /t
     misuse 'plan needs CWD' "plan $plan" plan
     misuse 'plan needs DRY2' "plan $plan" plan /w /t -c "$one"
+    misuse 'plan needs TMP' "plan $plan" --limit 5 plan --keep
     misuse 'calls needs CWD' 'calls CWD TMP NVCC WORD..' calls
     misuse 'calls needs NVCC' 'calls CWD TMP NVCC WORD..' calls /w /t
     misuse 'directory needs CWD' 'directory CWD NVCC WORD..' directory
     misuse 'directory needs NVCC' 'directory CWD NVCC WORD..' directory /w
     misuse 'line needs a tool' "$line" line
     misuse 'line needs CWD' "$line" line ptxas
-    misuse 'line reads cicc, ptxas and cudafe++, not nvcc' "$line" line nvcc /w -c k.cu
-    misuse 'line reads cicc, ptxas and cudafe++, not Cicc' "$line" line Cicc /w x
-    misuse 'unexpected words behind --help' --help --help me
-    misuse 'unexpected words behind -h' -h -h me
-    misuse 'unexpected words behind --version' --version --version 1
+    misuse 'line reads cicc, ptxas and cudafe++, not nvcc (word 2)' "$line" line nvcc /w -c k.cu
+    misuse 'line reads cicc, ptxas and cudafe++, not Cicc (word 4)' "$line" --limit 5 line Cicc /w x
+    misuse '--keep and --whole need a format, not plan (word 2)' "$all" --keep plan /w /t -c "$one" "$two"
+    misuse '--keep and --whole need a format, not calls (word 4)' "$all" --limit 5 --whole calls /w /t nvcc -c k.cu
+    misuse '--keep and --whole need a format, not directory (word 2)' "$all" --whole directory /w nvcc
+    misuse '--keep and --whole need a format, not line (word 3)' "$all" --keep --keep line cicc /w x
+    misuse 'unexpected word me (word 2)' --help --help me
+    misuse 'unexpected word me (word 3)' -h --keep -h me
+    misuse 'unexpected word 1 (word 2)' --version --version 1
     for name in NVCC_PREPEND_FLAGS NVCC_APPEND_FLAGS ZIGRUNK_JOBS MAKEFLAGS; do
         export "$name"=$'\xff'
         misuse "$none" "$all" calls /w /t nvcc -c k.cu -o k.o
         unset "$name"
     done
+}
+
+# orders of options that mean the same, before a format and behind it: of two limits the last counts. With --whole, a plan may drop nothing
+orders_of_options() {
+    local front behind kept dropped small
+    run_of whole "${KERNEL[@]:0:7}"
+    kept=$("$program" shell --keep /w /t -c "$scratch/whole" "$scratch/whole.2"; printf .)
+    small="zigrunk: $scratch/kernel:1: with this line, the dry run makes over 7 bytes: --limit allows more"$'\n    '$(head -n 1 "$scratch/kernel")$'\n'
+    while IFS='|' read -r front behind dropped; do
+        # shellcheck disable=SC2086 # words
+        check "$front FORMAT $behind" 0 "${kept%.}" '' $front shell $behind /w /t -c "$scratch/whole" "$scratch/whole.2"
+        [ -n "$dropped" ] || continue
+        # shellcheck disable=SC2086 # words
+        check "$front FORMAT $behind, and a dropped command" 1 '' $'zigrunk: the plan dropped a command\n' \
+            $front shell $behind /w /t -c "$scratch/kernel" "$scratch/kernel.2"
+    done << 'ORDERS'
+--keep||
+|--keep|
+--keep|--keep|
+--keep --limit 90000||
+--limit 90000 --keep|--whole|dropped
+--whole --keep --limit 90000||dropped
+--limit 0 --whole --keep --limit 90000||dropped
+--limit 0 --limit 1 --limit 2 --limit 90000|--keep|
+--limit 0|--keep --whole --limit 90000|dropped
+--whole|--limit 90000 --keep|dropped
+|--whole --keep --limit 90000|dropped
+|--limit 0 --limit 90000 --keep --keep --whole --keep|dropped
+|--limit 0 --limit 1 --limit 2 --limit 3 --limit 90000 --keep|
+ORDERS
+    while IFS='|' read -r front behind; do
+        # shellcheck disable=SC2086 # words
+        check "$front FORMAT $behind, of which the last limit counts" 1 '' "$small" $front json $behind /w /t -c "$scratch/kernel" "$scratch/kernel.2"
+    done << 'ORDERS'
+--limit 90000 --limit 7|
+--limit 90000|--limit 7
+--limit 7|--keep --whole
+--keep --limit 8 --limit +07|
+--limit 90000|--limit 8 --keep --limit 7
+ORDERS
 }
 
 # the pages
@@ -1455,10 +1501,11 @@ zigrunk_pages() {
 " ''
     out=$("$program" --help; printf .)
     check 'the help by one letter' 0 "${out%.}" '' -h
-    for name in json calls line plan nija --version; do
+    for name in json calls line plan nija --version --keep --limit; do
         check "the help of $name" 0 "${out%.}" '' "$name" --help
         check "the help of $name by one letter" 0 "${out%.}" '' --limit 5 "$name" -h
     done
+    check 'the help behind options' 0 "${out%.}" '' --whole --limit 5 json --keep --limit 7 -h
 }
 
 # run FUNCTION..: calls these functions, or those of them that the script's call names.
@@ -1479,5 +1526,5 @@ run \
     nvcc_lines jobs_at_once directories forms_of_cudaplan long_nvcc_lines options_files odd_nvcc_words refused_nvcc_lines kernel_programs \
     plan_scripts plan_files plan_views makeflow_files plan_schema whole_plans unfit_files programs_on_disk unread_files long_values many_names no_memory statuses run_by_makeflow run_by_ninja \
     long_exports refused_exports limits hostile_input messages \
-    long_messages escapes standard_input zigrunk_pages wrong_usage
+    long_messages escapes standard_input zigrunk_pages wrong_usage orders_of_options
 summary

@@ -1,14 +1,17 @@
--- The calls of zigrunk.
-use Rattle.std.specs.Prelude.{ℕ, List, [], ◌∷◌, Bool, false, ◌||◌, if◌then◌else◌, Option, Some, None, codes, option_map, option_and_then, bytes_eq}
-use Rattle.host_lines.specs.KeepThreads.{number_of}
-use Rattle.plan_scripts.specs.Formats.{format_of_name}
+-- The calls of zigrunk, and how words are read as one.
+use Rattle.std.specs.Prelude.{◌≡◌, ℕ, List, [], ◌∷◌, length, Bool, true, false, ◌||◌, ◌&&◌, if◌then◌else◌, Option, Some, None, Result, Ok, Err, slice_get, codes, refl, option_map, bytes_eq}
 use Rattle.plan_scripts.specs.declared.format.Format.{Format}
 use Rattle.program_calls.specs.Calls.{NvccOf, nvcc_of, nvcc_call_of, DirectoryOf, directory_of, directory_call_of, LineOf, PlanOf, line_of, plan_of, line_call_of, plan_call_of}
-use Rattle.usage.specs.Settings.{past, begins_option, options_taken}
+use Rattle.usage.specs.Commands.{command_named, takes_options, operands_of, form_of}
+use Rattle.usage.specs.Misuse.{ExpectedOf, a_command, a_format, an_operand, a_tool, the_end, MisuseOf, misuse_seen, ContextOf, any_call, misuse_at, odd_word}
+use Rattle.usage.specs.Settings.{begins_option, options_taken}
 use Rattle.usage.specs.declared.settings.Settings.{Settings}
+use Rattle.usage.specs.declared.command.Command.{Command}
+use Rattle.usage.specs.declared.command.Command.TheVariants.{Export, Plan, Calls, Directory, Line, Help, Version}
 use Rattle.usage.specs.declared.call.Call.{Call}
 use Rattle.usage.specs.declared.call.Call.TheVariants as calls
 use Rattle.usage.specs.declared.call.ExportCall.{ExportCall}
+use Rattle.usage.specs.declared.misuse.Misuse.{Misuse}
 
 -- a call that writes a plan: the format, whether generated files keep nvcc's names, whether a plan that dropped a command is an
 -- error, and what to plan
@@ -45,82 +48,92 @@ seen (calls.Plan call) = plans (plan_of call)
 seen calls.Help = helps
 seen calls.Version = tells_version
 
--- a call with its limit
-abbrev pub seen_limited : ℕ × Call → ℕ × CallOf
-seen_limited (limit, call) = (limit, seen call)
+-- a call with its limit, or a misuse
+abbrev pub result_seen : Result (ℕ × Call) Misuse → Result (ℕ × CallOf) MisuseOf
+result_seen (Ok (limit, call)) = Ok (limit, seen call)
+result_seen (Err misuse) = Err (misuse_seen misuse)
 
--- a call that writes a plan, with its limit
-abbrev pub limited_export : ℕ × ExportCall → ℕ × ExportOf
-limited_export (limit, call) = (limit, export_of call)
+-- the settings of a call without options: its limit is 2 MiB
+abbrev pub no_options : Settings
+no_options = record { limit = 2097152; keeps = false; whole = false }
 
--- a call of what to plan, with its settings
-abbrev pub with_settings : Format → Settings → PlanOf → ℕ × ExportOf
-with_settings format settings plan = (settings.limit, record { format = format; keeps = settings.keeps; whole = settings.whole; plan = plan })
+-- whether words are one that asks for help
+abbrev pub are_help : List (List ℕ) → Bool
+are_help (word ∷ []) = bytes_eq word (codes "--help") || bytes_eq word (codes "-h")
+are_help words = false
 
--- The call that the words behind a format's name are, given the limit of one that names none: options, and what to plan. No working
--- directory begins with `-`.
-abbrev pub export_call_of : ℕ → Format → List (List ℕ) → Option (ℕ × ExportOf)
-export_call_of limit format words =
-    let options = options_taken limit words in
-    if begins_option options.1 then None else option_map (with_settings format options.0) (plan_call_of options.1)
-
--- a call that takes no further words
+-- the call, if no further words follow
 abbrev pub alone : CallOf → List (List ℕ) → Option CallOf
 alone call [] = Some call
 alone call (word ∷ words) = None
 
--- a call that writes a plan, as one of the program's
-abbrev pub exporting : ℕ × ExportOf → ℕ × CallOf
-exporting (limit, call) = (limit, exports call)
+-- the call that writes a plan in a format
+abbrev pub exporting : Format → Settings → PlanOf → CallOf
+exporting format settings plan = exports (record { format = format; keeps = settings.keeps; whole = settings.whole; plan = plan })
 
--- the call that another name and the words behind it are: an nvcc line, one that cudaplan has too, or a page
-abbrev pub plain_call : List ℕ → List (List ℕ) → Option CallOf
-plain_call name words =
-    if bytes_eq name (codes "calls") then option_map reads (nvcc_call_of words) else
-    if bytes_eq name (codes "directory") then option_map names (directory_call_of words) else
-    if bytes_eq name (codes "line") then option_map rewrites (line_call_of words) else
-    if bytes_eq name (codes "plan") then option_map plans (plan_call_of words) else
-    if bytes_eq name (codes "--help") then alone helps words else
-    if bytes_eq name (codes "-h") then alone helps words else
-    if bytes_eq name (codes "--version") then alone tells_version words else None
+-- the call of a command with these operands, if it takes them
+abbrev pub call_with : Command → Settings → List (List ℕ) → Option CallOf
+call_with (Export format) settings words = option_map (exporting format settings) (plan_call_of words)
+call_with Plan settings words = option_map plans (plan_call_of words)
+call_with Calls settings words = option_map reads (nvcc_call_of words)
+call_with Directory settings words = option_map names (directory_call_of words)
+call_with Line settings words = option_map rewrites (line_call_of words)
+call_with Help settings words = alone helps words
+call_with Version settings words = alone tells_version words
 
--- a call with its limit
-abbrev pub with_limit : ℕ → Option CallOf → Option (ℕ × CallOf)
-with_limit limit call = option_map (λ c. (limit, c)) call
+-- what a command takes in place of the first operand, if none is missing
+abbrev pub other_operand : Command → ExpectedOf
+other_operand Line = a_tool
+other_operand command = the_end
 
--- the call that a name and the words behind it are, given the format of that name
-abbrev pub formatted : ℕ → List ℕ → List (List ℕ) → Option Format → Option (ℕ × CallOf)
-formatted limit name words (Some format) = option_map exporting (export_call_of limit format words)
-formatted limit name words None = with_limit limit (plain_call name words)
+-- the misuse of operands that a command doesn't take, given the first that is missing
+abbrev pub lacking_or_other : ContextOf → Command → List (List ℕ) → Option (List ℕ) → MisuseOf
+lacking_or_other context command words (Some what) = misuse_at context [] (an_operand what)
+lacking_or_other context command words None = misuse_at context words (other_operand command)
 
-abbrev pub named_call : ℕ → List ℕ → List (List ℕ) → Option (ℕ × CallOf)
-named_call limit name words = formatted limit name words (format_of_name name)
+abbrev pub operand_misuse : ContextOf → Command → List (List ℕ) → MisuseOf
+operand_misuse context command words = lacking_or_other context command words (slice_get (operands_of command) (length words))
 
--- whether a word asks for help
-abbrev pub asks_help : List ℕ → Bool
-asks_help word = bytes_eq word (codes "--help") || bytes_eq word (codes "-h")
+-- a call with its limit, or else a misuse
+abbrev pub or_misuse : ℕ → MisuseOf → Option CallOf → Result (ℕ × CallOf) MisuseOf
+or_misuse limit misuse (Some call) = Ok (limit, call)
+or_misuse limit misuse None = Err misuse
 
--- whether words are one that asks for help
-abbrev pub are_help : List (List ℕ) → Bool
-are_help (word ∷ []) = asks_help word
-are_help words = false
+-- the call of a command with these operands. No working directory of a call that takes options begins with `-`
+abbrev pub call_behind : ContextOf → Command → Settings → List (List ℕ) → Result (ℕ × CallOf) MisuseOf
+call_behind context command settings words =
+    if takes_options command && begins_option words then Err (odd_word context words (an_operand (codes "CWD"))) else
+    or_misuse settings.limit (operand_misuse context command words) (call_with command settings words)
 
--- the call that words behind a limit are. One word that asks for help shows it, whatever is before it
-abbrev pub call_of : ℕ → List (List ℕ) → Option (ℕ × CallOf)
-call_of limit [] = None
-call_of limit (name ∷ words) = if are_help words then Some (limit, helps) else named_call limit name words
+-- settings with the options that follow a name, if they may, and the words behind them
+abbrev pub options_behind : Option Command → Settings → List (List ℕ) → Settings × List (List ℕ)
+options_behind (Some (Export format)) settings words = options_taken settings words
+options_behind command settings words = (settings, words)
 
--- the limit of a call that names none, in bytes: 2 MiB
-abbrev pub default_limit : ℕ
-default_limit = 2097152
+-- whether a command needs to be a format, given the options before it
+abbrev pub needs_format : Command → Settings → Bool
+needs_format (Export format) settings = false
+needs_format Help settings = false
+needs_format Version settings = false
+needs_format command settings = settings.keeps || settings.whole
 
--- the same, given the words behind `--limit`: the limit in decimal digits, and the call
-abbrev pub call_behind_limit : List (List ℕ) → Option (ℕ × CallOf)
-call_behind_limit [] = None
-call_behind_limit (number ∷ words) = option_and_then (λ limit. call_of limit words) (number_of number)
+-- the call that words from a name on are, given its command, if it has one, and the settings and operands behind it
+abbrev pub named_call : ℕ → List ℕ → List (List ℕ) → Option Command → Settings × List (List ℕ) → Result (ℕ × CallOf) MisuseOf
+named_call count name named None behind = Err (odd_word (any_call count) named a_command)
+named_call count name named (Some c) behind =
+    if needs_format c behind.0 then Err (misuse_at (any_call count) named a_format) else
+    call_behind (record { count = count; form = record { name = name; words = form_of c } }) c behind.0 behind.1
 
--- the limit and the call that the words after the program's name are
-abbrev pub limited_call_of : List (List ℕ) → Option (ℕ × CallOf)
-limited_call_of words =
-    let limit = past (codes "--limit") words in
-    if limit.0 then call_behind_limit limit.1 else call_of default_limit words
+-- the call that the words behind the first options are, given the number of all words. One word that asks for help shows it, whatever
+-- is before it
+abbrev pub command_call : ℕ → Settings → List (List ℕ) → Result (ℕ × CallOf) MisuseOf
+command_call count settings [] = Err (misuse_at (any_call count) [] a_command)
+command_call count settings (name ∷ words) =
+    let behind = options_behind (command_named name) settings words in
+    if are_help behind.1 then Ok (behind.0.limit, helps) else named_call count name (name ∷ words) (command_named name) behind
+
+-- the call that the words after the program's name are, with its limit, or where they stop being one
+abbrev pub call_of : List (List ℕ) → Result (ℕ × CallOf) MisuseOf
+call_of words =
+    let front = options_taken no_options words in
+    command_call (length words) front.0 front.1

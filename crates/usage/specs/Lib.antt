@@ -1,5 +1,5 @@
 pub mod Calls
-pub mod Forms
+pub mod Commands
 pub mod Misuse
 pub mod Pages
 pub mod Settings

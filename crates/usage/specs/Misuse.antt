@@ -1,133 +1,132 @@
--- What the program says of words that are no call: what is wrong with them, and the form of the call.
-use Rattle.std.specs.Prelude.{◌≡◌, ◌⊎◌, ℕ, List, [], ◌∷◌, ◌++◌, if◌then◌else◌, Option, Some, None, is_some, refl, codes, bytes_eq}
+-- Words that are no call: where they stop being one, and what the program says of them.
+use Rattle.std.specs.Prelude.{◌≡◌, ◌⊎◌, ℕ, ◌+◌, ◌-◌, ◌^◌, min, List, [], ◌∷◌, ◌++◌, length, if◌then◌else◌, Option, Some, None, option_copied, refl, codes, bytes_eq}
 use Rattle.std.specs.Io.KnownBytes.{Appends}
-use Rattle.host_lines.specs.KeepThreads.{number_of}
+use Rattle.texts.specs.Numeral.{numeral}
 use Rattle.message_texts.specs.Excerpts.{shown}
-use Rattle.usage.specs.Forms.{form_of, words_of, lacking}
-use Rattle.usage.specs.Settings.{past, is_option, begins_option, options_taken}
-use Rattle.usage.specs.declared.form.Form.{Form}
-use Rattle.usage.specs.declared.form.Form.TheVariants.{Export, Line}
+use Rattle.usage.specs.Settings.{is_option}
+use Rattle.usage.specs.declared.misuse.Context.{Context}
+use Rattle.usage.specs.declared.misuse.Expected.{Expected}
+use Rattle.usage.specs.declared.misuse.Expected.TheVariants as code
+use Rattle.usage.specs.declared.misuse.Form.{Form}
+use Rattle.usage.specs.declared.misuse.Misuse.{Misuse}
 
--- a word behind a text, as far as a message shows it, and the first of some words
-abbrev pub with_word : List ℕ → List ℕ → List ℕ
-with_word front word = front ++ shown 100 word
+-- what the words of a call have to go on with: the name of a command, the number of `--limit`, the name of a format, an operand, as a
+-- message names it, the name of a tool, or the end
+pub data ExpectedOf : Type 0 where
+  a_command : ExpectedOf
+  a_number : ExpectedOf
+  a_format : ExpectedOf
+  an_operand : List ℕ → ExpectedOf
+  a_tool : ExpectedOf
+  the_end : ExpectedOf
 
-abbrev pub with_first : List ℕ → List (List ℕ) → List ℕ
-with_first front [] = front
-with_first front (word ∷ words) = with_word front word
+-- the form of a call, as a message shows it: the name of its command, and what follows
+pub record FormOf : Type 0 where
+  pub name : List ℕ
+  pub words : List ℕ
 
--- what is wrong with the words behind `--limit`, if the first is no number
-abbrev pub limit_text : List (List ℕ) → List ℕ
-limit_text [] = codes "--limit needs a number of bytes"
-limit_text (word ∷ words) = codes "--limit needs a number of bytes, not "
+-- words that are no call: the index of the first word that doesn't fit, or how many there are if they end too early; that word; what
+-- has to be in its place; and the form of the call that the words before it begin
+pub record MisuseOf : Type 0 where
+  pub place : ℕ
+  pub found : Option (List ℕ)
+  pub expected : ExpectedOf
+  pub form : FormOf
 
-abbrev pub limit_misuse : List (List ℕ) → List ℕ
-limit_misuse words = with_first (limit_text words) words
+-- these, as the code holds them
+abbrev pub expected_seen : Expected → ExpectedOf
+expected_seen code.Command = a_command
+expected_seen code.Bytes = a_number
+expected_seen code.Format = a_format
+expected_seen (code.Operand what) = an_operand what.now
+expected_seen code.Tool = a_tool
+expected_seen code.End = the_end
 
--- what is wrong with words of which the first begins with `-`
-abbrev pub option_misuse : List (List ℕ) → List ℕ
-option_misuse words =
-    let limit = past (codes "--limit") words in
-    if limit.0 then limit_misuse limit.1 else with_first (codes "unexpected option ") words
+abbrev pub form_seen : Form → FormOf
+form_seen form = record { name = form.name.now; words = form.words.now }
 
--- what is wrong with the words behind a call's name if none is missing: the tool, or that there are any
-abbrev pub odd : List ℕ → Form → List (List ℕ) → List ℕ
-odd name Line words = with_first (codes "line reads cicc, ptxas and cudafe++, not ") words
-odd name form words = with_word (codes "unexpected words behind ") name
+abbrev pub misuse_seen : Misuse → MisuseOf
+misuse_seen misuse = record {
+  place = misuse.place;
+  found = option_copied misuse.found;
+  expected = expected_seen misuse.expected;
+  form = form_seen misuse.form;
+}
 
--- what is wrong with the words behind a call's name and its options, given the first that is missing
-abbrev pub behind_lacking : List ℕ → Form → List (List ℕ) → Option (List ℕ) → List ℕ
-behind_lacking name form words (Some what) = with_word [] name ++ (codes " needs " ++ what)
-behind_lacking name form words None = odd name form words
+-- what is known of all words when a misuse is found: how many there are, and the form of the call that they begin
+pub record ContextOf : Type 0 where
+  pub count : ℕ
+  pub form : FormOf
 
-abbrev pub behind : List ℕ → Form → List (List ℕ) → List ℕ
-behind name form words = behind_lacking name form words (lacking form words)
+abbrev pub context_seen : Context → ContextOf
+context_seen context = record { count = context.count; form = form_seen context.form }
 
--- what is wrong with the words behind the name of a call with options
-abbrev pub export_misuse : List ℕ → List (List ℕ) → List ℕ
-export_misuse name words =
-    let rest = (options_taken 0 words).1 in
-    if begins_option rest then option_misuse rest else behind name Export rest
+-- what is known of words before their command
+abbrev pub any_call : ℕ → ContextOf
+any_call count = record {
+  count = count;
+  form = record { name = []; words = codes "shell|ninja|json|dot|compdb|makeflow|text|plan|calls|directory|line .., or --help" };
+}
 
--- what a name that no call has is
-abbrev pub kind_of : List ℕ → List ℕ
-kind_of name = if is_option name then codes "unexpected option " else codes "unknown command "
+-- the first of some words
+abbrev pub first_of : List (List ℕ) → Option (List ℕ)
+first_of [] = None
+first_of (word ∷ words) = Some word
 
--- what is wrong with a name and the words behind it, given the form of that name's call
-abbrev pub formed_misuse : List ℕ → List (List ℕ) → Option Form → List ℕ
-formed_misuse name words None = with_word (kind_of name) name
-formed_misuse name words (Some Export) = export_misuse name words
-formed_misuse name words (Some form) = behind name form words
+-- the misuse at the first of the words that end all words, or at their end
+abbrev pub misuse_at : ContextOf → List (List ℕ) → ExpectedOf → MisuseOf
+misuse_at context rest expected = record {
+  place = context.count - length rest;
+  found = first_of rest;
+  expected = expected;
+  form = context.form;
+}
 
-abbrev pub named_misuse : List ℕ → List (List ℕ) → List ℕ
-named_misuse name words = formed_misuse name words (form_of name)
+-- the misuse at a word that isn't what is expected. If it's `--limit`, it lacks its number
+abbrev pub odd_word : ContextOf → List (List ℕ) → ExpectedOf → MisuseOf
+odd_word context [] expected = misuse_at context [] expected
+odd_word context (word ∷ words) expected =
+    if bytes_eq word (codes "--limit") then misuse_at context words a_number else misuse_at context (word ∷ words) expected
 
--- what is wrong with words behind a limit
-abbrev pub command_misuse : List (List ℕ) → List ℕ
-command_misuse [] = codes "no command, or a word or variable that isn't UTF-8"
-command_misuse (name ∷ words) = named_misuse name words
+-- what a message says in front of a word that doesn't fit
+abbrev pub front_of : ExpectedOf → List ℕ → List ℕ
+front_of a_command word = if is_option word then codes "unexpected option " else codes "unknown command "
+front_of a_number word = codes "--limit needs a number of bytes, not "
+front_of a_format word = codes "--keep and --whole need a format, not "
+front_of (an_operand what) word = codes "unexpected option "
+front_of a_tool word = codes "line reads cicc, ptxas and cudafe++, not "
+front_of the_end word = codes "unexpected word "
 
--- what is wrong with words behind `--limit`
-abbrev pub limited_misuse : List (List ℕ) → List ℕ
-limited_misuse [] = limit_misuse []
-limited_misuse (number ∷ words) = if is_some (number_of number) then command_misuse words else limit_misuse (number ∷ words)
+-- a word that doesn't fit, and its place, counted from 1
+abbrev pub found_text : MisuseOf → List ℕ → List ℕ
+found_text misuse word =
+    front_of misuse.expected word ++ (shown 100 word ++ (codes " (word " ++ (numeral (min (misuse.place + 1) (2 ^ 64 - 1)) ++ codes ")")))
 
--- what is wrong with words that are no call
-abbrev pub misuse : List (List ℕ) → List ℕ
-misuse words =
-    let limit = past (codes "--limit") words in
-    if limit.0 then limited_misuse limit.1 else command_misuse words
+-- what words that end too early lack
+abbrev pub lacking_of : ExpectedOf → FormOf → List ℕ
+lacking_of (an_operand what) form = form.name ++ (codes " needs " ++ what)
+lacking_of a_number form = codes "--limit needs a number of bytes"
+lacking_of expected form = codes "no command, or a word or variable that isn't UTF-8"
 
--- the words from a call's name on
-abbrev pub from_name : List (List ℕ) → List (List ℕ)
-from_name (option ∷ number ∷ words) = if bytes_eq option (codes "--limit") then words else option ∷ number ∷ words
-from_name words = words
+abbrev pub lacking_text : MisuseOf → List ℕ
+lacking_text misuse = lacking_of misuse.expected misuse.form
 
--- the names of all calls
-abbrev pub commands : List ℕ
-commands = codes "shell|ninja|json|dot|compdb|makeflow|text|plan|calls|directory|line .., or --help"
+-- what is wrong with words
+abbrev pub cause_with : MisuseOf → Option (List ℕ) → List ℕ
+cause_with misuse (Some word) = found_text misuse word
+cause_with misuse None = lacking_text misuse
 
--- the form of a call, by its name
-abbrev pub form_of_named : List ℕ → Option Form → List ℕ
-form_of_named name (Some form) = name ++ words_of form
-form_of_named name None = commands
+abbrev pub cause : MisuseOf → List ℕ
+cause misuse = cause_with misuse misuse.found
 
-abbrev pub form_text : List ℕ → List ℕ
-form_text name = form_of_named name (form_of name)
-
--- the form of the call that words were meant for
-abbrev pub form_of_words : List (List ℕ) → List ℕ
-form_of_words [] = commands
-form_of_words (name ∷ words) = form_text name
-
-abbrev pub usage : List (List ℕ) → List ℕ
-usage words = codes "\nusage: zigrunk " ++ form_of_words words
-
--- the message of words that are no call
-abbrev pub message : List (List ℕ) → List ℕ
-message words = misuse words ++ usage (from_name words)
+-- the message of a misuse: what is wrong, and the form of the call
+abbrev pub message_of : MisuseOf → List ℕ
+message_of misuse = cause misuse ++ (codes "\nusage: zigrunk " ++ (misuse.form.name ++ misuse.form.words))
 
 -- it writes a message behind its name
 abbrev pub Writes : Option (List ℕ) → Option (List ℕ) → List ℕ → Type 0
 Writes before after text = Appends before after (codes "zigrunk: " ++ (text ++ codes "\n"))
 
 -- it says what is wrong with words, or, if there is no memory for that, where to look
-abbrev pub SaysMisuse : Option (List ℕ) → Option (List ℕ) → List (List ℕ) → Type 0
-SaysMisuse before after words = Writes before after (message words) ⊎ Writes before after (codes "wrong usage: see zigrunk --help")
-
--- examples: an unknown command, a word that is missing, a limit that is no number, an unknown tool
-pub command_is_unknown : misuse (codes "nija" ∷ []) ≡ with_word (codes "unknown command ") (codes "nija")
-command_is_unknown = refl
-
-pub second_run_is_missing :
-    misuse (codes "dot" ∷ codes "--keep" ∷ codes "/w" ∷ codes "/t" ∷ codes "-c" ∷ codes "d1" ∷ [])
-    ≡ with_word [] (codes "dot") ++ (codes " needs " ++ codes "DRY2")
-second_run_is_missing = refl
-
-pub limit_is_no_number :
-    misuse (codes "json" ∷ codes "--limit" ∷ codes "2M" ∷ codes "/w" ∷ []) ≡ with_word (codes "--limit needs a number of bytes, not ") (codes "2M")
-limit_is_no_number = refl
-
-pub tool_is_unknown :
-    misuse (codes "line" ∷ codes "cic" ∷ codes "/w" ∷ []) ≡ with_first (codes "line reads cicc, ptxas and cudafe++, not ") (codes "cic" ∷ codes "/w" ∷ [])
-tool_is_unknown = refl
+abbrev pub SaysMisuse : Option (List ℕ) → Option (List ℕ) → MisuseOf → Type 0
+SaysMisuse before after misuse = Writes before after (message_of misuse) ⊎ Writes before after (codes "wrong usage: see zigrunk --help")

@@ -1,12 +1,12 @@
-//! The calls of `zigrunk`, what it says of words that are no call, and its help.
+//! The calls of `zigrunk`: what words mean, or where they stop being a call and what it says then, and its help.
 #![tactic(auto)]
 
 mod call;
-mod form;
+mod command;
 mod misuse;
 mod page;
 mod settings;
 
-pub use call::{Call, ExportCall, limited_call_of};
-pub use misuse::complain_of_misuse;
+pub use call::{Call, ExportCall, call_of};
+pub use misuse::{Expected, Form, Misuse, complain_of_misuse};
 pub use page::{help, version};

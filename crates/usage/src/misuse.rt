@@ -1,211 +1,168 @@
-//! What the program says of words that are no call: what is wrong with them, and the form of the call.
+//! Words that are no call: where they stop being one, and what the program says of them.
 
-ghost use Rattle.std.specs.Prelude.{◌≡◌, ◌++◌, IfOk, OnOk, map, string_bytes};
+ghost use Rattle.std.specs.Prelude.{◌≡◌, ◌++◌, IfOk, OnOk, length, map, string_bytes, option_copied};
 ghost use Rattle.usage.specs.Misuse as spec;
 
-use crate::form::{Form, form_named, lacking, words_of};
-use crate::settings::{begins_option, is_option, number_in, options_taken, past};
+use crate::settings::is_option;
 use message_texts::push_shown;
 use std::alloc::{AllocError, Global};
 use std::io::{self, Write};
+use texts::decimal::push_number;
 
-// The names of all calls.
-const COMMANDS: &str =
-    "shell|ninja|json|dot|compdb|makeflow|text|plan|calls|directory|line .., or --help";
+/// What the words of a call have to go on with.
+#[derive(Clone, Copy)]
+pub enum Expected {
+    /// The name of a command.
+    Command,
+    /// The number of bytes of `--limit`.
+    Bytes,
+    /// The name of a format, behind `--keep` or `--whole`.
+    Format,
+    /// An operand, as a message names it.
+    Operand(&'static str),
+    /// The name of a tool.
+    Tool,
+    /// The end.
+    End,
+}
+
+/// The form of a call, as a message shows it.
+#[derive(Clone, Copy)]
+pub struct Form<'a> {
+    /// The name of its command, or nothing for all calls.
+    pub name: &'a str,
+    /// What follows the name.
+    pub words: &'static str,
+}
+
+/// Words that are no call.
+#[derive(Clone, Copy)]
+pub struct Misuse<'a> {
+    /// The index of the first word that doesn't fit, or the number of words if they end too early.
+    pub place: usize,
+    /// That word.
+    pub found: Option<&'a str>,
+    /// What has to be in its place.
+    pub expected: Expected,
+    /// The form of the call that the words before it begin.
+    pub form: Form<'a>,
+}
+
+/// What is known of all words when a misuse is found.
+#[derive(Clone, Copy)]
+pub struct Context<'a> {
+    /// How many words there are.
+    pub count: usize,
+    /// The form of the call that they begin.
+    pub form: Form<'a>,
+}
 
 // What it says if there is no memory for more.
 const SHORT: &str = "wrong usage: see zigrunk --help";
 
-// Adds a word behind a text, as far as a message shows it.
-fn push_word(text: &mut String, front: &str, word: &str) -> Result<(), AllocError>
-    ensures { OnOk result (string_bytes text.new ≡ string_bytes text.old ++ spec.with_word front.now word.now) }
+/// What is known of words before their command.
+pub fn any_call(count: usize) -> Context<'static>
+    ensures { spec.context_seen result ≡ spec.any_call count }
 {
-    text.push_str(front)?;
-    push_shown(text, word.as_bytes(), 100)
+    let form = Form {
+        name: "",
+        words: "shell|ninja|json|dot|compdb|makeflow|text|plan|calls|directory|line .., or --help",
+    };
+    Context { count, form }
 }
 
-// Adds the first of some words behind a text.
-fn push_first(text: &mut String, front: &str, words: &[String]) -> Result<(), AllocError>
-    ensures { OnOk result (string_bytes text.new ≡ string_bytes text.old ++ spec.with_first front.now (map string_bytes words.now)) }
+/// The misuse at the first word of `rest`, which ends all words, or at their end if there is no rest.
+pub fn misuse_at<'a>(context: Context<'a>, rest: &'a [String], expected: Expected) -> Misuse<'a>
+    ensures { spec.misuse_seen result ≡ spec.misuse_at (spec.context_seen context.entry) (map string_bytes rest.now) (spec.expected_seen expected) }
 {
-    match words {
-        [word, ..] => push_word(text, front, word.as_str()),
-        [] => text.push_str(front),
+    let found = match rest {
+        [word, ..] => Some(word.as_str()),
+        [] => None,
+    };
+    Misuse {
+        place: context.count.saturating_sub(rest.len()),
+        found,
+        expected,
+        form: context.form,
     }
 }
 
-// What is wrong with the words behind `--limit`, up to the first of them.
-fn limit_text(words: &[String]) -> &'static str
-    ensures { result.now ≡ spec.limit_text (map string_bytes words.now) }
+/// The misuse at a word that isn't what is expected. If it's `--limit`, it lacks its number.
+pub fn odd_word<'a>(context: Context<'a>, rest: &'a [String], expected: Expected) -> Misuse<'a>
+    ensures { spec.misuse_seen result ≡ spec.odd_word (spec.context_seen context.entry) (map string_bytes rest.now) (spec.expected_seen expected) }
 {
-    match words {
-        [_, ..] => "--limit needs a number of bytes, not ",
-        [] => "--limit needs a number of bytes",
+    match rest {
+        [word, behind @ ..] if word.as_str() == "--limit" => {
+            misuse_at(context, behind, Expected::Bytes)
+        }
+        _ => misuse_at(context, rest, expected),
     }
 }
 
-// Adds what is wrong with the words behind `--limit`.
-fn push_limit(text: &mut String, words: &[String]) -> Result<(), AllocError>
-    ensures { OnOk result (string_bytes text.new ≡ string_bytes text.old ++ spec.limit_misuse (map string_bytes words.now)) }
+// What a message says in front of a word that doesn't fit.
+fn front_of(expected: Expected, word: &str) -> &'static str
+    ensures { result.now ≡ spec.front_of (spec.expected_seen expected) word.now }
 {
-    push_first(text, limit_text(words), words)
-}
-
-// Adds what is wrong with an option.
-fn push_option(text: &mut String, words: &[String]) -> Result<(), AllocError>
-    ensures { OnOk result (string_bytes text.new ≡ string_bytes text.old ++ spec.option_misuse (map string_bytes words.now)) }
-{
-    let (is_limit, rest) = past("--limit", words);
-    if is_limit {
-        push_limit(text, rest)
-    } else {
-        push_first(text, "unexpected option ", words)
+    match expected {
+        Expected::Command if !is_option(word) => "unknown command ",
+        Expected::Command | Expected::Operand(_) => "unexpected option ",
+        Expected::Bytes => "--limit needs a number of bytes, not ",
+        Expected::Format => "--keep and --whole need a format, not ",
+        Expected::Tool => "line reads cicc, ptxas and cudafe++, not ",
+        Expected::End => "unexpected word ",
     }
 }
 
-// Adds what is wrong with words of which none is missing.
-fn push_odd(text: &mut String, name: &str, form: Form, words: &[String]) -> Result<(), AllocError>
-    ensures { OnOk result (string_bytes text.new ≡ string_bytes text.old ++ spec.odd name.now form (map string_bytes words.now)) }
-{
-    match form {
-        Form::Line => push_first(text, "line reads cicc, ptxas and cudafe++, not ", words),
-        _ => { push_word(text, "unexpected words behind ", name) }
-    }
-}
-
-// Adds what is wrong with the words behind a call's name and its options.
-fn push_behind(
+// Adds a word that doesn't fit, and its place.
+fn push_found(
+    alloc: Global,
     text: &mut String,
-    name: &str,
-    form: Form,
-    words: &[String],
+    misuse: &Misuse<'_>,
+    word: &str,
 ) -> Result<(), AllocError>
-    ensures { OnOk result (string_bytes text.new ≡ string_bytes text.old ++ spec.behind name.now form (map string_bytes words.now)) }
+    ensures { OnOk result (string_bytes text.new ≡ string_bytes text.old ++ spec.found_text (spec.misuse_seen misuse.now) word.now) }
 {
-    match lacking(form, words) {
-        Some(what) => {
-            push_word(text, "", name)?;
+    text.push_str(front_of(misuse.expected, word))?;
+    push_shown(text, word.as_bytes(), 100)?;
+    text.push_str(" (word ")?;
+    push_number(alloc, text, misuse.place.saturating_add(1))?;
+    text.push_str(")")
+}
+
+// Adds what words that end too early lack.
+fn push_lacking(text: &mut String, misuse: &Misuse<'_>) -> Result<(), AllocError>
+    ensures { OnOk result (string_bytes text.new ≡ string_bytes text.old ++ spec.lacking_text (spec.misuse_seen misuse.now)) }
+{
+    match misuse.expected {
+        Expected::Operand(what) => {
+            text.push_str(misuse.form.name)?;
             text.push_str(" needs ")?;
             text.push_str(what)
         }
-        None => push_odd(text, name, form, words),
-    }
-}
-
-// Adds what is wrong with the words behind the name of a call with options.
-fn push_behind_options(text: &mut String, name: &str, words: &[String]) -> Result<(), AllocError>
-    ensures { OnOk result (string_bytes text.new ≡ string_bytes text.old ++ spec.export_misuse name.now (map string_bytes words.now)) }
-{
-    let (_, rest) = options_taken(0, words);
-    if begins_option(rest) {
-        push_option(text, rest)
-    } else {
-        push_behind(text, name, Form::Export, rest)
-    }
-}
-
-// What a name that no call has is.
-fn kind_of(name: &str) -> &'static str
-    ensures { result.now ≡ spec.kind_of name.now }
-{
-    if is_option(name) {
-        "unexpected option "
-    } else {
-        "unknown command "
-    }
-}
-
-// Adds what is wrong with a name and the words behind it.
-fn push_named(text: &mut String, name: &str, words: &[String]) -> Result<(), AllocError>
-    ensures { OnOk result (string_bytes text.new ≡ string_bytes text.old ++ spec.named_misuse name.now (map string_bytes words.now)) }
-{
-    match form_named(name) {
-        None => push_word(text, kind_of(name), name),
-        Some(Form::Export) => push_behind_options(text, name, words),
-        Some(form) => push_behind(text, name, form, words),
-    }
-}
-
-// Adds what is wrong with words behind a limit.
-fn push_command(text: &mut String, words: &[String]) -> Result<(), AllocError>
-    ensures { OnOk result (string_bytes text.new ≡ string_bytes text.old ++ spec.command_misuse (map string_bytes words.now)) }
-{
-    match words {
-        [] => text.push_str("no command, or a word or variable that isn't UTF-8"),
-        [name, rest @ ..] => push_named(text, name.as_str(), rest),
-    }
-}
-
-// Adds what is wrong with words behind `--limit`.
-fn push_limited(text: &mut String, words: &[String]) -> Result<(), AllocError>
-    ensures { OnOk result (string_bytes text.new ≡ string_bytes text.old ++ spec.limited_misuse (map string_bytes words.now)) }
-{
-    match words {
-        [number, rest @ ..] if number_in(number.as_str()).is_some() => push_command(text, rest),
-        _ => push_limit(text, words),
+        Expected::Bytes => text.push_str("--limit needs a number of bytes"),
+        _ => text.push_str("no command, or a word or variable that isn't UTF-8"),
     }
 }
 
 // Adds what is wrong with words.
-fn push_misuse(text: &mut String, words: &[String]) -> Result<(), AllocError>
-    ensures { OnOk result (string_bytes text.new ≡ string_bytes text.old ++ spec.misuse (map string_bytes words.now)) }
+fn push_cause(alloc: Global, text: &mut String, misuse: &Misuse<'_>) -> Result<(), AllocError>
+    ensures { OnOk result (string_bytes text.new ≡ string_bytes text.old ++ spec.cause (spec.misuse_seen misuse.now)) }
 {
-    let (is_limited, rest) = past("--limit", words);
-    if is_limited {
-        push_limited(text, rest)
-    } else {
-        push_command(text, words)
+    match misuse.found {
+        Some(word) => push_found(alloc, text, misuse, word),
+        None => push_lacking(text, misuse),
     }
 }
 
-// The words from a call's name on.
-fn from_name(words: &[String]) -> &[String]
-    ensures { map string_bytes result.now ≡ spec.from_name (map string_bytes words.now) }
-{
-    match words {
-        [option, _, rest @ ..] if option.as_str() == "--limit" => rest,
-        _ => words,
-    }
-}
-
-// Adds the form of a call, by its name.
-fn push_form(text: &mut String, name: &str) -> Result<(), AllocError>
-    ensures { OnOk result (string_bytes text.new ≡ string_bytes text.old ++ spec.form_text name.now) }
-{
-    match form_named(name) {
-        Some(form) => {
-            text.push_str(name)?;
-            text.push_str(words_of(form))
-        }
-        None => text.push_str(COMMANDS),
-    }
-}
-
-// Adds the form of the call that words begin with.
-fn push_form_of(text: &mut String, words: &[String]) -> Result<(), AllocError>
-    ensures { OnOk result (string_bytes text.new ≡ string_bytes text.old ++ spec.form_of_words (map string_bytes words.now)) }
-{
-    match words {
-        [name, ..] => push_form(text, name.as_str()),
-        [] => text.push_str(COMMANDS),
-    }
-}
-
-// Adds the form of the call that words were meant for.
-fn push_usage(text: &mut String, words: &[String]) -> Result<(), AllocError>
-    ensures { OnOk result (string_bytes text.new ≡ string_bytes text.old ++ spec.usage (map string_bytes words.now)) }
-{
-    text.push_str("\nusage: zigrunk ")?;
-    push_form_of(text, words)
-}
-
-// The message of words that are no call.
-fn misuse_message(alloc: Global, words: &[String]) -> Result<String, AllocError>
-    ensures { IfOk result (λ text. string_bytes text ≡ spec.message (map string_bytes words.now)) }
+// The message of a misuse: what is wrong, and the form of the call.
+fn message_of(alloc: Global, misuse: &Misuse<'_>) -> Result<String, AllocError>
+    ensures { IfOk result (λ text. string_bytes text ≡ spec.message_of (spec.misuse_seen misuse.now)) }
 {
     let mut text = String::new(alloc);
-    push_misuse(&mut text, words)?;
-    push_usage(&mut text, from_name(words))?;
+    push_cause(alloc, &mut text, misuse)?;
+    text.push_str("\nusage: zigrunk ")?;
+    text.push_str(misuse.form.name)?;
+    text.push_str(misuse.form.words)?;
     Ok(text)
 }
 
@@ -216,14 +173,18 @@ fn say<E: Write>(message: &str, err: &mut E) -> io::Result<()>
     write!(err, "zigrunk: {message}\n")
 }
 
-/// Says what is wrong with words that are no call, and the form of the call that they were meant for. If there is no memory for
-/// that, it says where to look.
+/// Says what is wrong with words that are no call, and the form of the call that they begin. If there is no memory for that, it
+/// says where to look.
 ///
 /// If a write fails, part of the message may have been written.
-pub fn complain_of_misuse<E: Write>(alloc: Global, words: &[String], err: &mut E) -> io::Result<()>
-    ensures { OnOk result (spec.SaysMisuse (E.contents err.old) (E.contents err.new) (map string_bytes words.now)) }
+pub fn complain_of_misuse<E: Write>(
+    alloc: Global,
+    misuse: &Misuse<'_>,
+    err: &mut E,
+) -> io::Result<()>
+    ensures { OnOk result (spec.SaysMisuse (E.contents err.old) (E.contents err.new) (spec.misuse_seen misuse.now)) }
 {
-    match misuse_message(alloc, words) {
+    match message_of(alloc, misuse) {
         Ok(message) => say(message.as_str(), err),
         Err(_) => say(SHORT, err),
     }

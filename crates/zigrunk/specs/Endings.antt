@@ -1,5 +1,5 @@
 -- How calls of the program end.
-use Rattle.std.specs.Prelude.{◌≡◌, ℕ, List, [], ◌∷◌, ◌++◌, ◌⊎◌, Option, Result, Ok, Err, MatchOption}
+use Rattle.std.specs.Prelude.{◌≡◌, ℕ, List, [], ◌∷◌, ◌++◌, ◌⊎◌, Option, Result, Ok, Err, MatchResult}
 use Rattle.std.specs.Io.KnownBytes.{Keeps}
 use Rattle.program_calls.specs.Calls.{NvccOf}
 use Rattle.nvcc_calls.specs.Directory.{directory_name}
@@ -12,6 +12,7 @@ use Rattle.plan_calls.specs.PlanFiles.{ExportsFiles, ShowsFiles}
 use Rattle.usage.specs.Calls.{CallOf, exports, reads, names, rewrites, plans, helps, tells_version}
 use Rattle.zigrunk.specs.NvccText.{nvcc_text}
 use Rattle.zigrunk.specs.OptionsFiles.{AreHeld}
+use Rattle.usage.specs.Misuse.{MisuseOf}
 use Rattle.usage.specs.Pages.{help_text, version_text}
 
 -- the exit status of a call that reads an nvcc line, if it stops: 3 if its call goes to nvcc unchanged
@@ -73,7 +74,14 @@ Serves holds limit tells_version variables answer before after = Delivers answer
 -- how a call ends: with status 2 and nothing written if the words are no call, else with the status of an engine's answer,
 -- and with what that engine writes
 abbrev pub Ends :
-    (List ℕ → Option (List ℕ) → Type 0) → ℕ → Option (ℕ × CallOf) → List (List ℕ × List ℕ) → Option (List ℕ) → Option (List ℕ) → Type 0
+    (List ℕ → Option (List ℕ) → Type 0)
+    → ℕ
+    → Result (ℕ × CallOf) MisuseOf
+    → List (List ℕ × List ℕ)
+    → Option (List ℕ)
+    → Option (List ℕ)
+    → Type 0
 Ends holds status call variables before after =
-    MatchOption call ((status ≡ 2) × Keeps before after)
+    MatchResult call
     (λ c. (answer : Result (Unit {0}) Stop) × (status ≡ status_of c.1 answer) × Serves holds c.0 c.1 variables answer before after)
+    (λ misuse. (status ≡ 2) × Keeps before after)

@@ -18,7 +18,7 @@ use programs::{Sources, Stop, deliver, write_line};
 use std::alloc::Global;
 use std::fs::Files;
 use std::io::Write;
-use usage::{Call, complain_of_misuse, help, limited_call_of, version};
+use usage::{Call, call_of, complain_of_misuse, help, version};
 
 // Writes a page.
 fn show<W: Write>(alloc: Global, page: &str, out: &mut W) -> Result<(), Stop>
@@ -126,11 +126,14 @@ pub fn run_program<R: Files + AllocGlobal, S: Sources, W: Write, E: Write>(
     out: &mut W,
     err: &mut E,
 ) -> u8
-    ensures { spec.Ends (S.holds sources.now) result (forms.limited_call_of (map string_bytes words.now)) (map pair_of variables.now) (W.contents out.old) (W.contents out.new) }
+    ensures { spec.Ends (S.holds sources.now) result (forms.call_of (map string_bytes words.now)) (map pair_of variables.now) (W.contents out.old) (W.contents out.new) }
 {
-    let Some((limit, call)) = limited_call_of(words) else {
-        let _ = complain_of_misuse(rt.alloc(), words, err);
-        return 2;
+    let (limit, call) = match call_of(words) {
+        Ok(limited) => limited,
+        Err(misuse) => {
+            let _ = complain_of_misuse(rt.alloc(), &misuse, err);
+            return 2;
+        }
     };
     let answer = serve(rt, sources, limit, &call, variables, out, err);
     let status = ended(&call, &answer);
