@@ -1375,32 +1375,33 @@ limits() {
     judge 'the time of a refusal' 0 $'1\n' ''
 }
 
-# misuse MESSAGE FORM WORD..: words that are no call: what the program says is wrong with them, and the form that it shows.
+# misuse EXPECTED FORM WORD..: words that are no call: what the program expects in place of one, and the form that it shows.
 misuse() {
     local message=$1 form=$2
     shift 2
-    check "wrong usage: $(printf '%.20q ' "$@")" 2 '' "zigrunk: $message"$'\n'"usage: zigrunk $form"$'\n' "$@"
+    check "wrong usage: $(printf '%.20q ' "$@")" 2 '' "zigrunk: expected $message"$'\n'"usage: zigrunk $form"$'\n' "$@"
 }
 
 # words that are no call
 wrong_usage() {
     local all='shell|ninja|json|dot|compdb|makeflow|text|plan|calls|directory|line .., or --help'
-    local none="no command, or a word or variable that isn't UTF-8" bytes='--limit needs a number of bytes' odd='unexpected option' line='line cicc|ptxas|cudafe++ CWD WORD..'
-    local plan='CWD TMP FLAG DRY1 DRY2 SUFFIX..' options='[--limit BYTES] [--keep] [--whole]' one=$scratch/kernel two=$scratch/kernel.2 name form
+    local none='a command, and words and variables in UTF-8' named='an option or a command, not' bytes='a number of bytes for --limit' odd='an option or CWD, not'
+    local line='line cicc|ptxas|cudafe++ CWD WORD..' plan='CWD TMP FLAG DRY1 DRY2 SUFFIX..' page='-h | --help | --version' one=$scratch/kernel two=$scratch/kernel.2 name
+    local form="FORMAT [--limit BYTES] [--keep] [--whole] $plan" kept='a format behind --keep or --whole, not'
     misuse "$none" "$all"
     misuse "$none" "$all" --limit 5
     misuse "$none" "$all" --keep --whole
     misuse "$none" "$all" calls /w /t nvcc -c k.cu -o $'\xff'
     misuse "$none" "$all" $'\xff'
-    misuse 'unknown command  (word 1)' "$all" ''
-    misuse 'unknown command nija (word 1)' "$all" nija
-    misuse 'unknown command Ninja (word 1)' "$all" Ninja /w /t -c "$one" "$two"
-    misuse 'unknown command a\u{1}b (word 1)' "$all" $'a\x01b' --limit 5
-    misuse 'unknown command graph (word 3)' "$all" --limit 5 graph /w /t -c "$one" "$two"
-    misuse 'unknown command graph (word 5)' "$all" --whole --limit 5 --keep graph /w /t -c "$one" "$two"
-    misuse "$odd --hlep (word 1)" "$all" --hlep
-    misuse "$odd --limit=5 (word 1)" "$all" --limit=5 json /w /t -c "$one" "$two"
-    misuse "$odd --limt (word 4)" "$all" --keep --limit 5 --limt 5 json /w /t -c "$one" "$two"
+    misuse "$named  (word 1)" "$all" ''
+    misuse "$named nija (word 1)" "$all" nija
+    misuse "$named Ninja (word 1)" "$all" Ninja /w /t -c "$one" "$two"
+    misuse "$named a\\u{1}b (word 1)" "$all" $'a\x01b' --limit 5
+    misuse "$named graph (word 3)" "$all" --limit 5 graph /w /t -c "$one" "$two"
+    misuse "$named graph (word 5)" "$all" --whole --limit 5 --keep graph /w /t -c "$one" "$two"
+    misuse "$named --hlep (word 1)" "$all" --hlep
+    misuse "$named --limit=5 (word 1)" "$all" --limit=5 json /w /t -c "$one" "$two"
+    misuse "$named --limt (word 4)" "$all" --keep --limit 5 --limt 5 json /w /t -c "$one" "$two"
     misuse "$bytes" "$all" --limit
     misuse "$bytes" "$all" --limit 5 --limit
     misuse "$bytes, not json (word 2)" "$all" --limit json
@@ -1408,38 +1409,37 @@ wrong_usage() {
     misuse "$bytes, not -1 (word 2)" "$all" --limit -1 json /w /t -c "$one" "$two"
     misuse "$bytes, not 2M (word 3)" "$all" --whole --limit 2M dot /w /t -c "$one" "$two"
     misuse "$bytes, not 18446744073709551616 (word 2)" "$all" --limit 18446744073709551616 json /w /t -c "$one" "$two"
-    misuse "$bytes, not 3k (word 4)" "shell $options $plan" shell --keep --limit 3k /w /t -c "$one" "$two"
-    misuse "$bytes" "shell $options $plan" shell --whole --limit
+    misuse "$bytes, not 3k (word 4)" "$form" shell --keep --limit 3k /w /t -c "$one" "$two"
+    misuse "$bytes" "$form" shell --whole --limit
     for name in shell ninja json dot compdb makeflow text; do
-        form="$name $options $plan"
-        misuse "$name needs CWD" "$form" "$name"
-        misuse "$name needs DRY2" "$form" "$name" /w /t -c "$one"
-        misuse "$name needs DRY1" "$form" --limit 9 "$name" --whole --keep /w /t -c
+        misuse CWD "$form" "$name"
+        misuse DRY2 "$form" "$name" /w /t -c "$one"
+        misuse DRY1 "$form" --limit 9 "$name" --whole --keep /w /t -c
         misuse "$odd --kep (word 2)" "$form" "$name" --kep /w /t -c "$one" "$two"
         misuse "$odd --dependencies (word 2)" "$form" "$name" --dependencies /w /t -c "$one" "$two"
         misuse "$odd --slot (word 3)" "$form" "$name" --keep --slot s /w /t -c "$one" "$two"
     done
-    misuse "$odd - (word 2)" "json $options $plan" json - /t -c "$one" "$two"
-    misuse 'ninja needs TMP' "ninja $options $plan" ninja --keep /w
-    misuse 'ninja needs FLAG' "ninja $options $plan" ninja --limit 5 /w /t
-    misuse 'plan needs CWD' "plan $plan" plan
-    misuse 'plan needs DRY2' "plan $plan" plan /w /t -c "$one"
-    misuse 'plan needs TMP' "plan $plan" --limit 5 plan --keep
-    misuse 'calls needs CWD' 'calls CWD TMP NVCC WORD..' calls
-    misuse 'calls needs NVCC' 'calls CWD TMP NVCC WORD..' calls /w /t
-    misuse 'directory needs CWD' 'directory CWD NVCC WORD..' directory
-    misuse 'directory needs NVCC' 'directory CWD NVCC WORD..' directory /w
-    misuse 'line needs a tool' "$line" line
-    misuse 'line needs CWD' "$line" line ptxas
-    misuse 'line reads cicc, ptxas and cudafe++, not nvcc (word 2)' "$line" line nvcc /w -c k.cu
-    misuse 'line reads cicc, ptxas and cudafe++, not Cicc (word 4)' "$line" --limit 5 line Cicc /w x
-    misuse '--keep and --whole need a format, not plan (word 2)' "$all" --keep plan /w /t -c "$one" "$two"
-    misuse '--keep and --whole need a format, not calls (word 4)' "$all" --limit 5 --whole calls /w /t nvcc -c k.cu
-    misuse '--keep and --whole need a format, not directory (word 2)' "$all" --whole directory /w nvcc
-    misuse '--keep and --whole need a format, not line (word 3)' "$all" --keep --keep line cicc /w x
-    misuse 'unexpected word me (word 2)' --help --help me
-    misuse 'unexpected word me (word 3)' -h --keep -h me
-    misuse 'unexpected word 1 (word 2)' --version --version 1
+    misuse "$odd - (word 2)" "$form" json - /t -c "$one" "$two"
+    misuse TMP "$form" ninja --keep /w
+    misuse FLAG "$form" ninja --limit 5 /w /t
+    misuse CWD "plan $plan" plan
+    misuse DRY2 "plan $plan" plan /w /t -c "$one"
+    misuse TMP "plan $plan" --limit 5 plan --keep
+    misuse CWD 'calls CWD TMP NVCC WORD..' calls
+    misuse NVCC 'calls CWD TMP NVCC WORD..' calls /w /t
+    misuse CWD 'directory CWD NVCC WORD..' directory
+    misuse NVCC 'directory CWD NVCC WORD..' directory /w
+    misuse 'cicc, ptxas or cudafe++' "$line" line
+    misuse CWD "$line" line ptxas
+    misuse 'cicc, ptxas or cudafe++, not nvcc (word 2)' "$line" line nvcc /w -c k.cu
+    misuse 'cicc, ptxas or cudafe++, not Cicc (word 4)' "$line" --limit 5 line Cicc /w x
+    misuse "$kept plan (word 2)" "$all" --keep plan /w /t -c "$one" "$two"
+    misuse "$kept calls (word 4)" "$all" --limit 5 --whole calls /w /t nvcc -c k.cu
+    misuse "$kept directory (word 2)" "$all" --whole directory /w nvcc
+    misuse "$kept line (word 3)" "$all" --keep --keep line cicc /w x
+    misuse 'no more words, not me (word 2)' "$page" --help me
+    misuse 'no more words, not me (word 4)' "$page" --keep -h -h me
+    misuse 'no more words, not 1 (word 2)' "$page" --version 1
     for name in NVCC_PREPEND_FLAGS NVCC_APPEND_FLAGS ZIGRUNK_JOBS MAKEFLAGS; do
         export "$name"=$'\xff'
         misuse "$none" "$all" calls /w /t nvcc -c k.cu -o k.o

@@ -16,7 +16,7 @@ command_named name =
     if bytes_eq name (codes "-h") then Some Help else
     if bytes_eq name (codes "--version") then Some Version else option_map Export (format_of_name name)
 
--- whether options may follow a command, and `--keep` and `--whole` precede it: it writes a format
+-- whether options may follow a command
 abbrev pub takes_options : Command → Bool
 takes_options (Export format) = true
 takes_options command = false
@@ -31,16 +31,16 @@ operands_of (Export format) = codes "CWD" ∷ codes "TMP" ∷ codes "FLAG" ∷ c
 operands_of Plan = codes "CWD" ∷ codes "TMP" ∷ codes "FLAG" ∷ codes "DRY1" ∷ codes "DRY2" ∷ []
 operands_of Calls = codes "CWD" ∷ codes "TMP" ∷ codes "NVCC" ∷ []
 operands_of Directory = codes "CWD" ∷ codes "NVCC" ∷ []
-operands_of Line = codes "a tool" ∷ codes "CWD" ∷ []
+operands_of Line = codes "cicc, ptxas or cudafe++" ∷ codes "CWD" ∷ []
 operands_of Help = []
 operands_of Version = []
 
--- the words that follow a command, as a message shows them
+-- the form of a command's call, as a message shows it
 abbrev pub form_of : Command → List ℕ
-form_of (Export format) = codes " [--limit BYTES] [--keep] [--whole] CWD TMP FLAG DRY1 DRY2 SUFFIX.."
-form_of Plan = codes " CWD TMP FLAG DRY1 DRY2 SUFFIX.."
-form_of Calls = codes " CWD TMP NVCC WORD.."
-form_of Directory = codes " CWD NVCC WORD.."
-form_of Line = codes " cicc|ptxas|cudafe++ CWD WORD.."
-form_of Help = []
-form_of Version = []
+form_of (Export format) = codes "FORMAT [--limit BYTES] [--keep] [--whole] CWD TMP FLAG DRY1 DRY2 SUFFIX.."
+form_of Plan = codes "plan CWD TMP FLAG DRY1 DRY2 SUFFIX.."
+form_of Calls = codes "calls CWD TMP NVCC WORD.."
+form_of Directory = codes "directory CWD NVCC WORD.."
+form_of Line = codes "line cicc|ptxas|cudafe++ CWD WORD.."
+form_of Help = codes "-h | --help | --version"
+form_of Version = codes "-h | --help | --version"

@@ -10,13 +10,10 @@ use Rattle.usage.specs.declared.settings.Settings.{Settings}
 abbrev pub rest_seen : Settings × Bor (List (String Global)) → Settings × List (List ℕ)
 rest_seen (settings, words) = (settings, map string_bytes words.now)
 
--- whether a word begins with `-`, and whether words begin with such a one
-abbrev pub is_option : List ℕ → Bool
-is_option word = starts_with nat_eq word (codes "-")
-
+-- whether the first word begins with `-`
 abbrev pub begins_option : List (List ℕ) → Bool
 begins_option [] = false
-begins_option (word ∷ words) = is_option word
+begins_option (word ∷ words) = starts_with nat_eq word (codes "-")
 
 -- settings with the number that words begin with as their limit, and the words behind it; none if they begin with no number
 abbrev pub limit_taken : Settings → List (List ℕ) → Option (Settings × List (List ℕ))

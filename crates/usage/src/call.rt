@@ -2,13 +2,12 @@
 
 ghost use Rattle.std.specs.Prelude.{◌≡◌, map, string_bytes, option_map, option_copied};
 ghost use Rattle.program_calls.specs.Calls.{plan_call_of};
-ghost use Rattle.usage.specs.Commands.{command_named as command_of};
 ghost use Rattle.usage.specs.Misuse as misuses;
 ghost use Rattle.usage.specs.Settings.{rest_seen};
 ghost use Rattle.usage.specs.Calls as spec;
 
 use crate::command::{Command, command_named, form_of, operands_of, takes_options};
-use crate::misuse::{Context, Expected, Form, Misuse, any_call, misuse_at, odd_word};
+use crate::misuse::{ALL_CALLS, Misuse, misuse_at};
 use crate::settings::{Settings, begins_option, options_taken};
 use plan_scripts::Format;
 use program_calls::{
@@ -64,16 +63,6 @@ fn are_help(words: &[String]) -> bool
     }
 }
 
-// The call, if no further words follow.
-fn alone<'a>(call: Call<'a>, words: &'a [String]) -> Option<Call<'a>>
-    ensures { option_map spec.seen result ≡ spec.alone (spec.seen call.entry) (map string_bytes words.now) }
-{
-    match words {
-        [] => Some(call),
-        _ => None,
-    }
-}
-
 // The call that writes the plan of these operands in a format.
 fn export_call<'a>(format: Format, settings: Settings, operands: &'a [String]) -> Option<Call<'a>>
     ensures { option_map spec.seen result ≡ option_map (spec.exporting format settings) (plan_call_of (map string_bytes operands.now)) }
@@ -98,50 +87,51 @@ fn call_with<'a>(command: Command, settings: Settings, operands: &'a [String]) -
         Command::Calls => nvcc_call(operands).map(Call::Nvcc),
         Command::Directory => directory_call(operands).map(Call::Directory),
         Command::Line => line_call(operands).map(Call::Line),
-        Command::Help => alone(Call::Help, operands),
-        Command::Version => alone(Call::Version, operands),
+        Command::Help if operands.is_empty() => Some(Call::Help),
+        Command::Version if operands.is_empty() => Some(Call::Version),
+        Command::Help | Command::Version => None,
     }
 }
 
-// What a command takes in place of the first operand, if none is missing.
-fn other_operand(command: Command) -> Expected
-    ensures { misuses.expected_seen result ≡ spec.other_operand command }
+// The misuse of a word that isn't what is expected. Behind `--limit`, a number is.
+fn odd_word<'a>(
+    count: usize,
+    rest: &'a [String],
+    expected: &'static str,
+    form: &'static str,
+) -> Misuse<'a>
+    ensures { misuses.misuse_seen result ≡ spec.odd_word count (map string_bytes rest.now) expected.now form.now }
+{
+    match rest {
+        [word, behind @ ..] if word.as_str() == "--limit" => {
+            misuse_at(count, behind, "a number of bytes for --limit", form)
+        }
+        _ => misuse_at(count, rest, expected, form),
+    }
+}
+
+// What a command takes in place of its first operand, if it lacks none.
+fn other_operand(command: Command) -> &'static str
+    ensures { result.now ≡ spec.other_operand command }
 {
     match command {
-        Command::Line => Expected::Tool,
-        _ => Expected::End,
+        Command::Line => "cicc, ptxas or cudafe++",
+        _ => "no more words",
     }
 }
 
-// The misuse of operands that a command doesn't take.
-fn operand_misuse<'a>(context: Context<'a>, command: Command, operands: &'a [String]) -> Misuse<'a>
-    ensures { misuses.misuse_seen result ≡ spec.operand_misuse (misuses.context_seen context.entry) command (map string_bytes operands.now) }
+// The misuse of operands that a command doesn't take: it lacks one, or the first is another.
+fn operand_misuse<'a>(count: usize, command: Command, operands: &'a [String]) -> Misuse<'a>
+    ensures { misuses.misuse_seen result ≡ spec.operand_misuse count command (map string_bytes operands.now) }
 {
+    let form = form_of(command);
     match operands_of(command).get(operands.len()) {
-        Some(what) => misuse_at(context, &[], Expected::Operand(what)),
-        None => misuse_at(context, operands, other_operand(command)),
+        Some(expected) => misuse_at(count, &[], expected, form),
+        None => misuse_at(count, operands, other_operand(command), form),
     }
 }
 
-// Reads the operands of a command.
-fn call_behind<'a>(
-    context: Context<'a>,
-    command: Command,
-    settings: Settings,
-    operands: &'a [String],
-) -> Result<(usize, Call<'a>), Misuse<'a>>
-    ensures { spec.result_seen result ≡ spec.call_behind (misuses.context_seen context.entry) command settings (map string_bytes operands.now) }
-{
-    if takes_options(command) && begins_option(operands) {
-        return Err(odd_word(context, operands, Expected::Operand("CWD")));
-    }
-    match call_with(command, settings, operands) {
-        Some(call) => Ok((settings.limit, call)),
-        None => Err(operand_misuse(context, command, operands)),
-    }
-}
-
-// Takes the options that follow a name, if they may.
+// Takes the options that follow the name of a format.
 fn options_behind<'a>(
     command: Option<Command>,
     settings: Settings,
@@ -165,26 +155,30 @@ fn needs_format(command: Command, settings: Settings) -> bool
     }
 }
 
-// Reads a call whose command isn't help, given the words from its name on, and what follows.
+// Reads a call from its name on, given the operands behind its options. No working directory of a call with options begins with `-`.
 fn named_call<'a>(
     count: usize,
-    name: &'a str,
     named: &'a [String],
+    command: Option<Command>,
     settings: Settings,
     operands: &'a [String],
 ) -> Result<(usize, Call<'a>), Misuse<'a>>
-    ensures { spec.result_seen result ≡ spec.named_call count name.now (map string_bytes named.now) (command_of name.now) (settings, map string_bytes operands.now) }
+    ensures { spec.result_seen result ≡ spec.named_call count (map string_bytes named.now) command settings (map string_bytes operands.now) }
 {
-    match command_named(name) {
-        None => Err(odd_word(any_call(count), named, Expected::Command)),
-        Some(command) if needs_format(command, settings) => {
-            Err(misuse_at(any_call(count), named, Expected::Format))
-        }
-        Some(command) => {
-            let words = form_of(command);
-            let form = Form { name, words };
-            call_behind(Context { count, form }, command, settings, operands)
-        }
+    let Some(command) = command else {
+        return Err(odd_word(count, named, "an option or a command", ALL_CALLS));
+    };
+    if needs_format(command, settings) {
+        let expected = "a format behind --keep or --whole";
+        return Err(misuse_at(count, named, expected, ALL_CALLS));
+    }
+    if takes_options(command) && begins_option(operands) {
+        let form = form_of(command);
+        return Err(odd_word(count, operands, "an option or CWD", form));
+    }
+    match call_with(command, settings, operands) {
+        Some(call) => Ok((settings.limit, call)),
+        None => Err(operand_misuse(count, command, operands)),
     }
 }
 
@@ -197,17 +191,19 @@ fn named_call<'a>(
 /// - `--help`, `-h` or `--version`, and `--help` or `-h` alone behind any other name.
 ///
 /// Options precede the name of a call, or follow that of a format, any number in any order: `--keep` if generated files keep nvcc's names,
-/// `--whole` if a plan that dropped a command is an error, and `--limit BYTES`. If one is there twice, the last counts.
+/// `--whole` if a plan that dropped a command is an error, and `--limit BYTES`. Of several limits the last one counts.
 pub fn call_of<'a>(words: &'a [String]) -> Result<(usize, Call<'a>), Misuse<'a>>
     ensures { spec.result_seen result ≡ spec.call_of (map string_bytes words.now) }
 {
     let (settings, named) = options_taken(NO_OPTIONS, words);
     let [name, behind @ ..] = named else {
-        return Err(misuse_at(any_call(words.len()), named, Expected::Command));
+        let expected = "a command, and words and variables in UTF-8";
+        return Err(misuse_at(words.len(), named, expected, ALL_CALLS));
     };
-    let (settings, operands) = options_behind(command_named(name.as_str()), settings, behind);
+    let command = command_named(name.as_str());
+    let (settings, operands) = options_behind(command, settings, behind);
     if are_help(operands) {
         return Ok((settings.limit, Call::Help));
     }
-    named_call(words.len(), name.as_str(), named, settings, operands)
+    named_call(words.len(), named, command, settings, operands)
 }

@@ -39,7 +39,7 @@ pub fn command_named(name: &str) -> Option<Command>
     }
 }
 
-/// Whether options may follow a command, and `--keep` and `--whole` precede it.
+/// Whether options may follow a command.
 pub fn takes_options(command: Command) -> bool
     ensures { result ≡ spec.takes_options command }
 {
@@ -57,23 +57,23 @@ pub fn operands_of(command: Command) -> &'static [&'static str]
         Command::Export(_) | Command::Plan => &["CWD", "TMP", "FLAG", "DRY1", "DRY2"],
         Command::Calls => &["CWD", "TMP", "NVCC"],
         Command::Directory => &["CWD", "NVCC"],
-        Command::Line => &["a tool", "CWD"],
+        Command::Line => &["cicc, ptxas or cudafe++", "CWD"],
         Command::Help | Command::Version => &[],
     }
 }
 
-/// The words that follow a command, as a message shows them.
+/// The form of a command's call, as a message shows it.
 pub fn form_of(command: Command) -> &'static str
     ensures { result.now ≡ spec.form_of command }
 {
     match command {
         Command::Export(_) => {
-            " [--limit BYTES] [--keep] [--whole] CWD TMP FLAG DRY1 DRY2 SUFFIX.."
+            "FORMAT [--limit BYTES] [--keep] [--whole] CWD TMP FLAG DRY1 DRY2 SUFFIX.."
         }
-        Command::Plan => " CWD TMP FLAG DRY1 DRY2 SUFFIX..",
-        Command::Calls => " CWD TMP NVCC WORD..",
-        Command::Directory => " CWD NVCC WORD..",
-        Command::Line => " cicc|ptxas|cudafe++ CWD WORD..",
-        Command::Help | Command::Version => "",
+        Command::Plan => "plan CWD TMP FLAG DRY1 DRY2 SUFFIX..",
+        Command::Calls => "calls CWD TMP NVCC WORD..",
+        Command::Directory => "directory CWD NVCC WORD..",
+        Command::Line => "line cicc|ptxas|cudafe++ CWD WORD..",
+        Command::Help | Command::Version => "-h | --help | --version",
     }
 }

@@ -8,5 +8,5 @@ mod page;
 mod settings;
 
 pub use call::{Call, ExportCall, call_of};
-pub use misuse::{Expected, Form, Misuse, complain_of_misuse};
-pub use page::{help, version};
+pub use misuse::{Misuse, complain_of_misuse};
+pub use page::{HELP, VERSION};

@@ -1,13 +1,7 @@
 //! The texts that the program shows of itself.
 
-ghost use Rattle.std.specs.Prelude.{◌≡◌};
-ghost use Rattle.usage.specs.Pages as spec;
-
 /// What `--help` writes.
-pub fn help() -> &'static str
-    ensures { result.now ≡ spec.help_text }
-{
-    "usage: zigrunk FORMAT [--limit BYTES] [--keep] [--whole]
+pub const HELP: &str = "usage: zigrunk FORMAT [--limit BYTES] [--keep] [--whole]
                    CWD TMP FLAG DRY1 DRY2 SUFFIX..
        zigrunk calls CWD TMP NVCC WORD..
        zigrunk directory CWD NVCC WORD..
@@ -29,11 +23,13 @@ calls               Read the words of an nvcc line and write, for a shell's eval
 directory           Write a name for the directory of an nvcc call. The same call
                     always has the same name.
 line                Read a line of cicc, ptxas or cudafe++ and write it back, one
-                    word a line.
-plan                Write the plan of two dry runs as text, as cudaplan does.
+                    word a line. Use cudaplan line instead.
+plan                Write the plan of two dry runs as text, as cudaplan does. Use
+                    zigrunk text or cudaplan plan instead.
 --limit             Stop if reading a dry run makes over so many bytes of text:
                     its variables can make a short one explode. It is 2097152
-                    (2 MiB) if not given.
+                    (2 MiB) if not given. Of several limits the last counts.
+                    Options have any order, and may precede FORMAT.
 
 CWD is the working directory, TMP the temporary directory, FLAG the compilation
 flag, as -c. DRY1 or DRY2 may be -, which is standard input. Each SUFFIX names
@@ -44,12 +40,7 @@ commands run at once.
 The exit status is 0 on success, 1 on a fault, 2 for wrong usage, and 3 if calls
 reads a line that goes to nvcc unchanged.
 See zigrunk(1). zigrunk-nvcc runs a call's commands for you.
-"
-}
+";
 
 /// What `--version` writes.
-pub fn version() -> &'static str
-    ensures { result.now ≡ spec.version_text }
-{
-    "zigrunk 0.1.0\n"
-}
+pub const VERSION: &str = "zigrunk 0.1.0\n";

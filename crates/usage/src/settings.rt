@@ -22,19 +22,12 @@ fn number_in(word: &str) -> Option<usize>
     word.parse::<usize>().ok()
 }
 
-/// Whether a word begins with `-`.
-pub fn is_option(word: &str) -> bool
-    ensures { result ≡ spec.is_option word.now }
-{
-    word.starts_with("-")
-}
-
-/// Whether words begin with one that begins with `-`.
+/// Whether the first word begins with `-`.
 pub fn begins_option(words: &[String]) -> bool
     ensures { result ≡ spec.begins_option (map string_bytes words.now) }
 {
     match words {
-        [word, ..] => is_option(word.as_str()),
+        [word, ..] => word.starts_with("-"),
         [] => false,
     }
 }

@@ -13,7 +13,6 @@ use Rattle.usage.specs.Calls.{CallOf, exports, reads, names, rewrites, plans, he
 use Rattle.zigrunk.specs.NvccText.{nvcc_text}
 use Rattle.zigrunk.specs.OptionsFiles.{AreHeld}
 use Rattle.usage.specs.Misuse.{MisuseOf}
-use Rattle.usage.specs.Pages.{help_text, version_text}
 
 -- the exit status of a call that reads an nvcc line, if it stops: 3 if its call goes to nvcc unchanged
 abbrev pub nvcc_status : Stop → ℕ
@@ -52,10 +51,12 @@ ReadsLine holds c variables answer before after =
     Delivers answer out_of_memory before after
     ⊎ ((files : List (List ℕ × List ℕ)) × AreHeld holds c.cwd files × Delivers answer (nvcc_text c variables files) before after)
 
--- what the program writes for a call, given what files may hold, the limit, the engine's answer and the variables that nvcc takes
+-- what the program writes for a call, given the texts of its help and version, what files may hold, the limit, the engine's answer and the variables that nvcc takes
 -- words from
 abbrev pub Serves :
-    (List ℕ → Option (List ℕ) → Type 0)
+    List ℕ
+    → List ℕ
+    → (List ℕ → Option (List ℕ) → Type 0)
     → ℕ
     → CallOf
     → List (List ℕ × List ℕ)
@@ -63,25 +64,27 @@ abbrev pub Serves :
     → Option (List ℕ)
     → Option (List ℕ)
     → Type 0
-Serves holds limit (exports c) variables answer before after = ExportsFiles holds limit c answer before after
-Serves holds limit (reads c) variables answer before after = ReadsLine holds c variables answer before after
-Serves holds limit (names c) variables answer before after = Delivers answer (Ok (directory_name c variables ++ 10 ∷ [])) before after
-Serves holds limit (rewrites c) variables answer before after = Delivers answer (shown_line c.tool c.cwd c.words) before after
-Serves holds limit (plans c) variables answer before after = ShowsFiles holds limit c answer before after
-Serves holds limit helps variables answer before after = Delivers answer (Ok help_text) before after
-Serves holds limit tells_version variables answer before after = Delivers answer (Ok version_text) before after
+Serves help version holds limit (exports c) variables answer before after = ExportsFiles holds limit c answer before after
+Serves help version holds limit (reads c) variables answer before after = ReadsLine holds c variables answer before after
+Serves help version holds limit (names c) variables answer before after = Delivers answer (Ok (directory_name c variables ++ 10 ∷ [])) before after
+Serves help version holds limit (rewrites c) variables answer before after = Delivers answer (shown_line c.tool c.cwd c.words) before after
+Serves help version holds limit (plans c) variables answer before after = ShowsFiles holds limit c answer before after
+Serves help version holds limit helps variables answer before after = Delivers answer (Ok help) before after
+Serves help version holds limit tells_version variables answer before after = Delivers answer (Ok version) before after
 
 -- how a call ends: with status 2 and nothing written if the words are no call, else with the status of an engine's answer,
 -- and with what that engine writes
 abbrev pub Ends :
-    (List ℕ → Option (List ℕ) → Type 0)
+    List ℕ
+    → List ℕ
+    → (List ℕ → Option (List ℕ) → Type 0)
     → ℕ
     → Result (ℕ × CallOf) MisuseOf
     → List (List ℕ × List ℕ)
     → Option (List ℕ)
     → Option (List ℕ)
     → Type 0
-Ends holds status call variables before after =
+Ends help version holds status call variables before after =
     MatchResult call
-    (λ c. (answer : Result (Unit {0}) Stop) × (status ≡ status_of c.1 answer) × Serves holds c.0 c.1 variables answer before after)
+    (λ c. (answer : Result (Unit {0}) Stop) × (status ≡ status_of c.1 answer) × Serves help version holds c.0 c.1 variables answer before after)
     (λ misuse. (status ≡ 2) × Keeps before after)

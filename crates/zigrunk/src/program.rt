@@ -18,7 +18,7 @@ use programs::{Sources, Stop, deliver, write_line};
 use std::alloc::Global;
 use std::fs::Files;
 use std::io::Write;
-use usage::{Call, call_of, complain_of_misuse, help, version};
+use usage::{Call, HELP, VERSION, call_of, complain_of_misuse};
 
 // Writes a page.
 fn show<W: Write>(alloc: Global, page: &str, out: &mut W) -> Result<(), Stop>
@@ -70,7 +70,7 @@ fn serve<R: Files + AllocGlobal, S: Sources, W: Write, E: Write>(
     out: &mut W,
     err: &mut E,
 ) -> Result<(), Stop>
-    ensures { spec.Serves (S.holds sources.now) limit (forms.seen call.now) (map pair_of variables.now) result (W.contents out.old) (W.contents out.new) }
+    ensures { spec.Serves HELP.now VERSION.now (S.holds sources.now) limit (forms.seen call.now) (map pair_of variables.now) result (W.contents out.old) (W.contents out.new) }
 {
     let alloc = rt.alloc();
     let answer = match call {
@@ -79,8 +79,8 @@ fn serve<R: Files + AllocGlobal, S: Sources, W: Write, E: Write>(
         Call::Nvcc(line) => read_line(rt, sources, line, variables, out),
         Call::Directory(call) => show_directory(alloc, call, variables, out),
         Call::Line(line) => write_line(alloc, line.tool, line.cwd, line.words, out),
-        Call::Help => show(alloc, help(), out),
-        Call::Version => show(alloc, version(), out),
+        Call::Help => show(alloc, HELP, out),
+        Call::Version => show(alloc, VERSION, out),
     };
     complain_of_answer(alloc, answer, err)
 }
@@ -126,7 +126,7 @@ pub fn run_program<R: Files + AllocGlobal, S: Sources, W: Write, E: Write>(
     out: &mut W,
     err: &mut E,
 ) -> u8
-    ensures { spec.Ends (S.holds sources.now) result (forms.call_of (map string_bytes words.now)) (map pair_of variables.now) (W.contents out.old) (W.contents out.new) }
+    ensures { spec.Ends HELP.now VERSION.now (S.holds sources.now) result (forms.call_of (map string_bytes words.now)) (map pair_of variables.now) (W.contents out.old) (W.contents out.new) }
 {
     let (limit, call) = match call_of(words) {
         Ok(limited) => limited,
