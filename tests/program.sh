@@ -1438,7 +1438,7 @@ wrong_usage() {
     misuse "$kept directory (word 2)" "$all" --whole directory /w nvcc
     misuse "$kept line (word 3)" "$all" --keep --keep line cicc /w x
     misuse 'no more words, not me (word 2)' "$page" --help me
-    misuse 'no more words, not me (word 4)' "$page" --keep -h -h me
+    misuse 'no more words, not me (word 3)' "$page" --keep -h me
     misuse 'no more words, not 1 (word 2)' "$page" --version 1
     for name in NVCC_PREPEND_FLAGS NVCC_APPEND_FLAGS ZIGRUNK_JOBS MAKEFLAGS; do
         export "$name"=$'\xff'
