@@ -7,6 +7,8 @@
 #
 #   tests/program.sh [CUDAPLAN [ZIGRUNK [FUNCTION..]]]     the programs are those that `make build` and the gate leave, unless given;
 #                                                          only these functions of this script are called, if there are some
+#
+# EMULATED, if set, says that an emulator runs them: what takes a program seconds or memory is left out then.
 set -u
 cd "$(dirname "$0")/.." || exit 1
 program=$(realpath "${1:-crates/cudaplan/out/cudaplan}")
@@ -1314,16 +1316,11 @@ doubling() {
     echo '#$ $A.'
 }
 
-# fits: whether the program starts in 300 MB. One that a script starts, as by an emulator, need not.
-fits() {
-    [ "$(head -c 2 "$program")" != '#!' ] || (ulimit -S -v 307200 && "$program" --version) > /dev/null 2>&1
-}
-
 # dry runs of a megabyte of each kind that takes work: answered or refused within three seconds of the processor and 300 MB
 hostile_input() {
     local said
-    if ! fits; then
-        skip 'hostile input' 'the emulator takes 300 MB for itself'
+    if [ -n "${EMULATED-}" ]; then
+        skip 'hostile input' 'an emulator takes time and memory of its own'
         return
     fi
     said=$(tests/hostile_input.py "$program" 2>&1) && said=''
@@ -1340,7 +1337,7 @@ fastest() {
 
 # the limit for what reading a dry run makes: exactly, in both runs and in each form, and for one that explodes
 limits() {
-    local letters=ABCDEFGHIJKLMNOPQRSTUVWXYZ memory=307200 form out
+    local letters=ABCDEFGHIJKLMNOPQRSTUVWXYZ form out
     lines_of small '#$ PATH=/b'
     run_of within '#$ gcc -D__NVCC__ x.i'
     local room within=$'\n    #$ gcc -D__NVCC__ x.i\n'
@@ -1359,9 +1356,9 @@ limits() {
         --limit 0 json /w /t -c "$scratch/within" "$scratch/within.2"
     doubling 25 > "$scratch/doubling"
     cp "$scratch/doubling" "$scratch/doubling.2"
-    fits || { memory=unlimited && skip 'texts that explode in 300 MB' 'the emulator takes so much for itself; they explode in more'; }
     for form in json plan; do
-        ulimit -S -v "$memory"
+        # in 300 MB
+        ulimit -S -v 307200
         check "$form: $(wc -c < "$scratch/doubling") bytes that explode" 1 '' \
             "zigrunk: $scratch/doubling:27: with this line, the dry run makes over 2097152 bytes: --limit allows more"$'\n    #$ $A.\n' \
             "$form" /w /t -c "$scratch/doubling" "$scratch/doubling.2"
