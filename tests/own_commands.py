@@ -7,8 +7,9 @@ directory names them without it, and the call's product by its whole path.
     tests/own_commands.py [--only TEXT] [--jobs N] [FILE..]
 
 The calls are those of FILE (tests/calls_quick.txt unless given), which tests/compare_calls.py describes. Those that nvcc makes itself aren't
-compared, nor those with several threads, whose commands overlap. Of a call that fails, what nvcc starts is. Prints a
-line for each difference, then how many calls and commands were compared, and last 'N passed, M failed'; the status is 1 if something differs.
+compared, nor those with several threads, whose commands overlap. Of a call that fails, what nvcc starts is. With an nvcc before version 12 a
+plan has cudafe++ make the module id in place of cicc (docs/VERSIONS.md). Prints a line for each difference, then how many calls and commands
+were compared, and last 'N passed, M failed'; the status is 1 if something differs.
 """
 import argparse
 import concurrent.futures
@@ -20,11 +21,11 @@ import subprocess
 import sys
 import tempfile
 from collections.abc import Callable, Iterator
-from dataclasses import dataclass
+from dataclasses import dataclass, replace
 from pathlib import Path
 from typing import Any
 
-from compare_calls import Call, environment, write_sources
+from compare_calls import Call, earlier, environment, help_of, suited, values_in, version_of, write_sources
 from runner import TOOLS, Counts, skip_all
 
 TOP = Path(__file__).resolve().parent.parent
@@ -38,6 +39,9 @@ ENDINGS = "ii|i|c|cpp|gpu|ptx|cubin|fatbin|module_id|o|ltoir"
 BARE = r"fatbin\.c|stub\.c"
 # Words that have zigrunk name the source by its whole path (docs/DIFFERENCES.md).
 WHOLE_NAMES = {"-lineinfo", "--generate-line-info", "-G", "--device-debug"}
+# What has a tool make the module id, and the first version of nvcc in which cudafe++ makes it for an object.
+MAKES_ID = "--gen_module_id_file"
+CUDAFE_MAKES_ID = 12.0
 STRACE = ("strace", "-f", "-qq", "-v", "-xx", "-s", "1000000", "-e", "signal=none", "-e", "trace=execve,fork,vfork,clone,clone3", "-o")
 # Lines of strace. What another process interrupts has a second line, which says how it ended.
 STARTED = re.compile(r'^(\d+) +execve\("([^"]*)", \[([^]]*)\], \[([^]]*)\](?:\) += (\S+).*| <unfinished \.\.\.>)$')
@@ -120,11 +124,18 @@ def first_difference(words: list[str], other: list[str]) -> str:
     return next(f"word {at} is {one!r}, and nvcc's {two!r}" for at, (one, two) in enumerate(pairs) if one != two)
 
 
-class Both:
-    """A call's plan and the commands that nvcc started for it, with the folder in which nvcc kept its files, and nvcc's variables."""
+def without_id(command: Command) -> Command:
+    """A command without the word that has it make the module id."""
+    return replace(command, words=[it for it in command.words if it != MAKES_ID])
 
-    def __init__(self, call: Call, plan: Plan, commands: list[Command], keep: Path, given: dict[str, str]) -> None:
-        self.call, self.plan, self.keep, self.cwd = call, plan, keep, commands[0].cwd
+
+class Both:
+    """A call's plan and the commands that nvcc started for it, with the folder in which nvcc kept its files, nvcc's variables, and whether a plan
+    has another tool make the module id than this nvcc."""
+
+    def __init__(self, call: Call, plan: Plan, commands: list[Command], keep: Path, given: dict[str, str], moves_id: bool) -> None:
+        self.call, self.plan, self.commands, self.keep, self.cwd = call, plan, commands, keep, commands[0].cwd
+        self.moves_id = moves_id and any(Path(it["exe"]).name == "cudafe++" for it in plan["commands"])
         ordered = sorted(plan["commands"], key=lambda it: int(it["line"]))
         self.planned = [Command(it["exe"], it["args"], {**given, **dict(it["env"])}, it["cwd"]) for it in ordered]
         self.pairs, self.besides = paired(self.planned, commands)
@@ -144,9 +155,18 @@ class Both:
         found = [f"nvcc starts {' '.join(step(it))} too" for it in self.besides]
         if status == 0 and len(self.pairs) < len(self.planned):
             found.append(f"nvcc starts {len(self.pairs)} of {len(self.planned)} commands")
+        if self.moves_id:
+            found += self.makers_of_id()
+            self.pairs = [(without_id(one), without_id(other)) for one, other in self.pairs]
         words = renamed([one for one, _ in self.pairs], lambda it: self.generated(tmp, ENDINGS if it.cwd == tmp else BARE))
         others = renamed([other for _, other in self.pairs], lambda _: self.generated(str(self.keep), BARE))
         return found + [it for pair, ours, own in zip(self.pairs, words, others) for it in self.of_pair(*pair, ours, own)]
+
+    def makers_of_id(self) -> Iterator[str]:
+        """What is wrong if a plan has cudafe++ make the module id, and nvcc a cicc, unless it fails before."""
+        plans, own = ({Path(it.program).name for it in commands if MAKES_ID in it.words} for commands in (self.planned, self.commands))
+        if plans != {"cudafe++"} or not own <= {"cicc"}:
+            yield f"{sorted(plans)} make the module id in the plan, and {sorted(own)} by nvcc"
 
     def of_pair(self, planned: Command, other: Command, words: list[str], others: list[str]) -> list[str]:
         found = []
@@ -177,7 +197,7 @@ class Both:
         return False
 
 
-def compared(call: Call, base: Path) -> tuple[list[str], int] | None:
+def compared(call: Call, base: Path, moves_id: bool) -> tuple[list[str], int] | None:
     """The differences of a call, and how many commands nvcc started; None if it isn't compared."""
     work, keep, trace = base / "work", base / "keep", base / "trace"
     for folder in (work, keep, base / "tmp"):
@@ -197,20 +217,22 @@ def compared(call: Call, base: Path) -> tuple[list[str], int] | None:
     commands = by_nvcc(trace.read_text(), str(cwd))
     if not commands:
         return ["nvcc starts nothing"], 0
-    return Both(call, json.loads(plan.stdout), commands, keep, env).differences(ran.returncode), len(commands)
+    return Both(call, json.loads(plan.stdout), commands, keep, env, moves_id).differences(ran.returncode), len(commands)
 
 
-def tried(call: Call) -> tuple[Call, tuple[list[str], int] | None]:
+def tried(call: Call, moves_id: bool) -> tuple[Call, tuple[list[str], int] | None]:
     base = Path(tempfile.mkdtemp(prefix="zigrunk-own-"))
     try:
-        return call, compared(call, base)
+        return call, compared(call, base, moves_id)
     finally:
         shutil.rmtree(base, ignore_errors=True)
 
 
 def calls_of(files: list[str], only: str) -> list[Call]:
     lines = [(line, number) for file in files for number, line in enumerate(Path(file).read_text(encoding="utf-8").splitlines(), 1)]
-    calls = [Call(line, number) for line, number in lines if line and not line.startswith("#") and only in line]
+    said = help_of("nvcc")
+    values = values_in(said)
+    calls = [earlier(Call(suited(line, values), number), said) for line, number in lines if line and not line.startswith("#") and only in line]
     threads = re.compile(r"^(-t\d*|--?threads(=.*)?|--split-compile.*|-split-compile.*)$")
     return [it for it in calls if not it.ours and not any(threads.match(word) for word in it.words)]
 
@@ -227,8 +249,9 @@ def main() -> int:
     if subprocess.run(["strace", "-o", os.devnull, "true"], capture_output=True, check=False).returncode != 0:
         return skip_all("nvcc's own commands", "strace may not trace here")
     counts, made, own = Counts(), 0, 0
+    moves_id = float(version_of("nvcc")) < CUDAFE_MAKES_ID
     with concurrent.futures.ThreadPoolExecutor(options.jobs) as pool:
-        for call, result in pool.map(tried, calls_of(options.files, options.only)):
+        for call, result in pool.map(lambda call: tried(call, moves_id), calls_of(options.files, options.only)):
             if result is None:
                 own += 1
             else:

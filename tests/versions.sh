@@ -1,7 +1,7 @@
 #!/usr/bin/env bash
 # Tests zigrunk-nvcc with other versions of nvcc: 11.2, 11.8 and 12.4 of Debian's archive, each with a g++ that suits it. With each it makes
-# the call lists beside that nvcc (tests/compare_calls.py), calls that only older versions get, calls with other host compilers, lines
-# with each option (tests/nvcc_readings.py), a fatbin for several targets twenty times (tests/needs.sh), commands that have only their
+# the call lists beside that nvcc (tests/compare_calls.py), calls that only older versions get, calls with other host compilers, the commands
+# that it starts itself (tests/own_commands.py), lines with each option (tests/nvcc_readings.py), a fatbin for several targets twenty times (tests/needs.sh), commands that have only their
 # own files (tests/isolated.py) and CMake projects (tests/cmake.sh), and with 11.8 has clang's tools read compilation databases
 # (tests/clang_tools.sh). Each version and part has a line of counts, and one that fails doesn't stop the others. The last line is
 # 'N passed, M failed'.
@@ -11,7 +11,7 @@
 #
 #   CUDA_VERSIONS=FOLDER   the toolkits (tests/toolkits.sh), else out/versions. What it lacks is downloaded: up to 3 GB, 1 GB of which stay.
 #   VERSIONS='11.8 ..'     only these
-#   PARTS='calls ..'       only these of calls, older, hosts, options, needs, isolated, cmake, clang
+#   PARTS='calls ..'       only these of calls, older, hosts, own, options, needs, isolated, cmake, clang
 #   CALLS='FILE ..'        other lists than tests/calls_quick.txt, calls.txt, calls_words.txt and calls_odd.txt, which nvcc 13.0 gets too
 #   RECORDS=FOLDER         keep a record of the calls with each version there, as VERSION.json
 #   JOBS=N                 so many calls at once, else as many as there are processors
@@ -22,7 +22,7 @@ mkdir -p "${CUDA_VERSIONS:-out/versions}"
 folder=$(realpath "${CUDA_VERSIONS:-out/versions}")
 read -ra versions <<< "${VERSIONS:-11.2 11.8 12.4}"
 read -ra lists <<< "${CALLS:-tests/calls_quick.txt tests/calls.txt tests/calls_words.txt tests/calls_odd.txt}"
-parts=${PARTS:-calls older hosts options needs isolated cmake clang}
+parts=${PARTS:-calls older hosts own options needs isolated cmake clang}
 # In per cent, of all calls in the lists, of those that nvcc compiles, and of those that the lists say are split.
 readonly LEAST_SPLIT=65
 require 'other versions of nvcc' ninja objcopy nm python3
@@ -65,6 +65,7 @@ for version in "${ready[@]}"; do
     # (with --only, since an older nvcc refuses most of these)
     part "$version" older "${compare[@]}" --only @name= ${RECORDS:+--json "$RECORDS/$version.older.json"} tests/calls_older.txt
     part "$version" hosts "${compare[@]}" --only ccbin tests/calls_hosts.txt
+    part "$version" own tests/own_commands.py --jobs "${JOBS:-$(nproc)}"
     part "$version" options tests/nvcc_readings.py
     part "$version" needs env TARGETS="$(targets "$version")" tests/needs.sh
     part "$version" isolated env TARGETS="$(targets "$version")" tests/isolated.py --leave-out --mount "$folder" "$program"
