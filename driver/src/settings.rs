@@ -76,10 +76,11 @@ impl Settings {
     }
 
     /// The directory for temporary files of a command, if it isn't the call's own. sccache may start its server, whose directory has
-    /// to stay, and whose socket there needs a short path.
+    /// to stay, and whose socket there needs a short path. A runner may take a command to a machine on which `TMPDIR` is a disk of its own.
     pub fn scratch(&self) -> Option<&PathBuf> {
         let cache_server = self.launcher.iter().any(|word| word.contains("sccache"));
-        (self.shared.is_some() || cache_server).then_some(&self.temporary)
+        let elsewhere = self.shared.is_some() && !self.runner.is_empty();
+        (elsewhere || cache_server).then_some(&self.temporary)
     }
 }
 
@@ -97,7 +98,7 @@ mod tests {
     }
 
     #[test]
-    fn scratch_is_the_callers_for_a_cache_server() {
+    fn scratch_is_the_callers_for_a_cache_server_and_other_machines() {
         let mut settings = Settings { temporary: "/t".into(), ..Settings::default() };
         assert_eq!(settings.scratch(), None);
         settings.launcher = vec!["/b/sccache".into()];
@@ -105,6 +106,8 @@ mod tests {
         settings.launcher = vec!["cache".into()];
         assert_eq!(settings.scratch(), None);
         settings.shared = Some("/shared".into());
-        assert_eq!((settings.scratch(), settings.plans()), (Some(&PathBuf::from("/t")), &PathBuf::from("/shared")));
+        assert_eq!((settings.scratch(), settings.plans()), (None, &PathBuf::from("/shared")), "commands run here");
+        settings.runner = vec!["step.sh".into()];
+        assert_eq!(settings.scratch(), Some(&PathBuf::from("/t")));
     }
 }
