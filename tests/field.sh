@@ -7,6 +7,7 @@
 #   PROJECTS='bart ceres'        only these of tests/field
 #   GENERATORS='Ninja'           only these of Ninja, make and own; make is CMake's too, and own is a project's own make
 #   OBJECTS=PATTERN              only the objects whose paths match, for each project; some projects' files name such a part themselves
+#   SEED=N                       draws other objects of the projects of which only some are built, else 1
 #   ZIGRUNK_FIELD=FOLDER         what it downloads and builds, else zigrunk/field in your cache folder
 #   SCCACHE=PATH                 sccache, if it isn't the one on the path; one before 0.9 doesn't know nvcc's tools
 #   JOBS=N                       so many processes at once, else as many as there are processors
@@ -32,17 +33,27 @@ export SCCACHE_SERVER_PORT=$((20000 + RANDOM)) SCCACHE_IDLE_TIMEOUT=0 SCCACHE_CO
 
 # What a project's file calls. archive SUM PATH: a file of Debian's archive, the sources before packages that only get unpacked.
 # patch FILE SCRIPT: a change by sed before anything is built. edit FILE SCRIPT: a change of one kernel. settings WORD..: words for CMake.
-# only PATTERN: builds only these objects.
+# within FOLDER: where its CMakeLists.txt is, if not at the top. only PATTERN: builds only these objects. drawn COUNT: builds only so many of them.
 archive() { files+=("$1 $2"); }
 edit() { changed=$1 change=$2; }
 settings() { settings=("$@"); }
+within() { within=$1; }
 only() { only=$1; }
+drawn() { drawn=$1; }
 patch() { patches+=("$1" "$2"); }
 
 gencode() { echo '-gencode arch=compute_75,code=sm_75 -gencode arch=compute_86,code=sm_86'; }
 
+# chosen: of the lines that it reads, each with an object at its end, those that are built. Lots are drawn by checksums, so each seed draws the same.
+chosen() {
+    local line
+    grep -E "${only:-.}" | while IFS= read -r line; do
+        printf '%s %s\n' "$(sha256sum <<< "${SEED:-1} ${line##* }")" "$line"
+    done | LC_ALL=C sort | sed -n "${drawn:+1,$drawn}s/^[^ ]* *- //p"
+}
+
 # make_objects FOLDER JOBS WORD..: has make build the objects of the sources that it reads, in a folder and with these words.
-make_objects() { LC_ALL=C sort | sed 's/\.cu$/.o/' | grep -E "${only:-.}" | xargs make -C "$1" -k -j "$2" V=1 NVCC="$nvcc" "${@:3}"; }
+make_objects() { LC_ALL=C sort | sed 's/\.cu$/.o/' | chosen | xargs make -C "$1" -k -j "$2" V=1 NVCC="$nvcc" "${@:3}"; }
 
 # fetch: downloads the project's files, unless they are there, and checks their sums.
 fetch() {
@@ -81,18 +92,18 @@ configure() {
     local name=Ninja
     [ "$generator" != own ] || return 0
     [ "$generator" = Ninja ] || name='Unix Makefiles'
-    cmake -G "$name" -S source -B build "${settings[@]}" -DCMAKE_PREFIX_PATH="$place/root/usr" -DCMAKE_CUDA_COMPILER="$nvcc" \
+    cmake -G "$name" -S "source/$within" -B build "${settings[@]}" -DCMAKE_PREFIX_PATH="$place/root/usr" -DCMAKE_CUDA_COMPILER="$nvcc" \
         -DCUDA_TOOLKIT_ROOT_DIR="$toolkit" -DCUDA_TOOLKIT_ROOT_DIR_INTERNAL="$toolkit" -DCUDA_NVCC_EXECUTABLE="$nvcc" \
         -DCUDA_HOST_COMPILER=/usr/bin/c++ || return
     [ "$generator" != Ninja ] || return 0
-    find build -name build.make -exec grep -HoE '"Building (CUDA|NVCC \(Device\)) object [^"]*' {} + | grep -E "${only:-.}" | LC_ALL=C sort -u |
+    find build -name build.make -exec grep -HoE '"Building (CUDA|NVCC \(Device\)) object [^"]*' {} + | LC_ALL=C sort -u | chosen |
         sed 's,^build/,,; s,^\([^:]*\):.* object \(.*\),all: \2\n\2: FORCE\n\t$(MAKE) -f \1 \2,; $a FORCE:' > build/objects.mk
 }
 
 build() {
     if [ "$generator" = Ninja ]; then
         ninja -C build -t targets all |
-            sed -n '/^\//d; s/^\(.*\): CUDA_COMPILER__.*/\1/p; s/^\(.*_generated_.*\.o\): CUSTOM.*/\1/p' | grep -E "${only:-.}" |
+            sed -n '/^\//d; s/^\(.*\): CUDA_COMPILER__.*/\1/p; s/^\(.*_generated_.*\.\(o\|fatbin\)\): CUSTOM.*/\1/p' | chosen |
             (cd build && xargs ninja -k 0 -j "$1")
     else
         make -C build -f objects.mk -k -j "$1"
@@ -159,7 +170,7 @@ try() {
 
 # one PROJECT: its cases, one for each generator.
 one() {
-    local generators='Ninja make' only='' changed='' change='' settings=() files=() patches=()
+    local generators='Ninja make' within=. only='' drawn='' changed='' change='' settings=() files=() patches=()
     project=$1
     # shellcheck source=/dev/null # each has the same variables
     . "tests/field/$project.sh"
