@@ -118,7 +118,7 @@ else
     calls=(tests/calls_quick.txt)
     alone=(--only=-dc)
     if [ -n "$all" ]; then
-        calls+=(tests/calls.txt tests/calls_words.txt tests/calls_odd.txt)
+        calls+=(tests/calls.txt tests/calls_words.txt tests/calls_odd.txt tests/calls_files.txt)
         alone=(--leave-out)
         start cmake tests/cmake.sh
         start builds tests/builds.sh

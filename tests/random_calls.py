@@ -63,11 +63,14 @@ VALUES: dict[str, list[str]] = {
     "-L": [".", "/usr/lib", "no such"], "-l": ["m", "z", "m,z"],
     "-Xcompiler": ["-Wall", "-O2", "-fno-inline", "-Wall,-Wextra", "-g", "-fPIC", "-DX=1", "-w", "-march=x86-64-v2", "-Wno-all -O1",
                    "-fno-exceptions", "-Wall -Wextra", "-fvisibility=hidden", "-pthread", "-UX,-Iinc", "-include,inc/b.h", "-MMD,-MF,g.d",
-                   "-MD,-MF,@WORK@/sub/g.d", "-save-temps", "-fstack-usage", "-pedantic", "-Iinc,-I@WORK@/sub", "-imacros,inc/b.h"],
-    "-Xptxas": ["-v", "-O1", "-O3", "-warn-spills", "-v,-O2", "--verbose", "-dlcm=ca", "-maxrregcount=32", "-w"],
+                   "-MD,-MF,@WORK@/sub/g.d", "-save-temps", "-fstack-usage", "-pedantic", "-Iinc,-I@WORK@/sub", "-imacros,inc/b.h",
+                   "-iquote,inc", "-idirafter,@WORK@/inc", "-include,@WORK@/inc/b.h", "-aux-info,a.txt", "-fdump-tree-optimized=sub/t.txt",
+                   "-fopt-info-all=@WORK@/o.txt", "-ffile-prefix-map=sub=x", "-Wp,-MMD,w.d", "-dumpdir,sub/", "-save-temps=obj"],
+    "-Xptxas": ["-v", "-O1", "-O3", "-warn-spills", "-v,-O2", "--verbose", "-dlcm=ca", "-maxrregcount=32", "-w", "--compiler-stats-file=s.txt",
+                "--compiler-stats-file=@WORK@/sub/s.txt", "-o,x.cubin"],
     "-Xcudafe": ["--diag_suppress=177", "--display_error_number", "--diag_suppress=177,--display_error_number", "--error_output=e.txt",
                  "--error_output=@WORK@/e.txt", "--preinclude=inc/b.h", "--preinclude=@WORK@/inc/b.h"],
-    "-Xcicc": ["-opt=1", "-ftz=1", "--error_output=e.txt", "--error_output=@WORK@/sub/e.txt"],
+    "-Xcicc": ["-opt=1", "-ftz=1", "--error_output=e.txt", "--error_output=@WORK@/sub/e.txt", "--list=l.txt", "--preinclude=@WORK@/inc/b.h"],
     "-Xfatbin": ["-compress-all", "-compress=false", "--compress-all"],
     "-Xlinker": ["-z,now", "--as-needed"], "-Xarchive": ["x"], "-Xnvlink": ["-v"],
     "-cudart": ["none", "shared", "static"], "-cudadevrt": ["none", "static"], "-default-stream": ["legacy", "per-thread", "null"],
@@ -79,7 +82,7 @@ VALUES: dict[str, list[str]] = {
     "-Ofc": ["0", "min", "mid", "max"], "-opt-info": ["inline"], "-target-dir": ["x86_64-linux"], "-qpp-config": ["gcc"], "-run-args": ["a"],
     "-sanitize": ["x"], "-split-compile": ["0", "1", "2", "4"], "-split-compile-extended": ["0", "2"],
     "-t": ["0", "1", "2", "4"], "-keep-dir": ["kd"], "-odir": ["od"], "-x": ["cu", "cu", "cu", "c++", "c"], "-MF": ["d.d", "sub/x.d", "@WORK@/y"],
-    "-MT": ["t", "a b", "sub/x.o", "$(X)"], "-optf": ["o.rsp"], "-time": ["t.csv"], "-fdevice-time-trace": ["-", "t.json"],
+    "-MT": ["t", "a b", "sub/x.o", "$(X)"], "-optf": ["o.rsp", "./o.rsp", "@WORK@/o.rsp"], "-time": ["t.csv"], "-fdevice-time-trace": ["-", "t.json"],
     "-ddp": ["x"], "-dp": ["x"], "-idp": ["x"], "-hls": ["gen-lcs"],
 }
 # Values that any option may get, and words that nvcc doesn't know.
@@ -209,8 +212,8 @@ def is_debug(line: str, want: Ran, got: Ran, found: Difference) -> bool:
 
 
 def is_later_failure(line: str, want: Ran, got: Ran, found: Difference) -> bool:
-    """A command fails: others run at the same time, and what they make is kept. Of several targets a later one may fail first."""
-    kept = found[0] == "FILE-EXTRA" and re.search(r"-keep|save-temps", line) is not None
+    """A command fails: others run at the same time, and what they write stays. Of several targets a later one may fail first."""
+    kept = found[0] == "FILE-EXTRA" and re.search(r"-keep|save-temps|-X(cicc|ptxas|compiler)\b|-(cicc|ptxas|compiler)-options", line) is not None
     other = found[0] in ("SAID", "STATUS") and len(re.findall(r"sm_\d\d|compute_\d\d|all-major", line)) > 1
     return both_fail(want, got) and (kept or other)
 
