@@ -71,7 +71,7 @@ VALUES: dict[str, list[str]] = {
     "-Xcudafe": ["--diag_suppress=177", "--display_error_number", "--diag_suppress=177,--display_error_number", "--error_output=e.txt",
                  "--error_output=@WORK@/e.txt", "--preinclude=inc/b.h", "--preinclude=@WORK@/inc/b.h"],
     "-Xcicc": ["-opt=1", "-ftz=1", "--error_output=e.txt", "--error_output=@WORK@/sub/e.txt", "--list=l.txt", "--preinclude=@WORK@/inc/b.h"],
-    "-Xfatbin": ["-compress-all", "-compress=false", "--compress-all"],
+    "-Xfatbin": ["-compress-all", "-compress=false", "--compress-all", "--create=x.fatbin", "--embedded-fatbin=@WORK@/x.c"],
     "-Xlinker": ["-z,now", "--as-needed"], "-Xarchive": ["x"], "-Xnvlink": ["-v"],
     "-cudart": ["none", "shared", "static"], "-cudadevrt": ["none", "static"], "-default-stream": ["legacy", "per-thread", "null"],
     "-diag-suppress": ["177", "20012", "177,550"], "-diag-warn": ["177"], "-diag-error": ["1,2", "550"],

@@ -96,6 +96,9 @@ pub struct Early {
     pub file: String,
 }
 
+/// Words for fatbinary that name the file that it makes.
+const FATBINS: [&str; 4] = ["--create", "-create", "--embedded-fatbin", "-fatbin"];
+
 /// How many bytes a file's name may have.
 const LONGEST_NAME: usize = 255;
 
@@ -103,6 +106,17 @@ impl PlannedCommand {
     /// Whether it writes a file whose name no disk takes.
     pub fn writes_long_name(&self) -> bool {
         self.writes.iter().filter_map(|file| file.rsplit('/').next()).any(|name| name.len() > LONGEST_NAME)
+    }
+
+    /// Whether it makes a file that the line asks for and no plan has: another fatbin than nvcc's, or a precompiled header, for which cudafe++
+    /// wants a directory for temporary files with a short name.
+    pub fn makes_own_file(&self) -> bool {
+        let makes_fatbin = |word: &&String| FATBINS.iter().any(|option| word.starts_with(option));
+        match self.program.rsplit('/').next() {
+            Some("fatbinary") => self.words.iter().filter(makes_fatbin).count() > 1,
+            Some("cudafe++") => self.words.iter().any(|word| word.starts_with("--") && word.contains("pch")),
+            _ => false,
+        }
     }
 }
 
@@ -340,6 +354,19 @@ mod tests {
     fn line(words: &str, cwd: &str) -> Line {
         let variables = vec![("ZIGRUNK_JOBS".to_owned(), "3".to_owned())];
         Line { cwd: cwd.into(), nvcc: "nvcc".into(), words: words.split(' ').map(String::from).collect(), variables }
+    }
+
+    #[test]
+    fn a_tool_may_make_a_file_of_its_own() {
+        let makes = |program: &str, words: &str| {
+            let words = words.split(' ').map(String::from).collect();
+            PlannedCommand { program: program.into(), words, ..PlannedCommand::default() }.makes_own_file()
+        };
+        assert!(makes("/b/fatbinary", "--create=x -64 --create=k.fatbin"));
+        assert!(makes("/b/fatbinary", "-fatbin x.c -64 --embedded-fatbin=/t/k.fatbin.c"));
+        assert!(!makes("/b/fatbinary", "-64 --image3=kind=elf,file=/t/k.cubin --embedded-fatbin=/t/k.fatbin.c"));
+        assert!(makes("/b/cudafe++", "--c++17 --create_pch=k.pch /t/k.cpp4.ii") && makes("/b/cudafe++", "--pch /t/k.cpp4.ii"));
+        assert!(!makes("/b/cudafe++", "--orig_src_file_name pch/k.cu /t/k.cpp4.ii") && !makes("/b/cicc", "--create=x --create=y --pch"));
     }
 
     #[test]

@@ -140,6 +140,9 @@ impl Call<'_> {
         if commands.iter().any(PlannedCommand::writes_long_name) {
             return by_nvcc("a generated file's name is too long");
         }
+        if commands.iter().any(PlannedCommand::makes_own_file) {
+            return by_nvcc("a tool makes a file of its own");
+        }
         let may_change = !keeps && !has_cache;
         let late = if late::is_on(self.settings) && may_change { late::begin_early(&mut commands, tmp) } else { None };
         let is_early = early::is_on(self.settings) && may_change;
