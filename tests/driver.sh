@@ -189,9 +189,10 @@ end_to_end() {
     if case_of 'ZIGRUNK_TMP, and launchers with a server'; then
         mkdir "$room/shared"
         call ZIGRUNK_TMP="$room/shared" TOOL_DOES="$notes" -c k.cu -o k.o
-        same 'TMPDIR' "$(cat "$room/log.tmp") $(grep -c "^$room/shared/zigrunk-$user/" "$room/log.cicc.80")" "$room/tmp 1"
-        call ZIGRUNK_TMP="$room/shared" TMPDIR= TOOL_DOES="$notes" -c k.cu -o k.o
-        same 'TMPDIR without one' "$(cat "$room/log.tmp")" /tmp
+        same 'TMPDIR' "$(grep -c "^$room/shared/zigrunk-$user/.*/zigrunk.tmp$" "$room/log.tmp") $(grep -c "^$room/shared/zigrunk-$user/" "$room/log.cicc.80")" '1 1'
+        printf '%s\n' '#!/bin/sh' 'exec "$@"' > "$room/runner" && chmod +x "$room/runner"
+        call ZIGRUNK_TMP="$room/shared" ZIGRUNK_RUNNER="$room/runner" TMPDIR= TOOL_DOES="$notes" -c k.cu -o k.o
+        same 'TMPDIR of a runner, without one' "$(cat "$room/log.tmp")" /tmp
         printf '%s\n' '#!/bin/sh' 'echo "launcher ${1##*/}" >> "$LOG"; exec "$@"' > "$room/sccache" && chmod +x "$room/sccache"
         call ZIGRUNK_LAUNCHER="$room/sccache" TOOL_DOES="$notes" -c k.cu -o k.o
         same 'with sccache' "$(cat "$room/log.tmp") $(grep -c '^launcher' "$room/log")" "$room/tmp 6"

@@ -96,8 +96,9 @@ pub struct Early {
     pub file: String,
 }
 
-/// Words for fatbinary that name the file that it makes.
-const FATBINS: [&str; 4] = ["--create", "-create", "--embedded-fatbin", "-fatbin"];
+/// Words for fatbinary that name the image that it makes, and the file for the host compiler.
+const IMAGES: [&str; 2] = ["--create", "-create"];
+const EMBEDDED: [&str; 2] = ["--embedded-fatbin", "-fatbin"];
 
 /// How many bytes a file's name may have.
 const LONGEST_NAME: usize = 255;
@@ -111,11 +112,25 @@ impl PlannedCommand {
     /// Whether it makes a file that the line asks for and no plan has: another fatbin than nvcc's, or a precompiled header, for which cudafe++
     /// wants a directory for temporary files with a short name.
     pub fn makes_own_file(&self) -> bool {
-        let makes_fatbin = |word: &&String| FATBINS.iter().any(|option| word.starts_with(option));
         match self.program.rsplit('/').next() {
-            Some("fatbinary") => self.words.iter().filter(makes_fatbin).count() > 1,
+            Some("fatbinary") => self.makes_own_fatbin(),
             Some("cudafe++") => self.words.iter().any(|word| word.starts_with("--") && word.contains("pch")),
             _ => false,
+        }
+    }
+
+    /// The values that words with one of these options have behind `=`.
+    fn values(&self, options: [&str; 2]) -> Vec<Option<&str>> {
+        let words = self.words.iter().filter(|word| options.iter().any(|option| word.starts_with(option)));
+        words.map(|word| word.split_once('=').map(|(_, value)| value)).collect()
+    }
+
+    /// Whether a line of fatbinary names another file than nvcc's. nvcc before 13 names both, and they differ by `.c`.
+    fn makes_own_fatbin(&self) -> bool {
+        match (&self.values(IMAGES)[..], &self.values(EMBEDDED)[..]) {
+            ([] | [Some(_)], []) | ([], [Some(_)]) => false,
+            ([Some(image)], [Some(embedded)]) => embedded.strip_suffix(".c") != Some(image),
+            _ => true,
         }
     }
 }
@@ -364,7 +379,9 @@ mod tests {
         };
         assert!(makes("/b/fatbinary", "--create=x -64 --create=k.fatbin"));
         assert!(makes("/b/fatbinary", "-fatbin x.c -64 --embedded-fatbin=/t/k.fatbin.c"));
+        assert!(makes("/b/fatbinary", "--create=/w/x -64 --embedded-fatbin=/t/k.fatbin.c"));
         assert!(!makes("/b/fatbinary", "-64 --image3=kind=elf,file=/t/k.cubin --embedded-fatbin=/t/k.fatbin.c"));
+        assert!(!makes("/b/fatbinary", "--create=/t/k.fatbin -64 --image3=kind=elf,file=/t/k.cubin --embedded-fatbin=/t/k.fatbin.c"), "nvcc before 13");
         assert!(makes("/b/cudafe++", "--c++17 --create_pch=k.pch /t/k.cpp4.ii") && makes("/b/cudafe++", "--pch /t/k.cpp4.ii"));
         assert!(!makes("/b/cudafe++", "--orig_src_file_name pch/k.cu /t/k.cpp4.ii") && !makes("/b/cicc", "--create=x --create=y --pch"));
     }

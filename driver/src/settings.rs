@@ -79,7 +79,7 @@ impl Settings {
     /// to stay, and whose socket there needs a short path. A runner may take a command to a machine on which `TMPDIR` is a disk of its own.
     pub fn scratch(&self) -> Option<&PathBuf> {
         let cache_server = self.launcher.iter().any(|word| word.contains("sccache"));
-        let elsewhere = self.shared.is_some() && !self.runner.is_empty();
+        let elsewhere = self.shared.is_some() && !self.runs_here();
         (elsewhere || cache_server).then_some(&self.temporary)
     }
 }
