@@ -76,7 +76,7 @@ calls() {
 
 # batch NODES LIST [NAME=VALUE..]: a batch in an allocation, by workers.
 batch() {
-    workers "$1"
+    workers
     salloc -Q --no-kill -p "$partition" -N"$1" -n"$1" env "${@:3}" zigrunk-batch "${words[@]}" "$2" 2> err > out
 }
 
@@ -116,7 +116,7 @@ left() {
         *) { tr "\0" " " < "/proc/$id/cmdline"; } 2> /dev/null | cut -c 1-80 ;;
         esac
     done
-    ls -A "$scratch/tmp"
+    find "$scratch/tmp" -mindepth 2
 }
 
 sources() {
@@ -173,20 +173,20 @@ compile_error() {
 
 # temporary: how many directories of a batch and of its calls there are.
 temporary() {
-    find "$scratch/tmp" -mindepth 1 -maxdepth 1 | grep -c .
+    find "$scratch/tmp" -mindepth 2 -maxdepth 2 -type d | grep -c .
 }
 
 cancelled() {
     local id
     calls nvcc cancelled 20 > by_batch
-    id=$(ZIGRUNK_RUNNER="$examples/slurm/step.sh" ZIGRUNK_JOBS=5 \
-        sbatch --parsable --no-kill -p "$partition" -N3 -n3 -o /dev/null --wrap 'exec zigrunk-batch by_batch')
+    id=$(sbatch --parsable --no-kill -p "$partition" -N3 -n3 -o /dev/null \
+        --wrap "exec zigrunk-batch --workers 'srun -K0 --no-kill -N3 --ntasks-per-node=1 zigrunk-worker' by_batch")
     for _ in $(seq 100); do
         [ "$(temporary)" -lt 2 ] || break
         sleep 0.2
     done
     sleep 3
-    same 'directories before the job is cancelled' "$(temporary)" 2
+    same 'directories before the job is cancelled' "$(($(temporary) >= 2))" 1
     scancel --full "$id"
     same 'what a cancelled job leaves' "$(left)" ''
 }

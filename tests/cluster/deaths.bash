@@ -26,9 +26,11 @@ calls_of_two() {
     for number in $(seq "$2"); do echo "nvcc $targets_of_two -c k$number.cu -o k$number.$1"; done
 }
 
-# workers NODES: the words of the batch that start a worker on each node of the job.
+# workers: the words of the batch that start a worker on each node of the job, each by a step of its own: Slurm may end a step on several nodes if one of
+# them vanishes.
 workers() {
-    words=(--give-up 5 --workers "srun -Q -K0 --no-kill -N$1 --ntasks-per-node=1 zigrunk-worker")
+    # shellcheck disable=SC2016 # a shell of the batch expands them
+    words=(--give-up 5 --wait 20 --workers 'for node in $(scontrol show hostnames); do srun -Q -K0 -N1 -n1 -w "$node" zigrunk-worker & done; wait')
 }
 
 # begin SUFFIX NODES COUNT [NAME=VALUE..]: starts a build of so many sources in the background, by workers on so many nodes of the lane.
@@ -37,7 +39,7 @@ begin() {
     cd "$scratch/stand_in" || return
     : > "$TOOL_LOG"
     calls_of_two "$1" "$3" > list
-    workers "$2"
+    workers
     PATH=$tools:$PATH TOOL_SECONDS=${TOOL_SECONDS:-0.2} salloc -Q --no-kill -p "$partition" -N"$2" -n"$2" \
         env "${@:4}" zigrunk-batch "${words[@]}" list > out 2> err &
     job=$!
@@ -203,9 +205,7 @@ cancelled_step() {
     begin cancelled 3 6
     moment 1 "^start n$second cicc"
     scancel "$(squeue -h -p "$partition" -s -o %i | grep -v -e extern -e interactive | head -n 1)"
-    wait "$job"
-    same 'a cancelled step: status, if all of it' "$(($? != 0)) $(grep -c '^zigrunk-batch: there is no worker$' err)" '1 1'
-    cd "$OLDPWD" || return
+    finish 'with a cancelled step'
     wait_idle
 }
 
