@@ -1446,17 +1446,17 @@ wrong_usage() {
 
 # orders of options that mean the same, before a format and behind it: of two limits the last counts. With --whole, a plan may drop nothing
 orders_of_options() {
-    local front behind kept dropped small
+    local front after kept dropped small
     run_of whole "${KERNEL[@]:0:7}"
     kept=$("$program" shell --keep /w /t -c "$scratch/whole" "$scratch/whole.2"; printf .)
     small="zigrunk: $scratch/kernel:1: with this line, the dry run makes over 7 bytes: --limit allows more"$'\n    '$(head -n 1 "$scratch/kernel")$'\n'
-    while IFS='|' read -r front behind dropped; do
+    while IFS='|' read -r front after dropped; do
         # shellcheck disable=SC2086 # words
-        check "$front FORMAT $behind" 0 "${kept%.}" '' $front shell $behind /w /t -c "$scratch/whole" "$scratch/whole.2"
+        check "$front FORMAT $after" 0 "${kept%.}" '' $front shell $after /w /t -c "$scratch/whole" "$scratch/whole.2"
         [ -n "$dropped" ] || continue
         # shellcheck disable=SC2086 # words
-        check "$front FORMAT $behind, and a dropped command" 1 '' $'zigrunk: the plan dropped a command\n' \
-            $front shell $behind /w /t -c "$scratch/kernel" "$scratch/kernel.2"
+        check "$front FORMAT $after, and a dropped command" 1 '' $'zigrunk: the plan dropped a command\n' \
+            $front shell $after /w /t -c "$scratch/kernel" "$scratch/kernel.2"
     done << 'ORDERS'
 --keep||
 |--keep|
@@ -1472,9 +1472,9 @@ orders_of_options() {
 |--limit 0 --limit 90000 --keep --keep --whole --keep|dropped
 |--limit 0 --limit 1 --limit 2 --limit 3 --limit 90000 --keep|
 ORDERS
-    while IFS='|' read -r front behind; do
+    while IFS='|' read -r front after; do
         # shellcheck disable=SC2086 # words
-        check "$front FORMAT $behind, of which the last limit counts" 1 '' "$small" $front json $behind /w /t -c "$scratch/kernel" "$scratch/kernel.2"
+        check "$front FORMAT $after, of which the last limit counts" 1 '' "$small" $front json $after /w /t -c "$scratch/kernel" "$scratch/kernel.2"
     done << 'ORDERS'
 --limit 90000 --limit 7|
 --limit 90000|--limit 7

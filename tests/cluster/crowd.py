@@ -3,8 +3,8 @@
 
     tests/cluster/crowd.py COUNT SLOTS SECONDS
 
-COUNT workers of SLOTS slots each connect to the batch that ZIGRUNK_WORKERS names. A command takes SECONDS, and a dry run none: it prints the recorded one
-of DATA, with the toolkit CUDA, as tests/driver/dry_run.c does. With LIES, the workers say that each file is longer than it is.
+COUNT workers of SLOTS slots each connect to the batch that ZIGRUNK_WORKERS names. A command takes SECONDS, and a dry run none: it prints the recorded
+one of DATA, with the toolkit CUDA, as tests/driver/dry_run.c does. With LIES, the workers say that each file is longer than it is.
 """
 import hashlib
 import heapq

@@ -5,14 +5,13 @@
 
 For N calls for ten targets, 60 unless you say so, on 200 workers of four slots, it prints the processor's time of zigrunk-batch for each command, its
 memory, and when the first command ends; for 60 commands that do nothing on three real workers, its time for each; and for N calls of commands that
-take 0.3 seconds on three workers of one slot, 39 unless you say so, how much longer it takes than the commands alone. All have to stay within the limits
-below. Those of times count only if nothing else keeps this machine busy. The last line is 'N passed, M failed'.
+take 0.3 seconds on three workers of one slot, 39 unless you say so, how much longer it takes than the commands alone. All have to stay within the
+limits below. Those of times count only if nothing else keeps this machine busy. The last line is 'N passed, M failed'.
 """
 import argparse
 import os
 import resource
 import shutil
-import subprocess
 import sys
 import tempfile
 import time

@@ -1,10 +1,11 @@
 #!/usr/bin/env python3
-"""Runs a worker whose connection to its batch goes through here, and can be cut off as a network cuts it off: nothing comes through, and nobody is told.
+"""Runs a worker whose connection to its batch goes through here, and can be cut off as a network cuts it off: nothing comes
+through, and nobody is told.
 
     tests/cluster/proxy.py FILE COMMAND WORD..
 
-COMMAND gets ZIGRUNK_WORKERS with this program's port in place of the batch's. As long as FILE is there, nothing goes either way, and no new connection
-is taken further.
+COMMAND gets ZIGRUNK_WORKERS with this program's port in place of the batch's. As long as FILE is there, nothing goes either way, and no new
+connection is taken further.
 """
 import os
 import selectors
