@@ -25,34 +25,40 @@ _zigrunk_plan() {
     esac
 }
 
+# Drops the options that words begins with, up to the current one, which is at place, from 1. Fails if that is the number of --limit.
+_zigrunk_drop_options() {
+    while [ "$place" -gt 1 ]; do
+        case ${words[0]} in
+        --keep | --whole) words=("${words[@]:1}") place=$((place - 1)) ;;
+        --limit)
+            [ "$place" -gt 2 ] || return
+            words=("${words[@]:2}") place=$((place - 2))
+            ;;
+        *) break ;;
+        esac
+    done
+}
+
 _zigrunk() {
-    local current=${COMP_WORDS[COMP_CWORD]} forms='line plan'
+    local current=${COMP_WORDS[COMP_CWORD]} words=("${COMP_WORDS[@]:1}") place=$COMP_CWORD forms='line plan' options=''
     COMPREPLY=()
-    [ "${1##*/}" = cudaplan ] || forms='shell ninja json dot compdb makeflow text calls directory line plan --limit -h --help --version'
-    if [ "${COMP_WORDS[1]-}" = --limit ] && [ "$COMP_CWORD" -gt 1 ]; then
-        [ "$COMP_CWORD" -gt 2 ] || return
-        local COMP_WORDS=("${COMP_WORDS[0]}" "${COMP_WORDS[@]:3}") COMP_CWORD=$((COMP_CWORD - 2))
-        forms='shell ninja json dot compdb makeflow text plan'
+    if [ "${1##*/}" != cudaplan ]; then
+        forms='shell ninja json dot compdb makeflow text calls directory line plan -h --help --version' options='--limit --keep --whole'
+        _zigrunk_drop_options || return
     fi
-    local form=${COMP_WORDS[1]-}
-    if [ "$COMP_CWORD" -eq 1 ]; then
-        _zigrunk_words "$forms"
+    local form=${words[0]-}
+    if [ "$place" -eq 1 ]; then
+        _zigrunk_words "$forms $options"
         return
     fi
     case " $forms " in
     *" $form "*) ;;
     *) return ;;
     esac
-    local place=$((COMP_CWORD - 1))
+    words=("${words[@]:1}") place=$((place - 1))
     case $form in
     shell | ninja | json | dot | compdb | makeflow | text)
-        local words=("${COMP_WORDS[@]:2}") options='--keep --whole'
-        if [ "${words[0]}" = --keep ] && [ "$place" -gt 1 ]; then
-            words=("${words[@]:1}") place=$((place - 1)) options=--whole
-        fi
-        if [ "${words[0]}" = --whole ] && [ "$place" -gt 1 ]; then
-            words=("${words[@]:1}") place=$((place - 1)) options=''
-        fi
+        _zigrunk_drop_options || return
         if [ "$place" -eq 1 ] && [[ $current == -* ]]; then
             _zigrunk_words "$options"
         else
