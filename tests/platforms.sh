@@ -157,7 +157,7 @@ platform() {
     check "$1: programs and library" built "$1" "$2gcc"
     [ "$failed" -eq "$before" ] || return
     check "$1: the version" prints "zigrunk $version" "$(runner "$bin/zigrunk" "$3")" --version
-    check "$1: tests/program.sh" cases tests/program.sh "$(runner "$bin/cudaplan" "$3")" "$(runner "$bin/zigrunk" "$3")"
+    check "$1: tests/program.sh" cases env EMULATED="$3" tests/program.sh "$(runner "$bin/cudaplan" "$3")" "$(runner "$bin/zigrunk" "$3")"
     check "$1: test_lines" driven "$(runner "$bin/test_lines" "$3")" test_lines
     check "$1: test_plans" driven "$(runner "$bin/test_plans" "$3")" test_plans
     check "$1: the tests in C" in_c "$1" "$2" "${3:+${3##"$root"}}"
