@@ -7,6 +7,8 @@
 #
 #   tests/program.sh [CUDAPLAN [ZIGRUNK [FUNCTION..]]]     the programs are those that `make build` and the gate leave, unless given;
 #                                                          only these functions of this script are called, if there are some
+#
+# EMULATED, if set, says that an emulator runs them: what takes a program seconds or memory is left out then.
 set -u
 cd "$(dirname "$0")/.." || exit 1
 program=$(realpath "${1:-crates/cudaplan/out/cudaplan}")
@@ -1317,6 +1319,10 @@ doubling() {
 # dry runs of a megabyte of each kind that takes work: answered or refused within three seconds of the processor and 300 MB
 hostile_input() {
     local said
+    if [ -n "${EMULATED-}" ]; then
+        skip 'hostile input' 'an emulator takes time and memory of its own'
+        return
+    fi
     said=$(tests/hostile_input.py "$program" 2>&1) && said=''
     count 'hostile input' "$said"
 }
