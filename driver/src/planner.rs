@@ -125,7 +125,7 @@ impl PlannedCommand {
         words.map(|word| word.split_once('=').map(|(_, value)| value)).collect()
     }
 
-    /// Whether a line of fatbinary names another file than nvcc's. nvcc before 13 names both, and they differ by `.c`.
+    /// Whether a line of fatbinary names another file than nvcc's, which names both for a host compiler. They differ by `.c` then.
     fn makes_own_fatbin(&self) -> bool {
         match (&self.values(IMAGES)[..], &self.values(EMBEDDED)[..]) {
             ([] | [Some(_)], []) | ([], [Some(_)]) => false,
@@ -381,7 +381,7 @@ mod tests {
         assert!(makes("/b/fatbinary", "-fatbin x.c -64 --embedded-fatbin=/t/k.fatbin.c"));
         assert!(makes("/b/fatbinary", "--create=/w/x -64 --embedded-fatbin=/t/k.fatbin.c"));
         assert!(!makes("/b/fatbinary", "-64 --image3=kind=elf,file=/t/k.cubin --embedded-fatbin=/t/k.fatbin.c"));
-        assert!(!makes("/b/fatbinary", "--create=/t/k.fatbin -64 --image3=kind=elf,file=/t/k.cubin --embedded-fatbin=/t/k.fatbin.c"), "nvcc before 13");
+        assert!(!makes("/b/fatbinary", "--create=/t/k.fatbin -64 --image3=kind=elf,file=/t/k.cubin --embedded-fatbin=/t/k.fatbin.c"));
         assert!(makes("/b/cudafe++", "--c++17 --create_pch=k.pch /t/k.cpp4.ii") && makes("/b/cudafe++", "--pch /t/k.cpp4.ii"));
         assert!(!makes("/b/cudafe++", "--orig_src_file_name pch/k.cu /t/k.cpp4.ii") && !makes("/b/cicc", "--create=x --create=y --pch"));
     }
