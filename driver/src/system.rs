@@ -433,11 +433,14 @@ impl Signals {
         self.file.as_raw_fd()
     }
 
-    /// The next signal that has come.
+    /// The next signal that has come. If it can't be read, that takes a moment: the file says all the time that there is one.
     pub fn next(&self) -> Option<i32> {
         let mut one = [0_u8; 128];
         CONTINUED.store(false, Ordering::SeqCst);
         let size = unsafe { read(self.file.as_raw_fd(), one.as_mut_ptr().cast(), one.len()) };
+        if size < 0 && io::Error::last_os_error().kind() != io::ErrorKind::WouldBlock {
+            sleep(Duration::from_millis(1));
+        }
         (size == 128).then(|| i32::from_ne_bytes([one[0], one[1], one[2], one[3]]))
     }
 
@@ -786,6 +789,15 @@ mod tests {
             format!("{open}, {}", dispositions(&ALL))
         });
         assert_eq!(said, "1B 2B 15B 17B 18 20BI , 1 2 15 17 18 20 ");
+    }
+
+    #[test]
+    fn signals_that_cannot_be_read_take_a_moment() {
+        in_own_process(|| {
+            let next_of = |signals: Signals| (Instant::now(), signals.next(), Instant::now());
+            let (begun, next, ended) = next_of(Signals { file: File::options().write(true).open("/dev/null").unwrap().into(), stop_ignored: true });
+            assert!(next.is_none() && ended - begun >= Duration::from_millis(1));
+        });
     }
 
     #[test]
