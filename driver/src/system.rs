@@ -659,6 +659,7 @@ mod tests {
     use crate::streams::content;
     use std::fs;
     use std::io::{Read, Write};
+    use std::iter;
     use std::os::fd::AsFd;
     use std::os::unix::fs::{FileTypeExt, MetadataExt, symlink};
     use std::path::PathBuf;
@@ -916,6 +917,8 @@ mod tests {
     #[test]
     fn closed_standard_streams_become_the_null_device() {
         for closed in [vec![], vec![0], vec![1], vec![2], vec![0, 1, 2]] {
+            // So the number 3, which is taken below, isn't that of a file that the test needs.
+            let _taken: Vec<File> = iter::repeat_with(|| File::open("/dev/null").unwrap()).take_while(|file| file.as_raw_fd() <= 3).collect();
             let (_read, write) = pipe().unwrap();
             let said = said_by(|| {
                 (0..3).for_each(|number| assert_eq!(unsafe { dup2(write.as_raw_fd(), number) }, number));
