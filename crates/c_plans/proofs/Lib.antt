@@ -1,4 +1,5 @@
 pub mod AllOrNothing
 pub mod LimitLemmas
+pub mod PlaceLemmas
 pub mod RecordLemmas
 pub mod RecordReading

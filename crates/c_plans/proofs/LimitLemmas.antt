@@ -13,7 +13,7 @@ step : (suffixes : Result (List (List ℕ)) Fault) (whole : List (List ℕ) → 
 step suffixes whole within limit none = grind arith
 
 pub plans-without-limit : PlansWithoutLimit
-plans-without-limit call host texts tables none = simp step
+plans-without-limit call a none = simp step
 
 pub lookups-without-limit : LookupsWithoutLimit
 lookups-without-limit dry1 dry2 cwd = refl

@@ -1,7 +1,10 @@
+pub mod Acceptance
 pub mod Asking
+pub mod Fields
 pub mod LimitLaws
 pub mod Limits
 pub mod OddDirectories
+pub mod Places
 pub mod PlanCalls
 pub mod PlanForms
 pub mod PlanRecords

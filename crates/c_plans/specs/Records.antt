@@ -1,5 +1,5 @@
 -- A plan as records, and texts one behind the other.
-use Rattle.std.specs.Prelude.{◌≡◌, ◌⊎◌, ℕ, ◌+◌, ◌-◌, List, [], ◌∷◌, ◌++◌, ◌&&◌, ◌==◌, Bool, true, false, if◌then◌else◌, length, map, string_bytes, Option, Some, None, flat_map, bytes_eq}
+use Rattle.std.specs.Prelude.{◌≡◌, ◌⊎◌, ℕ, ◌+◌, ◌-◌, List, [], ◌∷◌, ◌++◌, ◌&&◌, ◌==◌, Bool, true, false, if◌then◌else◌, length, map, string_bytes, Option, Some, None, Result, Ok, Err, flat_map, bytes_eq}
 use Rattle.compilers.specs.declared.command.Cacheable.{Cacheable}
 use Rattle.compilers.specs.declared.command.Cacheable.TheVariants.{Yes, No}
 use Rattle.plans.specs.declared.origins.Origin.{Origin}
@@ -17,9 +17,11 @@ use Rattle.c_plans.specs.declared.record.GroupRecord.{GroupRecord}
 use Rattle.c_plans.specs.declared.record.RecordsAnswer.{RecordsAnswer}
 use Rattle.c_plans.specs.declared.plan_entries.Shared.{Shared as HeldShared}
 use Rattle.c_plans.specs.declared.recorded.Entry.{Entry as HeldEntry}
+use Rattle.c_texts.specs.declared.refusal.Refused.{Refused}
 use Rattle.c_texts.specs.declared.status.Status.TheVariants.{Memory}
 use Rattle.c_texts.specs.Memory.{fits, filled}
 use Rattle.c_texts.specs.Outcomes.{Outcome, of_texts, refused, with_texts}
+use Rattle.c_texts.specs.Refusals.{refusal}
 
 -- what the records say of a command, in a group or dropped, and which texts its variables are if it shares them. Its reason is 0 if it
 -- is in a group
@@ -179,6 +181,11 @@ Recorded = Outcome × (List GroupRecord × List CommandRecord)
 -- a refusal, without records
 abbrev pub without_records : Outcome → Recorded
 without_records outcome = (outcome, ([], []))
+
+-- what a call ends with, by its answer
+abbrev pub ended : Result Recorded Refused → Recorded
+ended (Ok recorded) = recorded
+ended (Err r) = without_records (refusal r)
 
 -- a plan as records
 abbrev pub records_of : PlanWithOrigins → Recorded

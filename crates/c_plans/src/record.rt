@@ -1,4 +1,4 @@
-//! The records of a plan.
+//! The records of a plan, and of the place of a refusal.
 
 use c_texts::Range;
 
@@ -52,4 +52,18 @@ pub struct RecordsAnswer {
     pub ranges: usize,
     /// The bytes of all of them, or of the refusal's text.
     pub length: usize,
+}
+
+/// Where a call is refused.
+#[repr(C)]
+#[derive(Clone, Copy, Debug)]
+pub struct PlaceRecord {
+    /// The dry run of the line that is refused, 1 or 2, else 0.
+    pub run: usize,
+    /// The number of that line, from 1, else 0.
+    pub line: usize,
+    /// The number of the field of the call that is refused, else 0.
+    pub field: u32,
+    /// 0.
+    pub reserved: u32,
 }

@@ -1,11 +1,13 @@
 //! Commands and groups as records, and writing them into the caller's memory.
 
-ghost use Rattle.std.specs.Prelude.{◌≡◌, ◌∷◌, [], ◌++◌, IfOk, OnOk, length, map};
+ghost use Rattle.std.specs.Prelude.{◌≡◌, ◌∷◌, [], ◌++◌, List, IfOk, OnOk, Result, length, map};
 ghost use Rattle.texts.specs.Variables.{pair_of};
-ghost use Rattle.c_texts.specs.declared.status.Status.TheVariants.{Memory};
-ghost use Rattle.c_texts.specs.Memory.{fits, filled};
-ghost use Rattle.c_texts.specs.Outcomes.{refused, with_texts};
-ghost use Rattle.c_texts.specs.Statuses.{text};
+ghost use Rattle.c_texts.specs.declared.memory.Range.{Range};
+ghost use Rattle.c_texts.specs.declared.refusal.Refused.{Refused};
+ghost use Rattle.c_texts.specs.Outcomes.{of_texts, with_texts};
+ghost use Rattle.c_texts.specs.Refusals.{Answers, refusal};
+ghost use Rattle.c_plans.specs.declared.record.CommandRecord.{CommandRecord};
+ghost use Rattle.c_plans.specs.declared.record.GroupRecord.{GroupRecord};
 ghost use Rattle.c_plans.specs.Records as spec;
 
 use crate::record::{CommandRecord, GroupRecord, RecordsAnswer};
@@ -14,10 +16,10 @@ use c_texts::{Outcome, Range, Refused};
 use std::alloc::{AllocError, Global};
 use std::marker::Model;
 
-/// A status and texts, and the records that say what the texts are.
+/// Texts, and the records that say what they are.
 #[derive(Drop)]
 pub struct Recorded {
-    /// The status, and the texts that the records name by their numbers.
+    /// The texts that the records name by their numbers.
     pub outcome: Outcome,
     /// The groups, in the plan's order.
     pub groups: Vec<GroupRecord>,
@@ -111,12 +113,12 @@ fn push_texts(texts: &mut Outcome, entry: Entry<'_>) -> Result<CommandRecord, Al
 }
 
 impl Recorded {
-    /// An outcome without records.
-    pub fn of_outcome(alloc: Global, outcome: Outcome) -> Recorded
-        ensures { result ≡ spec.without_records outcome }
+    /// Success, so far without records.
+    pub(crate) fn new(alloc: Global) -> Recorded
+        ensures { result ≡ spec.without_records (of_texts []) }
     {
         Recorded {
-            outcome,
+            outcome: Outcome::new(alloc),
             groups: Vec::new(alloc),
             commands: Vec::new(alloc),
         }
@@ -203,12 +205,14 @@ fn tell_records(
     }
 }
 
-// Tells the caller that an allocation failed: writes the message, if it fits.
-fn tell_memory(out: &mut [u8]) -> RecordsAnswer
-    ensures answer { result ≡ spec.sizes_of (spec.without_records (refused Memory)) }
-    ensures text { out.new ≡ filled (fits (text Memory) out.old) (text Memory) out.old }
+// Tells the caller why there are no records: writes the message, if it fits.
+fn tell_refusal(refused: &Refused, out: &mut [u8]) -> RecordsAnswer
+    ensures { (groups : List GroupRecord) (commands : List CommandRecord) (ranges : List Range)
+        → spec.TellsRecords (spec.without_records (refusal refused.now)) result
+        (record { groups = groups; commands = commands; ranges = ranges; bytes = out.old })
+        (record { groups = groups; commands = commands; ranges = ranges; bytes = out.new }) }
 {
-    let told = Refused::Memory.tell_text(out);
+    let told = refused.tell_text(out);
     RecordsAnswer {
         status: told.status,
         groups: 0,
@@ -218,21 +222,21 @@ fn tell_memory(out: &mut [u8]) -> RecordsAnswer
     }
 }
 
-/// Tells the caller a plan as records or a refusal, or that an allocation failed.
-pub(crate) fn give_records(
-    outcome: Result<Recorded, AllocError>,
+/// Tells the caller a plan as records, or why there is none.
+pub(crate) fn write_records(
+    answer: Result<Recorded, Refused>,
     groups: &mut [GroupRecord],
     commands: &mut [CommandRecord],
     ranges: &mut [Range],
     out: &mut [u8],
 ) -> RecordsAnswer
-    ensures { (expected : spec.Recorded) → IfOk outcome (λ recorded. recorded ≡ expected)
-        → spec.GivesRecords expected result
+    ensures { (expected : Result spec.Recorded Refused) → Answers answer expected
+        → spec.GivesRecords (spec.ended expected) result
         (record { groups = groups.old; commands = commands.old; ranges = ranges.old; bytes = out.old })
         (record { groups = groups.new; commands = commands.new; ranges = ranges.new; bytes = out.new }) }
 {
-    match outcome {
+    match answer {
         Ok(recorded) => tell_records(&recorded, groups, commands, ranges, out),
-        Err(_) => tell_memory(out),
+        Err(refused) => tell_refusal(&refused, out),
     }
 }

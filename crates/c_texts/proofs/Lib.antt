@@ -1,3 +1,4 @@
 pub mod RangeLemmas
+pub mod RefusalLemmas
 pub mod TextLemmas
 pub mod Utf8Lemmas
