@@ -45,12 +45,12 @@ class Fields:
         self.at += struct.calcsize("<" + form)
         return int(value)
 
-    def bytes(self, count: int) -> bytes:
+    def part(self, count: int) -> bytes:
         self.at += count
         return self.body[self.at - count:self.at]
 
     def text(self) -> bytes:
-        return self.bytes(self.number("Q"))
+        return self.part(self.number("Q"))
 
     def texts(self) -> list[bytes]:
         return [self.text() for _ in range(self.number("Q"))]
@@ -66,11 +66,11 @@ def order(fields: Fields) -> tuple[list[bytes], list[bytes]]:
             fields.text()
     if fields.number("B"):
         fields.text()
-        fields.bytes(32)
+        fields.part(32)
     fields.texts()
     for _ in range(fields.number("Q")):
         fields.text()
-        fields.bytes(16)
+        fields.part(16)
     return words, fields.texts()
 
 
@@ -109,8 +109,8 @@ class Worker:
         return found
 
     def introduce(self, fields: Fields) -> None:
-        of_batch = fields.bytes(32)
-        if fields.bytes(32) != proof(self.secret, self.once, of_batch, b"zigrunk batch"):
+        of_batch = fields.part(32)
+        if fields.part(32) != proof(self.secret, self.once, of_batch, b"zigrunk batch"):
             sys.exit("the batch doesn't know the secret")
         own = proof(self.secret, self.once, of_batch, b"zigrunk worker")
         self.send(2, own + text(self.name) + secrets.token_bytes(32) + struct.pack("<I", self.slots))

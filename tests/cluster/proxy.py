@@ -33,10 +33,10 @@ def main() -> int:
             if key.fileobj is listener:
                 here = listener.accept()[0]
                 there = socket.create_connection(("127.0.0.1", int(port)))
-                watched.register(here, selectors.EVENT_READ, there)
-                watched.register(there, selectors.EVENT_READ, here)
+                watched.register(here, selectors.EVENT_READ, (here, there))
+                watched.register(there, selectors.EVENT_READ, (there, here))
                 continue
-            one, other = key.fileobj, key.data
+            one, other = key.data
             try:
                 part = one.recv(1 << 16)
                 other.sendall(part)
