@@ -597,7 +597,7 @@ places() {
         same 'status and folders' "$status $(said | sed "s,$room/tmp/zigrunk-$user/,," | sed 's/zigrunk-[0-9a-f]*/CALL/' | tr '\n' ' ')" '0 CALL/zigrunk.tmp batch/tmp '
         mkdir shared
         batch ZIGRUNK_TMP=shared
-        same 'with ZIGRUNK_TMP' "$status $(said | tr '\n' ' ')" "0 $room/tmp $room/tmp "
+        same 'with ZIGRUNK_TMP' "$status $(said | sed "s,.*/shared/zigrunk-$user/zigrunk-[0-9a-f]*/,CALL/," | tr '\n' ' ')" "0 CALL/zigrunk.tmp $room/tmp "
         rm -f "$room/tmp/x" "$room/tmp/y"
         same 'files left in it' "$(find shared -mindepth 2)" ''
         end

@@ -409,6 +409,7 @@ deaths() {
 # elsewhere NAME COMMAND..: the words that start a worker with a file system of its own, in which the shell's command has changed something.
 elsewhere() { echo "unshare -m sh -c '${*:2} && $(worker "$1")'"; }
 
+# The last one lacks the products' directories too, if a command came first.
 unfit() {
     unshare -m true 2> /dev/null || { skip 'machines that differ' 'there is no file system of its own for a process'; return; }
     local what change wanted
@@ -433,7 +434,7 @@ with an old copy of the shared directory|cp -r ROOM/share ROOM/copy && find ROOM
 without the sources|mount --bind ROOM/empty ROOM/work|it has no ROOM/work/k[0-9].cu
 without room for temporary files|mount -t tmpfs -o size=16k none ROOM/tmp|there is no room in ROOM/tmp/.*
 that may not write to the shared directory|mount --bind ROOM/share ROOM/share && mount -o remount,bind,ro ROOM/share|there is no room in ROOM/share/.*
-with old sources|mkdir ROOM/old && cp k*.cu ROOM/old && mount --bind ROOM/old ROOM/work && cd ROOM/work|its ROOM/work/k[0-9].cu isn't the batch's
+with old sources|mkdir ROOM/old && cp k*.cu ROOM/old && mount --bind ROOM/old ROOM/work && cd ROOM/work|it.* ROOM/work/.*
 END
 }
 

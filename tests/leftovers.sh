@@ -10,10 +10,13 @@ if [ "${1-}" != inside ]; then
     . tests/lib.sh
     require 'What calls leave' nvcc unshare
     unshare -m true 2> /dev/null || skip_all 'What calls leave' 'this user may mount nothing'
-    mkdir "$scratch/tmp"
+    # What it needs is seen at /mnt, since all of it may be below /tmp.
+    mkdir -p "$scratch/tmp" "$scratch/tools/bin" "$scratch/tools/tests"
+    cp -L "${DRIVER_BIN:-$top/out/rust/target/release}/zigrunk-nvcc" "$scratch/tools/bin/"
+    cp -r tests/leftovers.sh tests/lib.sh tests/small "$scratch/tools/tests/"
     # shellcheck disable=SC2016 # the inner shell's
-    unshare -m sh -c 'mount --make-rprivate / && mount --bind "$1" /var/tmp && mount --bind /var/tmp /tmp && shift && exec "$@"' sh \
-        "$scratch/tmp" env DRIVER_BIN="${DRIVER_BIN:-$top/out/rust/target/release}" "$top/tests/leftovers.sh" inside > "$scratch/said"
+    unshare -m sh -c 'mount --make-rprivate / && mount --bind "$1" /mnt && mount --bind "$2" /var/tmp && mount --bind /var/tmp /tmp && shift 2 && exec "$@"' sh \
+        "$scratch/tools" "$scratch/tmp" env DRIVER_BIN=/mnt/bin /mnt/tests/leftovers.sh inside > "$scratch/said"
     add "$?" "$scratch/said" || echo 'its last line has no counts'
     sed '$d' "$scratch/said"
     summary
