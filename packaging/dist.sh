@@ -87,7 +87,7 @@ Architecture: $1
 Maintainer: Zigrunk maintainers <maintainers@users.noreply.zigrunk.example>
 Installed-Size: $(find "$2/usr" -type f -printf '%s\n' | awk '{ size += $1 } END { print int(size / 1024) + 1 }')
 Depends: libc6 (>= $(newest_glibc "$2/usr/lib/libzigrunk.so.1"))
-Suggests: sccache, slurm-client
+Suggests: python3, sccache, slurm-client
 Section: devel
 Priority: optional
 Description: split nvcc calls into their commands
