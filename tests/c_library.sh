@@ -87,8 +87,6 @@ calls() {
     check "plans.c" compiled gcc tests/c/plans.c "$programs/plans" "$library"
     check 'the plans' "$programs/plans" "$data" "${real_calls[@]}"
     cat "$scratch/said" >> "$programs/answers"
-    check "records.c" compiled gcc tests/c/records.c "$programs/records" "$library"
-    check 'the records' "$programs/records" 1000 "$data" "${real_calls[@]}"
     check "steps.c" compiled gcc tests/c/steps.c "$programs/steps" "$library"
     check 'the plans for programs that run them' "$programs/steps" 1000 "$data" "${real_calls[@]}"
     grep '^digest' "$scratch/said" >> "$programs/answers"
@@ -119,7 +117,6 @@ memchecked() {
     if has gcc valgrind; then
         check 'the calls under memcheck' valgrind -q --error-exitcode=9 --leak-check=full "$programs/calls" 100
         check 'the plans under memcheck' valgrind -q --error-exitcode=9 --leak-check=full "$programs/plans" "$data" "${real_calls[0]}"
-        check 'the records under memcheck' valgrind -q --error-exitcode=9 --leak-check=full "$programs/records" 20 "$data" "${real_calls[0]}"
         check 'the steps under memcheck' valgrind -q --error-exitcode=9 --leak-check=full "$programs/steps" 10 "$data" "${real_calls[0]}"
         check 'the limits under memcheck' valgrind -q --error-exitcode=9 --leak-check=full "$programs/limits" watched
         check 'the lines under memcheck' valgrind -q --error-exitcode=9 --leak-check=full "$programs/lines"
@@ -138,8 +135,6 @@ sanitized() {
         check 'the calls under ASan and UBSan' "$programs/sanitized" 1000
         check 'plans.c with sanitizers' compiled clang tests/c/plans.c "$programs/sanitized_plans" "$library" -fsanitize=address,undefined -fno-sanitize-recover=all
         check 'the plans under ASan and UBSan' "$programs/sanitized_plans" "$data" "${real_calls[@]}"
-        check 'records.c with sanitizers' compiled clang tests/c/records.c "$programs/sanitized_records" "$library" -fsanitize=address,undefined -fno-sanitize-recover=all
-        check 'the records under ASan and UBSan' "$programs/sanitized_records" 1000 "$data" "${real_calls[@]}"
         check 'steps.c with sanitizers' compiled clang tests/c/steps.c "$programs/sanitized_steps" "$library" -fsanitize=address,undefined -fno-sanitize-recover=all
         check 'the steps under ASan and UBSan' "$programs/sanitized_steps" 1000 "$data" "${real_calls[@]}"
         check 'limits.c with sanitizers' compiled clang tests/c/limits.c "$programs/sanitized_limits" "$library" -fsanitize=address,undefined -fno-sanitize-recover=all

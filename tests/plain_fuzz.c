@@ -17,12 +17,10 @@ TWO(zigrunk_command_key);
 TWO(zigrunk_line);
 TWO(zigrunk_line_records);
 TWO(zigrunk_line_words);
-TWO(zigrunk_lookups);
 TWO(zigrunk_lookups_within);
 TWO(zigrunk_message);
 TWO(zigrunk_nvcc_line);
 TWO(zigrunk_plan);
-TWO(zigrunk_plan_records);
 TWO(zigrunk_plan_steps);
 TWO(zigrunk_quote);
 TWO(zigrunk_remap);
@@ -458,8 +456,8 @@ typedef struct planned {
 static void drawn_programs(planned *it) {
     static zigrunk_range ranges[MOST_RECORDS];
     uint8_t *out = reserve(MOST_BYTES);
-    zigrunk_list_answer asked = proved_zigrunk_lookups(it->call.dry1.bytes, it->call.dry1.length, it->call.dry2.bytes, it->call.dry2.length,
-        it->call.cwd.bytes, it->call.cwd.length, ranges, MOST_RECORDS, out, MOST_BYTES);
+    zigrunk_list_answer asked = proved_zigrunk_lookups_within(it->call.dry1.bytes, it->call.dry1.length, it->call.dry2.bytes,
+        it->call.dry2.length, it->call.cwd.bytes, it->call.cwd.length, 0, ranges, MOST_RECORDS, out, MOST_BYTES);
     int has_all = asked.status == ZIGRUNK_OK && asked.count <= MOST_RECORDS && asked.length <= MOST_BYTES, misses = chance(10);
     size_t count = has_all ? asked.count / 2 < MOST_LIST ? asked.count / 2 : MOST_LIST : 0;
     for (size_t i = 0; i < count; i++) {
@@ -525,19 +523,6 @@ static void try_plan(void) {
     }
 }
 
-static void try_records(void) {
-    drawn_plan(&plan_now);
-    show_plan(&plan_now);
-    for (int i = 0; i < 2; i++) {
-        answered *a = &answers[i];
-        zigrunk_records_answer it = OF(i, zigrunk_plan_records)(&plan_now.call, a->groups, room_for[GROUPS], a->commands, room_for[COMMANDS],
-            a->ranges, room_for[RANGES], a->out, room_for[BYTES]);
-        is_list_answer(a, (zigrunk_list_answer){it.status, it.ranges, it.length});
-        a->sizes[GROUPS] = it.groups;
-        a->sizes[COMMANDS] = it.commands;
-    }
-}
-
 static void try_steps(void) {
     drawn_plan(&plan_now);
     show_plan(&plan_now);
@@ -558,13 +543,11 @@ static void try_lookups(void) {
     drawn_plan(&plan_now);
     show_plan(&plan_now);
     const zigrunk_plan_call *call = &plan_now.call;
-    int is_limited = chance(2);
+    size_t limit = chance(2) ? call->limit : 0;
     for (int i = 0; i < 2; i++) {
         answered *a = &answers[i];
-        is_list_answer(a, is_limited ? OF(i, zigrunk_lookups_within)(call->dry1.bytes, call->dry1.length, call->dry2.bytes, call->dry2.length,
-                                           call->cwd.bytes, call->cwd.length, call->limit, a->ranges, room_for[RANGES], a->out, room_for[BYTES])
-                                     : OF(i, zigrunk_lookups)(call->dry1.bytes, call->dry1.length, call->dry2.bytes, call->dry2.length,
-                                           call->cwd.bytes, call->cwd.length, a->ranges, room_for[RANGES], a->out, room_for[BYTES]));
+        is_list_answer(a, OF(i, zigrunk_lookups_within)(call->dry1.bytes, call->dry1.length, call->dry2.bytes, call->dry2.length,
+                              call->cwd.bytes, call->cwd.length, limit, a->ranges, room_for[RANGES], a->out, room_for[BYTES]));
     }
 }
 
@@ -584,10 +567,9 @@ static struct {
     {"zigrunk_command_key", try_key, 12, {0}},
     {"zigrunk_line, _records, _words", try_line, 30, {0}},
     {"zigrunk_nvcc_line", try_nvcc_line, 14, {0}},
-    {"zigrunk_lookups, _within", try_lookups, 2, {0}},
+    {"zigrunk_lookups_within", try_lookups, 2, {0}},
     {"zigrunk_plan", try_plan, 3, {0}},
-    {"zigrunk_plan_records", try_records, 1, {0}},
-    {"zigrunk_plan_steps", try_steps, 2, {0}},
+    {"zigrunk_plan_steps", try_steps, 3, {0}},
 };
 enum { CALLS = sizeof calls / sizeof *calls };
 

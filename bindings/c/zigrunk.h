@@ -281,16 +281,6 @@ typedef struct zigrunk_command {
     uint32_t cacheable;      /* 1 if its outputs may come from a cache, else 0 */
 } zigrunk_command;
 
-/* The answer of a call that writes a plan as records: how many groups, commands and ranges there are, and the length of
- * all texts together. The texts are one behind the other, as in zigrunk_list_answer. */
-typedef struct zigrunk_records_answer {
-    int32_t status;
-    size_t groups;
-    size_t commands;
-    size_t ranges;
-    size_t length;
-} zigrunk_records_answer;
-
 /* What a program that runs a command has to know of it, beside zigrunk_command. Paths are absolute. */
 typedef struct zigrunk_step {
     zigrunk_range needs;     /* which elements of the list of numbers: the commands that have to end before it starts, ascending */
@@ -424,13 +414,10 @@ ZIGRUNK_CHECK_RESULT zigrunk_text_answer zigrunk_quote(const zigrunk_text *words
 
 /* Lists the look-ups of programs that a plan of two dry runs needs, none twice: two texts for each, the program and the
  * value of PATH. Find each program (zigrunk_candidates lists the paths to try) and make a row of your table of it. This call and the
- * next two refuse a working directory that no plan is made for (ZIGRUNK_ODD_DIRECTORY). */
-ZIGRUNK_CHECK_RESULT zigrunk_list_answer zigrunk_lookups(const uint8_t *dry1, size_t dry1_length,
-    const uint8_t *dry2, size_t dry2_length, const uint8_t *cwd, size_t cwd_length,
-    zigrunk_range *ranges, size_t ranges_size, uint8_t *out, size_t out_size);
-
-/* Lists the same look-ups of dry runs that someone else wrote: ZIGRUNK_OVER_LIMIT if a line of one exceeds the limit. Here
- * each command counts the value of PATH too, since looking its program up holds that. A limit of 0 allows any number. */
+ * next two refuse a working directory that no plan is made for (ZIGRUNK_ODD_DIRECTORY).
+ *
+ * For dry runs that someone else wrote there is a limit: ZIGRUNK_OVER_LIMIT if a line of one exceeds it. Here each command counts
+ * the value of PATH too, since looking its program up holds that. A limit of 0 allows any number. */
 ZIGRUNK_CHECK_RESULT zigrunk_list_answer zigrunk_lookups_within(const uint8_t *dry1, size_t dry1_length,
     const uint8_t *dry2, size_t dry2_length, const uint8_t *cwd, size_t cwd_length, size_t limit,
     zigrunk_range *ranges, size_t ranges_size, uint8_t *out, size_t out_size);
@@ -446,20 +433,14 @@ ZIGRUNK_CHECK_RESULT zigrunk_list_answer zigrunk_candidates(const uint8_t *progr
 ZIGRUNK_CHECK_RESULT zigrunk_text_answer zigrunk_plan(const zigrunk_plan_call *call, uint32_t form,
     uint8_t *out, size_t out_size);
 
-/* Plans the same commands, and writes the plan as records: its groups, then all commands, those of the groups in plan order
- * before those that it dropped, and the ranges of their texts. All of it is written if each of the four buffers is large
- * enough, and nothing otherwise. If it refuses, only the message is written, and the three other counts are 0. */
-ZIGRUNK_CHECK_RESULT zigrunk_records_answer zigrunk_plan_records(const zigrunk_plan_call *call,
-    zigrunk_group *groups, size_t groups_size, zigrunk_command *commands, size_t commands_size,
-    zigrunk_range *ranges, size_t ranges_size, uint8_t *out, size_t out_size);
-
-/* Plans the same commands for a program that runs them: writes what zigrunk_plan_records writes, and for each command of a group
- * what it needs and which files it reads and writes. Element i of the steps is of element i of the commands; dropped commands have
- * none. A command may start as soon as all that it needs have ended, in whatever group they are. All of it is written if each of
- * the six buffers is large enough, and nothing otherwise.
+/* Plans the same commands for a program that runs them, and writes the plan as records: its groups, then all commands, those of the
+ * groups in plan order before those that it dropped, and the ranges of their texts; and for each command of a group what it needs
+ * and which files it reads and writes. Element i of the steps is of element i of the commands; dropped commands have none. A command
+ * may start as soon as all that it needs have ended, in whatever group they are. All of it is written if each of the six buffers is
+ * large enough, and nothing otherwise.
  *
- * It refuses what zigrunk_plan_records refuses, and says where: answer.place. It also refuses a text without a line that begins
- * with "#$ ", a flag that is no option of nvcc's that says what it makes, and a plan without a command (ZIGRUNK_NO_DRY_RUN).
+ * It refuses what zigrunk_plan refuses, but for the form, and says where: answer.place. It also refuses a text without a line that
+ * begins with "#$ ", a flag that is no option of nvcc's that says what it makes, and a plan without a command (ZIGRUNK_NO_DRY_RUN).
  * One text may be both dry runs: of a C or C++ source, nvcc prints the same twice. If it refuses, only the message is written, and the
  * other counts are 0. */
 ZIGRUNK_CHECK_RESULT zigrunk_steps_answer zigrunk_plan_steps(const zigrunk_plan_call *call,

@@ -22,14 +22,6 @@ static inline void next_text(cursor *c, const char *text) {
     next_is(c, text, strlen(text));
 }
 
-/* Moves to the first place where a text is. */
-static inline void skip_to(cursor *c, const char *text) {
-    while (c->left > 0 && (c->left < strlen(text) || memcmp(c->at, text, strlen(text)) != 0)) {
-        c->at++;
-        c->left--;
-    }
-}
-
 /* A text without other control characters than these. */
 static inline void next_string(cursor *c, zigrunk_text text) {
     next_text(c, "\"");

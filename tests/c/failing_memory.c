@@ -158,19 +158,7 @@ static const char run[] = "#$ PATH=/b\n#$ gcc -D__NVCC__ -E k.cu -o k.cpp1.ii\n#
 
 static const char other_run[] = "#$ PATH=/b\n#$ gcc -D__NVCC__ -E k.cu -o /t/k.cpp1.ii\n";
 
-/* The form that stands for records here. */
-#define RECORDS UINT32_MAX
-
-/* A plan as records. Their ranges and texts are answered as a list. */
-static zigrunk_list_answer records_of(const zigrunk_plan_call *call, buffers *into) {
-    zigrunk_records_answer a = zigrunk_plan_records(call, into->groups, 64, into->commands, 256, into->ranges, 4096, into->out,
-        sizeof into->out);
-    CHECK(a.status == ZIGRUNK_OK ? a.groups == 3 && a.commands == 3 : a.groups == 0 && a.commands == 0);
-    zigrunk_list_answer list = {a.status, a.ranges, a.length};
-    return list;
-}
-
-/* The same for a program that runs it. */
+/* A plan for a program that runs it. Its ranges and texts are answered as a list. */
 static zigrunk_list_answer steps_of(const zigrunk_plan_call *call, buffers *into) {
     zigrunk_steps_answer a = zigrunk_plan_steps(call, into->groups, 64, into->commands, 256, into->steps, 256, into->numbers, 1 << 11,
         into->ranges, 4096, into->out, sizeof into->out);
@@ -180,8 +168,8 @@ static zigrunk_list_answer steps_of(const zigrunk_plan_call *call, buffers *into
     return list;
 }
 
-/* The form that stands for these, for which the two dry runs have to differ. */
-#define STEPS (UINT32_MAX - 1)
+/* The form that stands for such a plan here, for which the two dry runs have to differ. */
+#define STEPS UINT32_MAX
 
 static zigrunk_list_answer try_plan(uint32_t form, size_t programs, size_t limit, buffers *into) {
     zigrunk_found_program rows[] = {row("gcc", "/b", "/b/gcc"), row("cicc", "/b", "/b/cicc"), row("ptxas", "/b", "/b/ptxas")};
@@ -199,7 +187,7 @@ static zigrunk_list_answer try_plan(uint32_t form, size_t programs, size_t limit
         call.dry2 = text_of(other_run);
         return steps_of(&call, into);
     }
-    return form == RECORDS ? records_of(&call, into) : as_list(zigrunk_plan(&call, form, into->out, sizeof into->out));
+    return as_list(zigrunk_plan(&call, form, into->out, sizeof into->out));
 }
 
 static zigrunk_list_answer try_json(buffers *into) {
@@ -208,14 +196,6 @@ static zigrunk_list_answer try_json(buffers *into) {
 
 static zigrunk_list_answer try_ninja(buffers *into) {
     return try_plan(ZIGRUNK_NINJA, 3, 0, into);
-}
-
-static zigrunk_list_answer try_records(buffers *into) {
-    return try_plan(RECORDS, 3, 0, into);
-}
-
-static zigrunk_list_answer try_refused_records(buffers *into) {
-    return try_plan(RECORDS, 2, 0, into);
 }
 
 static zigrunk_list_answer try_refused_plan(buffers *into) {
@@ -228,10 +208,6 @@ static zigrunk_list_answer try_limited_plan(buffers *into) {
 
 static zigrunk_list_answer try_exceeding_plan(buffers *into) {
     return try_plan(ZIGRUNK_TEXT, 3, 50, into);
-}
-
-static zigrunk_list_answer try_exceeding_records(buffers *into) {
-    return try_plan(RECORDS, 3, 50, into);
 }
 
 static zigrunk_list_answer try_steps(buffers *into) {
@@ -256,13 +232,13 @@ static zigrunk_list_answer try_odd_steps(buffers *into) {
 }
 
 static zigrunk_list_answer try_odd_lookups(buffers *into) {
-    three more = {{text_of(run), text_of(run), text_of("w")}};
-    return call_lookups(&more, into->ranges, 4096, into->out, sizeof into->out);
+    limited_runs more = {{{text_of(run), text_of(run), text_of("w")}}, 0};
+    return call_lookups_within(&more, into->ranges, 4096, into->out, sizeof into->out);
 }
 
 static zigrunk_list_answer try_lookups(buffers *into) {
-    three more = {{text_of(run), text_of(run), text_of("/w")}};
-    return call_lookups(&more, into->ranges, 4096, into->out, sizeof into->out);
+    limited_runs more = {{{text_of(run), text_of(run), text_of("/w")}}, 0};
+    return call_lookups_within(&more, into->ranges, 4096, into->out, sizeof into->out);
 }
 
 static zigrunk_list_answer try_limited_lookups(buffers *into) {
@@ -355,8 +331,7 @@ static const struct {
 } calls[] = {
     {"split", try_split}, {"refused split", try_refused_split}, {"quote", try_quote}, {"JSON", try_json},
     {"Ninja", try_ninja}, {"refused plan", try_refused_plan}, {"plan within a limit", try_limited_plan},
-    {"plan over a limit", try_exceeding_plan}, {"records", try_records}, {"refused records", try_refused_records},
-    {"records over a limit", try_exceeding_records}, {"steps", try_steps}, {"refused steps", try_refused_steps},
+    {"plan over a limit", try_exceeding_plan}, {"steps", try_steps}, {"refused steps", try_refused_steps},
     {"steps over a limit", try_exceeding_steps}, {"steps for an odd directory", try_odd_steps}, {"look-ups", try_lookups},
     {"look-ups from an odd directory", try_odd_lookups}, {"look-ups within a limit", try_limited_lookups},
     {"look-ups over a limit", try_exceeding_lookups}, {"candidates", try_candidates}, {"line", try_line},

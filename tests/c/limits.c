@@ -1,6 +1,6 @@
 /* Limits: exact in each run, none if 0, and texts that explode. `limits watched` leaves out how long those take and how much
  * memory, which tools that watch a program change. */
-#include "records.h"
+#include "steps.h"
 
 #include <sys/resource.h>
 #include <time.h>
@@ -22,17 +22,18 @@ static zigrunk_plan_call limited_call(const char *run1, const char *run2, size_t
     return call;
 }
 
-/* How a plan ends, in each form and as records: with this status, and this message if it is refused. */
+/* How a plan ends: in each form with this status, and this message if it is refused. As records it ends with this status too, unless a
+ * text isn't a dry run. */
 static void ends(const zigrunk_plan_call *call, int32_t status, const char *message) {
     for (uint32_t form = ZIGRUNK_JSON; form <= ZIGRUNK_TEXT; form++) {
         answer a = plan(call, form);
         CHECK(a.status == status && (status == ZIGRUNK_OK || is_text(&a, message)));
         release(a);
     }
-    records r = plan_records(call);
-    CHECK(r.sizes.status == status && r.sizes.groups == (status == ZIGRUNK_OK ? 2 : 0));
-    CHECK(status == ZIGRUNK_OK || (r.sizes.length == strlen(message) && memcmp(r.out, message, r.sizes.length) == 0));
-    release_records(r);
+    stepped s = plan_steps(call);
+    int is_no_dry_run = call->dry1.length == 0 && status != ZIGRUNK_NOT_UTF8;
+    CHECK(s.sizes.status == (is_no_dry_run ? ZIGRUNK_NO_DRY_RUN : status) && s.sizes.groups == (status == ZIGRUNK_OK ? 2 : 0));
+    release_steps(s);
 }
 
 static void check_plans(void) {
@@ -114,11 +115,14 @@ static zigrunk_text_answer plan_answer(const zigrunk_plan_call *call, uint8_t *o
     return zigrunk_plan(call, ZIGRUNK_JSON, out, size);
 }
 
-static zigrunk_text_answer records_answer(const zigrunk_plan_call *call, uint8_t *out, size_t size) {
-    records none = {{0, 0, 0, 0, size}, room(0, 1), room(0, 1), room(0, 1), out};
-    zigrunk_records_answer r = call_records(call, &none);
-    free(none.groups), free(none.commands), free(none.ranges);
-    return (zigrunk_text_answer){r.status, r.length};
+static zigrunk_text_answer steps_answer(const zigrunk_plan_call *call, uint8_t *out, size_t size) {
+    zigrunk_group group;
+    zigrunk_command command;
+    zigrunk_step step;
+    size_t number;
+    zigrunk_range range;
+    zigrunk_steps_answer s = zigrunk_plan_steps(call, &group, 0, &command, 0, &step, 0, &number, 0, &range, 0, out, size);
+    return (zigrunk_text_answer){s.status, s.length};
 }
 
 static zigrunk_text_answer lookups_answer(const zigrunk_plan_call *call, uint8_t *out, size_t size) {
@@ -131,10 +135,12 @@ static zigrunk_text_answer lookups_answer(const zigrunk_plan_call *call, uint8_t
 /* Each call refuses a text that explodes in less than 50 ms of the processor, and the program never has 300 MB. The fastest of
  * three calls counts, since other work may share the core. */
 static void check_explosion(int is_timed) {
-    static zigrunk_text_answer (*const calls[])(const zigrunk_plan_call *, uint8_t *, size_t) = {plan_answer, records_answer, lookups_answer};
-    static const char message[] = "run 1 line 26: over the limit of 2097152 bytes";
+    static zigrunk_text_answer (*const calls[])(const zigrunk_plan_call *, uint8_t *, size_t) = {plan_answer, steps_answer, lookups_answer};
+    static const char over[] = "run 1 line 26: over the limit of 2097152 bytes";
+    static const char placed[] = "dry run 1, line 27: with this line, the dry run makes over 2097152 bytes";
     zigrunk_plan_call call = limited_call(doubling(), doubling(), 2u << 20);
     for (int i = 0; i < 3; i++) {
+        const char *message = calls[i] == steps_answer ? placed : over;
         double least = 1e9;
         for (int times = 0; times < (is_timed ? 3 : 1); times++) {
             char out[128];

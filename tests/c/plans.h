@@ -4,17 +4,10 @@
 
 #include "checks.h"
 
-/* What zigrunk_lookups and zigrunk_candidates take besides their buffers. */
+/* What zigrunk_candidates takes besides its buffers. */
 typedef struct three {
     zigrunk_text texts[3];
 } three;
-
-static inline zigrunk_list_answer call_lookups(const void *more, zigrunk_range *ranges, size_t ranges_size, uint8_t *out,
-    size_t out_size) {
-    const zigrunk_text *t = ((const three *)more)->texts;
-    return zigrunk_lookups(t[0].bytes, t[0].length, t[1].bytes, t[1].length, t[2].bytes, t[2].length, ranges, ranges_size,
-        out, out_size);
-}
 
 /* What zigrunk_lookups_within takes besides its buffers. */
 typedef struct limited_runs {
@@ -48,14 +41,13 @@ static inline zigrunk_text_answer call_plan(const void *more, uint8_t *out, size
     return zigrunk_plan(w->call, w->form, out, out_size);
 }
 
-static inline answer lookups(zigrunk_text dry1, zigrunk_text dry2, zigrunk_text cwd) {
-    three more = {{dry1, dry2, cwd}};
-    return ask_list(call_lookups, &more);
-}
-
 static inline answer lookups_within(zigrunk_text dry1, zigrunk_text dry2, zigrunk_text cwd, size_t limit) {
     limited_runs more = {{{dry1, dry2, cwd}}, limit};
     return ask_list(call_lookups_within, &more);
+}
+
+static inline answer lookups(zigrunk_text dry1, zigrunk_text dry2, zigrunk_text cwd) {
+    return lookups_within(dry1, dry2, cwd, 0);
 }
 
 static inline answer candidates(zigrunk_text program, zigrunk_text path, zigrunk_text cwd) {

@@ -1,7 +1,6 @@
 /* Plans for programs that run them: small ones, refusals with their places, and the plans of dry runs in files: `steps FOLDER NAME..`
- * compares all that a plan says with its JSON form, and its first parts with those of zigrunk_plan_records. */
+ * compares all that a plan says with its JSON form. */
 #include "cursor.h"
-#include "records.h"
 #include "steps.h"
 
 static const char run1[] = "#$ PATH=/b:/c\n#$ gcc -D__NVCC__ -E k.cu -o k.cpp1.ii\n#$ rm k.o\n"
@@ -36,6 +35,7 @@ static void next_strings(cursor *c, const stepped *s, zigrunk_range texts) {
 }
 
 static void next_variables(cursor *c, const stepped *s, zigrunk_range texts) {
+    CHECK(texts.length % 2 == 0);
     next_text(c, "[");
     for (size_t i = 0; i < texts.length; i += 2) {
         zigrunk_range pair = {texts.offset + i, 2};
@@ -87,16 +87,48 @@ static void next_command(cursor *c, const stepped *s, size_t id) {
     next_text(c, "}");
 }
 
-/* The groups, commands, ranges and texts begin as those of the same plan without steps. */
-static void check_records(const zigrunk_plan_call *call, const stepped *s) {
-    records r = plan_records(call);
-    CHECK(r.sizes.status == ZIGRUNK_OK && r.sizes.groups == s->sizes.groups && r.sizes.commands == s->sizes.commands);
-    CHECK(r.sizes.ranges <= s->sizes.ranges && r.sizes.length <= s->sizes.length);
-    CHECK(memcmp(r.groups, s->parts[0], r.sizes.groups * sizeof *r.groups) == 0);
-    CHECK(memcmp(r.commands, s->parts[1], r.sizes.commands * sizeof *r.commands) == 0);
-    CHECK(memcmp(r.ranges, s->parts[4], r.sizes.ranges * sizeof *r.ranges) == 0);
-    CHECK(memcmp(r.out, s->parts[5], r.sizes.length) == 0);
-    release_records(r);
+/* A command that the plan dropped. */
+static void next_dropped(cursor *c, const stepped *s, size_t id) {
+    static const char *const reasons[] = {"", "NotCuda", "NoCiccGroup", "NoPtxasGroup", "Superseded"};
+    const zigrunk_command *command = command_of(s, id);
+    CHECK(command->reason >= ZIGRUNK_NOT_CUDA && command->reason <= ZIGRUNK_SUPERSEDED);
+    CHECK(command->group == s->sizes.groups && command->cacheable == 0 && command->variables.length == 0);
+    CHECK(step_text(s, command->cwd).length == 0);
+    next_text(c, id > s->sizes.steps ? ",{\"args\":" : "{\"args\":");
+    next_strings(c, s, command->arguments);
+    next_text(c, ",\"exe\":");
+    next_string(c, step_text(s, command->program));
+    next_member_number(c, ",\"line\":", command->line + 1);
+    next_text(c, ",\"reason\":\"");
+    next_text(c, reasons[command->reason <= ZIGRUNK_SUPERSEDED ? command->reason : 0]);
+    next_text(c, "\"");
+    next_member_number(c, ",\"run\":", command->run);
+    next_text(c, "}");
+}
+
+/* The groups have their stages, and their commands are one behind the other: all that have steps. */
+static void check_groups(const stepped *s) {
+    size_t next = 0;
+    for (size_t i = 0; i < s->sizes.groups; i++) {
+        const zigrunk_group *group = group_of(s, i);
+        uint32_t stage = i == 0 ? ZIGRUNK_FRONT : i + 1 == s->sizes.groups ? ZIGRUNK_FINAL : ZIGRUNK_DEVICE;
+        CHECK(group->stage == stage && group->reserved == 0 && group->commands.offset == next);
+        for (size_t j = 0; j < group->commands.length && next < s->sizes.commands; j++, next++) {
+            CHECK(command_of(s, next)->group == i && command_of(s, next)->reason == ZIGRUNK_IN_GROUP);
+        }
+    }
+    CHECK(next == s->sizes.steps);
+}
+
+/* The texts are one behind the other. */
+static void check_ranges(const stepped *s) {
+    size_t at = 0;
+    for (size_t i = 0; i < s->sizes.ranges; i++) {
+        const zigrunk_range *range = (const zigrunk_range *)s->parts[4] + i;
+        CHECK(range->offset == at);
+        at += range->length;
+    }
+    CHECK(at == s->sizes.length);
 }
 
 /* A command's tool is that of its program's name, and it may have a reason for more files only if the tool can have it. */
@@ -111,7 +143,7 @@ static void check_tool(const stepped *s, size_t id) {
     CHECK((tool == ZIGRUNK_TOOL_FATBINARY) <= (missing == ZIGRUNK_NONE_MISSING));
 }
 
-/* Compares a plan with its JSON form, from the first byte to the end of its commands. */
+/* Compares a plan with its JSON form, from the first byte to the last. */
 static void check_against_json(const zigrunk_plan_call *call) {
     stepped s = plan_steps(call);
     answer json = plan(call, ZIGRUNK_JSON);
@@ -120,15 +152,24 @@ static void check_against_json(const zigrunk_plan_call *call) {
     cursor c = {(const char *)json.out, json.length};
     next_text(&c, "{\"commands\":[");
     for (size_t i = 0; i < s.sizes.steps; i++) {
-        CHECK(command_of(&s, i)->reason == ZIGRUNK_IN_GROUP);
         next_command(&c, &s, i);
         check_tool(&s, i);
     }
     next_text(&c, "],\"cwd\":");
+    next_string(&c, call->cwd);
+    next_text(&c, ",\"dropped\":[");
     for (size_t i = s.sizes.steps; i < s.sizes.commands; i++) {
-        CHECK(command_of(&s, i)->reason != ZIGRUNK_IN_GROUP);
+        next_dropped(&c, &s, i);
     }
-    check_records(call, &s);
+    next_text(&c, "],\"flag\":");
+    next_string(&c, call->flag);
+    next_member_number(&c, ",\"groups\":", s.sizes.groups);
+    next_text(&c, ",\"tmp\":");
+    next_string(&c, call->tmp);
+    next_text(&c, ",\"version\":1}");
+    CHECK(c.left == 0);
+    check_groups(&s);
+    check_ranges(&s);
     release(json);
     release_steps(s);
 }
@@ -136,6 +177,29 @@ static void check_against_json(const zigrunk_plan_call *call) {
 static int step_text_is(const stepped *s, zigrunk_range texts, size_t index, const char *text) {
     zigrunk_text found = step_text(s, texts.offset + index);
     return index < texts.length && found.length == strlen(text) && memcmp(found.bytes, text, found.length) == 0;
+}
+
+static int text_is(const stepped *s, size_t index, const char *text) {
+    zigrunk_text found = step_text(s, index);
+    return found.length == strlen(text) && memcmp(found.bytes, text, found.length) == 0;
+}
+
+static void check_small_commands(void) {
+    zigrunk_plan_call call = small_call();
+    zigrunk_variable variables[] = {{text_of("A B"), text_of("it's\n")}, {text_of("PATH"), text_of("/old")}};
+    call.variables = variables;
+    call.variables_count = 2;
+    stepped s = plan_steps(&call);
+    CHECK(s.sizes.status == ZIGRUNK_OK && s.sizes.groups == 3 && s.sizes.commands == 6);
+    const zigrunk_command *gcc = command_of(&s, 0), *cicc = command_of(&s, 1), *rm = command_of(&s, 4);
+    CHECK(group_of(&s, 0)->commands.length == 0 && group_of(&s, 1)->commands.length == 3 && group_of(&s, 2)->commands.length == 1);
+    CHECK(text_is(&s, gcc->program, "/b/gcc") && text_is(&s, gcc->cwd, "/w") && gcc->arguments.length == 5);
+    CHECK(text_is(&s, gcc->arguments.offset + 4, "/t/x_0.cpp1.ii") && gcc->run == 2 && gcc->line == 1 && gcc->cacheable == 0);
+    CHECK(gcc->variables.length == 4 && text_is(&s, gcc->variables.offset + 1, "it's\n"));
+    CHECK(text_is(&s, cicc->program, "/b/cicc") && text_is(&s, cicc->cwd, "/t") && cicc->run == 1 && cicc->line == 3 && cicc->cacheable == 1);
+    CHECK(rm->reason == ZIGRUNK_NOT_CUDA && rm->group == 3 && text_is(&s, rm->program, "/b/rm"));
+    release_steps(s);
+    check_against_json(&call);
 }
 
 static void check_small_plan(void) {
@@ -308,12 +372,12 @@ static void check_random_plans(size_t rounds) {
 }
 
 /* Many commands: no size is fixed. */
-static void check_long_plan(void) {
-    zigrunk_text dry = repeated("#$ PATH=/b\n", "#$ cicc k.cpp1.ii -o k.ptx\n#$ nvlink a -o c\n", 300);
-    zigrunk_found_program found[] = {row("cicc", "/b", "/b/cicc"), row("nvlink", "/b", "/b/nvlink")};
+static void check_long_plan(const char *lines, size_t times) {
+    zigrunk_text dry = repeated("#$ PATH=/b\n#$ nvlink a -o c\n", lines, times);
+    zigrunk_found_program found[] = {row("cicc", "/b", "/b/cicc"), row("nvlink", "/b", "/b/nvlink"), row("rm", "/b", "/b/rm")};
     zigrunk_plan_call call = call_of(dry, text_of("#$ PATH=/b\n"), "-c");
     call.programs = found;
-    call.programs_count = 2;
+    call.programs_count = 3;
     check_against_json(&call);
     free((void *)dry.bytes);
 }
@@ -327,12 +391,14 @@ static void check_files(const char *folder, const char *name) {
 
 int main(int count, char **arguments) {
     size_t rounds = count > 1 ? (size_t)atoi(arguments[1]) : 1000;
+    check_small_commands();
     check_small_plan();
     check_bad_fields();
     check_odd_directories();
     check_bad_runs();
     check_no_dry_runs();
-    check_long_plan();
+    check_long_plan("#$ cicc k.cpp1.ii -o k.ptx\n#$ nvlink a -o c\n", 300);
+    check_long_plan("#$ rm k.o\n", 4000);
     check_random_plans(rounds);
     for (int i = 3; i < count; i++) {
         check_files(arguments[2], arguments[i]);

@@ -1,6 +1,6 @@
 /* Plans FOLDER's NAME again and again, so that tests/instructions.sh can count what one call costs.
  *
- *   work text|json|records|steps TIMES FOLDER NAME */
+ *   work text|json|steps TIMES FOLDER NAME */
 #include "files.h"
 
 static zigrunk_group groups[64];
@@ -12,9 +12,6 @@ static uint8_t out[1 << 20];
 
 /* The status of one call. */
 static int32_t planned(const zigrunk_plan_call *call, const char *form) {
-    if (strcmp(form, "records") == 0) {
-        return zigrunk_plan_records(call, groups, 64, commands, 256, ranges, 8192, out, sizeof out).status;
-    }
     if (strcmp(form, "steps") == 0) {
         return zigrunk_plan_steps(call, groups, 64, commands, 256, steps, 256, numbers, 4096, ranges, 8192, out, sizeof out).status;
     }

@@ -279,16 +279,16 @@ static zigrunk_list_answer asks_quote(void *what, zigrunk_range *ranges, size_t 
     return of_text(zigrunk_quote(it->at, it->count, out, out_size));
 }
 
-static zigrunk_list_answer asks_lookups(void *what, zigrunk_range *ranges, size_t ranges_size, uint8_t *out, size_t out_size) {
-    zigrunk_plan_call *it = what;
-    return zigrunk_lookups(it->dry1.bytes, it->dry1.length, it->dry2.bytes, it->dry2.length, it->cwd.bytes, it->cwd.length, ranges,
-        ranges_size, out, out_size);
-}
-
 static zigrunk_list_answer asks_lookups_within(void *what, zigrunk_range *ranges, size_t ranges_size, uint8_t *out, size_t out_size) {
     zigrunk_plan_call *it = what;
     return zigrunk_lookups_within(it->dry1.bytes, it->dry1.length, it->dry2.bytes, it->dry2.length, it->cwd.bytes, it->cwd.length, it->limit,
         ranges, ranges_size, out, out_size);
+}
+
+static zigrunk_list_answer asks_lookups(void *what, zigrunk_range *ranges, size_t ranges_size, uint8_t *out, size_t out_size) {
+    zigrunk_plan_call unlimited = *(zigrunk_plan_call *)what;
+    unlimited.limit = 0;
+    return asks_lookups_within(&unlimited, ranges, ranges_size, out, out_size);
 }
 
 static zigrunk_list_answer asks_line(void *what, zigrunk_range *ranges, size_t ranges_size, uint8_t *out, size_t out_size) {
@@ -681,44 +681,59 @@ static void try_text(zigrunk_text text, const zigrunk_plan_call *call, uint32_t 
     release(split);
 }
 
-/* A plan as records. */
-typedef struct records {
-    zigrunk_records_answer sizes;
+/* A plan as records: its steps have the files and needs of its groups' commands. */
+typedef struct steps {
+    zigrunk_steps_answer sizes;
     zigrunk_group *groups;
     zigrunk_command *commands;
+    zigrunk_step *at;
+    size_t *numbers;
     answer texts;
-} records;
+} steps;
 
-static records ask_records(const zigrunk_plan_call *call) {
-    zigrunk_group no_group;
-    zigrunk_command no_command;
-    zigrunk_range no_range;
-    uint8_t no_byte;
+static zigrunk_steps_answer ask_parts(const zigrunk_plan_call *call, steps *it, zigrunk_steps_answer room) {
     begin(0);
-    records it = {.sizes = zigrunk_plan_records(call, &no_group, 0, &no_command, 0, &no_range, 0, &no_byte, 0)};
-    end(it.sizes.status);
-    it.groups = (zigrunk_group *)room(it.sizes.groups * sizeof *it.groups);
-    it.commands = (zigrunk_command *)room(it.sizes.commands * sizeof *it.commands);
-    it.texts = (answer){it.sizes.status, it.sizes.ranges, it.sizes.length, NULL, NULL};
-    it.texts.ranges = (zigrunk_range *)room(it.sizes.ranges * sizeof *it.texts.ranges);
-    it.texts.out = room(it.sizes.length);
-    begin(0);
-    zigrunk_records_answer again = zigrunk_plan_records(call, it.groups, it.sizes.groups, it.commands, it.sizes.commands, it.texts.ranges,
-        it.sizes.ranges, it.texts.out, it.sizes.length);
-    end(again.status);
-    holds(again.status == it.sizes.status && again.groups == it.sizes.groups && again.commands == it.sizes.commands &&
-        again.ranges == it.sizes.ranges && again.length == it.sizes.length, "the same sizes of records");
-    return it;
+    zigrunk_steps_answer sizes = zigrunk_plan_steps(call, it->groups, room.groups, it->commands, room.commands, it->at, room.steps,
+        it->numbers, room.numbers, it->texts.ranges, room.ranges, it->texts.out, room.length);
+    end(sizes.status);
+    return sizes;
 }
 
-static void release_records(records *it) {
+/* Makes room for an answer's parts. */
+static void make_room(steps *it, zigrunk_steps_answer sizes) {
+    it->groups = (zigrunk_group *)room(sizes.groups * sizeof *it->groups);
+    it->commands = (zigrunk_command *)room(sizes.commands * sizeof *it->commands);
+    it->texts = (answer){sizes.status, sizes.ranges, sizes.length, NULL, NULL};
+    it->texts.ranges = (zigrunk_range *)room(sizes.ranges * sizeof *it->texts.ranges);
+    it->texts.out = room(sizes.length);
+    it->at = (zigrunk_step *)room(sizes.steps * sizeof *it->at);
+    it->numbers = (size_t *)room(sizes.numbers * sizeof *it->numbers);
+}
+
+static void release_steps(steps *it) {
     free(it->groups);
     free(it->commands);
+    free(it->at);
+    free(it->numbers);
     release(it->texts);
 }
 
+static steps ask_steps(const zigrunk_plan_call *call) {
+    static const zigrunk_steps_answer nothing;
+    steps it = {.sizes = nothing}, none = {.sizes = nothing};
+    make_room(&none, nothing);
+    it.sizes = ask_parts(call, &none, nothing);
+    release_steps(&none);
+    make_room(&it, it.sizes);
+    zigrunk_steps_answer again = ask_parts(call, &it, it.sizes);
+    holds(memcmp(&again.place, &it.sizes.place, sizeof again.place) == 0 && again.status == it.sizes.status && again.groups == it.sizes.groups &&
+        again.commands == it.sizes.commands && again.steps == it.sizes.steps && again.numbers == it.sizes.numbers &&
+        again.ranges == it.sizes.ranges && again.length == it.sizes.length, "the same sizes of steps");
+    return it;
+}
+
 /* The groups have the first commands, each once; the others are dropped. Returns how many commands are in groups. */
-static size_t count_grouped(const records *it) {
+static size_t count_grouped(const steps *it) {
     size_t next = 0;
     for (size_t i = 0; i < it->sizes.groups; i++) {
         holds(it->groups[i].commands.offset == next, "groups are one behind the other");
@@ -742,7 +757,7 @@ static int next_word(const answer *words, size_t *at, const char *text) {
 }
 
 /* Whether the next words are NAME=VALUE for each variable of a command. */
-static int next_variables(const answer *words, size_t *at, const records *it, zigrunk_range variables) {
+static int next_variables(const answer *words, size_t *at, const steps *it, zigrunk_range variables) {
     for (size_t i = 0; i < variables.length; i += 2, (*at)++) {
         zigrunk_text name = text_at(&it->texts, variables.offset + i), value = text_at(&it->texts, variables.offset + i + 1);
         zigrunk_text word = *at < words->count ? text_at(words, *at) : (zigrunk_text){(const uint8_t *)"", 0};
@@ -755,7 +770,7 @@ static int next_variables(const answer *words, size_t *at, const records *it, zi
 }
 
 /* Whether the next words run a command. */
-static int next_command(const answer *words, size_t *at, const records *it, const zigrunk_command *command) {
+static int next_command(const answer *words, size_t *at, const steps *it, const zigrunk_command *command) {
     int fact = next_word(words, at, "(") && next_word(words, at, "cd") && next_is(words, at, text_at(&it->texts, command->cwd)) &&
         next_word(words, at, "&&") && next_word(words, at, "env") && next_variables(words, at, it, command->variables) &&
         next_is(words, at, text_at(&it->texts, command->program));
@@ -766,7 +781,7 @@ static int next_command(const answer *words, size_t *at, const records *it, cons
 }
 
 /* A script has the words of its plan's commands. */
-static void check_script(const records *it, size_t grouped, zigrunk_text script) {
+static void check_script(const steps *it, size_t grouped, zigrunk_text script) {
     answer words = ask(asks_split, &script, 0);
     size_t at = 0;
     int fact = !words.out || (words.status == ZIGRUNK_OK && next_word(&words, &at, "set") && next_word(&words, &at, "-e"));
@@ -805,53 +820,6 @@ static size_t count_needs(zigrunk_text json) {
     return count;
 }
 
-/* The steps of a plan's commands, and what they point at. */
-typedef struct steps {
-    zigrunk_steps_answer sizes;
-    records all;
-    zigrunk_step *at;
-    size_t *numbers;
-} steps;
-
-static zigrunk_steps_answer ask_parts(const zigrunk_plan_call *call, steps *it, zigrunk_steps_answer room) {
-    begin(0);
-    zigrunk_steps_answer sizes = zigrunk_plan_steps(call, it->all.groups, room.groups, it->all.commands, room.commands, it->at, room.steps,
-        it->numbers, room.numbers, it->all.texts.ranges, room.ranges, it->all.texts.out, room.length);
-    end(sizes.status);
-    return sizes;
-}
-
-/* Makes room for an answer's parts. */
-static void make_room(steps *it, zigrunk_steps_answer sizes) {
-    it->all.groups = (zigrunk_group *)room(sizes.groups * sizeof *it->all.groups);
-    it->all.commands = (zigrunk_command *)room(sizes.commands * sizeof *it->all.commands);
-    it->all.texts = (answer){sizes.status, sizes.ranges, sizes.length, NULL, NULL};
-    it->all.texts.ranges = (zigrunk_range *)room(sizes.ranges * sizeof *it->all.texts.ranges);
-    it->all.texts.out = room(sizes.length);
-    it->at = (zigrunk_step *)room(sizes.steps * sizeof *it->at);
-    it->numbers = (size_t *)room(sizes.numbers * sizeof *it->numbers);
-}
-
-static void release_steps(steps *it) {
-    release_records(&it->all);
-    free(it->at);
-    free(it->numbers);
-}
-
-static steps ask_steps(const zigrunk_plan_call *call) {
-    static const zigrunk_steps_answer nothing;
-    steps it = {.sizes = nothing}, none = {.sizes = nothing};
-    make_room(&none, nothing);
-    it.sizes = ask_parts(call, &none, nothing);
-    release_steps(&none);
-    make_room(&it, it.sizes);
-    zigrunk_steps_answer again = ask_parts(call, &it, it.sizes);
-    holds(memcmp(&again.place, &it.sizes.place, sizeof again.place) == 0 && again.status == it.sizes.status && again.groups == it.sizes.groups &&
-        again.commands == it.sizes.commands && again.steps == it.sizes.steps && again.numbers == it.sizes.numbers &&
-        again.ranges == it.sizes.ranges && again.length == it.sizes.length, "the same sizes of steps");
-    return it;
-}
-
 /* Each step's texts and needs are there, one behind the other, and a command needs commands before it. */
 static void check_steps(const steps *it) {
     size_t need = 0, text = it->sizes.steps > 0 ? it->at[0].reads.offset : 0;
@@ -869,34 +837,27 @@ static void check_steps(const steps *it) {
     holds(need == it->sizes.numbers && (it->sizes.steps == 0 || text == it->sizes.ranges), "steps have all needs and all files");
 }
 
-/* Compares a plan's records with those for a program that runs it. */
-static void try_steps(const zigrunk_plan_call *call, const records *all) {
-    steps it = ask_steps(call);
-    const zigrunk_place *place = &it.sizes.place;
-    holds(it.sizes.status == all->sizes.status || it.sizes.status == ZIGRUNK_NO_DRY_RUN, "steps refuse what records refuse");
+/* Only a bad line has a place in a dry run. */
+static void check_place(const zigrunk_steps_answer *sizes) {
+    const zigrunk_place *place = &sizes->place;
     holds((place->run > 0) == (place->line > 0) && (place->run == 0 || place->run == place->field) && place->run <= 2, "a line is of a dry run");
-    holds((place->line > 0) == (it.sizes.status == ZIGRUNK_BAD_DRY_RUN || it.sizes.status == ZIGRUNK_NOT_FOUND ||
-        it.sizes.status == ZIGRUNK_OVER_LIMIT), "a bad line has a place");
-    if (it.sizes.status == ZIGRUNK_OK) {
-        holds(it.sizes.steps > 0 && it.sizes.steps == count_grouped(all), "a step for each command of a group");
-        holds(it.sizes.groups == all->sizes.groups && it.sizes.commands == all->sizes.commands && it.sizes.ranges >= all->sizes.ranges &&
-            it.sizes.length >= all->sizes.length, "steps have all records");
-        holds(memcmp(it.all.groups, all->groups, all->sizes.groups * sizeof *all->groups) == 0 &&
-            memcmp(it.all.commands, all->commands, all->sizes.commands * sizeof *all->commands) == 0 &&
-            memcmp(it.all.texts.ranges, all->texts.ranges, all->sizes.ranges * sizeof *all->texts.ranges) == 0 &&
-            memcmp(it.all.texts.out, all->texts.out, all->sizes.length) == 0, "steps begin as records do");
-        check_steps(&it);
-    }
-    release_steps(&it);
+    holds((place->line > 0) == (sizes->status == ZIGRUNK_BAD_DRY_RUN || sizes->status == ZIGRUNK_NOT_FOUND ||
+        sizes->status == ZIGRUNK_OVER_LIMIT), "a bad line has a place");
 }
 
 /* Compares a written plan with its records. */
-static void try_records(const planned *it, const answer *plan) {
-    records all = ask_records(&it->call);
+static void try_steps(const planned *it, const answer *plan) {
+    steps all = ask_steps(&it->call);
     zigrunk_text text = {plan->out, plan->length};
-    holds(it->form >= ZIGRUNK_TEXT || all.sizes.status == plan->status || plan->status == ZIGRUNK_UNWRITABLE, "records refuse what other forms refuse");
+    holds(it->form >= ZIGRUNK_TEXT || all.sizes.status == plan->status || plan->status == ZIGRUNK_UNWRITABLE ||
+        all.sizes.status == ZIGRUNK_NO_DRY_RUN, "steps refuse what other forms refuse");
+    check_place(&all.sizes);
+    if (all.sizes.status == ZIGRUNK_OK) {
+        holds(all.sizes.steps > 0 && all.sizes.steps == count_grouped(&all), "a step for each command of a group");
+        check_steps(&all);
+    }
     if (all.sizes.status == ZIGRUNK_OK && plan->status == ZIGRUNK_OK) {
-        size_t grouped = count_grouped(&all);
+        size_t grouped = all.sizes.steps;
         if (it->form == ZIGRUNK_SHELL) {
             check_script(&all, grouped, text);
         } else if (it->form == ZIGRUNK_NINJA) {
@@ -906,8 +867,7 @@ static void try_records(const planned *it, const answer *plan) {
             holds(count_needs(text) == grouped, "each command in JSON says what it needs");
         }
     }
-    try_steps(&it->call, &all);
-    release_records(&all);
+    release_steps(&all);
 }
 
 /* Within a limit, calls answer as they do without one, or that the limit is exceeded. */
@@ -1016,7 +976,7 @@ static void try_plan(planned *it, int misses, unsigned long failing, size_t limi
         holds(is_json(plan.out, plan.length), "a plan as JSON is a JSON object");
     }
     if (plan.out && lookups.out) {
-        try_records(it, &plan);
+        try_steps(it, &plan);
         try_limit(it, &lookups, &plan, limit);
         try_default_limit(it);
     }

@@ -3,14 +3,14 @@
 use std::ffi::OsStr;
 
 use c_lines::NvccLineCall;
-use c_plans::FoundProgram;
+use c_plans::{FoundProgram, RefusedAt};
 use c_texts::{InputText, Outcome, Refused, Status};
 use command_keys::{KeyTool, MOST_ROOTS};
 use rattle_std::alloc::{AllocError, Global};
 
 pub(crate) use c_lines::{LineRecord, OutputRecord as Output};
-pub(crate) use c_plans::{CommandRecord as Command, GroupRecord as Group};
-pub(crate) use c_steps::{PlaceRecord as Place, StepRecord as Step};
+pub(crate) use c_plans::{CommandRecord as Command, GroupRecord as Group, PlaceRecord as Place};
+pub(crate) use c_steps::StepRecord as Step;
 pub(crate) use c_texts::{Range, abi_version};
 
 use crate::call::number_of_limit;
@@ -19,6 +19,12 @@ use crate::{CommandTool, Error, Form, KeyCall, Line, LineCall, NvccCall, Plan, P
 impl From<Refused> for Error {
     fn from(why: Refused) -> Self {
         Error::new(why.status().number(), why.text().to_owned())
+    }
+}
+
+impl From<RefusedAt> for Error {
+    fn from(refused: RefusedAt) -> Self {
+        Error::from(refused.why).at(refused.place)
     }
 }
 
@@ -33,18 +39,9 @@ fn refused(status: Status) -> Error {
     Error::new(status.number(), status.text().to_owned())
 }
 
-/// The text of an outcome, or its refusal.
-fn text_of(outcome: &Outcome) -> Result<String, Error> {
-    let text = outcome.text().to_owned();
-    match outcome.status() {
-        0 => Ok(text),
-        status => Err(Error::new(status, text)),
-    }
-}
-
-/// The list of texts of an outcome, or its refusal.
-fn texts_of(outcome: &Outcome) -> Result<Texts, Error> {
-    text_of(outcome).map(|text| Texts::new(outcome.ranges().to_vec(), text))
+/// The list of texts of an outcome.
+fn texts_of(outcome: &Outcome) -> Texts {
+    Texts::new(outcome.ranges().to_vec(), outcome.text().to_owned())
 }
 
 fn input(text: &str) -> InputText<'_> {
@@ -72,7 +69,7 @@ pub(crate) fn message(status: i32) -> Result<String, Error> {
 }
 
 pub(crate) fn split(text: &str) -> Result<Texts, Error> {
-    texts_of(&c_texts::split_words(Global, text.as_bytes())?)
+    Ok(texts_of(&c_texts::split_words(Global, text.as_bytes())?))
 }
 
 pub(crate) fn quote<S: AsRef<str>>(words: &[S]) -> Result<String, Error> {
@@ -80,15 +77,15 @@ pub(crate) fn quote<S: AsRef<str>>(words: &[S]) -> Result<String, Error> {
 }
 
 pub(crate) fn remap<S: AsRef<str>, T: AsRef<str>>(words: &[S], suffixes: &[T]) -> Result<Texts, Error> {
-    texts_of(&c_plans::remap_outcome(Global, &inputs(words), &inputs(suffixes))?)
+    Ok(texts_of(&c_plans::remapped_words(Global, &inputs(words), &inputs(suffixes))?))
 }
 
 pub(crate) fn lookups(dry1: &[u8], dry2: &[u8], cwd: &str, limit: usize) -> Result<Texts, Error> {
-    texts_of(&c_plans::lookups_outcome(Global, dry1, dry2, cwd.as_bytes(), limit)?)
+    Ok(texts_of(&c_plans::asked_lookups(Global, dry1, dry2, cwd.as_bytes(), limit)?))
 }
 
 pub(crate) fn candidates(program: &str, path: &str, cwd: &str) -> Result<Texts, Error> {
-    texts_of(&c_plans::candidates_outcome(Global, program.as_bytes(), path.as_bytes(), cwd.as_bytes())?)
+    Ok(texts_of(&c_plans::tried_paths(Global, program.as_bytes(), path.as_bytes(), cwd.as_bytes())?))
 }
 
 /// Passes a call as the record of the library.
@@ -122,14 +119,14 @@ fn row_of(program: &crate::FoundProgram) -> FoundProgram<'_> {
 }
 
 pub(crate) fn plan_text(call: &PlanCall<'_>, form: Form) -> Result<String, Error> {
-    with_plan_call(call, |record| text_of(&c_plans::plan_outcome(Global, record, form as u32)?))
+    let text = with_plan_call(call, |record| c_plans::plan_text(Global, record, form as u32))?;
+    Ok(text.as_str().to_owned())
 }
 
 pub(crate) fn plan(call: &PlanCall<'_>) -> Result<Plan, Error> {
-    let stepped = with_plan_call(call, |record| c_steps::steps_outcome(Global, record))?;
-    let outcome = &stepped.recorded.outcome;
+    let stepped = with_plan_call(call, |record| c_steps::call_steps(Global, record))?;
     Ok(Plan {
-        texts: texts_of(outcome).map_err(|error| error.at(stepped.place))?,
+        texts: texts_of(&stepped.recorded.outcome),
         groups: stepped.recorded.groups.as_slice().to_vec(),
         commands: stepped.recorded.commands.as_slice().to_vec(),
         steps: stepped.steps.as_slice().to_vec(),
@@ -145,16 +142,17 @@ fn with_line_call<S: AsRef<str>, R>(call: &LineCall<'_, S>, take: impl FnOnce(&c
 }
 
 pub(crate) fn line<S: AsRef<str>>(call: &LineCall<'_, S>) -> Result<String, Error> {
-    with_line_call(call, |record| text_of(&c_lines::json_outcome(Global, record)?))
+    let json = with_line_call(call, |record| c_lines::call_json(Global, record))?;
+    Ok(json.as_str().to_owned())
 }
 
 pub(crate) fn line_words<S: AsRef<str>>(call: &LineCall<'_, S>) -> Result<Texts, Error> {
-    with_line_call(call, |record| texts_of(&c_lines::words_outcome(Global, record)?))
+    Ok(texts_of(&with_line_call(call, |record| c_lines::call_words(Global, record))?))
 }
 
 pub(crate) fn line_records<S: AsRef<str>>(call: &LineCall<'_, S>) -> Result<Line, Error> {
-    let recorded = with_line_call(call, |record| c_lines::records_outcome(Global, record))?;
-    Ok(Line { texts: texts_of(&recorded.outcome)?, record: recorded.line, outputs: recorded.outputs.as_slice().to_vec() })
+    let recorded = with_line_call(call, |record| c_lines::call_records(Global, record))?;
+    Ok(Line { texts: texts_of(&recorded.outcome), record: recorded.line, outputs: recorded.outputs.as_slice().to_vec() })
 }
 
 pub(crate) fn nvcc_line<S: AsRef<str>>(call: &NvccCall<'_, S>) -> Result<Texts, Error> {
@@ -167,7 +165,7 @@ pub(crate) fn nvcc_line<S: AsRef<str>>(call: &NvccCall<'_, S>) -> Result<Texts, 
         variables: &variables,
         reserved: 0,
     };
-    texts_of(&c_lines::nvcc_outcome(Global, &record)?)
+    Ok(texts_of(&c_lines::call_outline(Global, &record)?))
 }
 
 /// The tool, if it is one whose commands have keys.

@@ -7,10 +7,11 @@ use Rattle.c_lines.specs.declared.line_call.LineTool.{LineTool}
 use Rattle.c_lines.specs.declared.line_call.LineTool.TheVariants.{Cicc, Ptxas, CudaFe, Nvcc, Nvc, Nvcxx}
 use Rattle.c_lines.specs.declared.line_call.ToolLine.{ToolLine as HeldToolLine}
 use Rattle.c_texts.specs.declared.memory.InputText.{InputText}
-use Rattle.c_texts.specs.declared.status.Status.{Status}
+use Rattle.c_texts.specs.declared.refusal.Refused.{Refused}
 use Rattle.c_texts.specs.declared.status.Status.TheVariants.{BadNumber, NotUtf8}
 use Rattle.c_texts.specs.declared.variables.Variable.{Variable}
 use Rattle.c_texts.specs.Memory.{bytes_of, text_of, words_of}
+use Rattle.c_texts.specs.Refusals.{or_plain}
 use Rattle.c_texts.specs.Variables.{variables_of}
 
 -- the tool with this number
@@ -45,18 +46,13 @@ line_of cwd words variables =
 abbrev pub tool_in : LineCall → Option LineTool
 tool_in call = if call.reserved == 0 then tool_of call.tool else None
 
--- what there is, or the status of a call without it
-abbrev pub or_status : {T : Type 0} → Status → Option T → Result T Status
-or_status status (Some value) = Ok value
-or_status status None = Err status
-
 -- a call's tool and line, or why there is none. A number without a meaning comes first, then a text that isn't UTF-8
-abbrev pub line_in : LineCall → Result (LineTool × Line) Status
+abbrev pub line_in : LineCall → Result (LineTool × Line) Refused
 line_in call =
-    and_then (or_status BadNumber (tool_in call)) (λ tool.
-    and_then (or_status NotUtf8 (line_of call.cwd call.words.now call.variables.now)) (λ line. Ok (tool, line)))
+    and_then (or_plain BadNumber (tool_in call)) (λ tool.
+    and_then (or_plain NotUtf8 (line_of call.cwd call.words.now call.variables.now)) (λ line. Ok (tool, line)))
 
 -- such a call's tool and line, as the code holds them
-abbrev pub found_seen : Result HeldToolLine Status → Result (LineTool × Line) Status
+abbrev pub found_seen : Result HeldToolLine Refused → Result (LineTool × Line) Refused
 found_seen (Ok at) = Ok (at.tool, line_seen at.line)
-found_seen (Err status) = Err status
+found_seen (Err refused) = Err refused

@@ -1,5 +1,5 @@
 -- What a line says as records, and texts one behind the other.
-use Rattle.std.specs.Prelude.{◌≡◌, ◌⊎◌, ℕ, ◌+◌, List, [], ◌∷◌, ◌++◌, ◌&&◌, Bool, true, false, length, Option, Some, None, flat_map}
+use Rattle.std.specs.Prelude.{◌≡◌, ◌⊎◌, ℕ, ◌+◌, List, [], ◌∷◌, ◌++◌, ◌&&◌, Bool, true, false, length, Option, Some, None, Result, Ok, Err, flat_map}
 use Rattle.compilers.specs.declared.arguments.ColorMode.{ColorMode}
 use Rattle.compilers.specs.declared.arguments.ColorMode.TheVariants.{Off, On, Auto}
 use Rattle.compilers.specs.declared.arguments.ParsedArguments.{ParsedArguments}
@@ -7,9 +7,11 @@ use Rattle.compilers.specs.declared.outputs.ArtifactDescriptor.{ArtifactDescript
 use Rattle.texts.specs.declared.language.Language.{Language}
 use Rattle.texts.specs.declared.language.Language.TheVariants.{C, Cxx, ObjectiveC, ObjectiveCxx, Cuda, CudaFE, Ptx, Cubin}
 use Rattle.c_texts.specs.declared.memory.Range.{Range}
+use Rattle.c_texts.specs.declared.refusal.Refused.{Refused}
 use Rattle.c_texts.specs.declared.status.Status.TheVariants.{Memory}
 use Rattle.c_texts.specs.Memory.{fits, filled}
 use Rattle.c_texts.specs.Outcomes.{Outcome, of_texts, refused, with_texts}
+use Rattle.c_texts.specs.Refusals.{refusal}
 use Rattle.c_lines.specs.declared.line_record.LineAnswer.{LineAnswer}
 use Rattle.c_lines.specs.declared.line_record.LineRecord.{LineRecord}
 use Rattle.c_lines.specs.declared.line_record.OutputRecord.{OutputRecord}
@@ -171,6 +173,11 @@ with_outputs recorded outputs =
 -- a refusal, without records
 abbrev pub without_records : Outcome → RecordedLine
 without_records outcome = (outcome, (no_line, []))
+
+-- what a call ends with, by its answer
+abbrev pub ended : Result RecordedLine Refused → RecordedLine
+ended (Ok recorded) = recorded
+ended (Err r) = without_records (refusal r)
 
 -- ---- memory of the caller
 

@@ -21,12 +21,15 @@ use Rattle.texts.specs.declared.language.Language.TheVariants.{Ptx, Cubin, CudaF
 use Rattle.c_lines.specs.declared.line_call.LineCall.{LineCall}
 use Rattle.c_lines.specs.declared.line_call.LineTool.{LineTool}
 use Rattle.c_lines.specs.declared.line_call.LineTool.TheVariants as tools
-use Rattle.c_texts.specs.declared.status.Status.{Status}
+use Rattle.texts.specs.Results.{and_then}
+use Rattle.c_texts.specs.declared.refusal.Refused.{Refused}
+use Rattle.c_texts.specs.declared.refusal.Refused.TheVariants.{Told}
 use Rattle.c_texts.specs.declared.status.Status.TheVariants.{BadLine}
-use Rattle.c_texts.specs.Failures.{answered}
+use Rattle.c_texts.specs.Failures.{or_refused}
+use Rattle.c_texts.specs.Outcomes.{Outcome, of_texts}
+use Rattle.c_texts.specs.Refusals.{ended, ended_text}
 use Rattle.c_lines.specs.LineCalls.{Line, line_in}
 use Rattle.c_lines.specs.LineJson.{line_data}
-use Rattle.c_texts.specs.Outcomes.{Outcome, of_text, of_texts, refused, refused_with}
 
 -- what a tool reads a line as
 abbrev pub read_by : LineTool → Line → Reading
@@ -38,30 +41,31 @@ read_by tools.Nvc line = nvhpc_reading false line.cwd line.words
 read_by tools.Nvcxx line = nvhpc_reading true line.cwd line.words
 
 -- the refusal of a line, with its message
-abbrev pub bad_line : List ℕ → Outcome
-bad_line message = refused_with BadLine message
+abbrev pub bad_line : List ℕ → Refused
+bad_line message = Told BadLine message
 
 -- why no cache can serve a line: an option, or what is wrong, and the word that says it
 abbrev pub not_cached : List ℕ → Option (List ℕ) → List ℕ
 not_cached text None = codes "cannot cache: " ++ text
 not_cached text (Some word) = codes "cannot cache: " ++ (text ++ (codes ": " ++ word))
 
-abbrev pub no_compilation : List ℕ
-no_compilation = codes "not a compilation"
+-- the arguments that a line was read as, or why it has none
+abbrev pub arguments_of : Reading → Result ParsedArguments Refused
+arguments_of (accepted p) = Ok p
+arguments_of (cannot_cache text word) = Err (bad_line (not_cached text word))
+arguments_of not_compilation = Err (bad_line (codes "not a compilation"))
 
--- an outcome of arguments, or the refusal of a line that has none
-abbrev pub if_accepted : Reading → (ParsedArguments → Outcome) → Outcome
-if_accepted (accepted p) outcome = outcome p
-if_accepted (cannot_cache text word) outcome = bad_line (not_cached text word)
-if_accepted not_compilation outcome = bad_line no_compilation
+-- the same of a tool's line
+abbrev pub parsed_by : LineTool → Line → Result ParsedArguments Refused
+parsed_by tool line = arguments_of (read_by tool line)
 
--- the JSON of arguments
-abbrev pub json_of : ParsedArguments → Outcome
-json_of p = of_text (compact_text (line_data p))
+-- the same of a call's line. The refusals of the call come first
+abbrev pub parsed_in : LineCall → Result ParsedArguments Refused
+parsed_in call = and_then (line_in call) (λ at. parsed_by at.0 at.1)
 
--- the JSON of a line
-abbrev pub json_by : LineTool → Line → Outcome
-json_by tool line = if_accepted (read_by tool line) json_of
+-- the JSON of a call's line
+abbrev pub call_json : LineCall → Result (List ℕ) Refused
+call_json call = and_then (parsed_in call) (λ p. Ok (compact_text (line_data p)))
 
 -- the places of a line: its own path of the input, and no directory
 abbrev pub places_of : ParsedArguments → Places
@@ -85,21 +89,15 @@ words_by tools.Nvcc line p = words_told (λ c. c.arguments) (nvcc_written [] p l
 words_by tools.Nvc line p = plain_words gcc_words line p
 words_by tools.Nvcxx line p = plain_words gcc_words line p
 
--- the words that a line is written back as
-abbrev pub rewritten_by : LineTool → Line → Outcome
-rewritten_by tool line = if_accepted (read_by tool line) (λ p. answered (words_by tool line p))
+-- the words that a line is written back as. Arguments that can't be written are the last refusal
+abbrev pub rewritten_by : LineTool → Line → Result Outcome Refused
+rewritten_by tool line = and_then (parsed_by tool line) (λ p. or_refused (words_by tool line p))
 
--- an outcome of a tool and a line, or the refusal of a call without
-abbrev pub on_line : (LineTool → Line → Outcome) → Result (LineTool × Line) Status → Outcome
-on_line outcome (Ok at) = outcome at.0 at.1
-on_line outcome (Err status) = refused status
-
--- an outcome of a call's tool and line
-abbrev pub of_line : (LineTool → Line → Outcome) → LineCall → Outcome
-of_line outcome call = on_line outcome (line_in call)
+abbrev pub call_words : LineCall → Result Outcome Refused
+call_words call = and_then (line_in call) (λ at. rewritten_by at.0 at.1)
 
 abbrev pub json_outcome : LineCall → Outcome
-json_outcome call = of_line json_by call
+json_outcome call = ended_text (call_json call)
 
 abbrev pub words_outcome : LineCall → Outcome
-words_outcome call = of_line rewritten_by call
+words_outcome call = ended (call_words call)

@@ -5,15 +5,18 @@ use Rattle.nvcc_calls.specs.declared.answer.Answer.TheVariants.{Split, Pass}
 use Rattle.nvcc_calls.specs.declared.outline_texts.OutlineTexts.{OutlineTexts}
 use Rattle.nvcc_calls.specs.Answer.{nvcc_answer}
 use Rattle.nvcc_calls.specs.OutlineTexts.{texts_of}
-use Rattle.texts.specs.declared.fault.Fault.{Fault}
+use Rattle.texts.specs.Results.{and_then}
 use Rattle.c_texts.specs.declared.memory.InputText.{InputText}
 use Rattle.c_lines.specs.declared.nvcc_outline.NvccLineCall.{NvccLineCall}
 use Rattle.c_lines.specs.declared.nvcc_outline.Tools.{Tools as HeldTools}
-use Rattle.c_texts.specs.declared.status.Status.TheVariants.{BadNumber, ToNvcc}
-use Rattle.c_texts.specs.Failures.{failed, if_utf8}
+use Rattle.c_texts.specs.declared.refusal.Refused.{Refused}
+use Rattle.c_texts.specs.declared.refusal.Refused.TheVariants.{Plain, Told}
+use Rattle.c_texts.specs.declared.status.Status.TheVariants.{BadNumber, NotUtf8, ToNvcc}
+use Rattle.c_texts.specs.Failures.{or_refused}
 use Rattle.c_lines.specs.LineCalls.{Line, line_of}
 use Rattle.c_texts.specs.Memory.{bytes_of, text_of}
-use Rattle.c_texts.specs.Outcomes.{Outcome, of_texts, refused, refused_with}
+use Rattle.c_texts.specs.Outcomes.{Outcome, of_texts}
+use Rattle.c_texts.specs.Refusals.{ended, or_plain}
 
 -- the temporary directory and the program of a call
 pub record Tools : Type 0 where
@@ -35,30 +38,32 @@ abbrev pub list_of : OutlineTexts → List (List ℕ)
 list_of t = t.dependencies ∷ t.first ∷ t.second ∷ t.flag ∷ t.jobs ∷ t.keep_dir ∷ []
 
 -- the refusal of a line that goes to nvcc, and why
-abbrev pub passed : List ℕ → Outcome
-passed why = refused_with ToNvcc (codes "goes to nvcc: " ++ why)
+abbrev pub passed : List ℕ → Refused
+passed why = Told ToNvcc (codes "goes to nvcc: " ++ why)
 
--- the outcome of an answer
-abbrev pub outcome_of : Answer → Outcome
-outcome_of (Split outline) = of_texts (list_of (texts_of outline))
-outcome_of (Pass why) = passed why
+-- the texts of an answer, or the refusal of a line that goes to nvcc
+abbrev pub texts_in : Answer → Result Outcome Refused
+texts_in (Split outline) = Ok (of_texts (list_of (texts_of outline)))
+texts_in (Pass why) = Err (passed why)
 
--- the outcome of an answer, or of a fault
-abbrev pub told : Result Answer Fault → Outcome
-told (Ok answer) = outcome_of answer
-told (Err fault) = failed fault
+-- the answer to a line of nvcc, or the refusal of its fault
+abbrev pub answer_at : Tools → Line → Result Answer Refused
+answer_at tools line =
+    or_refused (nvcc_answer (record { cwd = line.cwd; tmp = tools.tmp; nvcc = tools.nvcc; words = line.words }) line.variables [])
 
--- what an nvcc line says
-abbrev pub outcome_at : Tools → Line → Outcome
-outcome_at tools line =
-    told (nvcc_answer (record { cwd = line.cwd; tmp = tools.tmp; nvcc = tools.nvcc; words = line.words }) line.variables [])
+-- what a line of nvcc says
+abbrev pub outline_at : Tools → Line → Result Outcome Refused
+outline_at tools line = and_then (answer_at tools line) texts_in
 
 -- a call whose reserved number is 0
-abbrev pub valid_outcome : NvccLineCall → Outcome
-valid_outcome call =
-    if_utf8 (tools_of call.tmp call.nvcc) (λ tools.
-    if_utf8 (line_of call.cwd call.words.now call.variables.now) (outcome_at tools))
+abbrev pub valid_outline : NvccLineCall → Result Outcome Refused
+valid_outline call =
+    and_then (or_plain NotUtf8 (tools_of call.tmp call.nvcc)) (λ tools.
+    and_then (or_plain NotUtf8 (line_of call.cwd call.words.now call.variables.now)) (outline_at tools))
 
 -- a call. A number without a meaning comes first, then a text that isn't UTF-8
+abbrev pub call_outline : NvccLineCall → Result Outcome Refused
+call_outline call = if call.reserved == 0 then valid_outline call else Err (Plain BadNumber)
+
 abbrev pub nvcc_outcome : NvccLineCall → Outcome
-nvcc_outcome call = if call.reserved == 0 then valid_outcome call else refused BadNumber
+nvcc_outcome call = ended (call_outline call)

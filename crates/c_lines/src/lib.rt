@@ -15,7 +15,7 @@ mod recording;
 
 pub use line_call::LineCall;
 pub use line_record::{LineAnswer, LineRecord, OutputRecord};
-pub use lines::{json_outcome, line, line_words, words_outcome};
-pub use nvcc_outline::{NvccLineCall, nvcc_line, nvcc_outcome};
+pub use lines::{call_json, call_words, line, line_words};
+pub use nvcc_outline::{NvccLineCall, call_outline, nvcc_line};
 pub use recorded_line::RecordedLine;
-pub use recording::{line_records, records_outcome};
+pub use recording::{call_records, line_records};

@@ -1,9 +1,10 @@
 //! What a C program hands over for a line of a tool.
 
 ghost use Rattle.std.specs.Prelude.{◌≡◌, IfOk, option_map};
+ghost use Rattle.c_texts.specs.Refusals.{Answers};
 ghost use Rattle.c_lines.specs.LineCalls as spec;
 
-use c_texts::{InputText, Status, Variable, text_of, variables_of, words_of};
+use c_texts::{InputText, Refused, Status, Variable, text_of, variables_of, words_of};
 use std::alloc::{AllocError, Global};
 use texts::variables::Variables;
 use texts::words::Words;
@@ -103,18 +104,15 @@ pub(crate) struct ToolLine<'a> {
     pub(crate) line: Line<'a>,
 }
 
-/// The tool and the line of a call, or the status that says why it has none.
-pub(crate) fn line_in<'a>(
-    alloc: Global,
-    call: &LineCall<'a>,
-) -> Result<Result<ToolLine<'a>, Status>, AllocError>
-    ensures { IfOk result (λ found. spec.found_seen found ≡ spec.line_in call.now) }
+/// The tool and the line of a call, or why it has none.
+pub(crate) fn line_in<'a>(alloc: Global, call: &LineCall<'a>) -> Result<ToolLine<'a>, Refused>
+    ensures { Answers (spec.found_seen result) (spec.line_in call.now) }
 {
     let Some(tool) = tool_in(call) else {
-        return Ok(Err(Status::BadNumber));
+        return Err(Refused::Plain(Status::BadNumber));
     };
     let Some(line) = line_of(alloc, &call.cwd, call.words, call.variables)? else {
-        return Ok(Err(Status::NotUtf8));
+        return Err(Refused::Plain(Status::NotUtf8));
     };
-    Ok(Ok(ToolLine { tool, line }))
+    Ok(ToolLine { tool, line })
 }

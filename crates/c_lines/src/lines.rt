@@ -4,15 +4,15 @@ ghost use Rattle.std.specs.Prelude.{◌≡◌, [], IfOk, Ok, map, string_bytes};
 ghost use Rattle.texts.specs.Fault.{UnlessMemory};
 ghost use Rattle.compilers.specs.Compiler.{reading_of};
 ghost use Rattle.c_lines.specs.LineCalls.{line_seen};
-ghost use Rattle.c_texts.specs.Failures.{answered};
+ghost use Rattle.c_texts.specs.Failures.{or_refused};
 ghost use Rattle.c_texts.specs.Outcomes.{GivesList, GivesText, of_texts};
+ghost use Rattle.c_texts.specs.Refusals.{Answers};
 ghost use Rattle.c_lines.specs.Lines as spec;
 
 use crate::line_call::{Line, LineCall, LineTool, line_in};
 use crate::line_json::line_json;
 use c_texts::{
-    ListAnswer, Outcome, Range, Status, TextAnswer, answered, give_list, give_text, refused,
-    refused_with,
+    ListAnswer, Outcome, Range, Refused, Status, TextAnswer, or_refused, write_list, write_text,
 };
 use compilers::arguments::{CompilerArguments, ParsedArguments};
 use compilers::command::CompileCommandImpl;
@@ -48,8 +48,8 @@ fn nvhpc(nvcplusplus: bool) -> Nvhpc
     }
 }
 
-/// What a tool reads a line as.
-pub(crate) fn read_by(
+// What a tool reads a line as.
+fn read_by(
     alloc: Global,
     tool: LineTool,
     line: &Line<'_>,
@@ -79,59 +79,53 @@ fn not_cached(alloc: Global, text: &str, word: &Option<Text>) -> Result<String, 
     }
 }
 
-/// The refusal of a line that no cache can serve.
-pub(crate) fn uncached(
+// The refusal of a line, with its message.
+fn bad_line(message: String) -> Refused
+    ensures { result ≡ spec.bad_line (string_bytes message) }
+{
+    Refused::Told(Status::BadLine, Text::new(message))
+}
+
+// The arguments that a line was read as, or why it has none.
+fn arguments_of(
     alloc: Global,
-    text: &str,
-    word: &Option<Text>,
-) -> Result<Outcome, AllocError>
-    ensures { IfOk result (λ outcome. outcome ≡ spec.bad_line (spec.not_cached text.now word.now)) }
-{
-    let message = not_cached(alloc, text, word)?;
-    Ok(refused_with(alloc, Status::BadLine, message))
-}
-
-/// The refusal of a line that compiles nothing.
-pub(crate) fn no_compilation(alloc: Global) -> Result<Outcome, AllocError>
-    ensures { IfOk result (λ outcome. outcome ≡ spec.bad_line spec.no_compilation) }
-{
-    let message = String::from_str(alloc, "not a compilation")?;
-    Ok(refused_with(alloc, Status::BadLine, message))
-}
-
-// The JSON of arguments.
-fn json_of(alloc: Global, parsed: &ParsedArguments) -> Result<Outcome, AllocError>
-    ensures { IfOk result (λ outcome. outcome ≡ spec.json_of parsed.now) }
-{
-    Ok(Outcome::of_text(line_json(alloc, parsed)?, alloc))
-}
-
-// The JSON of what a line was read as.
-fn json_of_reading(
-    alloc: Global,
-    reading: &CompilerArguments<ParsedArguments>,
-) -> Result<Outcome, AllocError>
-    ensures { IfOk result (λ outcome. outcome ≡ spec.if_accepted (reading_of reading.now) spec.json_of) }
+    reading: CompilerArguments<ParsedArguments>,
+) -> Result<ParsedArguments, Refused>
+    ensures { Answers result (spec.arguments_of (reading_of reading)) }
 {
     match reading {
-        CompilerArguments::Ok(parsed) => json_of(alloc, parsed),
-        CompilerArguments::CannotCache(text, word) => uncached(alloc, text, word),
-        CompilerArguments::NotCompilation => no_compilation(alloc),
+        CompilerArguments::Ok(parsed) => Ok(parsed),
+        CompilerArguments::CannotCache(text, word) => {
+            Err(bad_line(not_cached(alloc, text, &word)?))
+        }
+        CompilerArguments::NotCompilation => {
+            Err(bad_line(String::from_str(alloc, "not a compilation")?))
+        }
     }
 }
 
-// The JSON of a line.
-fn json_by(alloc: Global, tool: LineTool, line: &Line<'_>) -> Result<Outcome, AllocError>
-    ensures { IfOk result (λ outcome. outcome ≡ spec.json_by tool (line_seen line.now)) }
+// The arguments of a tool's line, or why it has none.
+fn parsed_by(alloc: Global, tool: LineTool, line: &Line<'_>) -> Result<ParsedArguments, Refused>
+    ensures { Answers result (spec.parsed_by tool (line_seen line.now)) }
 {
     match read_by(alloc, tool, line) {
-        Ok(reading) => {
-            let outcome = json_of_reading(alloc, &reading);
+        Ok(reading) => arguments_of(alloc, reading),
+        Err(_) => Err(Refused::Memory),
+    }
+}
+
+/// The arguments of a call's line, or why it has none.
+pub(crate) fn parsed_in(alloc: Global, call: &LineCall<'_>) -> Result<ParsedArguments, Refused>
+    ensures { Answers result (spec.parsed_in call.now) }
+{
+    match line_in(alloc, call) {
+        Ok(found) => {
+            let parsed = parsed_by(alloc, found.tool, &found.line);
             // Dropped by a call: see "Explicit drops" in docs/ARCHITECTURE.md.
-            drop(reading);
-            outcome
+            drop(found);
+            parsed
         }
-        Err(fault) => Err(fault),
+        Err(refused) => Err(refused),
     }
 }
 
@@ -223,79 +217,52 @@ fn words_by(
     }
 }
 
-// The words that arguments are written back as, or the fault of arguments that can't be.
+// The words that arguments are written back as, or why they can't be.
 fn words_of_parsed(
     alloc: Global,
     tool: LineTool,
     line: &Line<'_>,
     parsed: &ParsedArguments,
-) -> Result<Outcome, AllocError>
-    ensures { IfOk result (λ outcome. outcome ≡ answered (spec.words_by tool (line_seen line.now) parsed.now)) }
+) -> Result<Outcome, Refused>
+    ensures { Answers result (or_refused (spec.words_by tool (line_seen line.now) parsed.now)) }
 {
-    answered(alloc, words_by(alloc, tool, line, parsed))
-}
-
-// The words that what a line was read as is written back as.
-fn words_of_reading(
-    alloc: Global,
-    tool: LineTool,
-    line: &Line<'_>,
-    reading: &CompilerArguments<ParsedArguments>,
-) -> Result<Outcome, AllocError>
-    ensures { IfOk result (λ outcome. outcome
-        ≡ spec.if_accepted (reading_of reading.now) (λ p. answered (spec.words_by tool (line_seen line.now) p))) }
-{
-    match reading {
-        CompilerArguments::Ok(parsed) => words_of_parsed(alloc, tool, line, parsed),
-        CompilerArguments::CannotCache(text, word) => uncached(alloc, text, word),
-        CompilerArguments::NotCompilation => no_compilation(alloc),
-    }
+    or_refused(alloc, words_by(alloc, tool, line, parsed))
 }
 
 // The words that a line is written back as.
-fn rewritten_by(alloc: Global, tool: LineTool, line: &Line<'_>) -> Result<Outcome, AllocError>
-    ensures { IfOk result (λ outcome. outcome ≡ spec.rewritten_by tool (line_seen line.now)) }
+fn rewritten_by(alloc: Global, tool: LineTool, line: &Line<'_>) -> Result<Outcome, Refused>
+    ensures { Answers result (spec.rewritten_by tool (line_seen line.now)) }
 {
-    match read_by(alloc, tool, line) {
-        Ok(reading) => {
-            let outcome = words_of_reading(alloc, tool, line, &reading);
-            // Dropped by a call: see "Explicit drops" in docs/ARCHITECTURE.md.
-            drop(reading);
-            outcome
-        }
-        Err(fault) => Err(fault),
-    }
+    let parsed = parsed_by(alloc, tool, line)?;
+    let words = words_of_parsed(alloc, tool, line, &parsed);
+    // Dropped by a call: see "Explicit drops" in docs/ARCHITECTURE.md.
+    drop(parsed);
+    words
 }
 
 /// What [`line()`] tells: the JSON of a call's line.
-pub fn json_outcome(alloc: Global, call: &LineCall<'_>) -> Result<Outcome, AllocError>
-    ensures { IfOk result (λ outcome. outcome ≡ spec.json_outcome call.now) }
+pub fn call_json(alloc: Global, call: &LineCall<'_>) -> Result<Text, Refused>
+    ensures { Answers result (spec.call_json call.now) }
 {
-    match line_in(alloc, call) {
-        Ok(Ok(found)) => {
-            let outcome = json_by(alloc, found.tool, &found.line);
-            // Dropped by a call: see "Explicit drops" in docs/ARCHITECTURE.md.
-            drop(found);
-            outcome
-        }
-        Ok(Err(status)) => refused(alloc, status),
-        Err(fault) => Err(fault),
-    }
+    let parsed = parsed_in(alloc, call)?;
+    let json = line_json(alloc, &parsed);
+    // Dropped by a call: see "Explicit drops" in docs/ARCHITECTURE.md.
+    drop(parsed);
+    Ok(Text::new(json?))
 }
 
 /// What [`line_words`] tells: the words of a call's line.
-pub fn words_outcome(alloc: Global, call: &LineCall<'_>) -> Result<Outcome, AllocError>
-    ensures { IfOk result (λ outcome. outcome ≡ spec.words_outcome call.now) }
+pub fn call_words(alloc: Global, call: &LineCall<'_>) -> Result<Outcome, Refused>
+    ensures { Answers result (spec.call_words call.now) }
 {
     match line_in(alloc, call) {
-        Ok(Ok(found)) => {
-            let outcome = rewritten_by(alloc, found.tool, &found.line);
+        Ok(found) => {
+            let words = rewritten_by(alloc, found.tool, &found.line);
             // Dropped by a call: see "Explicit drops" in docs/ARCHITECTURE.md.
             drop(found);
-            outcome
+            words
         }
-        Ok(Err(status)) => refused(alloc, status),
-        Err(fault) => Err(fault),
+        Err(refused) => Err(refused),
     }
 }
 
@@ -306,7 +273,7 @@ pub fn words_outcome(alloc: Global, call: &LineCall<'_>) -> Result<Outcome, Allo
 pub fn line(alloc: Global, call: &LineCall<'_>, out: &mut [u8]) -> TextAnswer
     ensures { GivesText (spec.json_outcome call.now) result out.old out.new }
 {
-    give_text(json_outcome(alloc, call), out)
+    write_text(call_json(alloc, call), out)
 }
 
 /// Reads a line of a tool and lists the words that it is written back as, as `CCompilerImpl::generate_compile_commands` of that
@@ -321,5 +288,5 @@ pub fn line_words(
 ) -> ListAnswer
     ensures { GivesList (spec.words_outcome call.now) result ranges.old ranges.new out.old out.new }
 {
-    give_list(words_outcome(alloc, call), ranges, out)
+    write_list(call_words(alloc, call), ranges, out)
 }

@@ -1,23 +1,21 @@
 //! Lines of nvcc: what to run for a plan of one.
 
-ghost use Rattle.std.specs.Prelude.{◌≡◌, Err, IfOk, OnOk, Result, option_map};
-ghost use Rattle.texts.specs.declared.fault.Fault.{Fault};
-ghost use Rattle.texts.specs.Fault.{UnlessMemory};
-ghost use Rattle.nvcc_calls.specs.declared.answer.Answer.{Answer};
+ghost use Rattle.std.specs.Prelude.{◌≡◌, IfOk, OnOk, option_map};
 ghost use Rattle.nvcc_calls.specs.OutlineTexts.{texts_of};
 ghost use Rattle.c_lines.specs.LineCalls.{line_seen};
 ghost use Rattle.c_texts.specs.Outcomes.{GivesList, of_texts, with_texts};
+ghost use Rattle.c_texts.specs.Refusals.{Answers};
 ghost use Rattle.c_lines.specs.NvccOutline as spec;
 
 use crate::line_call::{Line, line_of};
 use c_texts::{
-    InputText, ListAnswer, Outcome, Range, Status, Variable, failed, give_list, refused,
-    refused_with, text_of,
+    InputText, ListAnswer, Outcome, Range, Refused, Status, Variable, or_refused, text_of,
+    write_list,
 };
 use nvcc_calls::{Answer, Outline, OutlineTexts, read_call, texts_of};
 use program_calls::NvccCall;
 use std::alloc::{AllocError, Global};
-use texts::fault::Fault;
+use texts::text::Text;
 
 /// A call that reads a line of nvcc.
 #[repr(C)]
@@ -93,55 +91,26 @@ fn listed(alloc: Global, outline: &Outline) -> Result<Outcome, AllocError>
 }
 
 // The refusal of a line that goes to nvcc.
-fn passed(alloc: Global, why: &str) -> Result<Outcome, AllocError>
-    ensures { IfOk result (λ outcome. outcome ≡ spec.passed why.now) }
+fn passed(alloc: Global, why: &str) -> Result<Refused, AllocError>
+    ensures { IfOk result (λ refused. refused ≡ spec.passed why.now) }
 {
     let message = format!(in alloc; "goes to nvcc: {why}")?;
-    Ok(refused_with(alloc, Status::ToNvcc, message))
+    Ok(Refused::Told(Status::ToNvcc, Text::new(message)))
 }
 
-// The outcome of an answer.
-fn outcome_of(alloc: Global, answer: &Answer) -> Result<Outcome, AllocError>
-    ensures { IfOk result (λ outcome. outcome ≡ spec.outcome_of answer.now) }
+// The texts of an answer, or the refusal of a line that goes to nvcc.
+fn texts_in(alloc: Global, answer: &Answer) -> Result<Outcome, Refused>
+    ensures { Answers result (spec.texts_in answer.now) }
 {
     match answer {
-        Answer::Split(outline) => listed(alloc, outline),
-        Answer::Pass(why) => passed(alloc, why.as_str()),
+        Answer::Split(outline) => Ok(listed(alloc, outline)?),
+        Answer::Pass(why) => Err(passed(alloc, why.as_str())?),
     }
 }
 
-// The outcome of a fault.
-fn told_fault(alloc: Global, fault: &Fault) -> Result<Outcome, AllocError>
-    ensures { (expected : Result Answer Fault) → UnlessMemory (Err fault.now) expected → IfOk result (λ outcome. outcome ≡ spec.told expected) }
-{
-    match fault {
-        Fault::Memory => Err(AllocError),
-        _ => failed(alloc, fault),
-    }
-}
-
-// The outcome of an answer, or of a fault.
-fn told(alloc: Global, answer: Result<Answer, Fault>) -> Result<Outcome, AllocError>
-    ensures { (expected : Result Answer Fault) → UnlessMemory answer expected → IfOk result (λ outcome. outcome ≡ spec.told expected) }
-{
-    match answer {
-        Ok(answer) => {
-            let outcome = outcome_of(alloc, &answer);
-            // Dropped by a call: see "Explicit drops" in docs/ARCHITECTURE.md.
-            drop(answer);
-            outcome
-        }
-        Err(fault) => {
-            let outcome = told_fault(alloc, &fault);
-            drop(fault);
-            outcome
-        }
-    }
-}
-
-// What an nvcc line says.
-fn outcome_at(alloc: Global, tools: Tools<'_>, line: &Line<'_>) -> Result<Outcome, AllocError>
-    ensures { IfOk result (λ outcome. outcome ≡ spec.outcome_at (spec.tools_seen tools.entry) (line_seen line.now)) }
+// The answer to a line of nvcc, or why there is none.
+fn answer_at(alloc: Global, tools: Tools<'_>, line: &Line<'_>) -> Result<Answer, Refused>
+    ensures { Answers result (spec.answer_at (spec.tools_seen tools.entry) (line_seen line.now)) }
 {
     let call = NvccCall {
         cwd: line.cwd,
@@ -149,39 +118,50 @@ fn outcome_at(alloc: Global, tools: Tools<'_>, line: &Line<'_>) -> Result<Outcom
         nvcc: tools.nvcc,
         words: line.words.as_slice(),
     };
-    told(
+    or_refused(
         alloc,
         read_call(alloc, &call, line.variables.as_slice(), &[]),
     )
 }
 
+// What a line of nvcc says.
+fn outline_at(alloc: Global, tools: Tools<'_>, line: &Line<'_>) -> Result<Outcome, Refused>
+    ensures { Answers result (spec.outline_at (spec.tools_seen tools.entry) (line_seen line.now)) }
+{
+    let answer = answer_at(alloc, tools, line)?;
+    let texts = texts_in(alloc, &answer);
+    // Dropped by a call: see "Explicit drops" in docs/ARCHITECTURE.md.
+    drop(answer);
+    texts
+}
+
 // A call whose reserved number is 0.
-fn valid_outcome(alloc: Global, call: &NvccLineCall<'_>) -> Result<Outcome, AllocError>
-    ensures { IfOk result (λ outcome. outcome ≡ spec.valid_outcome call.now) }
+fn valid_outline(alloc: Global, call: &NvccLineCall<'_>) -> Result<Outcome, Refused>
+    ensures { Answers result (spec.valid_outline call.now) }
 {
     let Some(tools) = tools_of(&call.tmp, &call.nvcc) else {
-        return refused(alloc, Status::NotUtf8);
+        return Err(Refused::Plain(Status::NotUtf8));
     };
     match line_of(alloc, &call.cwd, call.words, call.variables) {
         Ok(Some(line)) => {
-            let outcome = outcome_at(alloc, tools, &line);
+            let outline = outline_at(alloc, tools, &line);
             // Dropped by a call: see "Explicit drops" in docs/ARCHITECTURE.md.
             drop(line);
-            outcome
+            outline
         }
-        Ok(None) => refused(alloc, Status::NotUtf8),
-        Err(fault) => Err(fault),
+        Ok(None) => Err(Refused::Plain(Status::NotUtf8)),
+        Err(_) => Err(Refused::Memory),
     }
 }
 
 /// What [`nvcc_line`] tells: what the line of a call says.
-pub fn nvcc_outcome(alloc: Global, call: &NvccLineCall<'_>) -> Result<Outcome, AllocError>
-    ensures { IfOk result (λ outcome. outcome ≡ spec.nvcc_outcome call.now) }
+pub fn call_outline(alloc: Global, call: &NvccLineCall<'_>) -> Result<Outcome, Refused>
+    ensures { Answers result (spec.call_outline call.now) }
 {
     if call.reserved == 0 {
-        valid_outcome(alloc, call)
+        valid_outline(alloc, call)
     } else {
-        refused(alloc, Status::BadNumber)
+        Err(Refused::Plain(Status::BadNumber))
     }
 }
 
@@ -199,5 +179,5 @@ pub fn nvcc_line(
 ) -> ListAnswer
     ensures { GivesList (spec.nvcc_outcome call.now) result ranges.old ranges.new out.old out.new }
 {
-    give_list(nvcc_outcome(alloc, call), ranges, out)
+    write_list(call_outline(alloc, call), ranges, out)
 }

@@ -1,10 +1,11 @@
 //! What a line says as records, and writing them into the caller's memory.
 
-ghost use Rattle.std.specs.Prelude.{◌≡◌, ◌∷◌, [], List, ℕ, IfOk, OnOk, length};
-ghost use Rattle.c_texts.specs.declared.status.Status.TheVariants.{Memory};
-ghost use Rattle.c_texts.specs.Memory.{fits, filled};
-ghost use Rattle.c_texts.specs.Outcomes.{refused, with_texts};
-ghost use Rattle.c_texts.specs.Statuses.{text};
+ghost use Rattle.std.specs.Prelude.{◌≡◌, ◌∷◌, [], List, ℕ, IfOk, OnOk, Result, length};
+ghost use Rattle.c_texts.specs.declared.memory.Range.{Range};
+ghost use Rattle.c_texts.specs.declared.refusal.Refused.{Refused};
+ghost use Rattle.c_texts.specs.Outcomes.{with_texts};
+ghost use Rattle.c_texts.specs.Refusals.{Answers, refusal};
+ghost use Rattle.c_lines.specs.declared.line_record.OutputRecord.{OutputRecord};
 ghost use Rattle.c_lines.specs.LineRecords as spec;
 
 use crate::line_record::{LineAnswer, LineRecord, OutputRecord};
@@ -17,10 +18,10 @@ use texts::language::Language;
 use texts::text::Text;
 use texts::words::Words;
 
-/// A status and texts, and the records that say what the texts are.
+/// Texts, and the records that say what they are.
 #[derive(Drop)]
 pub struct RecordedLine {
-    /// The status, and the texts that the records name by their numbers.
+    /// The texts that the records name by their numbers.
     pub outcome: Outcome,
     /// What the line says.
     pub line: LineRecord,
@@ -195,13 +196,6 @@ impl RecordedLine {
         }
     }
 
-    /// An outcome without records.
-    pub(crate) fn of_outcome(alloc: Global, outcome: Outcome) -> RecordedLine
-        ensures { result ≡ spec.without_records outcome }
-    {
-        RecordedLine::new(alloc, outcome, no_line())
-    }
-
     // Adds an output.
     fn push(&mut self, key: &str, output: &ArtifactDescriptor) -> Result<(), AllocError>
         ensures { OnOk result (self.new ≡ spec.with_outputs self.old ((key.now, output.now) ∷ [])) }
@@ -272,12 +266,14 @@ fn tell_line(
     }
 }
 
-// Tells the caller that an allocation failed: writes the message, if it fits.
-fn tell_memory(out: &mut [u8]) -> LineAnswer
-    ensures answer { result ≡ spec.answer_of (spec.without_records (refused Memory)) }
-    ensures text { out.new ≡ filled (fits (text Memory) out.old) (text Memory) out.old }
+// Tells the caller why there is no record: writes the message, if it fits.
+fn tell_refusal(refused: &Refused, out: &mut [u8]) -> LineAnswer
+    ensures { (outputs : List OutputRecord) (ranges : List Range)
+        → spec.TellsLine (spec.without_records (refusal refused.now)) result
+        (record { outputs = outputs; ranges = ranges; bytes = out.old })
+        (record { outputs = outputs; ranges = ranges; bytes = out.new }) }
 {
-    let told = Refused::Memory.tell_text(out);
+    let told = refused.tell_text(out);
     LineAnswer {
         status: told.status,
         outputs: 0,
@@ -287,20 +283,20 @@ fn tell_memory(out: &mut [u8]) -> LineAnswer
     }
 }
 
-/// Tells the caller what a line says or a refusal, or that an allocation failed.
-pub(crate) fn give_line(
-    outcome: Result<RecordedLine, AllocError>,
+/// Tells the caller what a line says, or why there is no record.
+pub(crate) fn write_line(
+    answer: Result<RecordedLine, Refused>,
     outputs: &mut [OutputRecord],
     ranges: &mut [Range],
     out: &mut [u8],
 ) -> LineAnswer
-    ensures { (expected : spec.RecordedLine) → IfOk outcome (λ recorded. recorded ≡ expected)
-        → spec.GivesLine expected result
+    ensures { (expected : Result spec.RecordedLine Refused) → Answers answer expected
+        → spec.GivesLine (spec.ended expected) result
         (record { outputs = outputs.old; ranges = ranges.old; bytes = out.old })
         (record { outputs = outputs.new; ranges = ranges.new; bytes = out.new }) }
 {
-    match outcome {
+    match answer {
         Ok(recorded) => tell_line(&recorded, outputs, ranges, out),
-        Err(_) => tell_memory(out),
+        Err(refused) => tell_refusal(&refused, out),
     }
 }

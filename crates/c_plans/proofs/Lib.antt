@@ -1,4 +1,3 @@
-pub mod AllOrNothing
 pub mod LimitLemmas
 pub mod RecordLemmas
 pub mod RecordReading

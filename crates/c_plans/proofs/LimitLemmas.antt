@@ -1,5 +1,5 @@
 -- A limit of 0 is none.
-use Rattle.std.proofs.Common.{◌≡◌, List, ℕ, Result, Ok, Err, refl, ap, arith}
+use Rattle.std.proofs.Common.{◌≡◌, List, ℕ, Result, refl, arith}
 use Rattle.texts.specs.declared.fault.Fault.{Fault}
 use Rattle.texts.specs.Results.{and_then}
 use Rattle.plans.specs.declared.origins.PlanWithOrigins.{PlanWithOrigins}
@@ -13,7 +13,7 @@ step : (suffixes : Result (List (List ℕ)) Fault) (whole : List (List ℕ) → 
 step suffixes whole within limit none = grind arith
 
 pub plans-without-limit : PlansWithoutLimit
-plans-without-limit call host texts tables none = simp step
+plans-without-limit call a none = simp step
 
 pub lookups-without-limit : LookupsWithoutLimit
 lookups-without-limit dry1 dry2 cwd = refl

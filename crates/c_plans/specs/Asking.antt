@@ -1,17 +1,19 @@
 -- The calls on look-ups of programs.
-use Rattle.std.specs.Prelude.{ℕ, List, [], ◌∷◌, Result, Ok, Err, flat_map}
+use Rattle.std.specs.Prelude.{ℕ, List, [], ◌∷◌, Result, Ok, flat_map}
 use Rattle.program_lookups.specs.declared.lookup.Lookup.{Lookup}
-use Rattle.dry_runs.specs.declared.limit.LimitedFault.{LimitedFault}
 use Rattle.dry_runs.specs.declared.parsed_runs.ParsedRuns.{ParsedRuns}
 use Rattle.dry_runs.specs.Parsed.{both_parsed}
 use Rattle.program_lookups.specs.Asked.{asked_by}
 use Rattle.program_lookups.specs.Candidates.{candidates_of}
 use Rattle.program_lookups.specs.Limit.{both_fitting}
-use Rattle.c_texts.specs.Failures.{if_utf8}
-use Rattle.c_texts.specs.Outcomes.{Outcome, of_texts}
+use Rattle.texts.specs.Results.{and_then}
+use Rattle.c_texts.specs.declared.refusal.Refused.{Refused}
+use Rattle.c_texts.specs.declared.status.Status.TheVariants.{NotUtf8}
 use Rattle.c_texts.specs.Memory.{text_of}
-use Rattle.c_plans.specs.Limits.{failed_within, within_limit}
-use Rattle.c_plans.specs.OddDirectories.{at_plain}
+use Rattle.c_texts.specs.Outcomes.{Outcome, of_texts}
+use Rattle.c_texts.specs.Refusals.{ended, or_plain}
+use Rattle.c_plans.specs.Limits.{or_refused_within, within_limit}
+use Rattle.c_plans.specs.OddDirectories.{plain_cwd}
 
 -- the texts of a look-up: the program, and the value of `PATH`
 abbrev pub texts_of : Lookup → List (List ℕ)
@@ -21,33 +23,24 @@ texts_of lookup = lookup.program ∷ lookup.path ∷ []
 abbrev pub lookups_by : ParsedRuns → List ℕ → Outcome
 lookups_by runs cwd = of_texts (flat_map texts_of (asked_by cwd runs))
 
--- the same of what nvcc printed
-abbrev pub lookups_from : List ℕ → List ℕ → List ℕ → Outcome
-lookups_from dry1 dry2 cwd = lookups_by (both_parsed dry1 dry2) cwd
+-- two dry runs, parsed, or why they can't be within a limit, which counts the paths that their look-ups try too, unless it is 0
+abbrev pub runs_within : ℕ → List ℕ → List ℕ → List ℕ → Result ParsedRuns Refused
+runs_within limit dry1 dry2 cwd = within_limit limit (Ok (both_parsed dry1 dry2)) (or_refused_within limit (both_fitting limit cwd dry1 dry2))
 
--- the same, if the directory is UTF-8 and plain
-abbrev pub lookups_outcome : List ℕ → List ℕ → List ℕ → Outcome
-lookups_outcome dry1 dry2 cwd = if_utf8 (text_of cwd) (λ cwd. at_plain cwd (lookups_from dry1 dry2 cwd))
+-- the look-ups of two dry runs within a limit. A directory that isn't UTF-8 is the first refusal, then one that isn't plain
+abbrev pub asked_lookups : ℕ → List ℕ → List ℕ → List ℕ → Result Outcome Refused
+asked_lookups limit dry1 dry2 cwd =
+    and_then (or_plain NotUtf8 (text_of cwd)) (λ cwd. and_then (plain_cwd cwd) (λ _.
+    and_then (runs_within limit dry1 dry2 cwd) (λ runs. Ok (lookups_by runs cwd))))
 
--- the look-ups of two dry runs, or why they can't be parsed within a limit
-abbrev pub lookups_told : ℕ → Result ParsedRuns LimitedFault → List ℕ → Outcome
-lookups_told limit (Ok runs) cwd = lookups_by runs cwd
-lookups_told limit (Err fault) cwd = failed_within limit fault
-
--- the look-ups of two dry runs within a limit, which counts the paths that they try too, unless it is 0
-abbrev pub lookups_within : ℕ → List ℕ → List ℕ → List ℕ → Outcome
-lookups_within limit dry1 dry2 cwd =
-    within_limit limit (lookups_from dry1 dry2 cwd) (lookups_told limit (both_fitting limit cwd dry1 dry2) cwd)
-
--- the same, if the directory is UTF-8 and plain
 abbrev pub limited_lookups_outcome : ℕ → List ℕ → List ℕ → List ℕ → Outcome
-limited_lookups_outcome limit dry1 dry2 cwd = if_utf8 (text_of cwd) (λ cwd. at_plain cwd (lookups_within limit dry1 dry2 cwd))
+limited_lookups_outcome limit dry1 dry2 cwd = ended (asked_lookups limit dry1 dry2 cwd)
 
--- the paths of a look-up from a working directory, if it is plain
-abbrev pub candidates_from : List ℕ → List ℕ → List ℕ → Outcome
-candidates_from program path cwd = at_plain cwd (of_texts (candidates_of program path cwd))
+-- the paths of a look-up. A text that isn't UTF-8 is the first refusal, then a directory that isn't plain
+abbrev pub tried_paths : List ℕ → List ℕ → List ℕ → Result Outcome Refused
+tried_paths program path cwd =
+    and_then (or_plain NotUtf8 (text_of program)) (λ program. and_then (or_plain NotUtf8 (text_of path)) (λ path.
+    and_then (or_plain NotUtf8 (text_of cwd)) (λ cwd. and_then (plain_cwd cwd) (λ _. Ok (of_texts (candidates_of program path cwd))))))
 
--- the same, if all three texts are UTF-8
 abbrev pub candidates_outcome : List ℕ → List ℕ → List ℕ → Outcome
-candidates_outcome program path cwd =
-    if_utf8 (text_of program) (λ program. if_utf8 (text_of path) (λ path. if_utf8 (text_of cwd) (candidates_from program path)))
+candidates_outcome program path cwd = ended (tried_paths program path cwd)

@@ -1,12 +1,13 @@
+pub mod Acceptance
 pub mod Asking
+pub mod Fields
 pub mod LimitLaws
 pub mod Limits
 pub mod OddDirectories
+pub mod Places
 pub mod PlanCalls
 pub mod PlanForms
-pub mod PlanRecords
 pub mod Planning
-pub mod RecordLaws
 pub mod Records
 pub mod RecordsRead
 pub mod Refusals

@@ -1,13 +1,14 @@
 -- The limit of a call: how many bytes reading a dry run may make. 0 is no limit.
 use Rattle.std.specs.Prelude.{ℕ, List, ◌++◌, ◌==◌, if◌then◌else◌, Result, Ok, Err, codes, decimal}
 use Rattle.texts.specs.declared.fault.Fault.{Fault}
-use Rattle.texts.specs.Fault.{UnlessMemoryIs, line_text}
+use Rattle.texts.specs.Fault.{line_text}
 use Rattle.dry_runs.specs.declared.limit.LimitedFault.{LimitedFault}
 use Rattle.dry_runs.specs.declared.limit.LimitedFault.TheVariants.{TooLong}
 use Rattle.dry_runs.specs.declared.limit.LimitedFault.TheVariants as limited
+use Rattle.c_texts.specs.declared.refusal.Refused.{Refused}
+use Rattle.c_texts.specs.declared.refusal.Refused.TheVariants.{Told}
 use Rattle.c_texts.specs.declared.status.Status.TheVariants.{OverLimit}
-use Rattle.c_texts.specs.Failures.{failed}
-use Rattle.c_texts.specs.Outcomes.{Outcome, refused_with}
+use Rattle.c_texts.specs.Failures.{refused_by}
 
 -- what a call without a limit answers, as an answer of one with a limit
 abbrev pub without_limit : {T : Type 0} → Result T Fault → Result T LimitedFault
@@ -23,15 +24,15 @@ abbrev pub excess_text : ℕ → ℕ → ℕ → List ℕ
 excess_text limit run line = line_text run line (codes ": over the limit of " ++ (decimal limit ++ codes " bytes"))
 
 -- the refusal of a line that exceeds the limit
-abbrev pub over_limit : ℕ → ℕ → ℕ → Outcome
-over_limit limit run line = refused_with OverLimit (excess_text limit run line)
+abbrev pub over_limit : ℕ → ℕ → ℕ → Refused
+over_limit limit run line = Told OverLimit (excess_text limit run line)
 
--- the outcome of a fault of reading within the limit
-abbrev pub failed_within : ℕ → LimitedFault → Outcome
-failed_within limit (limited.Fault fault) = failed fault
-failed_within limit (TooLong run line) = over_limit limit run line
+-- the refusal of a fault of reading within the limit
+abbrev pub refused_within : ℕ → LimitedFault → Refused
+refused_within limit (limited.Fault fault) = refused_by fault
+refused_within limit (TooLong run line) = over_limit limit run line
 
--- a fact that holds for every fault but that of an allocation
-abbrev pub UnlessMemoryIsWithin : LimitedFault → Type 0 → Type 0
-UnlessMemoryIsWithin (limited.Fault fault) P = UnlessMemoryIs fault P
-UnlessMemoryIsWithin (TooLong run line) P = P
+-- what there is, or the refusal of such a fault
+abbrev pub or_refused_within : {T : Type 0} → ℕ → Result T LimitedFault → Result T Refused
+or_refused_within limit (Ok x) = Ok x
+or_refused_within limit (Err fault) = Err (refused_within limit fault)

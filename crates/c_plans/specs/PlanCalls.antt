@@ -25,6 +25,10 @@ has_row_numbers row = nat_le row.is_found 1 && row.reserved == 0
 abbrev pub has_numbers : PlanCall → Bool
 has_numbers call = nat_le call.keeps 1 && list_all has_row_numbers call.lookups.now
 
+-- the host compiler of a call, if all its numbers have a meaning
+abbrev pub host_in : PlanCall → Option NvccHostCompiler
+host_in call = if has_numbers call then host_of call.host_compiler else None
+
 -- the texts of a call but those of its tables
 pub record Texts : Type 0 where
   pub cwd : List ℕ

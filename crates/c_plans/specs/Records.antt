@@ -1,5 +1,5 @@
 -- A plan as records, and texts one behind the other.
-use Rattle.std.specs.Prelude.{◌≡◌, ◌⊎◌, ℕ, ◌+◌, ◌-◌, List, [], ◌∷◌, ◌++◌, ◌&&◌, ◌==◌, Bool, true, false, if◌then◌else◌, length, map, string_bytes, Option, Some, None, flat_map, bytes_eq}
+use Rattle.std.specs.Prelude.{ℕ, ◌+◌, ◌-◌, List, [], ◌∷◌, ◌++◌, ◌&&◌, ◌==◌, Bool, true, false, if◌then◌else◌, length, map, string_bytes, Option, Some, None, flat_map, bytes_eq}
 use Rattle.compilers.specs.declared.command.Cacheable.{Cacheable}
 use Rattle.compilers.specs.declared.command.Cacheable.TheVariants.{Yes, No}
 use Rattle.plans.specs.declared.origins.Origin.{Origin}
@@ -14,12 +14,9 @@ use Rattle.texts.specs.Variables.{pair_of}
 use Rattle.c_texts.specs.declared.memory.Range.{Range}
 use Rattle.c_plans.specs.declared.record.CommandRecord.{CommandRecord}
 use Rattle.c_plans.specs.declared.record.GroupRecord.{GroupRecord}
-use Rattle.c_plans.specs.declared.record.RecordsAnswer.{RecordsAnswer}
 use Rattle.c_plans.specs.declared.plan_entries.Shared.{Shared as HeldShared}
 use Rattle.c_plans.specs.declared.recorded.Entry.{Entry as HeldEntry}
-use Rattle.c_texts.specs.declared.status.Status.TheVariants.{Memory}
-use Rattle.c_texts.specs.Memory.{fits, filled}
-use Rattle.c_texts.specs.Outcomes.{Outcome, of_texts, refused, with_texts}
+use Rattle.c_texts.specs.Outcomes.{Outcome, of_texts, with_texts}
 
 -- what the records say of a command, in a group or dropped, and which texts its variables are if it shares them. Its reason is 0 if it
 -- is in a group
@@ -172,11 +169,11 @@ abbrev pub groups_at : {X : Type 0} → ℕ → ℕ → ℕ → List (List X) �
 groups_at last group first [] = []
 groups_at last group first (commands ∷ groups) = group_record last group first commands ∷ groups_at last (group + 1) (first + length commands) groups
 
--- what a call ends with that writes records
+-- texts, and records that say what they are: groups and commands
 abbrev pub Recorded : Type 0
 Recorded = Outcome × (List GroupRecord × List CommandRecord)
 
--- a refusal, without records
+-- texts without records
 abbrev pub without_records : Outcome → Recorded
 without_records outcome = (outcome, ([], []))
 
@@ -218,40 +215,3 @@ entry_seen e = record {
   cacheable = e.cacheable;
   shared = e.shared;
 }
-
--- whether all of an answer fits into the memory for groups, commands, ranges and bytes
-abbrev pub all_fit : Recorded → List GroupRecord → List CommandRecord → List Range → List ℕ → Bool
-all_fit recorded groups commands ranges bytes =
-    fits recorded.1.0 groups && fits recorded.1.1 commands && fits recorded.0.1.0 ranges && fits recorded.0.1.1 bytes
-
--- a call's memory that is written: groups, commands, ranges and bytes
-pub record Buffers : Type 0 where
-  pub groups : List GroupRecord
-  pub commands : List CommandRecord
-  pub ranges : List Range
-  pub bytes : List ℕ
-
--- the sizes of an answer
-abbrev pub sizes_of : Recorded → RecordsAnswer
-sizes_of recorded = record {
-  status = recorded.0.0;
-  groups = length recorded.1.0;
-  commands = length recorded.1.1;
-  ranges = length recorded.0.1.0;
-  length = length recorded.0.1.1;
-}
-
--- A call tells what it ends with: its status, and how much of each there is. All of it is written if it fits, else nothing.
-abbrev pub TellsRecords : Recorded → RecordsAnswer → Buffers → Buffers → Type 0
-TellsRecords recorded answer before after =
-    let all = all_fit recorded before.groups before.commands before.ranges before.bytes in
-    (answer ≡ sizes_of recorded)
-    × (after.groups ≡ filled all recorded.1.0 before.groups)
-    × (after.commands ≡ filled all recorded.1.1 before.commands)
-    × (after.ranges ≡ filled all recorded.0.1.0 before.ranges)
-    × (after.bytes ≡ filled all recorded.0.1.1 before.bytes)
-
--- It tells what is expected, or that an allocation failed.
-abbrev pub GivesRecords : Recorded → RecordsAnswer → Buffers → Buffers → Type 0
-GivesRecords expected answer before after =
-    TellsRecords expected answer before after ⊎ TellsRecords (without_records (refused Memory)) answer before after

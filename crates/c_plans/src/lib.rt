@@ -1,33 +1,33 @@
-//! The calls on plans over memory that a C program owns: the look-ups of programs that a plan needs, the plan of two dry runs,
-//! as text or as records, and canonical names.
+//! The calls on plans over memory that a C program owns: the look-ups of programs that a plan needs, the plan of two dry runs as text,
+//! and canonical names. `c_steps` writes a plan with the records that are here.
 //!
 //! `c_texts` says what holds of all calls. The crate `zigrunk_c` exports these to C, one function for each.
 #![tactic(auto)]
 
+mod accepted;
 mod asking;
 mod directory;
+mod field;
 pub mod laws;
 mod limits;
 mod plan_call;
 mod plan_entries;
 mod plan_forms;
-mod planned_records;
 mod planning;
 mod record;
 mod recorded;
 mod refusal;
+mod refused_at;
 mod renaming;
 mod room;
 
-pub use asking::{candidates, candidates_outcome, lookups, lookups_outcome, lookups_within};
-pub use directory::{OddField, odd_directory};
-pub use plan_call::{
-    FoundProgram, PlanCall, Tables, Texts, has_numbers, host_of, tables_of, texts_of,
-};
+pub use accepted::{Accepted, accept};
+pub use asking::{asked_lookups, candidates, lookups_within, tried_paths};
+pub use plan_call::{FoundProgram, PlanCall, Tables, Texts};
 pub use plan_entries::records_of;
-pub use planned_records::plan_records;
-pub use planning::{plan, plan_outcome, planned};
-pub use record::{CommandRecord, GroupRecord, RecordsAnswer};
+pub use planning::{plan, plan_text, planned};
+pub use record::{CommandRecord, GroupRecord, PlaceRecord};
 pub use recorded::Recorded;
-pub use renaming::{remap, remap_outcome};
+pub use refused_at::{Misfit, RefusedAt, in_field, nowhere, refuse_misfit};
+pub use renaming::{remap, remapped_words};
 pub use room::Room;

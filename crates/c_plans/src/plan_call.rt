@@ -61,7 +61,7 @@ pub struct PlanCall<'a> {
 }
 
 /// The host compiler with a number.
-pub fn host_of(number: u32) -> Option<NvccHostCompiler>
+pub(crate) fn host_of(number: u32) -> Option<NvccHostCompiler>
     ensures { result ≡ spec.host_of number }
 {
     match number {
@@ -80,11 +80,15 @@ fn have_numbers(rows: &[FoundProgram<'_>]) -> bool
         .all(|row| row.is_found <= 1 && row.reserved == 0)
 }
 
-/// Whether the flags of a call, and the reserved numbers of its rows, have a meaning.
-pub fn has_numbers(call: &PlanCall<'_>) -> bool
-    ensures { result ≡ spec.has_numbers call.now }
+/// The host compiler of a call, if all its numbers have a meaning: its flags and the reserved numbers of its rows too.
+pub(crate) fn host_in(call: &PlanCall<'_>) -> Option<NvccHostCompiler>
+    ensures { result ≡ spec.host_in call.now }
 {
-    call.keeps <= 1 && have_numbers(call.lookups)
+    if call.keeps <= 1 && have_numbers(call.lookups) {
+        host_of(call.host_compiler)
+    } else {
+        None
+    }
 }
 
 /// The texts of a call but those of its tables.
@@ -101,7 +105,7 @@ pub struct Texts<'a> {
 }
 
 /// These texts of a call, if all are UTF-8.
-pub fn texts_of<'a>(call: &PlanCall<'a>) -> Option<Texts<'a>>
+pub(crate) fn texts_of<'a>(call: &PlanCall<'a>) -> Option<Texts<'a>>
     ensures { option_map spec.texts_seen result ≡ spec.texts_of call.now }
 {
     Some(Texts {
@@ -192,7 +196,7 @@ pub struct Tables {
 }
 
 /// The tables of a call, if all their texts are UTF-8.
-pub fn tables_of(
+pub(crate) fn tables_of(
     alloc: Global,
     cwd: &str,
     call: &PlanCall<'_>,

@@ -11,7 +11,7 @@ ghost use Rattle.c_plans.specs.Records as spec;
 use crate::record::GroupRecord;
 use crate::recorded::{Entry, Recorded};
 use crate::room::{Room, room_with};
-use c_texts::{Outcome, Range};
+use c_texts::Range;
 use compilers::command::Cacheable;
 use plans::{Dropped, NvccGeneratedSubcommand, Origin, PlanWithOrigins, Reason};
 use std::alloc::{AllocError, Global};
@@ -285,7 +285,7 @@ pub fn records_of(
 ) -> Result<Recorded, AllocError>
     ensures { IfOk result (λ recorded. recorded ≡ spec.records_of planned.now) }
 {
-    let mut recorded = Recorded::of_outcome(alloc, Outcome::new(alloc));
+    let mut recorded = Recorded::new(alloc);
     match push_plan(&mut recorded, planned, room) {
         Ok(()) => Ok(recorded),
         Err(fault) => {

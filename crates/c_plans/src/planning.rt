@@ -1,32 +1,31 @@
 //! Planning the two dry runs of a call.
 
-ghost use Rattle.std.specs.Prelude.{◌≡◌, IfOk, Result, map, string_bytes};
+ghost use Rattle.std.specs.Prelude.{map, string_bytes};
 ghost use Rattle.texts.specs.Fault.{UnlessMemory};
 ghost use Rattle.canonical_names.specs.FurtherSuffixes.{all_suffixes};
-ghost use Rattle.dry_runs.specs.declared.limit.LimitedFault.{LimitedFault};
 ghost use Rattle.dry_runs.specs.Limit.{UnlessMemoryWithin};
-ghost use Rattle.plans.specs.declared.origins.PlanWithOrigins.{PlanWithOrigins};
 ghost use Rattle.c_texts.specs.Outcomes.{GivesText};
+ghost use Rattle.c_texts.specs.Refusals.{Answers};
+ghost use Rattle.c_plans.specs.Acceptance.{accepted_of, accepted_seen};
 ghost use Rattle.c_plans.specs.Limits.{within_limit, without_limit};
-ghost use Rattle.c_plans.specs.OddDirectories.{odd_directory as odd_of, unless_odd};
 ghost use Rattle.c_plans.specs.PlanCalls.{texts_seen};
 ghost use Rattle.c_plans.specs.Planning as spec;
 
-use crate::directory::{odd_directory, refused_directory};
-use crate::limits::failed_within;
-use crate::plan_call::{
-    PlanCall, Tables, Texts, has_numbers, host_of, if_flag, tables_of, texts_of,
-};
-use crate::plan_forms::{form_of, outcome_in};
-use c_texts::{Outcome, Status, TextAnswer, give_text, refused};
+use crate::accepted::{Accepted, accept};
+use crate::limits::or_refused_within;
+use crate::plan_call::{PlanCall, Tables, Texts, if_flag};
+use crate::plan_forms::form_of;
+use crate::refusal::written;
+use c_texts::{Refused, Status, TextAnswer, write_text};
 use canonical_names::{Suffixes, all_suffixes};
 use command_groups::{CallToPlan, plan_with_origins, plan_with_origins_within};
 use compilers::compiler::NvccHostCompiler;
 use dry_runs::LimitedFault;
 use plan_scripts::Format;
 use plans::PlanWithOrigins;
-use std::alloc::{AllocError, Global};
+use std::alloc::Global;
 use texts::fault::Fault;
+use texts::text::Text;
 
 // The standard suffixes, with those of the call behind them. Without such they are as they were written: renaming is faster with these.
 fn suffixes_of(alloc: Global, further: &[String]) -> Result<Suffixes, Fault>
@@ -48,8 +47,8 @@ fn planned_with(
     suffixes: &Suffixes,
 ) -> Result<PlanWithOrigins, LimitedFault>
     ensures { UnlessMemoryWithin result (within_limit call.now.limit
-        (without_limit (spec.planned_whole call.now host (texts_seen texts.entry) tables.now suffixes.now))
-        (spec.planned_within call.now host (texts_seen texts.entry) tables.now suffixes.now)) }
+        (without_limit (spec.planned_whole call.now (accepted_of host (texts_seen texts.entry) tables.now) suffixes.now))
+        (spec.planned_within call.now (accepted_of host (texts_seen texts.entry) tables.now) suffixes.now)) }
 {
     let (dry1, dry2, which) = (call.dry1.bytes, call.dry2.bytes, &tables.found);
     let nvcc_call = CallToPlan {
@@ -68,16 +67,15 @@ fn planned_with(
     Ok(planned)
 }
 
-/// The plan of a call, or why there is none.
+/// The plan of a call, or the fault of a plan that there isn't.
 pub fn planned(
     alloc: Global,
     call: &PlanCall<'_>,
-    host: NvccHostCompiler,
-    texts: Texts<'_>,
-    tables: &Tables,
+    accepted: &Accepted<'_>,
 ) -> Result<PlanWithOrigins, LimitedFault>
-    ensures { UnlessMemoryWithin result (spec.planned call.now host (texts_seen texts.entry) tables.now) }
+    ensures { UnlessMemoryWithin result (spec.planned call.now (accepted_seen accepted.now)) }
 {
+    let (host, texts, tables) = (accepted.host, accepted.texts, &accepted.tables);
     let suffixes = suffixes_of(alloc, tables.suffixes.as_slice())?;
     let planned = planned_with(alloc, call, host, texts, tables, &suffixes);
     // Dropped by a call: see "Explicit drops" in docs/ARCHITECTURE.md.
@@ -85,96 +83,56 @@ pub fn planned(
     planned
 }
 
-// A plan in a form, or the fault of a plan that there isn't within a limit.
-fn told(
+/// The plan of a call that is accepted, or why it has none.
+pub(crate) fn plan_by(
     alloc: Global,
-    limit: usize,
-    form: Format,
-    texts: Texts<'_>,
-    plan: &Result<PlanWithOrigins, LimitedFault>,
-) -> Result<Outcome, AllocError>
-    ensures { (expected : Result PlanWithOrigins LimitedFault) → UnlessMemoryWithin plan.now expected
-        → IfOk result (λ outcome. outcome ≡ spec.told limit form (texts_seen texts.entry) expected) }
+    call: &PlanCall<'_>,
+    accepted: &Accepted<'_>,
+) -> Result<PlanWithOrigins, Refused>
+    ensures { Answers result (spec.plan_by call.now (accepted_seen accepted.now)) }
 {
-    match plan {
-        Ok(plan) => outcome_in(alloc, form, texts.cwd, texts.tmp, texts.flag, plan),
-        Err(LimitedFault::Fault(Fault::Memory)) => Err(AllocError),
-        Err(fault) => failed_within(alloc, limit, fault),
-    }
+    or_refused_within(alloc, call.limit, planned(alloc, call, accepted))
 }
 
-// A call whose numbers have a meaning, and whose texts are UTF-8 and its directories plain.
-fn outcome_by(
+// A plan in a form, or why the form can't represent it.
+fn text_of_plan(
+    alloc: Global,
+    form: Format,
+    texts: Texts<'_>,
+    plan: &PlanWithOrigins,
+) -> Result<Text, Refused>
+    ensures { Answers result (spec.text_of_plan form (texts_seen texts.entry) plan.now) }
+{
+    let text = plan_formats::plan_text(alloc, form, texts.cwd, texts.tmp, texts.flag, plan);
+    written(alloc, text)
+}
+
+// The plan of a call that is accepted, in a form.
+fn text_by(
     alloc: Global,
     call: &PlanCall<'_>,
     form: Format,
-    host: NvccHostCompiler,
-    texts: Texts<'_>,
-    tables: &Tables,
-) -> Result<Outcome, AllocError>
-    ensures { IfOk result (λ outcome. outcome ≡ spec.outcome_by call.now form host (texts_seen texts.entry) tables.now) }
+    accepted: &Accepted<'_>,
+) -> Result<Text, Refused>
+    ensures { Answers result (spec.text_by call.now form (accepted_seen accepted.now)) }
 {
-    let plan = planned(alloc, call, host, texts, tables);
-    let outcome = told(alloc, call.limit, form, texts, &plan);
+    let plan = plan_by(alloc, call, accepted)?;
+    let text = text_of_plan(alloc, form, accepted.texts, &plan);
     // Dropped by a call: see "Explicit drops" in docs/ARCHITECTURE.md.
     drop(plan);
-    outcome
-}
-
-// The same, unless a directory is odd.
-fn outcome_at(
-    alloc: Global,
-    call: &PlanCall<'_>,
-    form: Format,
-    host: NvccHostCompiler,
-    texts: Texts<'_>,
-    tables: &Tables,
-) -> Result<Outcome, AllocError>
-    ensures { IfOk result (λ outcome. outcome ≡ unless_odd (odd_of (texts_seen texts.entry))
-        (spec.outcome_by call.now form host (texts_seen texts.entry) tables.now)) }
-{
-    match odd_directory(texts) {
-        Some(odd) => refused_directory(alloc, odd),
-        None => outcome_by(alloc, call, form, host, texts, tables),
-    }
-}
-
-// A call with numbers that have a meaning.
-fn valid_outcome(
-    alloc: Global,
-    call: &PlanCall<'_>,
-    form: Format,
-    host: NvccHostCompiler,
-) -> Result<Outcome, AllocError>
-    ensures { IfOk result (λ outcome. outcome ≡ spec.outcome_in call.now form host) }
-{
-    let Some(texts) = texts_of(call) else {
-        return refused(alloc, Status::NotUtf8);
-    };
-    let Some(tables) = tables_of(alloc, texts.cwd, call)? else {
-        return refused(alloc, Status::NotUtf8);
-    };
-    let outcome = outcome_at(alloc, call, form, host, texts, &tables);
-    // Dropped by a call: see "Explicit drops" in docs/ARCHITECTURE.md.
-    drop(tables);
-    outcome
+    text
 }
 
 /// What [`plan`] tells of a call and the number of a form.
-pub fn plan_outcome(alloc: Global, call: &PlanCall<'_>, form: u32) -> Result<Outcome, AllocError>
-    ensures { IfOk result (λ outcome. outcome ≡ spec.plan_outcome call.now form) }
+pub fn plan_text(alloc: Global, call: &PlanCall<'_>, form: u32) -> Result<Text, Refused>
+    ensures { Answers result (spec.plan_text call.now form) }
 {
-    let Some(form) = form_of(form) else {
-        return refused(alloc, Status::BadNumber);
-    };
-    let Some(host) = host_of(call.host_compiler) else {
-        return refused(alloc, Status::BadNumber);
-    };
-    if has_numbers(call) {
-        valid_outcome(alloc, call, form, host)
-    } else {
-        refused(alloc, Status::BadNumber)
-    }
+    let form = form_of(form).ok_or(Refused::Plain(Status::BadNumber))?;
+    let accepted = accept(alloc, call)?;
+    let text = text_by(alloc, call, form, &accepted);
+    // Dropped by a call: see "Explicit drops" in docs/ARCHITECTURE.md.
+    drop(accepted);
+    text
 }
 
 /// Plans two dry runs of one `nvcc` call, as `plan_with_origins`, and writes the plan in a form. If the call has a limit,
@@ -186,5 +144,5 @@ pub fn plan_outcome(alloc: Global, call: &PlanCall<'_>, form: u32) -> Result<Out
 pub fn plan(alloc: Global, call: &PlanCall<'_>, form: u32, out: &mut [u8]) -> TextAnswer
     ensures { GivesText (spec.plan_outcome call.now form) result out.old out.new }
 {
-    give_text(plan_outcome(alloc, call, form), out)
+    write_text(plan_text(alloc, call, form), out)
 }

@@ -1,4 +1,4 @@
-//! The records of a plan.
+//! The records of a plan, and of the place of a refusal.
 
 use c_texts::Range;
 
@@ -38,18 +38,16 @@ pub struct CommandRecord {
     pub cacheable: u32,
 }
 
-/// The answer of a call that writes a plan as records.
+/// Where a call is refused.
 #[repr(C)]
 #[derive(Clone, Copy, Debug)]
-pub struct RecordsAnswer {
-    /// 0, or the number of a refusal.
-    pub status: i32,
-    /// How many groups there are, written or not.
-    pub groups: usize,
-    /// How many commands there are.
-    pub commands: usize,
-    /// How many texts there are.
-    pub ranges: usize,
-    /// The bytes of all of them, or of the refusal's text.
-    pub length: usize,
+pub struct PlaceRecord {
+    /// The dry run of the line that is refused, 1 or 2, else 0.
+    pub run: usize,
+    /// The number of that line, from 1, else 0.
+    pub line: usize,
+    /// The number of the field of the call that is refused, else 0.
+    pub field: u32,
+    /// 0.
+    pub reserved: u32,
 }

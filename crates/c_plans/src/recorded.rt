@@ -1,23 +1,20 @@
-//! Commands and groups as records, and writing them into the caller's memory.
+//! Commands and groups as records.
 
 ghost use Rattle.std.specs.Prelude.{◌≡◌, ◌∷◌, [], ◌++◌, IfOk, OnOk, length, map};
 ghost use Rattle.texts.specs.Variables.{pair_of};
-ghost use Rattle.c_texts.specs.declared.status.Status.TheVariants.{Memory};
-ghost use Rattle.c_texts.specs.Memory.{fits, filled};
-ghost use Rattle.c_texts.specs.Outcomes.{refused, with_texts};
-ghost use Rattle.c_texts.specs.Statuses.{text};
+ghost use Rattle.c_texts.specs.Outcomes.{of_texts, with_texts};
 ghost use Rattle.c_plans.specs.Records as spec;
 
-use crate::record::{CommandRecord, GroupRecord, RecordsAnswer};
+use crate::record::{CommandRecord, GroupRecord};
 use crate::room::Room;
-use c_texts::{Outcome, Range, Refused};
+use c_texts::{Outcome, Range};
 use std::alloc::{AllocError, Global};
 use std::marker::Model;
 
-/// A status and texts, and the records that say what the texts are.
+/// Texts, and the records that say what they are.
 #[derive(Drop)]
 pub struct Recorded {
-    /// The status, and the texts that the records name by their numbers.
+    /// The texts that the records name by their numbers.
     pub outcome: Outcome,
     /// The groups, in the plan's order.
     pub groups: Vec<GroupRecord>,
@@ -111,12 +108,12 @@ fn push_texts(texts: &mut Outcome, entry: Entry<'_>) -> Result<CommandRecord, Al
 }
 
 impl Recorded {
-    /// An outcome without records.
-    pub fn of_outcome(alloc: Global, outcome: Outcome) -> Recorded
-        ensures { result ≡ spec.without_records outcome }
+    /// Success, so far without records.
+    pub(crate) fn new(alloc: Global) -> Recorded
+        ensures { result ≡ spec.without_records (of_texts []) }
     {
         Recorded {
-            outcome,
+            outcome: Outcome::new(alloc),
             groups: Vec::new(alloc),
             commands: Vec::new(alloc),
         }
@@ -167,72 +164,5 @@ impl Recorded {
     {
         self.groups.push(group)?;
         Ok(())
-    }
-}
-
-// Writes all parts of an answer into memory of the caller, if all fit.
-fn tell_records(
-    recorded: &Recorded,
-    groups: &mut [GroupRecord],
-    commands: &mut [CommandRecord],
-    ranges: &mut [Range],
-    out: &mut [u8],
-) -> RecordsAnswer
-    ensures { spec.TellsRecords recorded.now result
-        (record { groups = groups.old; commands = commands.old; ranges = ranges.old; bytes = out.old })
-        (record { groups = groups.new; commands = commands.new; ranges = ranges.new; bytes = out.new }) }
-{
-    let places = recorded.outcome.ranges();
-    let text = recorded.outcome.text().as_bytes();
-    if recorded.groups.len() <= groups.len()
-        && recorded.commands.len() <= commands.len()
-        && places.len() <= ranges.len()
-        && text.len() <= out.len()
-    {
-        groups[..recorded.groups.len()].copy_from_slice(recorded.groups.as_slice());
-        commands[..recorded.commands.len()].copy_from_slice(recorded.commands.as_slice());
-        ranges[..places.len()].copy_from_slice(places);
-        out[..text.len()].copy_from_slice(text);
-    }
-    RecordsAnswer {
-        status: recorded.outcome.status(),
-        groups: recorded.groups.len(),
-        commands: recorded.commands.len(),
-        ranges: places.len(),
-        length: text.len(),
-    }
-}
-
-// Tells the caller that an allocation failed: writes the message, if it fits.
-fn tell_memory(out: &mut [u8]) -> RecordsAnswer
-    ensures answer { result ≡ spec.sizes_of (spec.without_records (refused Memory)) }
-    ensures text { out.new ≡ filled (fits (text Memory) out.old) (text Memory) out.old }
-{
-    let told = Refused::Memory.tell_text(out);
-    RecordsAnswer {
-        status: told.status,
-        groups: 0,
-        commands: 0,
-        ranges: 0,
-        length: told.length,
-    }
-}
-
-/// Tells the caller a plan as records or a refusal, or that an allocation failed.
-pub(crate) fn give_records(
-    outcome: Result<Recorded, AllocError>,
-    groups: &mut [GroupRecord],
-    commands: &mut [CommandRecord],
-    ranges: &mut [Range],
-    out: &mut [u8],
-) -> RecordsAnswer
-    ensures { (expected : spec.Recorded) → IfOk outcome (λ recorded. recorded ≡ expected)
-        → spec.GivesRecords expected result
-        (record { groups = groups.old; commands = commands.old; ranges = ranges.old; bytes = out.old })
-        (record { groups = groups.new; commands = commands.new; ranges = ranges.new; bytes = out.new }) }
-{
-    match outcome {
-        Ok(recorded) => tell_records(&recorded, groups, commands, ranges, out),
-        Err(_) => tell_memory(out),
     }
 }

@@ -1,18 +1,19 @@
 //! Canonical names of generated files.
 
 ghost use Rattle.std.specs.Prelude.{◌≡◌, [], IfOk, map, string_bytes};
-ghost use Rattle.texts.specs.Fault.{UnlessMemory};
+ghost use Rattle.canonical_names.specs.FurtherSuffixes.{all_suffixes};
 ghost use Rattle.canonical_names.specs.Renaming.{renamed_words};
+ghost use Rattle.c_texts.specs.Failures.{or_refused};
 ghost use Rattle.c_texts.specs.Memory.{bytes_of};
 ghost use Rattle.c_texts.specs.Outcomes.{GivesList, of_texts};
+ghost use Rattle.c_texts.specs.Refusals.{Answers};
 ghost use Rattle.c_plans.specs.Renaming as spec;
 
 use c_texts::{
-    InputText, ListAnswer, Outcome, Range, Status, answered, give_list, refused, words_of,
+    InputText, ListAnswer, Outcome, Range, Refused, Status, or_refused, words_of, write_list,
 };
 use canonical_names::{Renames, Suffixes, all_suffixes, remap_generated_filenames};
 use std::alloc::{AllocError, Global};
-use texts::fault::Fault;
 use texts::words::Words;
 
 // Words with canonical names.
@@ -24,43 +25,39 @@ fn renamed(alloc: Global, words: &[String], suffixes: &Suffixes) -> Result<Words
 }
 
 // The list of them.
-fn renamed_outcome(
-    alloc: Global,
-    words: &[String],
-    suffixes: &Suffixes,
-) -> Result<Outcome, AllocError>
+fn renamed_list(alloc: Global, words: &[String], suffixes: &Suffixes) -> Result<Outcome, AllocError>
     ensures { IfOk result (λ outcome. outcome ≡ of_texts (renamed_words suffixes.now [] (map string_bytes words.now))) }
 {
     let words = renamed(alloc, words, suffixes)?;
-    let mut outcome = Outcome::new(alloc);
-    outcome.push_all(words.as_slice())?;
-    Ok(outcome)
+    Outcome::of_texts(alloc, words.as_slice())
 }
 
-// The same, with further suffixes behind the standard ones.
-fn remapped(alloc: Global, words: &[String], further: &[String]) -> Result<Outcome, Fault>
-    ensures { UnlessMemory result (spec.remapped (map string_bytes words.now) (map string_bytes further.now)) }
+// The standard suffixes and further ones, or the refusal of such as break the rule of such a list.
+fn suffixes_with(alloc: Global, further: &[String]) -> Result<Suffixes, Refused>
+    ensures { Answers result (or_refused (all_suffixes (map string_bytes further.now))) }
 {
-    let suffixes = all_suffixes(alloc, further)?;
-    Ok(renamed_outcome(alloc, words, &suffixes)?)
+    or_refused(alloc, all_suffixes(alloc, further))
+}
+
+// Words with canonical names, with further suffixes behind the standard ones.
+fn remapped(alloc: Global, words: &[String], further: &[String]) -> Result<Outcome, Refused>
+    ensures { Answers result (spec.remapped (map string_bytes words.now) (map string_bytes further.now)) }
+{
+    let suffixes = suffixes_with(alloc, further)?;
+    Ok(renamed_list(alloc, words, &suffixes)?)
 }
 
 /// What [`remap`] tells.
-pub fn remap_outcome(
+pub fn remapped_words(
     alloc: Global,
     words: &[InputText<'_>],
     suffixes: &[InputText<'_>],
-) -> Result<Outcome, AllocError>
-    ensures { IfOk result (λ outcome. outcome ≡ spec.remap_outcome (map bytes_of words.now) (map bytes_of suffixes.now)) }
+) -> Result<Outcome, Refused>
+    ensures { Answers result (spec.remapped_words (map bytes_of words.now) (map bytes_of suffixes.now)) }
 {
-    let Some(words) = words_of(alloc, words)? else {
-        return refused(alloc, Status::NotUtf8);
-    };
-    let Some(suffixes) = words_of(alloc, suffixes)? else {
-        return refused(alloc, Status::NotUtf8);
-    };
-    let answer = remapped(alloc, words.as_slice(), suffixes.as_slice());
-    answered(alloc, answer)
+    let words = words_of(alloc, words)?.ok_or(Refused::Plain(Status::NotUtf8))?;
+    let suffixes = words_of(alloc, suffixes)?.ok_or(Refused::Plain(Status::NotUtf8))?;
+    remapped(alloc, words.as_slice(), suffixes.as_slice())
 }
 
 /// Lists words with canonical names of generated files, as `remap_generated_filenames`: as many words, in their order. The
@@ -76,5 +73,5 @@ pub fn remap(
 ) -> ListAnswer
     ensures { GivesList (spec.remap_outcome (map bytes_of words.now) (map bytes_of suffixes.now)) result ranges.old ranges.new out.old out.new }
 {
-    give_list(remap_outcome(alloc, words, suffixes), ranges, out)
+    write_list(remapped_words(alloc, words, suffixes), ranges, out)
 }

@@ -8,7 +8,7 @@ use Rattle.dry_runs.specs.declared.limit.LimitedFault.TheVariants as limited
 use Rattle.c_texts.specs.declared.status.Status.{Status}
 use Rattle.c_texts.specs.declared.status.Status.TheVariants.{OverLimit}
 use Rattle.c_texts.specs.Failures.{status_of}
-use Rattle.c_steps.specs.declared.step_record.PlaceRecord.{PlaceRecord}
+use Rattle.c_plans.specs.declared.record.PlaceRecord.{PlaceRecord}
 
 -- the status of a fault
 abbrev pub status_within : LimitedFault → Status

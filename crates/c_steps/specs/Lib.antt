@@ -1,5 +1,4 @@
 pub mod Causes
-pub mod Fields
 pub mod Fitness
 pub mod Places
 pub mod PlanSteps

@@ -1,71 +1,49 @@
 -- Planning the two dry runs of a call for a program that runs the commands.
-use Rattle.std.specs.Prelude.{ℕ, if◌then◌else◌, Option, Some, None, Result, Ok, Err, codes}
-use Rattle.compilers.specs.declared.compiler.NvccHostCompiler.{NvccHostCompiler}
+use Rattle.std.specs.Prelude.{Result, Ok, Err}
 use Rattle.dry_runs.specs.declared.limit.LimitedFault.{LimitedFault}
 use Rattle.plans.specs.declared.origins.PlanWithOrigins.{PlanWithOrigins}
-use Rattle.program_lookups.specs.Snapshot.{answer_in}
-use Rattle.c_texts.specs.declared.status.Status.{Status}
-use Rattle.c_texts.specs.declared.status.Status.TheVariants.{BadNumber, NotUtf8}
+use Rattle.texts.specs.Results.{and_then}
+use Rattle.c_texts.specs.declared.refusal.Refused.TheVariants.{Told}
 use Rattle.c_texts.specs.Memory.{bytes_of}
-use Rattle.c_texts.specs.Outcomes.{refused, refused_with}
 use Rattle.c_plans.specs.declared.plan_call.PlanCall.{PlanCall}
-use Rattle.c_plans.specs.declared.plan_call.Tables.{Tables}
-use Rattle.c_plans.specs.PlanCalls.{Texts, has_numbers, host_of, tables_of, texts_of}
+use Rattle.c_plans.specs.declared.refused_at.RefusedAt.{RefusedAt}
+use Rattle.c_plans.specs.Acceptance.{Accepted, accepted}
+use Rattle.c_plans.specs.Places.{unless_misfit}
 use Rattle.c_plans.specs.Planning.{planned}
 use Rattle.c_steps.specs.Causes.{cause_of, placed, status_within}
-use Rattle.c_steps.specs.Fields.{number_field, table_field, text_field}
-use Rattle.c_steps.specs.Fitness.{Misfit, are_empty, misfit_of_call, no_dry_run}
-use Rattle.c_steps.specs.Places.{Given, in_field, place_of}
-use Rattle.c_steps.specs.Steps.{Stepped, refused_at, steps_of}
+use Rattle.c_steps.specs.Fitness.{misfit_of, misfit_of_plan}
+use Rattle.c_steps.specs.Places.{place_of}
+use Rattle.c_steps.specs.Steps.{Stepped, ended, steps_of}
 
--- a refusal of a field, with the text of its status
-abbrev pub refused_in : Status → ℕ → Stepped
-refused_in status field = refused_at (in_field field) (refused status)
+-- the refusal of a fault of planning: its place, its status and its message
+abbrev pub refused_fault : PlanCall → Accepted → LimitedFault → RefusedAt
+refused_fault call a fault =
+    let place = place_of call a fault in
+    record { place = place; why = Told (status_within fault) (placed place (cause_of call.limit fault)) }
 
--- the refusal of texts that aren't those of a call
-abbrev pub unfit : Misfit → Stepped
-unfit m = refused_at (in_field m.field) (refused_with m.status m.why)
+-- a plan, or the refusal of the fault of a plan that there isn't
+abbrev pub or_refused_at : PlanCall → Accepted → Result PlanWithOrigins LimitedFault → Result PlanWithOrigins RefusedAt
+or_refused_at call a (Ok plan) = Ok plan
+or_refused_at call a (Err fault) = Err (refused_fault call a fault)
 
--- a fault of planning: its place, its status and its message
-abbrev pub failed_steps : ℕ → Given → LimitedFault → Stepped
-failed_steps limit g fault =
-    let place = place_of g fault in
-    refused_at place (refused_with (status_within fault) (placed place (cause_of limit fault)))
+-- the plan of a call that is accepted
+abbrev pub plan_at : PlanCall → Accepted → Result PlanWithOrigins RefusedAt
+plan_at call a = or_refused_at call a (planned call a)
 
--- a plan as records, unless it has no command
-abbrev pub steps_unless_empty : PlanWithOrigins → Stepped
-steps_unless_empty p = if are_empty p.plan.groups then unfit (no_dry_run 0 (codes "the plan has no command")) else steps_of p
+-- the steps of a plan, unless it doesn't fit
+abbrev pub steps_of_plan : PlanWithOrigins → Result Stepped RefusedAt
+steps_of_plan plan = and_then (unless_misfit (misfit_of_plan plan.plan)) (λ _. Ok (steps_of plan))
 
--- a plan as records, or the fault of a plan that there isn't
-abbrev pub stepped : ℕ → Given → Result PlanWithOrigins LimitedFault → Stepped
-stepped limit g (Ok p) = steps_unless_empty p
-stepped limit g (Err fault) = failed_steps limit g fault
+-- the steps of a call that is accepted. Texts that don't fit are the first refusal, then a fault of planning, and last a plan that doesn't
+-- fit
+abbrev pub steps_by : PlanCall → Accepted → Result Stepped RefusedAt
+steps_by call a =
+    and_then (unless_misfit (misfit_of (bytes_of call.dry1) (bytes_of call.dry2) a.texts.flag)) (λ _.
+    and_then (plan_at call a) steps_of_plan)
 
--- a call whose numbers have a meaning, and whose texts are UTF-8 and fit
-abbrev pub steps_by : PlanCall → NvccHostCompiler → Texts → Tables → Stepped
-steps_by call host texts tables =
-    stepped call.limit (record { dry1 = bytes_of call.dry1; dry2 = bytes_of call.dry2; cwd = texts.cwd; which = answer_in tables.found })
-    (planned call host texts tables)
+-- the steps of a call. The refusals of the call come first
+abbrev pub call_steps : PlanCall → Result Stepped RefusedAt
+call_steps call = and_then (accepted call) (steps_by call)
 
--- the same, unless the texts don't fit
-abbrev pub unless_unfit : Option Misfit → Stepped → Stepped
-unless_unfit None s = s
-unless_unfit (Some m) s = unfit m
-
--- what a call with a value ends with: a refusal of a field if there is none
-abbrev pub or_refused : {T : Type 0} → Status → ℕ → Option T → (T → Stepped) → Stepped
-or_refused status field (Some value) s = s value
-or_refused status field None s = refused_in status field
-
--- a call whose numbers have a meaning
-abbrev pub steps_with : PlanCall → NvccHostCompiler → Stepped
-steps_with call host =
-    or_refused NotUtf8 (text_field call) (texts_of call) (λ texts.
-    or_refused NotUtf8 (table_field call) (tables_of texts.cwd call) (λ tables.
-    unless_unfit (misfit_of_call (bytes_of call.dry1) (bytes_of call.dry2) texts) (steps_by call host texts tables)))
-
--- a call
 abbrev pub plan_steps : PlanCall → Stepped
-plan_steps call =
-    or_refused BadNumber (number_field call) (host_of call.host_compiler) (λ host.
-    if has_numbers call then steps_with call host else refused_in BadNumber (number_field call))
+plan_steps call = ended (call_steps call)

@@ -1,5 +1,5 @@
 -- A plan as records, with what a program that runs the commands has to know of each.
-use Rattle.std.specs.Prelude.{ℕ, ◌+◌, List, [], ◌∷◌, ◌++◌, Bool, nat_le, if◌then◌else◌, fold, get_or, length, map, vec_items, flat_map}
+use Rattle.std.specs.Prelude.{ℕ, ◌+◌, List, [], ◌∷◌, ◌++◌, Bool, nat_le, if◌then◌else◌, fold, get_or, length, map, vec_items, flat_map, Result, Ok, Err}
 use Rattle.command_files.specs.declared.files.CommandFiles.{CommandFiles}
 use Rattle.command_files.specs.CommandFiles.{files_of_words}
 use Rattle.command_files.specs.Order.{needs_at}
@@ -9,14 +9,16 @@ use Rattle.plans.specs.declared.plan.NvccGeneratedSubcommand.{NvccGeneratedSubco
 use Rattle.plans.specs.declared.plan.Plan.{Plan}
 use Rattle.c_texts.specs.declared.memory.Range.{Range}
 use Rattle.c_texts.specs.Outcomes.{Outcome, with_texts}
+use Rattle.c_texts.specs.Refusals.{refusal}
 use Rattle.c_plans.specs.declared.room.Room.{Room}
 use Rattle.c_plans.specs.Rooms.{with_text}
+use Rattle.c_plans.specs.declared.record.PlaceRecord.{PlaceRecord}
+use Rattle.c_plans.specs.declared.refused_at.RefusedAt.{RefusedAt}
+use Rattle.c_plans.specs.Places.{nowhere}
 use Rattle.c_plans.specs.Records.{Recorded, records_of, without_records}
-use Rattle.c_steps.specs.declared.step_record.PlaceRecord.{PlaceRecord}
 use Rattle.c_steps.specs.declared.step_record.StepRecord.{StepRecord}
 use Rattle.c_steps.specs.declared.stepped.Extra.{Extra as HeldExtra}
 use Rattle.c_steps.specs.declared.steps.Known.{Known as HeldKnown}
-use Rattle.c_steps.specs.Places.{nowhere}
 use Rattle.c_steps.specs.Tools.{tool_of}
 
 -- what there is to know of a command beside its record: what it needs, its files, its tool, and why these aren't all files
@@ -115,6 +117,11 @@ of_recorded recorded = record { place = nowhere; recorded = recorded; steps = []
 abbrev pub refused_at : PlaceRecord → Outcome → Stepped
 refused_at place outcome = record { place = place; recorded = without_records outcome; steps = []; numbers = [] }
 
+-- what the call ends with, by its answer
+abbrev pub ended : Result Stepped RefusedAt → Stepped
+ended (Ok s) = s
+ended (Err at) = refused_at at.place (refusal at.why)
+
 -- records with further texts behind the others
 abbrev pub with_file_texts : Recorded → List (List ℕ) → Recorded
 with_file_texts recorded texts = (with_texts recorded.0 texts, recorded.1)
@@ -137,6 +144,6 @@ with_extras s extras = record {
   numbers = s.numbers ++ flat_map (λ e. e.needs) extras;
 }
 
--- a plan as records: those of `plan_records`, with the texts of files behind all others
+-- a plan as records, with the texts of files behind all others
 abbrev pub steps_of : PlanWithOrigins → Stepped
 steps_of planned = with_extras (of_recorded (records_of planned)) (extras_of planned.plan)

@@ -3,7 +3,7 @@
 ghost use Rattle.std.specs.Prelude.{◌≡◌, IfOk, string_bytes};
 ghost use Rattle.c_steps.specs.Causes as spec;
 
-use crate::step_record::PlaceRecord;
+use c_plans::PlaceRecord;
 use c_texts::{Status, status_of};
 use dry_runs::LimitedFault;
 use std::alloc::{AllocError, Global};

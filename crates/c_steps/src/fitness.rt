@@ -1,14 +1,13 @@
-//! Whether texts can be those of a call: its directories, its dry runs and its flag.
+//! Whether texts can be those of a call: its dry runs and its flag.
 
 ghost use Rattle.std.specs.Prelude.{◌≡◌, map, vec_items, option_map};
-ghost use Rattle.c_plans.specs.OddDirectories.{odd_seen};
-ghost use Rattle.c_plans.specs.PlanCalls.{texts_seen};
+ghost use Rattle.c_plans.specs.Places.{misfit_seen};
 ghost use Rattle.c_steps.specs.Fitness as spec;
 
-use c_plans::{OddField, Texts, odd_directory};
+use c_plans::Misfit;
 use c_texts::Status;
 use dry_runs::is_dry_run;
-use plans::NvccGeneratedSubcommand;
+use plans::{NvccGeneratedSubcommand, Plan};
 
 // Whether a flag is one of those that nvcc's calls have.
 fn is_flag(flag: &str) -> bool
@@ -33,17 +32,9 @@ fn is_flag(flag: &str) -> bool
     )
 }
 
-/// A field of a call that doesn't fit, the status of its refusal, and why.
-#[derive(Clone, Copy)]
-pub(crate) struct Misfit {
-    pub(crate) status: Status,
-    pub(crate) field: u32,
-    pub(crate) why: &'static str,
-}
-
-/// What is wrong with the dry runs of a call, given the field and why.
-pub(crate) fn no_dry_run(field: u32, why: &'static str) -> Misfit
-    ensures { spec.misfit_seen result ≡ spec.no_dry_run field why.now }
+// What is wrong with the dry runs of a call, given the field and why.
+fn no_dry_run(field: u32, why: &'static str) -> Misfit
+    ensures { misfit_seen result ≡ spec.no_dry_run field why.now }
 {
     Misfit {
         status: Status::NoDryRun,
@@ -52,21 +43,10 @@ pub(crate) fn no_dry_run(field: u32, why: &'static str) -> Misfit
     }
 }
 
-// A directory that a plan can't be made for.
-fn misfit_of_odd(odd: OddField) -> Misfit
-    ensures { spec.misfit_seen result ≡ spec.misfit_of_odd (odd_seen odd) }
-{
-    Misfit {
-        status: Status::OddDirectory,
-        field: odd.field,
-        why: odd.why,
-    }
-}
-
-// Why texts can't be the dry runs of a call, or a flag none of its options, if they can't. One text can be both: nvcc generates no
-// file for a C or C++ source, so it prints the same twice.
-fn misfit_of(dry1: &[u8], dry2: &[u8], flag: &str) -> Option<Misfit>
-    ensures { option_map spec.misfit_seen result ≡ spec.misfit_of dry1.now dry2.now flag.now }
+/// Why texts can't be the dry runs of a call, or a flag none of its options, if they can't. One text can be both: nvcc generates no
+/// file for a C or C++ source, so it prints the same twice.
+pub(crate) fn misfit_of(dry1: &[u8], dry2: &[u8], flag: &str) -> Option<Misfit>
+    ensures { option_map misfit_seen result ≡ spec.misfit_of dry1.now dry2.now flag.now }
 {
     if !is_dry_run(dry1) {
         let why = "the first text is no dry run: no line begins with \"#$ \"";
@@ -82,18 +62,8 @@ fn misfit_of(dry1: &[u8], dry2: &[u8], flag: &str) -> Option<Misfit>
     }
 }
 
-/// What is wrong with a call: a directory, or else its dry runs or its flag.
-pub(crate) fn misfit_of_call(dry1: &[u8], dry2: &[u8], texts: Texts<'_>) -> Option<Misfit>
-    ensures { option_map spec.misfit_seen result ≡ spec.misfit_of_call dry1.now dry2.now (texts_seen texts.entry) }
-{
-    match odd_directory(texts) {
-        Some(odd) => Some(misfit_of_odd(odd)),
-        None => misfit_of(dry1, dry2, texts.flag),
-    }
-}
-
-/// Whether each group is empty.
-pub(crate) fn are_empty(groups: &[Vec<NvccGeneratedSubcommand>]) -> bool
+// Whether each group is empty.
+fn are_empty(groups: &[Vec<NvccGeneratedSubcommand>]) -> bool
     ensures { result ≡ spec.are_empty (map vec_items groups.now) }
 {
     for group in groups {
@@ -102,4 +72,15 @@ pub(crate) fn are_empty(groups: &[Vec<NvccGeneratedSubcommand>]) -> bool
         }
     }
     true
+}
+
+/// Why a plan isn't that of a call, if it has no command.
+pub(crate) fn misfit_of_plan(plan: &Plan) -> Option<Misfit>
+    ensures { option_map misfit_seen result ≡ spec.misfit_of_plan plan.now }
+{
+    if are_empty(plan.groups.as_slice()) {
+        Some(no_dry_run(0, "the plan has no command"))
+    } else {
+        None
+    }
 }

@@ -5,7 +5,6 @@
 #![tactic(auto)]
 
 mod cause;
-mod field;
 mod fitness;
 pub mod laws;
 mod missing;
@@ -16,6 +15,6 @@ mod stepped;
 mod steps;
 mod tool;
 
-pub use planned_steps::{plan_steps, steps_outcome};
-pub use step_record::{PlaceRecord, StepRecord, StepsAnswer};
+pub use planned_steps::{call_steps, plan_steps};
+pub use step_record::{StepRecord, StepsAnswer};
 pub use stepped::Stepped;

@@ -4,171 +4,114 @@ ghost use Rattle.std.specs.Prelude.{◌≡◌, IfOk, Result};
 ghost use Rattle.dry_runs.specs.declared.limit.LimitedFault.{LimitedFault};
 ghost use Rattle.dry_runs.specs.Limit.{UnlessMemoryWithin};
 ghost use Rattle.plans.specs.declared.origins.PlanWithOrigins.{PlanWithOrigins};
-ghost use Rattle.c_plans.specs.PlanCalls.{texts_seen};
-ghost use Rattle.c_texts.specs.Memory.{bytes_of};
-ghost use Rattle.c_steps.specs.Fitness.{misfit_of_call as misfit_expected, misfit_seen};
-ghost use Rattle.c_steps.specs.Places.{given_seen};
+ghost use Rattle.c_plans.specs.Acceptance.{accepted_seen};
+ghost use Rattle.c_plans.specs.Places.{AnswersAt};
 ghost use Rattle.c_steps.specs.PlanSteps as spec;
 ghost use Rattle.c_steps.specs.StepBuffers.{GivesSteps};
 
 use crate::cause::{message_at, status_within};
-use crate::field::{number_field, table_field, text_field};
-use crate::fitness::{Misfit, are_empty, misfit_of_call, no_dry_run};
-use crate::place::{Given, in_field, place_of};
+use crate::fitness::{misfit_of, misfit_of_plan};
+use crate::place::place_of;
 use crate::step_record::{StepRecord, StepsAnswer};
-use crate::stepped::{Stepped, give_steps};
+use crate::stepped::{Stepped, write_steps};
 use crate::steps::steps_of;
 use c_plans::{
-    CommandRecord, GroupRecord, PlanCall, Tables, Texts, has_numbers, host_of, planned, tables_of,
-    texts_of,
+    Accepted, CommandRecord, GroupRecord, PlanCall, RefusedAt, accept, planned, refuse_misfit,
 };
-use c_texts::{Range, Status, refused, refused_with};
-use compilers::compiler::NvccHostCompiler;
+use c_texts::{Range, Refused};
 use dry_runs::LimitedFault;
 use plans::PlanWithOrigins;
 use std::alloc::{AllocError, Global};
 use texts::fault::Fault;
+use texts::text::Text;
 
-// A refusal of a field, with the text of its status.
-fn refused_in(alloc: Global, status: Status, field: u32) -> Result<Stepped, AllocError>
-    ensures { IfOk result (λ stepped. stepped ≡ spec.refused_in status field) }
-{
-    let outcome = refused(alloc, status)?;
-    Ok(Stepped::refused_at(alloc, in_field(field), outcome))
-}
-
-// A refusal of texts that aren't those of a call.
-fn unfit(alloc: Global, misfit: Misfit) -> Result<Stepped, AllocError>
-    ensures { IfOk result (λ stepped. stepped ≡ spec.unfit (misfit_seen misfit)) }
-{
-    let text = String::from_str(alloc, misfit.why)?;
-    let outcome = refused_with(alloc, misfit.status, text);
-    Ok(Stepped::refused_at(alloc, in_field(misfit.field), outcome))
-}
-
-// A fault of planning: its place, its status and its message.
-fn failed_steps(
+// The refusal of a fault of planning: its place, its status and its message.
+fn refused_fault(
     alloc: Global,
-    limit: usize,
-    given: Given<'_>,
+    call: &PlanCall<'_>,
+    accepted: &Accepted<'_>,
     fault: &LimitedFault,
-) -> Result<Stepped, AllocError>
-    ensures { IfOk result (λ stepped. stepped ≡ spec.failed_steps limit (given_seen given.entry) fault.now) }
+) -> Result<RefusedAt, AllocError>
+    ensures { IfOk result (λ at. at ≡ spec.refused_fault call.now (accepted_seen accepted.now) fault.now) }
 {
-    let place = place_of(alloc, given, fault)?;
-    let text = message_at(alloc, limit, place, fault)?;
-    let outcome = refused_with(alloc, status_within(fault), text);
-    Ok(Stepped::refused_at(alloc, place, outcome))
+    let place = place_of(alloc, call, accepted, fault)?;
+    let text = message_at(alloc, call.limit, place, fault)?;
+    let why = Refused::Told(status_within(fault), Text::new(text));
+    Ok(RefusedAt { place, why })
 }
 
-// A plan as records, unless it has no command.
-fn steps_unless_empty(alloc: Global, planned: &PlanWithOrigins) -> Result<Stepped, AllocError>
-    ensures { IfOk result (λ stepped. stepped ≡ spec.steps_unless_empty planned.now) }
-{
-    if are_empty(planned.plan.groups.as_slice()) {
-        return unfit(alloc, no_dry_run(0, "the plan has no command"));
-    }
-    steps_of(alloc, planned)
-}
-
-// A plan as records, or the fault of a plan that there isn't.
-fn stepped(
+// A plan, or the refusal of the fault of a plan that there isn't.
+fn or_refused_at(
     alloc: Global,
-    limit: usize,
-    given: Given<'_>,
-    plan: &Result<PlanWithOrigins, LimitedFault>,
-) -> Result<Stepped, AllocError>
-    ensures { (expected : Result PlanWithOrigins LimitedFault) → UnlessMemoryWithin plan.now expected
-        → IfOk result (λ stepped. stepped ≡ spec.stepped limit (given_seen given.entry) expected) }
+    call: &PlanCall<'_>,
+    accepted: &Accepted<'_>,
+    plan: Result<PlanWithOrigins, LimitedFault>,
+) -> Result<PlanWithOrigins, RefusedAt>
+    ensures { (expected : Result PlanWithOrigins LimitedFault) → UnlessMemoryWithin plan expected
+        → AnswersAt result (spec.or_refused_at call.now (accepted_seen accepted.now) expected) }
 {
     match plan {
-        Ok(plan) => steps_unless_empty(alloc, plan),
-        Err(LimitedFault::Fault(Fault::Memory)) => Err(AllocError),
-        Err(fault) => failed_steps(alloc, limit, given, fault),
+        Ok(plan) => Ok(plan),
+        Err(LimitedFault::Fault(Fault::Memory)) => Err(RefusedAt::from(AllocError)),
+        Err(fault) => Err(refused_fault(alloc, call, accepted, &fault)?),
     }
 }
 
-// A call whose numbers have a meaning, and whose texts are UTF-8 and fit.
+// The plan of a call that is accepted.
+fn plan_at(
+    alloc: Global,
+    call: &PlanCall<'_>,
+    accepted: &Accepted<'_>,
+) -> Result<PlanWithOrigins, RefusedAt>
+    ensures { AnswersAt result (spec.plan_at call.now (accepted_seen accepted.now)) }
+{
+    or_refused_at(alloc, call, accepted, planned(alloc, call, accepted))
+}
+
+// The steps of a plan, unless it doesn't fit.
+fn steps_of_plan(alloc: Global, plan: &PlanWithOrigins) -> Result<Stepped, RefusedAt>
+    ensures { AnswersAt result (spec.steps_of_plan plan.now) }
+{
+    refuse_misfit(alloc, misfit_of_plan(&plan.plan))?;
+    Ok(steps_of(alloc, plan)?)
+}
+
+// The steps of a call that is accepted.
 fn steps_by(
     alloc: Global,
     call: &PlanCall<'_>,
-    host: NvccHostCompiler,
-    texts: Texts<'_>,
-    tables: &Tables,
-) -> Result<Stepped, AllocError>
-    ensures { IfOk result (λ stepped. stepped ≡ spec.steps_by call.now host (texts_seen texts.entry) tables.now) }
+    accepted: &Accepted<'_>,
+) -> Result<Stepped, RefusedAt>
+    ensures { AnswersAt result (spec.steps_by call.now (accepted_seen accepted.now)) }
 {
-    let given = Given {
-        dry1: call.dry1.bytes,
-        dry2: call.dry2.bytes,
-        cwd: texts.cwd,
-        found: &tables.found,
-    };
-    let plan = planned(alloc, call, host, texts, tables);
-    let stepped = stepped(alloc, call.limit, given, &plan);
+    let (dry1, dry2) = (call.dry1.bytes, call.dry2.bytes);
+    refuse_misfit(alloc, misfit_of(dry1, dry2, accepted.texts.flag))?;
+    let plan = plan_at(alloc, call, accepted)?;
+    let steps = steps_of_plan(alloc, &plan);
     // Dropped by a call: see "Explicit drops" in docs/ARCHITECTURE.md.
     drop(plan);
-    stepped
-}
-
-// The same, unless the texts don't fit.
-fn steps_if_fit(
-    alloc: Global,
-    call: &PlanCall<'_>,
-    host: NvccHostCompiler,
-    texts: Texts<'_>,
-    tables: &Tables,
-) -> Result<Stepped, AllocError>
-    ensures { IfOk result (λ stepped. stepped ≡ spec.unless_unfit
-        (misfit_expected (bytes_of call.now.dry1) (bytes_of call.now.dry2) (texts_seen texts.entry))
-        (spec.steps_by call.now host (texts_seen texts.entry) tables.now)) }
-{
-    match misfit_of_call(call.dry1.bytes, call.dry2.bytes, texts) {
-        Some(misfit) => unfit(alloc, misfit),
-        None => steps_by(alloc, call, host, texts, tables),
-    }
-}
-
-// A call whose numbers have a meaning.
-fn steps_with(
-    alloc: Global,
-    call: &PlanCall<'_>,
-    host: NvccHostCompiler,
-) -> Result<Stepped, AllocError>
-    ensures { IfOk result (λ stepped. stepped ≡ spec.steps_with call.now host) }
-{
-    let Some(texts) = texts_of(call) else {
-        return refused_in(alloc, Status::NotUtf8, text_field(call));
-    };
-    let Some(tables) = tables_of(alloc, texts.cwd, call)? else {
-        return refused_in(alloc, Status::NotUtf8, table_field(call));
-    };
-    let stepped = steps_if_fit(alloc, call, host, texts, &tables);
-    // Dropped by a call: see "Explicit drops" in docs/ARCHITECTURE.md.
-    drop(tables);
-    stepped
+    steps
 }
 
 /// What [`plan_steps`] tells of a call.
-pub fn steps_outcome(alloc: Global, call: &PlanCall<'_>) -> Result<Stepped, AllocError>
-    ensures { IfOk result (λ stepped. stepped ≡ spec.plan_steps call.now) }
+pub fn call_steps(alloc: Global, call: &PlanCall<'_>) -> Result<Stepped, RefusedAt>
+    ensures { AnswersAt result (spec.call_steps call.now) }
 {
-    let Some(host) = host_of(call.host_compiler) else {
-        return refused_in(alloc, Status::BadNumber, number_field(call));
-    };
-    if has_numbers(call) {
-        steps_with(alloc, call, host)
-    } else {
-        refused_in(alloc, Status::BadNumber, number_field(call))
-    }
+    let accepted = accept(alloc, call)?;
+    let steps = steps_by(alloc, call, &accepted);
+    // Dropped by a call: see "Explicit drops" in docs/ARCHITECTURE.md.
+    drop(accepted);
+    steps
 }
 
-/// Plans two dry runs of one `nvcc` call, as `plan_with_origins`, and writes the plan as records: those of `c_plans::plan_records`, and
-/// for each command of a group which commands it needs, which files it reads and writes, and which tool it runs.
+/// Plans two dry runs of one `nvcc` call, as `plan_with_origins`, and writes the plan as records: its groups, its commands (those of the
+/// groups in plan order, then those that it dropped), and their texts. For each command of a group it writes which commands it needs,
+/// which files it reads and writes, and which tool it runs.
 ///
 /// A number without a meaning is the first refusal, then a text that isn't UTF-8, then a directory that isn't absolute and plain, then
-/// texts that can't be the dry runs of a call, or a flag that can't be its option. Then come the faults of the suffixes, of the first run and of the second, and last a plan without a
-/// command. A line that exceeds the limit is a fault of its run. The answer says where the call is refused.
+/// texts that can't be the dry runs of a call, or a flag that can't be its option. Then come the faults of the suffixes, of the first run
+/// and of the second, and last a plan without a command. A line that exceeds the limit is a fault of its run. The answer says where the
+/// call is refused.
 pub fn plan_steps(
     alloc: Global,
     call: &PlanCall<'_>,
@@ -183,6 +126,6 @@ pub fn plan_steps(
         (record { groups = groups.old; commands = commands.old; steps = steps.old; numbers = numbers.old; ranges = ranges.old; bytes = out.old })
         (record { groups = groups.new; commands = commands.new; steps = steps.new; numbers = numbers.new; ranges = ranges.new; bytes = out.new }) }
 {
-    let outcome = steps_outcome(alloc, call);
-    give_steps(outcome, groups, commands, steps, numbers, ranges, out)
+    let answer = call_steps(alloc, call);
+    write_steps(answer, groups, commands, steps, numbers, ranges, out)
 }

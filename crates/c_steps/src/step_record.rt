@@ -1,5 +1,6 @@
 //! The records of a plan's commands for a program that runs them.
 
+use c_plans::PlaceRecord;
 use c_texts::Range;
 
 /// What a program that runs a command of a group has to know, beside its `CommandRecord`. Paths are elements of the list of texts.
@@ -18,20 +19,6 @@ pub struct StepRecord {
     pub tool: u32,
     /// 0 if these are all files of the compilation that it touches, else the number of the reason why they aren't.
     pub missing: u32,
-}
-
-/// Where a call is refused.
-#[repr(C)]
-#[derive(Clone, Copy, Debug)]
-pub struct PlaceRecord {
-    /// The dry run of the line that is refused, 1 or 2, else 0.
-    pub run: usize,
-    /// The number of that line, from 1, else 0.
-    pub line: usize,
-    /// The number of the field of the call that is refused, else 0.
-    pub field: u32,
-    /// 0.
-    pub reserved: u32,
 }
 
 /// The answer of the call.

@@ -1,28 +1,29 @@
 //! A plan's records with what each command reads, writes and needs, and writing them into the caller's memory.
 
-ghost use Rattle.std.specs.Prelude.{◌≡◌, ◌++◌, [], true, IfOk, OnOk, length, map, string_bytes};
-ghost use Rattle.c_texts.specs.declared.status.Status.TheVariants.{Memory};
+ghost use Rattle.std.specs.Prelude.{◌≡◌, ◌++◌, [], ℕ, List, true, IfOk, OnOk, Result, length, map, string_bytes};
+ghost use Rattle.c_texts.specs.declared.memory.Range.{Range};
 ghost use Rattle.c_texts.specs.Memory.{fits, filled};
-ghost use Rattle.c_texts.specs.Outcomes.{refused, refused_with, with_texts};
-ghost use Rattle.c_texts.specs.Statuses.{text};
-ghost use Rattle.c_steps.specs.Places.{nowhere};
+ghost use Rattle.c_texts.specs.Outcomes.{with_texts};
+ghost use Rattle.c_texts.specs.Refusals.{refusal};
+ghost use Rattle.c_plans.specs.declared.record.CommandRecord.{CommandRecord};
+ghost use Rattle.c_plans.specs.declared.record.GroupRecord.{GroupRecord};
+ghost use Rattle.c_plans.specs.declared.refused_at.RefusedAt.{RefusedAt};
+ghost use Rattle.c_plans.specs.Places.{AnswersAt};
+ghost use Rattle.c_steps.specs.declared.step_record.StepRecord.{StepRecord};
 ghost use Rattle.c_steps.specs.Steps as spec;
 ghost use Rattle.c_steps.specs.StepBuffers as buffers;
 
-use crate::place::nowhere;
-use crate::step_record::{PlaceRecord, StepRecord, StepsAnswer};
-use c_plans::{CommandRecord, GroupRecord, Recorded};
-use c_texts::{Outcome, Range, Refused};
+use crate::step_record::{StepRecord, StepsAnswer};
+use c_plans::{CommandRecord, GroupRecord, Recorded, RefusedAt, nowhere};
+use c_texts::{Outcome, Range};
 use command_files::CommandFiles;
 use std::alloc::{AllocError, Global};
 use std::marker::Model;
 
-/// The place of a refusal, a plan's records, and what else there is to know of its commands.
+/// A plan's records, and what else there is to know of its commands.
 #[derive(Drop)]
 pub struct Stepped {
-    /// Where the call or a dry run is at fault, if it is refused.
-    pub place: PlaceRecord,
-    /// The status, the texts, and the plan's groups and commands.
+    /// The texts, and the plan's groups and commands.
     pub recorded: Recorded,
     /// What each command that runs reads, writes and needs, in the plan's order.
     pub steps: Vec<StepRecord>,
@@ -31,11 +32,12 @@ pub struct Stepped {
 }
 
 impl Model for Stepped {
+    ghost use Rattle.c_plans.specs.Places.{nowhere};
     ghost use Rattle.c_steps.specs.Steps.{Stepped};
 
     ghost Value = { Stepped };
 
-    ghost view = { λ s. record { place = s.place; recorded = s.recorded; steps = s.steps.items; numbers = s.numbers.items } };
+    ghost view = { λ s. record { place = nowhere; recorded = s.recorded; steps = s.steps.items; numbers = s.numbers.items } };
 }
 
 /// What there is to know of a command beside its record.
@@ -84,20 +86,7 @@ impl Stepped {
         ensures { result ≡ spec.of_recorded recorded }
     {
         Stepped {
-            place: nowhere(),
             recorded,
-            steps: Vec::new(alloc),
-            numbers: Vec::new(alloc),
-        }
-    }
-
-    /// A refusal at a place.
-    pub(crate) fn refused_at(alloc: Global, place: PlaceRecord, outcome: Outcome) -> Stepped
-        ensures { result ≡ spec.refused_at place outcome }
-    {
-        Stepped {
-            place,
-            recorded: Recorded::of_outcome(alloc, outcome),
             steps: Vec::new(alloc),
             numbers: Vec::new(alloc),
         }
@@ -186,7 +175,7 @@ fn tell_steps(
     put(all, text, out);
     StepsAnswer {
         status: recorded.outcome.status(),
-        place: stepped.place,
+        place: nowhere(),
         groups: recorded.groups.len(),
         commands: recorded.commands.len(),
         steps: stepped.steps.len(),
@@ -196,15 +185,17 @@ fn tell_steps(
     }
 }
 
-// Tells the caller that an allocation failed: writes the message, if it fits.
-fn tell_memory(out: &mut [u8]) -> StepsAnswer
-    ensures answer { result ≡ buffers.sizes_of (spec.refused_at nowhere (refused Memory)) }
-    ensures text { out.new ≡ filled (fits (text Memory) out.old) (text Memory) out.old }
+// Tells the caller why and where the call is refused: writes the message, if it fits.
+fn tell_refusal(refused: &RefusedAt, out: &mut [u8]) -> StepsAnswer
+    ensures { (groups : List GroupRecord) (commands : List CommandRecord) (steps : List StepRecord) (numbers : List ℕ) (ranges : List Range)
+        → buffers.TellsSteps (spec.refused_at refused.now.place (refusal refused.now.why)) result
+        (record { groups = groups; commands = commands; steps = steps; numbers = numbers; ranges = ranges; bytes = out.old })
+        (record { groups = groups; commands = commands; steps = steps; numbers = numbers; ranges = ranges; bytes = out.new }) }
 {
-    let told = Refused::Memory.tell_text(out);
+    let told = refused.why.tell_text(out);
     StepsAnswer {
         status: told.status,
-        place: nowhere(),
+        place: refused.place,
         groups: 0,
         commands: 0,
         steps: 0,
@@ -214,9 +205,9 @@ fn tell_memory(out: &mut [u8]) -> StepsAnswer
     }
 }
 
-/// Tells the caller a plan as records or a refusal, or that an allocation failed.
-pub(crate) fn give_steps(
-    outcome: Result<Stepped, AllocError>,
+/// Tells the caller a plan as records, or why and where the call is refused.
+pub(crate) fn write_steps(
+    answer: Result<Stepped, RefusedAt>,
     groups: &mut [GroupRecord],
     commands: &mut [CommandRecord],
     steps: &mut [StepRecord],
@@ -224,13 +215,13 @@ pub(crate) fn give_steps(
     ranges: &mut [Range],
     out: &mut [u8],
 ) -> StepsAnswer
-    ensures { (expected : spec.Stepped) → IfOk outcome (λ stepped. stepped ≡ expected)
-        → buffers.GivesSteps expected result
+    ensures { (expected : Result spec.Stepped RefusedAt) → AnswersAt answer expected
+        → buffers.GivesSteps (spec.ended expected) result
         (record { groups = groups.old; commands = commands.old; steps = steps.old; numbers = numbers.old; ranges = ranges.old; bytes = out.old })
         (record { groups = groups.new; commands = commands.new; steps = steps.new; numbers = numbers.new; ranges = ranges.new; bytes = out.new }) }
 {
-    match outcome {
+    match answer {
         Ok(stepped) => tell_steps(&stepped, groups, commands, steps, numbers, ranges, out),
-        Err(_) => tell_memory(out),
+        Err(refused) => tell_refusal(&refused, out),
     }
 }

@@ -2,14 +2,15 @@
 
 ghost use Rattle.std.specs.Prelude.{◌≡◌, IfOk, Result};
 ghost use Rattle.texts.specs.declared.fault.Fault.{Fault};
-ghost use Rattle.texts.specs.Fault.{UnlessMemory, UnlessMemoryIs};
+ghost use Rattle.texts.specs.Fault.{UnlessMemory};
 ghost use Rattle.c_texts.specs.Failures as spec;
-ghost use Rattle.c_texts.specs.Outcomes as outcomes;
+ghost use Rattle.c_texts.specs.Refusals.{Answers};
 
-use crate::outcome::{Outcome, refused_with};
+use crate::refusal::Refused;
 use crate::status::Status;
 use std::alloc::{AllocError, Global};
 use texts::fault::Fault;
+use texts::text::Text;
 
 /// The status of a fault.
 pub fn status_of(fault: &Fault) -> Status
@@ -34,22 +35,21 @@ pub fn status_of(fault: &Fault) -> Status
     }
 }
 
-/// A fault: its status and its message. Running out of memory is an error, as it is of all calls.
-pub fn failed(alloc: Global, fault: &Fault) -> Result<Outcome, AllocError>
-    ensures { IfOk result (λ outcome. UnlessMemoryIs fault.now (outcome ≡ spec.failed fault.now)) }
+/// The refusal of a fault: its status and its message.
+pub fn refused_by(alloc: Global, fault: &Fault) -> Result<Refused, AllocError>
+    ensures { IfOk result (λ refused. refused ≡ spec.refused_by fault.now) }
 {
-    let text = fault.message(alloc)?;
-    Ok(refused_with(alloc, status_of(fault), text))
+    let why = Text::new(fault.message(alloc)?);
+    Ok(Refused::Told(status_of(fault), why))
 }
 
-/// An outcome, or that of a fault.
-pub fn answered(alloc: Global, answer: Result<Outcome, Fault>) -> Result<Outcome, AllocError>
-    ensures { (expected : Result outcomes.Outcome Fault) → UnlessMemory answer expected
-        → IfOk result (λ outcome. outcome ≡ spec.answered expected) }
+/// What there is, or the refusal of a fault. Running out of memory is one of its own.
+pub fn or_refused<T: Drop>(alloc: Global, answer: Result<T, Fault>) -> Result<T, Refused>
+    ensures { (expected : Result T Fault) → UnlessMemory answer expected → Answers result (spec.or_refused expected) }
 {
     match answer {
-        Ok(outcome) => Ok(outcome),
-        Err(Fault::Memory) => Err(AllocError),
-        Err(fault) => failed(alloc, &fault),
+        Ok(found) => Ok(found),
+        Err(Fault::Memory) => Err(Refused::Memory),
+        Err(fault) => Err(refused_by(alloc, &fault)?),
     }
 }

@@ -4,9 +4,8 @@
 //! buffer is too small. Either way it returns the sizes of the answer, so a call with empty buffers asks for the sizes.
 //! No call keeps anything: there is no state and nothing to free.
 //!
-//! `c_lines` and `c_plans` have the other calls, and are written with what is here: an `Outcome` is what a call ends with,
-//! and `give_text` and `give_list` tell it to the caller. The crate `zigrunk_c` exports all calls to C. A program in Rust takes an outcome
-//! itself, by the functions whose names end in `_outcome`.
+//! `c_lines` and `c_plans` have the other calls, and are written with what is here: a call has an answer or is `Refused`, and `write_text`
+//! and `write_list` tell it to the caller. The crate `zigrunk_c` exports all calls to C. A program in Rust takes the answer itself.
 #![tactic(auto)]
 
 mod failure;
@@ -19,11 +18,9 @@ mod status;
 mod variables;
 mod versions;
 
-pub use failure::{answered, failed, status_of};
+pub use failure::{or_refused, refused_by, status_of};
 pub use memory::{InputText, ListAnswer, Range, TextAnswer, text_of, words_of};
-pub use outcome::{
-    Outcome, give_list, give_text, refused, refused_with, tell_text, write_list, write_text,
-};
+pub use outcome::{Outcome, tell_text, write_list, write_text};
 pub use refusal::Refused;
 pub use shell::{quote, quoted_text, split, split_words};
 pub use status::{Status, message};

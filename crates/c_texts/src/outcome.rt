@@ -9,12 +9,11 @@ ghost use Rattle.c_texts.specs.Refusals.{Answers, ended, ended_text};
 
 use crate::memory::{ListAnswer, Range, TextAnswer};
 use crate::refusal::Refused;
-use crate::status::Status;
 use std::alloc::{AllocError, Global};
 use std::marker::Model;
 use texts::text::Text;
 
-/// A status, and texts one behind the other.
+/// The status of success, and texts one behind the other.
 #[derive(Drop)]
 pub struct Outcome {
     status: i32,
@@ -43,17 +42,6 @@ impl Outcome {
         }
     }
 
-    /// Success, with one text that no range names.
-    pub fn of_text(text: String, alloc: Global) -> Outcome
-        ensures { result ≡ spec.of_text (string_bytes text) }
-    {
-        Outcome {
-            status: 0,
-            ranges: Vec::new(alloc),
-            text,
-        }
-    }
-
     /// Success, with these texts.
     pub fn of_texts(alloc: Global, texts: &[String]) -> Result<Outcome, AllocError>
         ensures { IfOk result (λ outcome. outcome ≡ spec.of_texts (map string_bytes texts.now)) }
@@ -63,7 +51,7 @@ impl Outcome {
         Ok(outcome)
     }
 
-    /// The status.
+    /// The status: that of success.
     pub fn status(&self) -> i32
         ensures { result ≡ self.now.0 }
     {
@@ -136,25 +124,6 @@ impl Outcome {
     }
 }
 
-/// A refusal, with a text of its own.
-pub fn refused_with(alloc: Global, status: Status, text: String) -> Outcome
-    ensures { result ≡ spec.refused_with status (string_bytes text) }
-{
-    Outcome {
-        status: status.number(),
-        ranges: Vec::new(alloc),
-        text,
-    }
-}
-
-/// A refusal, with its text.
-pub fn refused(alloc: Global, status: Status) -> Result<Outcome, AllocError>
-    ensures { IfOk result (λ outcome. outcome ≡ spec.refused status) }
-{
-    let text = String::from_str(alloc, status.text())?;
-    Ok(refused_with(alloc, status, text))
-}
-
 /// Writes one text into memory of the caller, if it fits.
 pub fn tell_text(status: i32, text: &[u8], out: &mut [u8]) -> TextAnswer
     ensures { spec.TellsText (status, ([], text.now)) result out.old out.new }
@@ -187,38 +156,6 @@ pub(crate) fn tell_list(
         status,
         count: places.len(),
         length: text.len(),
-    }
-}
-
-/// Tells the caller an outcome with one text, or that an allocation failed.
-pub fn give_text(outcome: Result<Outcome, AllocError>, out: &mut [u8]) -> TextAnswer
-    ensures { (expected : spec.Outcome) → IfOk outcome (λ o. o ≡ expected)
-        → spec.GivesText expected result out.old out.new }
-{
-    match outcome {
-        Ok(outcome) => tell_text(outcome.status, outcome.text.as_bytes(), out),
-        Err(_) => Refused::Memory.tell_text(out),
-    }
-}
-
-/// Tells the caller an outcome, or that an allocation failed.
-pub fn give_list(
-    outcome: Result<Outcome, AllocError>,
-    ranges: &mut [Range],
-    out: &mut [u8],
-) -> ListAnswer
-    ensures { (expected : spec.Outcome) → IfOk outcome (λ o. o ≡ expected)
-        → spec.GivesList expected result ranges.old ranges.new out.old out.new }
-{
-    match outcome {
-        Ok(outcome) => tell_list(
-            outcome.status,
-            outcome.ranges.as_slice(),
-            outcome.text.as_str(),
-            ranges,
-            out,
-        ),
-        Err(_) => Refused::Memory.tell_list(ranges, out),
     }
 }
 

@@ -7,10 +7,8 @@ ghost use Rattle.c_lines.specs.LineRecordCalls.{line_records};
 ghost use Rattle.c_lines.specs.LineRecords.{GivesLine};
 ghost use Rattle.c_lines.specs.Lines as lines;
 ghost use Rattle.c_lines.specs.NvccOutline.{nvcc_outcome};
-ghost use Rattle.c_plans.specs.Asking.{candidates_outcome, limited_lookups_outcome, lookups_outcome};
-ghost use Rattle.c_plans.specs.PlanRecords.{plan_records};
+ghost use Rattle.c_plans.specs.Asking.{candidates_outcome, limited_lookups_outcome};
 ghost use Rattle.c_plans.specs.Planning.{plan_outcome};
-ghost use Rattle.c_plans.specs.Records.{GivesRecords};
 ghost use Rattle.c_plans.specs.Renaming.{remap_outcome};
 ghost use Rattle.c_schedules.specs.Answers as schedule_answers;
 ghost use Rattle.c_schedules.specs.Calls as schedules;
@@ -24,7 +22,7 @@ ghost use Rattle.c_texts.specs.Version as version;
 
 use c_keys::KeyCall;
 use c_lines::{LineAnswer, LineCall, NvccLineCall, OutputRecord};
-use c_plans::{CommandRecord, GroupRecord, PlanCall, RecordsAnswer};
+use c_plans::{CommandRecord, GroupRecord, PlanCall};
 use c_schedules::{ProgressAnswer, ScheduleAnswer, ScheduleCall, ToldAnswer};
 use c_steps::{StepRecord, StepsAnswer};
 use c_texts::{InputText, ListAnswer, Range, TextAnswer};
@@ -79,22 +77,7 @@ pub extern "C" fn zigrunk_quote(
     c_texts::quote(alloc, words, out)
 }
 
-/// Lists the look-ups of programs that planning two dry runs makes.
-#[unsafe(no_mangle)]
-pub extern "C" fn zigrunk_lookups(
-    alloc: Global,
-    dry1: &[u8],
-    dry2: &[u8],
-    cwd: &[u8],
-    ranges: &mut [Range],
-    out: &mut [u8],
-) -> ListAnswer
-    ensures { GivesList (lookups_outcome dry1.now dry2.now cwd.now) result ranges.old ranges.new out.old out.new }
-{
-    c_plans::lookups(alloc, dry1, dry2, cwd, ranges, out)
-}
-
-/// Lists the same look-ups, if no line of the dry runs exceeds a limit.
+/// Lists the look-ups of programs that planning two dry runs makes, if no line of these exceeds a limit.
 #[unsafe(no_mangle)]
 pub extern "C" fn zigrunk_lookups_within(
     alloc: Global,
@@ -136,23 +119,6 @@ pub extern "C" fn zigrunk_plan(
     ensures { GivesText (plan_outcome call.now form) result out.old out.new }
 {
     c_plans::plan(alloc, call, form, out)
-}
-
-/// Plans two dry runs of one nvcc call, as records.
-#[unsafe(no_mangle)]
-pub extern "C" fn zigrunk_plan_records(
-    alloc: Global,
-    call: &PlanCall<'_>,
-    groups: &mut [GroupRecord],
-    commands: &mut [CommandRecord],
-    ranges: &mut [Range],
-    out: &mut [u8],
-) -> RecordsAnswer
-    ensures { GivesRecords (plan_records call.now) result
-        (record { groups = groups.old; commands = commands.old; ranges = ranges.old; bytes = out.old })
-        (record { groups = groups.new; commands = commands.new; ranges = ranges.new; bytes = out.new }) }
-{
-    c_plans::plan_records(alloc, call, groups, commands, ranges, out)
 }
 
 /// Plans two dry runs of one nvcc call for a program that runs the commands, as records.

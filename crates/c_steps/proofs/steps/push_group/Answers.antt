@@ -1,4 +1,4 @@
-use Rattle.std.proofs.Common.{ℕ, ◌+◌, List, ◌∷◌, [], drop, length, map, vec_items, sym, ap, ◌∙◌, length-append}
+use Rattle.std.proofs.Common.{ℕ, ◌+◌, List, ◌∷◌, [], drop, length, sym, ap, ◌∙◌, length-append}
 use Rattle.texts.proofs.PushedLemmas.{next-left}
 use Rattle.c_steps.specs.Steps.{Extra, extra_of, extras_from, known_seen, step_at, with_extra, with_extras}
 use Rattle.c_steps.proofs.StepLemmas.{extra-then}

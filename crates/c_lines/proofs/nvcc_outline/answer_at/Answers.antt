@@ -3,7 +3,7 @@ use Rattle.nvcc_calls.specs.Answer.{nvcc_answer}
 use Rattle.nvcc_calls.specs.declared.answer.Answer.{Answer}
 use Rattle.texts.specs.declared.fault.Fault.{Fault}
 use Rattle.texts.specs.Fault.{UnlessMemory}
-use Rattle.c_lines.proofs.nvcc_outline.outcome_at.Goals as goal
+use Rattle.c_lines.proofs.nvcc_outline.answer_at.Goals as goal
 
 pub returns : goal.returns
 returns c =
@@ -11,5 +11,5 @@ returns c =
     let tools = c.args.tools in
     let answer : List (List ℕ) → List (List ℕ × List ℕ) → Result Answer Fault =
     λ words variables. nvcc_answer (record { cwd = line.cwd.now; tmp = tools.tmp.now; nvcc = tools.nvcc.now; words = words }) variables [] in
-    c.told.ensures (answer line.words line.variables)
+    c.or_refused.ensures (answer line.words line.variables)
     (subst (UnlessMemory c.read_call.result) (λ i. answer (c.as_slice.ensures i) (c.as_slice-2.ensures i)) c.read_call.ensures)

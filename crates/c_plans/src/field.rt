@@ -1,13 +1,13 @@
 //! The field of a call that can't be read.
 
-ghost use Rattle.std.specs.Prelude.{◌≡◌, map};
+ghost use Rattle.std.specs.Prelude.{◌≡◌};
 ghost use Rattle.std.specs.List.{list_all};
 ghost use Rattle.std.specs.Str.{is_utf8};
 ghost use Rattle.c_texts.specs.Memory.{bytes_of};
 ghost use Rattle.c_texts.specs.Variables.{is_utf8_pair};
-ghost use Rattle.c_steps.specs.Fields as spec;
+ghost use Rattle.c_plans.specs.Fields as spec;
 
-use c_plans::{PlanCall, host_of};
+use crate::plan_call::{PlanCall, host_of};
 use c_texts::{InputText, Variable, text_of};
 
 // Whether a text is UTF-8.
