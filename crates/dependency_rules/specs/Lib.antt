@@ -2,3 +2,4 @@ pub mod Asking
 pub mod Markers
 pub mod Orders
 pub mod Rules
+pub mod Warnings

@@ -8,7 +8,9 @@ mod files;
 mod markers;
 mod orders;
 mod rules;
+mod warnings;
 
 pub use asking::{Rule, rule_asked};
 pub use orders::order_of;
 pub use rules::rule_text;
+pub use warnings::without_warnings;

@@ -34,7 +34,7 @@ abbrev pub is_file : List ℕ → Option (List ℕ) → Bool
 is_file late None = false
 is_file late (Some file) = bytes_eq file late
 
--- which programs write the file of the module id that they name
+-- beside which programs that name a module id's file others may begin: cudafe++ alone, though a cicc may write one too
 abbrev pub given_by : Program → Bool → Bool
 given_by programs.Cudafe is_named = is_named
 given_by programs.Cicc is_named = false

@@ -1,0 +1,2 @@
+pub mod Fatbins
+pub mod OwnFiles
