@@ -35,6 +35,7 @@ export ZIGRUNK_PROGRAM ZIGRUNK_LIBRARY=$scratch/library/lib/libzigrunk.so.1 ZIGR
 . tests/cluster/ssh.bash
 . tests/cluster/makeflow.bash
 . tests/cluster/deaths.bash
+. tests/cluster/sent.bash
 
 # The parts run in a process group of their own, so that a signal to the test ends it at once, whatever runs.
 # own: the processes that have the variables of this test or of its lane, but for itself.
@@ -264,7 +265,7 @@ on_nodes() {
 one_by_one() {
     first=1 second=2 partition=from1
     [ -z "$(chosen by_array by_batch_form makeflow_sizes makeflow_deaths makeflow_transfer by_files)" ] || try by_nvcc
-    try $(chosen by_array by_batch_form sleeping_batch sleeping_array costs)
+    try $(chosen by_array by_batch_form sleeping_batch sleeping_array by_sending costs)
     first=26 second=27
     with_makeflow=''
     ! makeflow_here || with_makeflow=1

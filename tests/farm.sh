@@ -37,7 +37,7 @@ case_of() {
     room=$scratch/room
     begin "$1"
     mkdir "$room/run" "$room/share" && chmod 700 "$room/run"
-    export LOG=$room/log TMPDIR=$room/tmp XDG_RUNTIME_DIR=$room/run ZIGRUNK_TMP=$room/share PAUSE=0
+    export LOG=$room/log TMPDIR=$room/tmp XDG_RUNTIME_DIR=$room/run ZIGRUNK_TMP=$room/share PAUSE=0 SIZE=0
     : > "$LOG"
 }
 
@@ -61,6 +61,9 @@ products() {
 
 # worker NAME [WORD..]: the shell's words that start a worker of this name, for two commands at once, by the program that words name.
 worker() { echo "exec ${*:2} $scratch/bin/zigrunk-worker --name $1 -j2"; }
+
+# after_left_out: the shell's words that wait until the batch has said that a machine gets no work. The machine itself says it to the same file.
+after_left_out() { echo "until grep -qs '^zigrunk-batch: [a-z0-9]* gets no work' $room/err; do sleep 0.05; done"; }
 
 # farm WORD..: runs the batch with these words.
 farm() {
@@ -93,6 +96,7 @@ within() {
 }
 none_run() { ! pgrep -f "$room|$scratch/bin/zigrunk-worker" > /dev/null; }
 said() { grep -q "$1" "$room/err"; }
+has_drafts() { [ -n "$(find . -name '.zigrunk.*')" ]; }
 has_objects() { [ "$(find . -maxdepth 1 -name '*.o' 2> /dev/null | wc -l)" -ge "$1" ]; }
 
 # node NAME: the process of a worker. It is the oldest of that name: a guard is a younger one.
@@ -188,7 +192,7 @@ time.sleep(100)'
     if case_of 'wrong usage'; then
         echo true > list
         ZIGRUNK_TMP='' farm --workers true list
-        same 'no shared directory' "$status $(cat "$room/err")" '1 zigrunk-batch: --workers needs ZIGRUNK_TMP, a directory that all machines share'
+        same 'no shared directory' "$status $(cat "$room/err")" '1 zigrunk-batch: --workers needs ZIGRUNK_TMP, a directory that all machines share, or --send-files'
         ZIGRUNK_RUNNER='env' farm --workers true list
         same 'a runner' "$status $(cat "$room/err")" '1 zigrunk-batch: --workers and ZIGRUNK_RUNNER exclude each other'
         zigrunk-worker < /dev/null 2> "$room/err"
@@ -245,6 +249,7 @@ signal() {
 }
 
 deaths() {
+    local here='[ "$(ulimit -f)" = unlimited ]'
     for whom in node all_of; do
         if case_of "a killed worker, $whom"; then
             two_nodes
@@ -352,10 +357,10 @@ deaths() {
         end
     fi
     if case_of 'a command that hangs'; then
-        printf '%s\n' 'echo "$$" >> ran; sleep 300' 'sleep 0.5; echo made' > list
+        printf '%s\n' 'trap "" TERM; echo "$$" >> ran; sleep 300' 'sleep 0.5; echo made' > list
         farm --timeout 2 --workers "$(worker n1)" --workers "$(worker n2)" list
         same 'status, output and tries' "$status $(cat "$room/out") $(wc -l < ran)" '124 made 2'
-        same messages "$(cat "$room/err")" $'zigrunk-batch: sh took longer than 2 seconds\nzigrunk-batch: line 1: exit status 124: echo "$$" >> ran; sleep 300'
+        same messages "$(cat "$room/err")" $'zigrunk-batch: sh took longer than 2 seconds\nzigrunk-batch: line 1: exit status 124: trap "" TERM; echo "$$" >> ran; sleep 300'
         end
     fi
     if case_of 'a command that ends its worker each time'; then
@@ -365,9 +370,9 @@ deaths() {
         end
     fi
     if case_of 'a worker on which commands fail'; then
-        for number in 1 2 3; do echo "echo >> began; sleep 2; head -c 100000 /dev/zero > k$number.o"; done > list
+        for number in 1 2 3; do echo "echo >> began; echo out; sleep 2; head -c 100000 /dev/zero > k$number.o"; done > list
         farm --workers "ulimit -f 128; $(worker n1)" --workers "until [ -e began ]; do sleep 0.05; done; $(worker n2)" list
-        same 'status and sizes' "$status $(stat -c %s k*.o | sort -u)" '0 100000'
+        same 'status, sizes and output' "$status $(stat -c %s k*.o | sort -u) $(cat "$room/out")" $'0 100000 out\nout\nout'
         said '^zigrunk-batch: n1 gets no work: sh ended with status 153 there, and otherwise on another machine$' || problems+="  messages: $(cat "$room/err")"$'\n'
         end
     fi
@@ -384,6 +389,56 @@ deaths() {
         same status "$status" 0
         products
         said '^zigrunk-batch: s0 gets no work: [a-z+]* ended with status 1 there, and otherwise on another machine$' || problems+="  messages: $(cat "$room/err")"$'\n'
+        end
+    fi
+    if case_of 'a command waits for a machine on which it has not failed'; then
+        for number in 1 2; do
+            echo "if $here; then touch long; sleep 2; echo made > k$number.o; else until [ -e long ]; do sleep 0.05; done; exit 127; fi"
+        done > list
+        farm --workers "ulimit -f 128; $(worker n1) -j1" --workers "$(worker n2) -j1" list
+        same 'status and products' "$status $(cat k1.o k2.o)" $'0 made\nmade'
+        said '^zigrunk-batch: n1 gets no work: sh ended with status 127 there, and otherwise on another machine$' || problems+="  messages: $(cat "$room/err")"$'\n'
+        end
+    fi
+    if case_of 'a command that has failed on the only machine that is left'; then
+        for number in 1 2; do
+            echo "if $here; then touch long; sleep 1; kill -KILL \"\$PPID\"; sleep 300; else until [ -e long ]; do sleep 0.05; done; exit 127; fi"
+        done > list
+        start --give-up 3 --workers "ulimit -f 128; $(worker n1) -j1" --workers "$(worker n2) -j1" list
+        ended 127
+        end
+    fi
+    if case_of 'a worker that does not end a command'; then
+        echo "gcc -c k1.cu -o k1.o" > list
+        farm --timeout 1 --workers "python3 $crowd 1 1 300" --workers "until grep -q 'end a command' $room/err; do sleep 0.05; done; $(worker n2)" list
+        same 'status, messages and products' "$status $(cat "$room/err") $(ls)" $'0 zigrunk-batch: s0 can\'t end a command, so 1 command of it run elsewhere k1.o\nlist'
+        end
+    fi
+    if case_of 'products that are here late'; then
+        echo "gcc -c k1.cu -o k1.o" > list
+        farm --workers "LATE=1 python3 $crowd 1 1 0" list
+        same 'status, messages and products' "$status$(cat "$room/err") $(cat k1.o)" '0 made'
+        end
+    fi
+    if case_of 'a batch that is killed while it makes products'; then
+        for number in 1 2 3 4; do echo "gcc -c k$number.cu -o k$number.o" && echo "source $number" > "k$number.cu"; done > list
+        for whom in alone 'with its guard and its worker'; do
+            PAUSE=900 start --workers "$(worker n1)" list
+            within 30 has_drafts || problems+='  there is nothing half made'$'\n'
+            [ "$whom" = alone ] && ids='' || ids=$({ pgrep -f "^zigrunk-batch --workers .*$scratch/bin/zigrunk-worker"; all_of n1; } | tr '\n' ' ')
+            # shellcheck disable=SC2086 # several ids
+            kill -KILL "$process" $ids
+            { wait "$process"; } 2> /dev/null
+            within 20 none_run || problems+="  processes: $(pgrep -af "$room|$scratch/bin/zigrunk-worker")"$'\n'
+            if [ "$whom" = alone ]; then
+                within 10 eval '! has_drafts' || problems+="  its guard leaves $(find . -name '.zigrunk.*')"$'\n'
+            else
+                has_drafts || problems+='  nothing is left to remove'$'\n'
+            fi
+        done
+        farm --workers "$(worker n1)" list
+        same 'status and messages of the next one' "$status$(cat "$room/err")" 0
+        rm -rf "$room/tmp/zigrunk-$user"/worker*
         end
     fi
     if case_of 'a batch that was killed goes on where it was'; then
@@ -436,7 +491,225 @@ without room for temporary files|mount -t tmpfs -o size=16k none ROOM/tmp|there 
 that may not write to the shared directory|mount --bind ROOM/share ROOM/share && mount -o remount,bind,ro ROOM/share|there is no room in ROOM/share/.*
 with old sources|mkdir ROOM/old && cp k*.cu ROOM/old && mount --bind ROOM/old ROOM/work && cd ROOM/work|it.* ROOM/work/.*
 END
+    if case_of 'a machine with another compiler than that of a call'; then
+        mkdir wanted "$room/own"
+        cp "$CUDA/bin/gcc" "$room/own/gcc"
+        sed 's/injected/INJECTED/g; s/END/DNE/g' "$CUDA/bin/gcc" > "$room/other" && chmod +x "$room/other"
+        echo "source" > k1.cu
+        echo "$room/own/gcc -c k1.cu -o k1.o" > list
+        zigrunk-batch list > "$room/alone" 2>&1 && mv k1.o wanted
+        farm --workers "$(elsewhere n1 mount --bind "$room/other" "$room/own/gcc")" --workers "$(after_left_out); $(worker n2)" list
+        same status "$status" 0
+        products
+        said "^zigrunk-batch: n1 gets no work: its $room/own/gcc has other contents$" || problems+="  messages: $(cat "$room/err")"$'\n'
+        end
+    fi
 }
 
-for part in ${PARTS-work deaths unfit}; do "$part"; done
+# files_case NAME: begins a case without a shared disk, whose commands make files of 300 kB.
+files_case() {
+    case_of "without a shared disk: $1" && export ZIGRUNK_TMP='' SIZE=300000
+}
+
+# alone NAME [WORD..]: as `worker`, on a machine that sees neither the batch's working directory nor its temporary files, if a process may have
+# a file system of its own. The first word may be `-o SIZE`, how much room there is for the machine's own temporary files.
+alone() {
+    local room_for='' name=$1
+    shift
+    [ "${1-}" != -o ] || { room_for="-o size=$2" && shift 2; }
+    if unshare -m true 2> /dev/null; then
+        echo "exec unshare -m sh -c 'mount -t tmpfs none $room/work && mount -t tmpfs $room_for none $room/tmp && cd / && $(worker "$name" "$@")'"
+    else
+        worker "$name" "$@"
+    fi
+}
+
+# two_alone [WORD..]: as `two_nodes`, without a shared disk.
+two_alone() {
+    sources 6
+    PAUSE=300 start --send-files --give-up 3 --wait 5 --workers "$(alone n1 "$@")" --workers "$(worker n2)" list
+}
+
+files() {
+    local how wanted
+    if files_case 'two workers make what is made without'; then
+        sources 6
+        farm --send-files --workers "$(alone n1)" --workers "$(worker n2)" list
+        same 'status and messages' "$status$(cat "$room/err" "$room/out")" 0
+        products
+        end
+    fi
+    if files_case 'device commands wait for a worker, and others run here'; then
+        sources 2
+        echo 'echo here >> here' >> list
+        farm --send-files --wait 2 --workers 'sleep 300' list
+        same 'status, messages and products' "$status $(cat "$room/err" here) $(find . -maxdepth 1 -name '*.o')" $'1 zigrunk-batch: there has been no worker for 2 seconds\nhere '
+        end
+    fi
+    if files_case 'real nvcc'; then
+        if ! PATH=$real_path command -v nvcc > /dev/null; then
+            problems='' name='real nvcc' && skip 'real nvcc without a shared disk' 'nvcc is not on the path' && cd "$scratch" && return
+        fi
+        printf '%s\n' '#include <cassert>' '__global__ void k(float *x) { assert(x); x[threadIdx.x] *= 2; }' 'void c(float *x) { k<<<1, 32>>>(x); }' > k.cu
+        printf '%s\n' '__global__ void k(float *x) { asm("odd;"); }' > bad.cu
+        words='-gencode=arch=compute_80,code=sm_80 -gencode=arch=compute_90,code=[sm_90,compute_90] -c k.cu'
+        forms=('' '-lineinfo' '-rdc=true' '-MD -MF k.d' '-maxrregcount=32')
+        for form in "${!forms[@]}"; do
+            # shellcheck disable=SC2086 # several words
+            PATH=$real_path nvcc $words ${forms[form]} -o wanted$form.o 2> /dev/null
+            echo "nvcc $words ${forms[form]} -o k$form.o" >> list
+        done
+        mv k.d wanted.d
+        echo 'nvcc -arch=sm_80 -c bad.cu -o bad.o' >> list
+        PATH=$scratch/bin:$real_path zigrunk-batch list > "$room/wanted" 2> "$room/wanted_err"
+        same 'status without workers' "$?" 255
+        rm k[0-9].o k.d
+        PATH=$scratch/bin:$real_path ZIGRUNK_EXPLAIN=1 farm --send-files --workers "$(alone n1)" --workers "$(alone n2)" list
+        same status "$status" 255
+        same 'output and messages' "$(diff "$room/wanted" "$room/out"; diff "$room/wanted_err" "$room/err")" ''
+        for form in "${!forms[@]}"; do
+            same "object, ${forms[form]}" "$(objcopy --strip-unneeded "wanted$form.o" a && objcopy --strip-unneeded "k$form.o" b && cmp a b 2>&1)" ''
+        done
+        same dependencies "$(sed s/wanted3/k3/g wanted.d | diff - k.d)" ''
+        end
+    fi
+    if files_case 'a worker with one slot'; then
+        sources 2
+        echo 'until [ -e go ]; do sleep 0.05; done' >> list
+        PAUSE_cicc=3000 start --send-files --timeout 5 --workers "$(worker n1) -j1" list
+        within 30 runs_at n1 || problems+='  n1 gets no commands'$'\n'
+        sleep 1
+        same 'commands at once, beside the guard' "$(pgrep -c -P "$(node n1)")" 2
+        within 60 has_objects 2 || problems+="  messages: $(cat "$room/err")"$'\n'
+        same 'folders of commands that have ended' "$(find "$room/tmp/zigrunk-$user" -path '*/worker/[0-9]*' -prune)" ''
+        touch go
+        ended 0
+        products
+        end
+    fi
+    if files_case 'as many commands at once here as there are slots'; then
+        for _ in $(seq 12); do echo 'echo + >> ends; sleep 0.2; echo - >> ends'; done > list
+        ZIGRUNK_SLOTS=3 farm --send-files --workers "$(worker n1)" list
+        same 'status and most' "$status $(awk '{ now += $1 == "+" ? 1 : -1; if (now > most) most = now } END { print most }' ends)" '0 3'
+        end
+    fi
+    # What a worker gets of a file, what the batch gets of a product, and how that ends.
+    while IFS='|' read -r how wanted; do
+        if files_case "a connection that is cut off, $how"; then
+            two_alone env "CUT=$how" "$proxy" "$room/hole"
+            within 60 said "^zigrunk-batch: n1 has $wanted, so " || problems+="  messages: $(cat "$room/err")"$'\n'
+            rm -f "$room/hole"
+            ended 0
+            products
+            end
+        fi
+    done << 'END'
+to:500000:hole|been silent for 3 seconds
+to:500000:close|\(gone\|come again\)
+to:500000:half|come again
+from:450000:hole|been silent for 3 seconds
+from:450000:close|\(gone\|come again\)
+from:450000:kill|gone
+END
+    if files_case 'an input that changes while it is sent'; then
+        sources 3
+        start --send-files --workers "$(alone n1 env CUT=to:500000:hole "$proxy" "$room/hole")" list
+        within 30 [ -e "$room/hole" ] || problems+='  no file is sent'$'\n'
+        find "$room/tmp" -name '*.ii' -exec touch -d 2001-01-01 {} +
+        rm "$room/hole"
+        ended 0
+        same messages "$(cat "$room/err")" ''
+        products
+        end
+    fi
+    if files_case 'a product that is cut short'; then
+        sources 3
+        farm --send-files --workers "LIES=1 python3 $crowd 1 1 0" --workers "$(after_left_out); $(worker n2)" list
+        same status "$status" 0
+        products
+        said '^zigrunk-batch: s0 gets no work: what cicc made there came cut short$' || problems+="  messages: $(cat "$room/err")"$'\n'
+        end
+    fi
+    if unshare -m true 2> /dev/null && files_case 'a machine without room for a file'; then
+        sources 3
+        farm --send-files --workers "$(alone n1 -o 256k)" --workers "$(after_left_out); $(worker n2)" list
+        same status "$status" 0
+        products
+        said "^zigrunk-batch: n1 gets no work: it can't take files: No space left on device" || problems+="  messages: $(cat "$room/err")"$'\n'
+        end
+    fi
+    if unshare -m true 2> /dev/null && files_case 'a machine with another ptxas'; then
+        sources 3
+        sed 's/injected/INJECTED/g; s/END/DNE/g' "$CUDA/bin/ptxas" > "$room/other" && chmod +x "$room/other"
+        again="mount --bind $room/other $CUDA/bin/ptxas; for _ in 1 2; do $scratch/bin/zigrunk-worker --name n1; done"
+        farm --send-files --workers "unshare -m sh -c '$again'" --workers "$(after_left_out); sleep 1; $(worker n2)" list
+        same status "$status" 0
+        products
+        same 'messages' "$(grep '^zigrunk-batch: [a-z0-9]* gets no work' "$room/err")" "zigrunk-batch: n1 gets no work: its $CUDA/bin/ptxas has other contents"
+        same 'status of the worker' "$(grep -c '^zigrunk-batch: what starts workers has ended with status 3: ' "$room/err") $(grep -c '^zigrunk-worker: n1 gets no work: ' "$room/err")" '1 2'
+        end
+    fi
+    if files_case 'the signal TERM'; then
+        two_alone
+        within 30 runs_at n1 || problems+='  n1 gets no commands'$'\n'
+        kill -s TERM "$process"
+        ended 143
+        same messages "$(cat "$room/err")" ''
+        end
+    fi
+    if files_case 'the batch is killed'; then
+        two_alone
+        within 30 runs_at n1 || problems+='  n1 gets no commands'$'\n'
+        kill -KILL "$process"
+        { wait "$process"; } 2> /dev/null
+        within 20 none_run || problems+="  processes: $(pgrep -af "$room|$scratch/bin/zigrunk-worker")"$'\n'
+        PAUSE=0 farm --send-files --workers "$(alone n1)" list
+        same 'status and messages of the next one' "$status$(cat "$room/err")" 0
+        products
+        end
+    fi
+}
+
+# start_sshd: an sshd of this test's own on a port of this machine, with keys of its own. `ssh -F $room/ssh/config here` reaches it.
+start_sshd() {
+    local port
+    mkdir "$room/ssh"
+    ssh-keygen -q -t ed25519 -N '' -f "$room/ssh/host" && ssh-keygen -q -t ed25519 -N '' -f "$room/ssh/login" || return
+    port=$(python3 -c 'import socket; print(socket.create_server(("127.0.0.1", 0)).getsockname()[1])')
+    printf '%s\n' "Port $port" 'ListenAddress 127.0.0.1' "HostKey $room/ssh/host" "PidFile $room/ssh/pid" "AuthorizedKeysFile $room/ssh/login.pub" \
+        'StrictModes no' 'UsePAM no' 'PermitRootLogin prohibit-password' 'PasswordAuthentication no' > "$room/ssh/sshd"
+    printf '%s\n' 'Host here' 'HostName 127.0.0.1' "Port $port" "IdentityFile $room/ssh/login" 'IdentitiesOnly yes' 'BatchMode yes' \
+        'StrictHostKeyChecking no' "UserKnownHostsFile $room/ssh/known" 'LogLevel ERROR' > "$room/ssh/config"
+    # For root it wants this directory, which the system makes as it starts.
+    if [ "$user" = 0 ] && [ ! -d /run/sshd ]; then
+        unshare -m sh -c "mount -t tmpfs none /run && mkdir -m 755 /run/sshd && exec $(command -v sshd) -D -f $room/ssh/sshd -E $room/ssh/log" &
+    else
+        "$(command -v sshd)" -D -f "$room/ssh/sshd" -E "$room/ssh/log" &
+    fi
+    sshd=$!
+    within 10 ssh -F "$room/ssh/config" here true < /dev/null 2> /dev/null
+}
+
+by_ssh() {
+    local tool far="$scratch/bin/zigrunk-worker"
+    for tool in sshd ssh ssh-keygen; do
+        command -v "$tool" > /dev/null || { skip 'workers over ssh' "$tool is not on the path"; return; }
+    done
+    if case_of 'workers over ssh'; then
+        start_sshd || problems+="  sshd: $(cat "$room/ssh/log")"$'\n'
+        sources 6
+        farm --workers "ssh -F $room/ssh/config here $far --name n1 -j2" --workers "ssh -F $room/ssh/config here $far --name n2 -j2" list
+        same 'status and messages' "$status$(cat "$room/err" "$room/out")" 0
+        products
+        rm ./*.o
+        ZIGRUNK_TMP='' farm --send-files --workers "ssh -F $room/ssh/config here $far --name n1 -j2" list
+        same 'status and messages without a shared disk' "$status$(cat "$room/err" "$room/out")" 0
+        products
+        kill "$sshd"
+        wait "$sshd"
+        end
+    fi
+}
+
+for part in ${PARTS-work deaths unfit files by_ssh}; do "$part"; done
 summary

@@ -4,7 +4,8 @@
     tests/cluster/crowd.py COUNT SLOTS SECONDS
 
 COUNT workers of SLOTS slots each connect to the batch that ZIGRUNK_WORKERS names. A command takes SECONDS, and a dry run none: it prints the recorded
-one of DATA, with the toolkit CUDA, as tests/driver/dry_run.c does. With LIES, the workers say that each file is longer than it is.
+one of DATA, with the toolkit CUDA, as tests/driver/dry_run.c does. If the batch sends files, what a command makes goes back to it. With LIES, the
+workers say that each file is longer than it is; with LATE, they make files a second after they say so. What ends a command they don't hear.
 """
 import hashlib
 import heapq
@@ -18,7 +19,8 @@ import sys
 import time
 from pathlib import Path
 
-VERSION = 1
+VERSION = 2
+MADE = b"made\n"
 NAMES = re.compile(r"/opt/cuda|/w/kernel\.cu|kernel\.o|/t/")
 
 
@@ -56,8 +58,8 @@ class Fields:
         return [self.text() for _ in range(self.number("Q"))]
 
 
-def order(fields: Fields) -> tuple[list[bytes], list[bytes]]:
-    """The words and the products of an order."""
+def order(fields: Fields) -> tuple[list[bytes], list[bytes], bool]:
+    """The words and the products of an order, and whether it comes with files."""
     words = fields.texts()
     fields.text()
     for _ in range(fields.number("Q")):
@@ -71,7 +73,8 @@ def order(fields: Fields) -> tuple[list[bytes], list[bytes]]:
     for _ in range(fields.number("Q")):
         fields.text()
         fields.part(16)
-    return words, fields.texts()
+    products = fields.texts()
+    return words, products, bool(fields.number("B"))
 
 
 def dry_run(words: list[str]) -> bytes:
@@ -84,6 +87,12 @@ def dry_run(words: list[str]) -> bytes:
     return NAMES.sub(lambda found: given[found[0]], recorded).encode()
 
 
+def make(product: bytes) -> None:
+    file = os.open(product, os.O_WRONLY | os.O_CREAT, 0o666)
+    os.write(file, MADE)
+    os.close(file)
+
+
 class Worker:
     """A simulated worker's side of a connection."""
 
@@ -91,14 +100,16 @@ class Worker:
         self.secret, self.once, self.slots, self.name = secret, secrets.token_bytes(32), slots, f"s{number}".encode()
         self.stream = socket.create_connection(("127.0.0.1", port))
         self.stream.setsockopt(socket.IPPROTO_TCP, socket.TCP_NODELAY, 1)
-        self.inbox, self.heard_last, self.commands = b"", time.monotonic(), 0
+        self.inbox, self.heard_last, self.commands, self.is_gone = b"", time.monotonic(), 0, False
         self.send(0, struct.pack("<I", VERSION) + self.once)
 
     def send(self, kind: int, body: bytes) -> None:
         self.stream.sendall(message(kind, body))
 
     def messages(self) -> list[tuple[int, Fields]]:
-        self.inbox += self.stream.recv(1 << 20)
+        part = self.stream.recv(1 << 20)
+        self.is_gone = not part
+        self.inbox += part
         found = []
         while len(self.inbox) >= 4:
             size, = struct.unpack_from("<I", self.inbox)
@@ -120,24 +131,35 @@ class Worker:
         fields.number("B")
         fields.text()
         fields.number("B")
-        tools, shared = fields.texts(), fields.text()
+        tools = fields.texts()
+        shared = fields.text() if fields.number("B") else b""
         digests = b"".join(b"\1" + hashlib.blake2b(Path(os.fsdecode(tool)).read_bytes(), digest_size=32).digest() for tool in tools)
-        word = Path(os.fsdecode(shared)).read_bytes()
-        self.send(4, struct.pack("<Q", len(tools)) + digests + b"\1" + text(word) + text(b"") + struct.pack("<Q", time.time_ns()))
+        word = b"\1" + text(Path(os.fsdecode(shared)).read_bytes()) if shared else b"\0"
+        self.send(4, struct.pack("<Q", len(tools)) + digests + word + text(b"") + struct.pack("<Q", time.time_ns()))
 
-    def answer(self, number: int, words: list[bytes], products: list[bytes]) -> None:
+    def give(self, number: int, place: int) -> None:
+        """Sends a file that a command makes, or not all of it."""
+        self.send(12, struct.pack("<QI", number, place) + text(MADE[:3] if os.environ.get("LIES") else MADE))
+        self.send(13, struct.pack("<QI", number, place) + hashlib.blake2b(MADE, digest_size=32).digest())
+
+    def answer(self, number: int, words: list[bytes], products: list[bytes], with_files: bool) -> None:
         """Makes what a command makes, and says so."""
         if b"--dryrun" in words:
             self.send(8, struct.pack("<QB", number, 1) + text(dry_run([os.fsdecode(word) for word in words])))
         else:
             self.commands += 1
-        sizes = struct.pack("<Q", len(products))
-        for product in products:
-            file = os.open(product, os.O_WRONLY | os.O_CREAT, 0o666)
-            os.write(file, b"made\n")
-            os.close(file)
-            sizes += struct.pack("<BQ", 1, 6 if os.environ.get("LIES") else 5)
-        self.send(9, struct.pack("<QiBBQ", number, 0, 0, 0, 1000) + sizes + text(b""))
+        sizes = struct.pack("<BQ", 1, len(MADE) + (not with_files and "LIES" in os.environ)) * len(products)
+        answer = struct.pack("<QiBBQ", number, 0, 0, 0, 1000) + struct.pack("<Q", len(products)) + sizes + text(b"")
+        if "LATE" in os.environ:
+            self.send(9, answer)
+            time.sleep(1)
+        for place, product in enumerate(products):
+            if with_files:
+                self.give(number, place)
+            else:
+                make(product)
+        if "LATE" not in os.environ:
+            self.send(9, answer)
 
 
 def main() -> int:
@@ -147,13 +169,13 @@ def main() -> int:
     for number in range(count):
         worker = Worker(number, slots, int(port), bytes.fromhex(digits))
         watched.register(worker.stream, selectors.EVENT_READ, worker)
-    running: list[tuple[float, int, Worker, list[bytes], list[bytes]]] = []
+    running: list[tuple[float, int, Worker, list[bytes], list[bytes], bool]] = []
     beaten = time.monotonic()
     while watched.get_map():
         now = time.monotonic()
         while running and running[0][0] <= now:
-            _, number, worker, words, products = heapq.heappop(running)
-            worker.answer(number, words, products)
+            _, number, worker, words, products, with_files = heapq.heappop(running)
+            worker.answer(number, words, products, with_files)
         if now - beaten > 1:
             beaten = now
             for key in list(watched.get_map().values()):
@@ -167,13 +189,14 @@ def main() -> int:
                     worker.show(fields)
                 elif kind == 6:
                     number = fields.number("Q")
-                    words, products = order(fields)
+                    words, products, with_files = order(fields)
                     takes = 0.0 if b"--dryrun" in words else seconds
-                    heapq.heappush(running, (time.monotonic() + takes, number, worker, words, products))
+                    heapq.heappush(running, (time.monotonic() + takes, number, worker, words, products, with_files))
                 elif kind in (5, 11):
-                    watched.unregister(worker.stream)
-                    worker.stream.close()
-                    break
+                    worker.is_gone = True
+            if worker.is_gone:
+                watched.unregister(worker.stream)
+                worker.stream.close()
     return 0
 
 

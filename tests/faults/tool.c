@@ -1,7 +1,8 @@
 // A stand-in for each tool of a call, for trials with faults. What it writes depends on what it reads, and ends in a mark. It refuses an input
 // without the mark, because somebody wrote that in part only, and says so in the file PARTIAL of LOG's folder.
 //
-// PAUSE is how many milliseconds it takes between the halves of what it writes.
+// PAUSE, or PAUSE_cicc for cicc, is how many milliseconds it takes between the halves of what it writes. SIZE is how many bytes more stand between
+// them, none unless set.
 #include <fcntl.h>
 #include <signal.h>
 #include <stdint.h>
@@ -108,8 +109,19 @@ static void remove_outputs(int number) {
     raise(number);
 }
 
+// As compilers do, it needs a folder for temporary files.
+static void check_temporary(void) {
+    struct stat status;
+    const char *folder = getenv("TMPDIR");
+    if (folder && (stat(folder, &status) != 0 || !S_ISDIR(status.st_mode))) {
+        perror(folder);
+        exit(5);
+    }
+}
+
 int main(int count, char **words) {
     const char *name = base(words[0]);
+    check_temporary();
     int preprocesses = 0;
     for (int at = 1; at < count; at++) {
         preprocesses |= strcmp(words[at], "-E") == 0;
@@ -123,24 +135,35 @@ int main(int count, char **words) {
     for (int at = 1; at < count; at++) {
         const char *inner = strstr(words[at], "file=");
         const char *path = inner ? inner + 5 : words[at];
+        int is_name = at > 1 && strncmp(words[at - 1], "--orig_src_", 11) == 0;
         if (path[0] != '-') {
             add(base(path), strlen(base(path)));
-            read_input(path);
+            if (!is_name) {
+                read_input(path);
+            }
         } else if (strncmp(path, "-D__CUDA_ARCH__", 15) == 0) {
             add(path, strlen(path));
         }
     }
     int files[8];
     char head[128];
+    long more = getenv("SIZE") ? atol(getenv("SIZE")) : 0;
+    char *filler = malloc((size_t)more + 1);
+    if (!filler) {
+        fail();
+    }
+    memset(filler, '\n', (size_t)more);
     int length = snprintf(head, sizeof head, preprocesses ? "# 0 \"k.cu\"\n# 1 \"a.h\" 1\n%016llx\n" : "%016llx\n", (unsigned long long)sum);
     for (int at = 0; at < output_count; at++) {
         files[at] = open(outputs[at], O_WRONLY | O_CREAT | O_TRUNC, 0666);
-        if (files[at] < 0 || write(files[at], head, (size_t)length) != length) {
+        if (files[at] < 0 || write(files[at], head, (size_t)length) != length || write(files[at], filler, (size_t)more) != more) {
             fail();
         }
     }
-    long pause = getenv("PAUSE") ? atol(getenv("PAUSE")) : 20;
-    nanosleep(&(struct timespec){.tv_nsec = pause * 1000000}, NULL);
+    const char *own = strcmp(name, "cicc") == 0 ? getenv("PAUSE_cicc") : NULL;
+    const char *given = own ? own : getenv("PAUSE");
+    long pause = given ? atol(given) : 20;
+    nanosleep(&(struct timespec){.tv_sec = pause / 1000, .tv_nsec = pause % 1000 * 1000000}, NULL);
     for (int at = 0; at < output_count; at++) {
         if (write(files[at], mark, 4) != 4 || close(files[at]) != 0) {
             fail();

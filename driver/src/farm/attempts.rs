@@ -1,7 +1,10 @@
 //! Attempts at a job of the batch: on which worker, what it makes, and what its end means.
 use super::drafts::Drafts;
 use super::messages::Answer;
+use super::transfers::Arrivals;
 use crate::machine::{Ended, Job};
+use std::io;
+use std::path::PathBuf;
 use std::time::{Duration, Instant};
 
 /// How often a job may lose its worker before it counts as failed: it may be what brings machines down.
@@ -44,7 +47,12 @@ pub struct Attempt {
     /// The number by which the batch knows the job.
     pub number: usize,
     pub job: Job,
+    /// The files that go to a worker that shares no disk.
+    pub sources: Vec<PathBuf>,
     pub drafts: Drafts,
+    /// The products that come from a worker that shares no disk, and why they can't be written here.
+    pub arrivals: Arrivals,
+    pub unwritten: Option<io::Error>,
     /// The number of the worker, once it runs.
     pub member: usize,
     /// What it has printed.
@@ -64,7 +72,10 @@ impl Attempt {
         Attempt {
             number,
             job,
+            sources: Vec::new(),
             drafts: Drafts::default(),
+            arrivals: Arrivals::default(),
+            unwritten: None,
             member: usize::MAX,
             said: Default::default(),
             started: None,
@@ -80,8 +91,16 @@ impl Attempt {
         self.job.words.first().map_or("", |word| word.rsplit('/').next().unwrap_or_default())
     }
 
+    /// Notes what has become of a file that comes. One that can't be written fails the job; one that isn't as it was sent isn't whole.
+    pub fn note(&mut self, taken: io::Result<()>) {
+        if let Err(error) = taken.or_else(|error| if error.kind() == io::ErrorKind::InvalidData { Ok(()) } else { Err(error) }) {
+            self.unwritten.get_or_insert(error);
+        }
+    }
+
     /// Leaves what the attempt has made and said, so that another begins.
     pub fn clear(&mut self) {
+        (self.arrivals, self.unwritten) = (Arrivals::default(), None);
         self.drafts.remove();
         self.drafts = Drafts::default();
         self.said = Default::default();

@@ -61,6 +61,11 @@ impl Connection {
         }
     }
 
+    /// How many bytes the other one hasn't taken.
+    pub fn backlog(&self) -> usize {
+        self.outbox.len()
+    }
+
     /// Whether there is something that the other one hasn't taken.
     pub fn is_behind(&self) -> bool {
         !self.outbox.is_empty()

@@ -21,8 +21,8 @@ pub struct Draft {
 pub struct Drafts {
     pub files: Vec<Draft>,
     pub folders: Vec<PathBuf>,
-    /// The folders' own name.
-    name: String,
+    /// What the command's words have in place of the beginnings of the products' names, and those beginnings.
+    renamed: Vec<(String, String)>,
 }
 
 /// A program whose products are known.
@@ -121,7 +121,7 @@ fn is_plain(path: &Path) -> bool {
 
 /// A job that makes its products in folders of this name, and what it makes there.
 pub fn redirect(job: &Job, name: &str) -> (Job, Drafts) {
-    let mut drafts = Drafts { name: name.to_owned(), ..Drafts::default() };
+    let mut drafts = Drafts { renamed: vec![(format!("{name}/"), String::new())], ..Drafts::default() };
     let mut redirected = job.clone();
     let Some((tool, at)) = Tool::of(&job.words) else { return (redirected, drafts) };
     let derives = |word: &String| DERIVING.iter().any(|option| word.starts_with(option));
@@ -136,20 +136,18 @@ pub fn redirect(job: &Job, name: &str) -> (Job, Drafts) {
             continue;
         }
         redirected.words[word] = format!("{}{folder}{name}/{base}", &job.words[word][..begin]);
-        let beside = Path::new(&job.folder).join(folder).join(name);
-        drafts.files.push(Draft { made: beside.join(base), product });
-        drafts.folders.extend((!drafts.folders.contains(&beside)).then_some(beside));
+        drafts.add(product, name);
     }
     (redirected, drafts)
 }
 
-/// A text without the name of a folder that it has in paths.
-fn without(text: &[u8], name: &str) -> Vec<u8> {
-    let part = [name.as_bytes(), b"/"].concat();
+/// A text with other words in place of all of these.
+fn replaced(text: &[u8], old: &str, new: &str) -> Vec<u8> {
     let (mut rest, mut out) = (text, Vec::new());
-    while let Some(at) = rest.windows(part.len()).position(|window| window == part) {
+    while let Some(at) = rest.windows(old.len()).position(|window| window == old.as_bytes()) {
         out.extend(&rest[..at]);
-        rest = &rest[at + part.len()..];
+        out.extend(new.as_bytes());
+        rest = &rest[at + old.len()..];
     }
     out.extend(rest);
     out
@@ -166,6 +164,27 @@ pub enum Seen {
 }
 
 impl Drafts {
+    /// Those of products that come from a machine with a disk of its own, in folders of this name. `renamed` is what the command's words have
+    /// there in place of the beginnings of the products' names, and those beginnings. `None` if a product isn't a regular file.
+    pub fn of_products(products: &[PathBuf], name: &str, renamed: Vec<(String, String)>) -> Option<Drafts> {
+        let mut drafts = Drafts { renamed, ..Drafts::default() };
+        let is_file = |product: &PathBuf| product.file_name().is_some() && is_plain(product);
+        products.iter().all(is_file).then(|| products.iter().for_each(|product| drafts.add(product.clone(), name)))?;
+        Some(drafts)
+    }
+
+    /// Has a product made in a folder of this name beside it.
+    fn add(&mut self, product: PathBuf, name: &str) {
+        let beside = product.with_file_name(name);
+        self.files.push(Draft { made: beside.join(product.file_name().unwrap_or_default()), product });
+        self.folders.extend((!self.folders.contains(&beside)).then_some(beside));
+    }
+
+    /// A text of the command with the products' own names.
+    fn restored(&self, text: Vec<u8>) -> Vec<u8> {
+        self.renamed.iter().fold(text, |text, (old, new)| replaced(&text, old, new))
+    }
+
     /// Makes the folders. Without one of them there are no drafts.
     ///
     /// # Errors
@@ -195,7 +214,7 @@ impl Drafts {
     pub fn publish(&self) -> io::Result<()> {
         for Draft { made, product } in self.files.iter().filter(|draft| draft.made.exists()) {
             if made.to_string_lossy().ends_with(".stub.c") {
-                fs::write(made, without(&fs::read(made)?, &self.name))?;
+                fs::write(made, self.restored(fs::read(made)?))?;
             }
             fs::rename(made, product)?;
         }
@@ -214,7 +233,7 @@ impl Drafts {
 
     /// What the command has said, with the products' names.
     pub fn said(&self, text: Vec<u8>) -> Vec<u8> {
-        if self.folders.is_empty() || text.is_empty() { text } else { without(&text, &self.name) }
+        if self.folders.is_empty() || text.is_empty() { text } else { self.restored(text) }
     }
 }
 

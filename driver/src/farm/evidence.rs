@@ -27,8 +27,8 @@ pub fn once_there<T>(look: impl Fn() -> Option<T>) -> Option<T> {
 
 /// What a worker says, whose folder for temporary files is this one.
 pub fn gathered(terms: &Terms, temporary: &Path) -> Evidence {
-    let shared = once_there(|| content_of(&terms.shared).ok());
-    let folders = [Some(temporary), terms.shared.parent()];
+    let shared = terms.shared.as_ref().and_then(|shared| once_there(|| content_of(shared).ok()));
+    let folders = [Some(temporary), terms.shared.as_ref().and_then(|shared| shared.parent())];
     let lack_of_room = folders.into_iter().flatten().map(products::lack_of_room).find(|lack| !lack.is_empty()).unwrap_or_default();
     Evidence { tools: toolkits::digests_of(&terms.tools), shared: shared.map(Bytes), lack_of_room, time: nanoseconds() }
 }
@@ -36,9 +36,9 @@ pub fn gathered(terms: &Terms, temporary: &Path) -> Evidence {
 /// What the batch knows of its own machine.
 pub struct Wanted {
     pub tools: Vec<(PathBuf, [u8; 32])>,
-    /// The directory that all machines share, and the text of the file there.
+    /// The directory that all machines share, and the text of the file there, if they share one.
     pub directory: PathBuf,
-    pub shared: Vec<u8>,
+    pub shared: Option<Vec<u8>>,
 }
 
 /// When the evidence was asked for and came, in nanoseconds.
@@ -54,10 +54,11 @@ pub struct Times {
 /// Why it doesn't.
 pub fn judge(evidence: &Evidence, wanted: &Wanted, times: &Times) -> Result<(), String> {
     let shared = wanted.directory.display();
-    match &evidence.shared {
-        Some(text) if text.0 == wanted.shared => {}
-        Some(_) => return Err(format!("its {shared} isn't the shared one")),
-        None => return Err(format!("it doesn't see {shared}, which ZIGRUNK_TMP says that all machines share")),
+    match (&evidence.shared, &wanted.shared) {
+        (_, None) => {}
+        (Some(text), Some(wanted)) if text.0 == *wanted => {}
+        (Some(_), _) => return Err(format!("its {shared} isn't the shared one")),
+        (None, _) => return Err(format!("it doesn't see {shared}, which ZIGRUNK_TMP says that all machines share")),
     }
     if evidence.tools.len() != wanted.tools.len() {
         return Err("it says nothing of some tools".into());
@@ -93,17 +94,17 @@ mod tests {
     #[test]
     fn a_worker_shows_what_its_machine_has() {
         let tools = vec![("/b/nvcc".into(), [1; 32]), ("/b/ptxas".into(), [2; 32])];
-        let wanted = Wanted { tools, directory: "/s/zigrunk".into(), shared: b"word".to_vec() };
+        let mut wanted_of_batch = Wanted { tools, directory: "/s/zigrunk".into(), shared: Some(b"word".to_vec()) };
         let good = Evidence {
             tools: vec![Some([1; 32]), Some([2; 32])],
             shared: Some(Bytes(b"word".to_vec())),
             lack_of_room: String::new(),
             time: 100 * SECOND,
         };
-        let judged = |change: fn(&mut Evidence)| {
+        let judged = |wanted: &Wanted, change: Change| {
             let mut evidence = good.clone();
             change(&mut evidence);
-            judge(&evidence, &wanted, &Times { asked: 99 * SECOND, came: 103 * SECOND }).err().unwrap_or_default()
+            judge(&evidence, wanted, &Times { asked: 99 * SECOND, came: 103 * SECOND }).err().unwrap_or_default()
         };
         let cases: [(Change, &str); 12] = [
             (|_| {}, ""),
@@ -120,8 +121,10 @@ mod tests {
             (|it| it.time = 0, "its clock is 99 seconds behind"),
         ];
         for (change, wanted) in cases {
-            assert_eq!(judged(change), wanted);
+            assert_eq!(judged(&wanted_of_batch, change), wanted);
         }
+        wanted_of_batch.shared = None;
+        assert_eq!(judged(&wanted_of_batch, |it| it.shared = None), "", "nothing is shared");
     }
 
     #[test]
@@ -130,14 +133,17 @@ mod tests {
         std::fs::create_dir_all(&folder).unwrap();
         std::fs::write(folder.join("tool"), "tool").unwrap();
         let tools: Vec<PathBuf> = ["tool", "missing"].map(|name| folder.join(name)).into();
-        let mut terms = Terms { shared: folder.join("tool"), tools, ..Terms::default() };
+        let mut terms = Terms { shared: Some(folder.join("tool")), tools, ..Terms::default() };
         let evidence = gathered(&terms, &folder);
         assert_eq!((evidence.shared, evidence.lack_of_room.as_str()), (Some(Bytes(b"tool".to_vec())), ""));
         assert_eq!(evidence.tools, [toolkits::digest_of(&folder.join("tool")), None]);
-        terms.shared = folder.join("missing");
+        terms.shared = Some(folder.join("missing"));
         assert_eq!(gathered(&terms, Path::new("/missing")).lack_of_room, ": there is no room in /missing");
-        terms.shared = "/missing/shared".into();
+        terms.shared = Some("/missing/shared".into());
         assert_eq!(gathered(&terms, &folder).lack_of_room, ": there is no room in /missing");
+        terms.shared = None;
+        let evidence = gathered(&terms, &folder);
+        assert_eq!((evidence.shared, evidence.lack_of_room.as_str()), (None, ""));
         std::fs::remove_dir_all(&folder).unwrap();
     }
 }

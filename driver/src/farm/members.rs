@@ -1,8 +1,10 @@
 //! The workers of a batch, as it sees them: from their first message to their end.
+use super::attempts::Attempt;
 use super::connections::Connection;
 use super::evidence::{self, Times, Wanted};
-use super::messages::{Answer, Introduction, Message, Terms, VERSION};
+use super::messages::{Answer, Introduction, Message, Order, Terms, VERSION};
 use super::secrets::{self, Once, Secret, Side};
+use super::transfers::Departures;
 use crate::host::nanoseconds;
 use std::io;
 use std::net::TcpStream;
@@ -27,13 +29,16 @@ enum Stage {
 }
 
 /// Somebody who has connected.
-#[derive(Debug)]
 pub struct Member {
     pub number: usize,
     pub connection: Connection,
     pub worker: Introduction,
     /// How many commands of its slots run.
     pub taken: usize,
+    /// How many more it gets, whose files come while others run.
+    pub ahead: usize,
+    /// The files that it gets.
+    pub departures: Departures,
     stage: Stage,
     since: Instant,
     once: Once,
@@ -47,6 +52,9 @@ pub enum Heard {
     Introduced,
     Ready,
     Said(u64, bool, Vec<u8>),
+    Part(u64, u32, Vec<u8>),
+    Whole(u64, u32, [u8; 32]),
+    Began(u64),
     Ended(u64, Answer),
     /// It doesn't get work, and why.
     Unfit(String),
@@ -65,6 +73,8 @@ impl Member {
             connection: Connection::new(stream)?,
             worker: Introduction::default(),
             taken: 0,
+            ahead: 0,
+            departures: Departures::default(),
             stage: Stage::Stranger,
             since: Instant::now(),
             once: secrets::random()?,
@@ -87,13 +97,31 @@ impl Member {
 
     /// Sends it the terms. It shows what its machine has.
     pub fn admit(&mut self, terms: &Terms) {
+        self.ahead = if terms.shared.is_none() { (self.worker.slots as usize).div_ceil(2) } else { 0 };
         (self.stage, self.since) = (Stage::Shows(nanoseconds()), Instant::now());
         self.connection.send(&Message::Terms(terms.clone()));
     }
 
+    /// Sends a command, whose files follow. `None` if one isn't there.
+    pub fn order(&mut self, number: u64, order: Order, attempt: &Attempt) -> Option<()> {
+        let added = attempt.sources.iter().enumerate().try_for_each(|(place, path)| self.departures.add(number, place, path));
+        if added.is_err() {
+            self.departures.forget(number);
+            return None;
+        }
+        self.connection.send(&Message::Start(number, order));
+        self.taken += usize::from(!attempt.job.shares_slot);
+        Some(())
+    }
+
+    /// Sends as much of commands' files as it takes by now. Says of which commands one has changed.
+    pub fn send_files(&mut self) -> Vec<u64> {
+        self.departures.pump(&mut self.connection)
+    }
+
     /// How many more commands it may run.
     pub fn free(&self) -> usize {
-        if self.is_ready() { (self.worker.slots as usize).saturating_sub(self.taken) } else { 0 }
+        if self.is_ready() { (self.worker.slots as usize + self.ahead).saturating_sub(self.taken) } else { 0 }
     }
 
     /// Whether it has said nothing for too long, if a worker with work may be silent for so long.
@@ -126,6 +154,9 @@ impl Member {
                 Heard::Ready
             }
             (Stage::Ready, Message::Said(number, is_error, part)) => Heard::Said(number, is_error, part.0),
+            (Stage::Ready, Message::Part(number, place, part)) => Heard::Part(number, place, part.0),
+            (Stage::Ready, Message::Whole(number, place, digest)) => Heard::Whole(number, place, digest),
+            (Stage::Ready, Message::Began(number)) => Heard::Began(number),
             (Stage::Ready, Message::Ended(number, answer)) => Heard::Ended(number, answer),
             (Stage::Ready | Stage::Shows(_) | Stage::Waits, Message::Beat) => Heard::Nothing,
             (Stage::Ready | Stage::Shows(_) | Stage::Waits, Message::Bye) => Heard::Gone,
@@ -149,6 +180,7 @@ impl Member {
 #[cfg(test)]
 mod tests {
     use super::*;
+    use crate::farm::fields::Bytes;
     use crate::farm::messages::Evidence;
     use std::net::TcpListener;
 
@@ -170,7 +202,7 @@ mod tests {
     impl Room {
         fn new() -> Room {
             let (member, stream) = member();
-            let wanted = Wanted { tools: Vec::new(), directory: "/s".into(), shared: b"word".to_vec() };
+            let wanted = Wanted { tools: Vec::new(), directory: "/s".into(), shared: Some(b"word".to_vec()) };
             Room { secret: Secret::new().unwrap(), wanted, member, _stream: stream }
         }
 
@@ -189,7 +221,7 @@ mod tests {
     }
 
     fn evidence(word: &str) -> Message {
-        Message::Evidence(Evidence { shared: Some(crate::farm::fields::Bytes(word.into())), time: nanoseconds(), ..Evidence::default() })
+        Message::Evidence(Evidence { shared: Some(Bytes(word.into())), time: nanoseconds(), ..Evidence::default() })
     }
 
     #[test]
@@ -199,14 +231,33 @@ mod tests {
         let hello = room.hello(&room.secret);
         assert_eq!((room.hear(hello), room.member.is_known(), room.member.free()), (Heard::Introduced, true, 0));
         assert!(room.member.waits().is_some());
-        room.member.admit(&Terms::default());
+        room.member.admit(&Terms { shared: Some("/s/shared".into()), ..Terms::default() });
         assert!(room.member.waits().is_none());
         assert_eq!(room.hear(Message::Beat), Heard::Nothing);
         assert_eq!((room.hear(evidence("word")), room.member.free()), (Heard::Ready, 2));
-        room.member.taken = 3;
+        (room.member.taken, room.member.ahead) = (3, 0);
         assert_eq!(room.member.free(), 0);
+        room.member.ahead = 2;
+        assert_eq!(room.member.free(), 1);
+        assert_eq!(room.hear(Message::Part(4, 1, Bytes(vec![5]))), Heard::Part(4, 1, vec![5]));
+        assert_eq!(room.hear(Message::Whole(4, 1, [6; 32])), Heard::Whole(4, 1, [6; 32]));
+        assert_eq!(room.hear(Message::Began(4)), Heard::Began(4));
         assert_eq!(room.hear(Message::Ended(4, Answer::default())), Heard::Ended(4, Answer::default()));
         assert_eq!(room.hear(Message::Bye), Heard::Gone);
+    }
+
+    #[test]
+    fn a_worker_without_the_disk_gets_commands_ahead() {
+        for (slots, free) in [(1, 2), (2, 3), (5, 8)] {
+            let mut room = Room::new();
+            room.wanted.shared = None;
+            room.hear(greeting());
+            let hello = room.hello(&room.secret);
+            room.hear(hello);
+            room.member.worker.slots = slots;
+            room.member.admit(&Terms::default());
+            assert_eq!((room.hear(evidence("none")), room.member.free()), (Heard::Ready, free));
+        }
     }
 
     #[test]

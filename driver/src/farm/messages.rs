@@ -5,7 +5,7 @@ use super::fields::{Bytes, Field};
 use std::path::PathBuf;
 
 /// The version of the messages. A batch refuses workers of others.
-pub const VERSION: u32 = 1;
+pub const VERSION: u32 = 2;
 /// How many bytes a message has at most.
 pub const LONGEST: usize = 1 << 26;
 /// How many bytes a message has at most that comes from somebody who hasn't shown that he knows the secret.
@@ -35,8 +35,8 @@ pub struct Terms {
     pub has_own_temporary: bool,
     /// Files whose contents have to be those that they have where the batch runs.
     pub tools: Vec<PathBuf>,
-    /// A file with a random text, in the directory that all machines share.
-    pub shared: PathBuf,
+    /// A file with a random text, in the directory that all machines share, if they share one.
+    pub shared: Option<PathBuf>,
     /// How many milliseconds a worker waits for a message before it ends its commands. Messages come four times as often.
     pub patience: u64,
 }
@@ -77,6 +77,9 @@ pub struct Order {
     pub witnesses: Vec<Witness>,
     /// Files whose sizes the answer has.
     pub products: Vec<PathBuf>,
+    /// The files that come to a command without a shared disk. It runs in a folder of its own, to which all its names are relative, and the worker
+    /// sends what it makes.
+    pub inputs: Option<Vec<PathBuf>>,
 }
 
 /// How a command has ended.
@@ -122,6 +125,12 @@ pub enum Message {
     /// What a command has printed: whether to standard error, and a part of it.
     Said(u64, bool, Bytes),
     Ended(u64, Answer),
+    /// A part of a file of a command, by its place among the inputs or, from the worker, among the products.
+    Part(u64, u32, Bytes),
+    /// The digest of such a file, of which all has come.
+    Whole(u64, u32, [u8; 32]),
+    /// A command whose files have come begins.
+    Began(u64),
     /// Only says that the other one is there.
     Beat,
     /// There is nothing more to do.
@@ -153,7 +162,7 @@ records! {
     Terms { environment, has_terminal, temporary, has_own_temporary, tools, shared, patience }
     Evidence { tools, shared, lack_of_room, time }
     Witness { path, size, changed }
-    Order { words, folder, variables, tool, folders, witnesses, products }
+    Order { words, folder, variables, tool, folders, witnesses, products, inputs }
     Answer { code, signal, dumped, took, products, fault }
 }
 
@@ -207,6 +216,20 @@ impl Field for Message {
             }
             Message::Beat => kind(10),
             Message::Bye => kind(11),
+            Message::Part(number, place, part) => {
+                kind(12);
+                (*number, *place).put(out);
+                part.put(out);
+            }
+            Message::Whole(number, place, digest) => {
+                kind(13);
+                (*number, *place).put(out);
+                digest.put(out);
+            }
+            Message::Began(number) => {
+                kind(14);
+                number.put(out);
+            }
         }
     }
 
@@ -224,6 +247,9 @@ impl Field for Message {
             9 => Message::Ended(Field::take(from)?, Field::take(from)?),
             10 => Message::Beat,
             11 => Message::Bye,
+            12 => Message::Part(Field::take(from)?, Field::take(from)?, Field::take(from)?),
+            13 => Message::Whole(Field::take(from)?, Field::take(from)?, Field::take(from)?),
+            14 => Message::Began(Field::take(from)?),
             _ => return None,
         })
     }
@@ -274,7 +300,7 @@ mod tests {
                 temporary: "/t".into(),
                 has_own_temporary: true,
                 tools: vec!["/b/nvcc".into()],
-                shared: "/s/file".into(),
+                shared: Some("/s/file".into()),
                 patience: 6000,
             }),
             Message::Evidence(Evidence {
@@ -294,6 +320,7 @@ mod tests {
                     folders: vec!["/w/.zigrunk.1".into()],
                     witnesses: vec![witness],
                     products: vec!["/w/.zigrunk.1/k.o".into()],
+                    inputs: Some(vec!["0/k.ii".into()]),
                 },
             ),
             Message::End(9, 15),
@@ -304,6 +331,9 @@ mod tests {
             ),
             Message::Beat,
             Message::Bye,
+            Message::Part(9, 1, Bytes(vec![1, 2])),
+            Message::Whole(9, 1, [7; 32]),
+            Message::Began(9),
         ]
     }
 
@@ -355,7 +385,7 @@ mod tests {
         let with_size = |size: u32, body: &[u8]| [&size.to_le_bytes()[..], body].concat();
         let cases = [
             (with_size(0, &[]), Unreadable::Garbage),
-            (with_size(1, &[12]), Unreadable::Garbage),
+            (with_size(1, &[15]), Unreadable::Garbage),
             (with_size(1, &[255]), Unreadable::Garbage),
             (with_size(2, &[10, 0]), Unreadable::Garbage),
             (with_size(101, &[]), Unreadable::TooLong),

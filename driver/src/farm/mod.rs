@@ -3,21 +3,26 @@
 //! Something that starts a program on each machine, such as srun, ssh or mpirun, starts `zigrunk-worker`, which connects to the batch. The
 //! batch's process hands commands to workers over these connections, so a command that runs takes no process, thread or port here. What may
 //! start and what a failure means the batch decides as it does without workers.
+//!
+//! If the machines share no disk, device commands go with their files (`parcels`), and the others run where the batch does (`here`).
 mod attempts;
 mod connections;
 mod drafts;
 mod evidence;
 mod fields;
+mod here;
 mod invitations;
 mod members;
 mod messages;
+mod parcels;
 mod secrets;
 mod session;
 mod toolkits;
+mod transfers;
 pub mod worker;
 
 use crate::environments::Environment;
-use crate::folder::CallFolder;
+use crate::folder::{CallFolder, DRAFTS, ELSEWHERE};
 use crate::host::{self, Host};
 use crate::jobserver::{Make, MakeFlags};
 use crate::machine::{Ended, Event, Job, Machine};
@@ -29,9 +34,11 @@ use attempts::{Attempt, LATE, MOST_LOST, MOST_MACHINES, may_be_the_machines};
 use drafts::{Drafts, Seen, Tool, redirect};
 use evidence::Wanted;
 use fields::Bytes;
+use here::Here;
 use invitations::{Invitation, VARIABLE, own_hosts};
 use members::{Heard, Member};
 use messages::{Answer, Message, Order, Terms, Witness};
+use parcels::{Parcel, parcel};
 use secrets::Secret;
 use std::collections::{BTreeMap, HashMap, VecDeque};
 use std::ffi::OsStr;
@@ -43,6 +50,7 @@ use std::os::unix::fs::MetadataExt;
 use std::path::{Path, PathBuf};
 use std::rc::Rc;
 use std::time::{Duration, Instant};
+use transfers::Arrivals;
 
 /// How many milliseconds to wait for something to happen, and how often what takes time is looked at.
 const LOOK: i32 = 100;
@@ -68,6 +76,8 @@ pub struct Conditions {
     pub wait: Duration,
     /// How long a command may take, if that is limited.
     pub limit: Option<Duration>,
+    /// Whether workers get files with commands, since they share no disk with the batch.
+    pub sends_files: bool,
 }
 
 /// What starts workers, once it has ended.
@@ -98,11 +108,14 @@ pub struct Farm {
     events: VecDeque<Event>,
     /// Machines that get no work, and why.
     left_out: BTreeMap<String, String>,
+    /// What runs on the batch's own machine.
+    here: Here,
     tools: HashMap<PathBuf, Option<[u8; 32]>>,
     /// The directory of plans' files.
     plans: PathBuf,
-    /// The beginning of the names of drafts' folders.
+    /// The beginning of the names of drafts' folders, and the file that names those which wouldn't go with the plans' directory.
     drafts: String,
+    elsewhere: fs::File,
     wants: bool,
     is_ending: bool,
     next_attempt: u64,
@@ -139,7 +152,8 @@ impl Farm {
         let secret = Secret::new().map_err(lacks("secret"))?;
         let listener = TcpListener::bind("[::]:0").or_else(|_| TcpListener::bind("0.0.0.0:0")).map_err(lacks("port"))?;
         listener.set_nonblocking(true).map_err(lacks("port"))?;
-        let (shared, text) = write_shared(folder.path()).map_err(lacks("file"))?;
+        let shared = (!conditions.sends_files).then(|| write_shared(folder.path())).transpose().map_err(lacks("file"))?;
+        let (shared, text) = shared.unzip();
         let tools = toolkits::tools(settings);
         let cwd = crate::places::working_directory().unwrap_or_default();
         let terms = Terms {
@@ -157,7 +171,8 @@ impl Farm {
         let no_make = Make { flags: MakeFlags::default(), server: None };
         let mut host = Host::of_process(&unlimited, no_make, environment, Rc::clone(folder)).map_err(|lacks| format!("no {lacks} for the batch"))?;
         host.hide(listener.as_raw_fd());
-        let drafts = format!(".zigrunk.{}", &secrets::digits(&secrets::random().map_err(lacks("name"))?)[..8]);
+        let drafts = format!("{DRAFTS}{}", &secrets::digits(&secrets::random().map_err(lacks("name"))?)[..8]);
+        let elsewhere = fs::File::create(folder.path().join(ELSEWHERE)).map_err(lacks("file"))?;
         let known = tools.iter().map(|(path, digest)| (path.clone(), Some(*digest))).collect();
         let mut farm = Farm {
             host,
@@ -174,9 +189,11 @@ impl Farm {
             waiting: VecDeque::new(),
             events: VecDeque::new(),
             left_out: BTreeMap::new(),
+            here: Here::new(settings),
             tools: known,
             plans,
             drafts,
+            elsewhere,
             wants: false,
             is_ending: false,
             next_attempt: 0,
@@ -210,6 +227,7 @@ impl Farm {
     /// Takes what this machine says: what starts workers has ended, or a signal has come.
     fn take_host(&mut self, event: Event) {
         match event {
+            Event::Ended(number, ended) if number >= self.conditions.commands.len() => self.ended_here(number, ended),
             Event::Ended(number, ended) => {
                 self.starters.running -= 1;
                 if ended.status.succeeded() || self.is_ending {
@@ -235,16 +253,38 @@ impl Farm {
         self.members.iter().filter(may).max_by_key(|member| member.free()).and_then(|member| self.place(member.number))
     }
 
-    /// Sends an attempt to the member at this place.
+    /// Sends an attempt to the member at this place. One whose files can't be sent runs here.
     fn send(&mut self, mut attempt: Attempt, at: usize) {
         let number = self.next_attempt;
         self.next_attempt += 1;
-        let (mut job, drafts) = redirect(&attempt.job, &format!("{}.{number}", self.drafts));
+        let name = format!("{}.{number}", self.drafts);
+        let order = if self.conditions.sends_files { self.order_with_files(&mut attempt, &name) } else { Some(self.order(&mut attempt, &name)) };
+        let sent = order.and_then(|order| self.members[at].order(number, order, &attempt));
+        if sent.is_none() {
+            attempt.clear();
+            return self.start_here(attempt.number, attempt.job);
+        }
+        attempt.member = self.members[at].number;
+        attempt.started = (!self.conditions.sends_files).then(Instant::now);
+        self.attempts.insert(number, attempt);
+    }
+
+    /// Makes the folders of drafts. If this process and its guard are killed, the next batch removes them.
+    fn prepare(&mut self, drafts: &Drafts) -> io::Result<()> {
+        for folder in drafts.folders.iter().filter(|folder| !folder.starts_with(&self.plans)) {
+            self.elsewhere.write_all(&[folder.as_os_str().as_encoded_bytes(), &[0]].concat())?;
+        }
+        drafts.prepare()
+    }
+
+    /// What a worker gets that shares the disk, which makes files in folders of this name.
+    fn order(&mut self, attempt: &mut Attempt, name: &str) -> Order {
+        let (mut job, drafts) = redirect(&attempt.job, name);
         attempt.drafts = drafts;
-        if attempt.drafts.prepare().is_err() {
+        if self.prepare(&attempt.drafts).is_err() {
             (job, attempt.drafts) = (attempt.job.clone(), Drafts::default());
         }
-        let order = Order {
+        Order {
             tool: self.tool(&job),
             folders: attempt.drafts.folders.clone(),
             witnesses: self.witnesses(&attempt.job),
@@ -252,12 +292,20 @@ impl Farm {
             words: job.words,
             folder: job.folder,
             variables: job.variables,
-        };
-        let member = &mut self.members[at];
-        member.connection.send(&Message::Start(number, order));
-        member.taken += usize::from(!attempt.job.shares_slot);
-        (attempt.member, attempt.started) = (member.number, Some(Instant::now()));
-        self.attempts.insert(number, attempt);
+            inputs: None,
+        }
+    }
+
+    /// What a worker gets that shares no disk. `None` if the command can't go.
+    fn order_with_files(&mut self, attempt: &mut Attempt, name: &str) -> Option<Order> {
+        let Parcel { words, folders, inputs, products, drafts } = parcel(&attempt.job, name)?;
+        self.prepare(&drafts).ok()?;
+        attempt.drafts = drafts;
+        attempt.arrivals = Arrivals::new(attempt.drafts.files.iter().map(|draft| &draft.made));
+        let (inputs, sources) = inputs.into_iter().unzip();
+        attempt.sources = sources;
+        let (tool, variables) = (self.tool(&attempt.job), attempt.job.variables.clone());
+        Some(Order { words, folder: String::new(), variables, tool, folders, witnesses: Vec::new(), products, inputs: Some(inputs) })
     }
 
     /// The tool that a job runs, and its digest, if it isn't one of those that each worker has shown.
@@ -293,7 +341,7 @@ impl Farm {
                 continue;
             }
             let may_wait = attempt.avoided.is_empty() || self.members.iter().any(|it| it.is_ready() && !attempt.avoided.contains(&it.worker.name));
-            match attempt.failed.take().filter(|_| !may_wait) {
+            match attempt.failed.take_if(|_| !may_wait) {
                 Some(ended) => self.events.push_back(Event::Ended(attempt.number, ended)),
                 None => self.waiting.push_back(attempt),
             }
@@ -346,10 +394,44 @@ impl Farm {
                     attempt.said[usize::from(is_error)].extend(part);
                 }
             }
+            Heard::Part(number, place, part) => self.take_file(at, number, |arrivals| arrivals.take(place, &part)),
+            Heard::Whole(number, place, digest) => self.take_file(at, number, |arrivals| arrivals.end(place, &digest)),
+            Heard::Began(number) => {
+                if let Some(attempt) = self.attempts.get_mut(&number) {
+                    attempt.started = Some(Instant::now());
+                }
+            }
             Heard::Ended(number, answer) => self.answered(number, answer),
             Heard::Unfit(reason) => self.leave_out(at, reason),
             Heard::Stranger => drop(self.members.remove(at)),
             Heard::Gone => self.lose(at, "has gone"),
+        }
+    }
+
+    /// Takes a part of what an attempt has made on the member at this place.
+    fn take_file(&mut self, at: usize, number: u64, take: impl FnOnce(&mut Arrivals) -> io::Result<()>) {
+        let member = self.members[at].number;
+        if let Some(attempt) = self.attempts.get_mut(&number).filter(|attempt| attempt.member == member) {
+            let taken = take(&mut attempt.arrivals);
+            attempt.note(taken);
+        }
+    }
+
+    /// Sends files as workers take them. A command of which one has changed meanwhile begins anew.
+    fn send_files(&mut self) {
+        for at in 0..self.members.len() {
+            for number in self.members[at].send_files() {
+                let Some(mut attempt) = self.attempts.remove(&number) else { continue };
+                self.members[at].taken -= 1;
+                self.members[at].connection.send(&Message::End(number, TERM));
+                attempt.clear();
+                attempt.lost += 1;
+                if attempt.lost < MOST_LOST {
+                    self.waiting.push_front(attempt);
+                } else {
+                    self.start_here(attempt.number, attempt.job);
+                }
+            }
         }
     }
 
@@ -428,6 +510,13 @@ impl Farm {
         self.members[at].taken -= usize::from(!attempt.job.shares_slot);
         if !answer.fault.is_empty() {
             self.at_fault(attempt, at, answer.fault);
+        } else if let Some(error) = &attempt.unwritten {
+            let text = format!("zigrunk-batch: cannot write what {} made: {error}\n", attempt.name());
+            attempt.drafts.remove();
+            self.fail(&attempt, 1, text.into_bytes());
+        } else if self.conditions.sends_files && answer.code == 0 && !attempt.arrivals.have(&answer.products) {
+            let fault = format!("what {} made there came cut short", attempt.name());
+            self.at_fault(attempt, at, fault);
         } else if attempt.is_ended {
             self.time_is_up(attempt, at);
         } else if answer.code == 0 {
@@ -589,6 +678,7 @@ impl Farm {
 
     /// Waits until there is something to look at, and reads it.
     fn wait(&mut self, milliseconds: i32) {
+        self.send_files();
         let mut files: Vec<(i32, bool)> = vec![(self.listener.as_raw_fd(), false)];
         files.extend(self.members.iter().map(|member| (member.connection.file(), member.connection.is_behind())));
         files.extend(self.host.files().into_iter().map(|file| (file, false)));
@@ -624,6 +714,8 @@ impl Farm {
         }
         self.inputs.clear();
         self.members.clear();
+        // No draft is left.
+        let _ = self.elsewhere.set_len(0);
         self.host.end_all(TERM);
         self.host.leave();
     }
@@ -651,8 +743,8 @@ impl Machine for Farm {
             if let Some(event) = self.events.pop_front() {
                 return event;
             }
-            // Attempts that still wait can't use the slots that are free.
-            if self.wants && self.free_member(&[]).is_some() {
+            self.begin_here();
+            if self.wants && self.may_take() {
                 return Event::Slot;
             }
             self.wait(if self.late.is_empty() { LOOK } else { LOOK / 5 });
@@ -661,6 +753,10 @@ impl Machine for Farm {
     }
 
     fn start(&mut self, number: usize, job: &Job) -> io::Result<()> {
+        if self.conditions.sends_files && parcel(job, &self.drafts).is_none() {
+            self.start_here(number, job.clone());
+            return Ok(());
+        }
         let attempt = Attempt::new(number, job.clone());
         let beside = if job.shares_slot { self.place(self.latest) } else { None };
         match beside.filter(|&at| self.members[at].is_ready()).or_else(|| self.free_member(&[])) {
@@ -682,9 +778,11 @@ impl Machine for Farm {
             }
         }
         let begun = Instant::now();
-        while !self.attempts.is_empty() && begun.elapsed() < LAST_GRACE {
+        self.end_here(signal);
+        while (!self.attempts.is_empty() || self.here.runs()) && begun.elapsed() < LAST_GRACE {
             self.wait(20);
             self.waiting.clear();
+            self.look_here(begun);
         }
         let attempts = std::mem::take(&mut self.attempts).into_values();
         attempts.chain(std::mem::take(&mut self.late).into_iter().map(|(attempt, ..)| attempt)).for_each(|attempt| attempt.drafts.remove());

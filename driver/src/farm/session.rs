@@ -4,6 +4,7 @@ use super::evidence;
 use super::fields::Bytes;
 use super::messages::{Answer, Message, Order, Terms, Witness};
 use super::toolkits;
+use super::transfers::{Arrivals, Departures};
 use super::worker::End;
 use crate::environments::Environment;
 use crate::folder::CallFolder;
@@ -14,7 +15,7 @@ use crate::settings::Settings;
 use crate::system::{self, KILL, TERM};
 use std::collections::BTreeMap;
 use std::env;
-use std::fs::{File, Metadata};
+use std::fs::{self, File, Metadata};
 use std::io;
 use std::os::unix::fs::MetadataExt;
 use std::path::{Path, PathBuf};
@@ -38,12 +39,19 @@ struct Pending {
     number: u64,
     order: Order,
     since: Instant,
+    /// The files that come to it, and its folder, if the disk isn't shared.
+    arrivals: Arrivals,
+    own: Option<PathBuf>,
+    /// Why this machine can't take its files.
+    fault: Option<String>,
 }
 
 /// A command that runs.
 struct Running {
     number: u64,
     products: Vec<PathBuf>,
+    /// Its folder, if the disk isn't shared.
+    own: Option<PathBuf>,
     /// When it was told to end.
     ends: Option<Instant>,
 }
@@ -56,6 +64,11 @@ pub struct Session {
     folder: Rc<CallFolder>,
     pending: Vec<Pending>,
     running: BTreeMap<usize, Running>,
+    /// How many commands with files of their own run at once.
+    slots: usize,
+    /// The files that go to the batch, and the folders of commands that have ended, whose files these are.
+    departures: Departures,
+    ended: BTreeMap<u64, PathBuf>,
     /// Digests of tools that aren't the terms'.
     digests: BTreeMap<PathBuf, Option<[u8; 32]>>,
 }
@@ -75,7 +88,7 @@ impl Session {
     /// # Errors
     ///
     /// If there is no folder for temporary files, or this machine can't run commands.
-    pub fn new(mut connection: Connection, terms: Terms) -> io::Result<Session> {
+    pub fn new(mut connection: Connection, terms: Terms, slots: u32) -> io::Result<Session> {
         let folder = Rc::new(own_folder(&terms.temporary)?);
         let temporary = folder.path().to_owned();
         let shown = terms.clone();
@@ -92,7 +105,18 @@ impl Session {
         let host = Host::of_process(&settings, no_make, environment, Rc::clone(&folder));
         let mut host = host.map_err(|lacks| io::Error::other(format!("no {lacks}")))?;
         host.set_terminal(terms.has_terminal);
-        Ok(Session { connection, terms, host, folder, pending: Vec::new(), running: BTreeMap::new(), digests: BTreeMap::new() })
+        Ok(Session {
+            connection,
+            terms,
+            host,
+            folder,
+            pending: Vec::new(),
+            running: BTreeMap::new(),
+            slots: slots as usize,
+            departures: Departures::default(),
+            ended: BTreeMap::new(),
+            digests: BTreeMap::new(),
+        })
     }
 
     /// Leaves nothing behind.
@@ -122,6 +146,7 @@ impl Session {
             }
             self.begin_pending();
             self.end_stubborn();
+            self.send_files();
             self.connection.beat(Duration::from_millis(self.terms.patience / 4));
             self.wait();
         }
@@ -139,7 +164,9 @@ impl Session {
         let read = self.connection.read();
         loop {
             match self.connection.next() {
-                Ok(Some(Message::Start(number, order))) => self.pending.push(Pending { number, order, since: Instant::now() }),
+                Ok(Some(Message::Start(number, order))) => self.take_order(number, order),
+                Ok(Some(Message::Part(number, place, part))) => self.take_file(number, |arrivals| arrivals.take(place, &part.0)),
+                Ok(Some(Message::Whole(number, place, digest))) => self.take_file(number, |arrivals| arrivals.end(place, &digest)),
                 Ok(Some(Message::End(number, signal))) => self.end(number, signal),
                 Ok(Some(Message::Refusal(reason))) => return Some(End::Refused(reason)),
                 Ok(Some(Message::Bye)) => return Some(End::Bye),
@@ -152,13 +179,44 @@ impl Session {
         (read.is_err() || self.connection.silence() > patience).then_some(End::Lost)
     }
 
+    /// Takes a command. One to which files come gets a folder of its own.
+    fn take_order(&mut self, number: u64, order: Order) {
+        let own = order.inputs.is_some().then(|| self.folder.path().join(number.to_string()));
+        let folders = own.iter().flat_map(|own| [own.clone()].into_iter().chain(order.folders.iter().map(|folder| own.join(folder))));
+        let fault = folders.map(fs::create_dir).find_map(Result::err).map(|error| format!("it has no room for files: {error}"));
+        let paths: Vec<PathBuf> = own.iter().flat_map(|own| order.inputs.iter().flatten().map(|input| own.join(input))).collect();
+        let arrivals = Arrivals::new(paths.iter());
+        self.pending.push(Pending { number, order, since: Instant::now(), arrivals, own, fault });
+    }
+
+    /// Takes a part of a file of a command that waits.
+    fn take_file(&mut self, number: u64, take: impl FnOnce(&mut Arrivals) -> io::Result<()>) {
+        let Some(pending) = self.pending.iter_mut().find(|pending| pending.number == number) else { return };
+        if let (None, Err(error)) = (&pending.fault, take(&mut pending.arrivals)) {
+            pending.fault = Some(format!("it can't take files: {error}"));
+        }
+    }
+
     /// Starts the commands that wait, once all is there that they need.
     fn begin_pending(&mut self) {
-        for pending in std::mem::take(&mut self.pending) {
-            match self.begin(&pending) {
+        for mut pending in std::mem::take(&mut self.pending) {
+            let has_room = pending.own.is_none() || self.running.len() < self.slots;
+            let begun = match pending.fault.take() {
+                Some(fault) => Err(fault),
+                None if has_room && pending.arrivals.are_whole() => self.begin(&pending),
+                None => {
+                    pending.since = Instant::now();
+                    self.pending.push(pending);
+                    continue;
+                }
+            };
+            match begun {
                 Ok(()) => {}
-                Err(_) if pending.since.elapsed() < LATE => self.pending.push(pending),
-                Err(fault) => self.connection.send(&Message::Ended(pending.number, Answer { fault, ..Answer::default() })),
+                Err(_) if pending.own.is_none() && pending.since.elapsed() < LATE => self.pending.push(pending),
+                Err(fault) => {
+                    self.ended.extend(pending.own.map(|own| (pending.number, own)));
+                    self.connection.send(&Message::Ended(pending.number, Answer { fault, ..Answer::default() }));
+                }
             }
         }
     }
@@ -167,22 +225,50 @@ impl Session {
         let order = &pending.order;
         self.check(order)?;
         let place = (0..=self.running.len()).find(|place| !self.running.contains_key(place)).unwrap_or_default();
-        let own = self.folder.path().to_string_lossy().into_owned();
-        let given = |(name, value): &(String, Option<String>)| {
-            let is_usual = name == "TMPDIR" && value.as_ref().is_some_and(|value| Path::new(value) == self.terms.temporary);
-            (name.clone(), if is_usual && self.terms.has_own_temporary { Some(own.clone()) } else { value.clone() })
-        };
-        let variables = order.variables.iter().map(given).collect();
-        let job = Job { words: order.words.clone(), folder: order.folder.clone(), variables, shares_slot: false };
+        let folder = pending.own.as_ref().map_or_else(|| order.folder.clone(), |own| own.to_string_lossy().into_owned());
+        let variables =
+            order.variables.iter().map(|(name, value)| (name.clone(), self.value(name, value.as_ref(), pending.own.as_deref()))).collect();
+        let job = Job { words: order.words.clone(), folder, variables, ..Job::default() };
         self.host.start(place, &job).map_err(|error| format!("it has no process for a command: {error}"))?;
-        self.running.insert(place, Running { number: pending.number, products: order.products.clone(), ends: None });
+        let products = order.products.iter().map(|product| pending.own.as_ref().map_or_else(|| product.clone(), |own| own.join(product))).collect();
+        self.running.insert(place, Running { number: pending.number, products, own: pending.own.clone(), ends: None });
+        if pending.own.is_some() {
+            self.connection.send(&Message::Began(pending.number));
+        }
         Ok(())
+    }
+
+    /// The value of a variable for a command, which may have a folder of its own.
+    fn value(&self, name: &str, value: Option<&String>, own: Option<&Path>) -> Option<String> {
+        let is_usual = value.is_some_and(|value| Path::new(value) == self.terms.temporary);
+        match (name, own) {
+            ("TMPDIR", Some(_)) => Some(self.folder.path().to_string_lossy().into_owned()),
+            ("TMPDIR", None) if is_usual && self.terms.has_own_temporary => Some(self.folder.path().to_string_lossy().into_owned()),
+            ("PWD", Some(own)) => Some(own.to_string_lossy().into_owned()),
+            _ => value.cloned(),
+        }
+    }
+
+    /// Sends files as the batch takes them. A command's folder goes once they are all under way.
+    fn send_files(&mut self) {
+        for number in self.departures.pump(&mut self.connection) {
+            let fault = "a file that it made has changed".to_owned();
+            self.connection.send(&Message::Ended(number, Answer { fault, ..Answer::default() }));
+        }
+        self.ended.retain(|&number, folder| {
+            let is_needed = self.departures.has(number);
+            if !is_needed {
+                let _ = fs::remove_dir_all(folder);
+            }
+            is_needed
+        });
     }
 
     /// Whether this machine is as an order needs it.
     fn check(&mut self, order: &Order) -> Result<(), String> {
         let own = Path::new(&order.folder);
-        for folder in order.folders.iter().map(PathBuf::as_path).chain((!order.folder.is_empty()).then_some(own)) {
+        let shared = order.folders.iter().map(PathBuf::as_path).filter(|_| order.inputs.is_none());
+        for folder in shared.chain((!order.folder.is_empty()).then_some(own)) {
             if !folder.is_dir() {
                 return Err(format!("it has no {}", folder.display()));
             }
@@ -210,7 +296,7 @@ impl Session {
                 self.connection.send(&Message::Said(running.number, is_error, Bytes(part.to_vec())));
             }
         }
-        let products = running.products.iter().map(|product| status_of(product).map(|status| status.len())).collect();
+        let products: Vec<Option<u64>> = running.products.iter().map(|product| status_of(product).map(|status| status.len())).collect();
         let seconds = Duration::try_from_secs_f64(ended.times.1 - ended.times.0).unwrap_or_default();
         let answer = Answer {
             code: ended.status.code,
@@ -220,13 +306,27 @@ impl Session {
             products,
             fault: String::new(),
         };
-        self.connection.send(&Message::Ended(running.number, answer));
+        self.send_answer(running, answer);
+    }
+
+    /// Sends an answer, behind the files that a command has made which aren't on a shared disk.
+    fn send_answer(&mut self, running: Running, mut answer: Answer) {
+        let Running { number, products, own, .. } = running;
+        let Some(own) = own else { return self.connection.send(&Message::Ended(number, answer)) };
+        let made = products.iter().enumerate().filter(|(place, _)| answer.code == 0 && answer.products[*place].is_some());
+        for (place, product) in made {
+            if let Err(error) = self.departures.add(number, place, product) {
+                answer.fault = format!("it can't read what a command made: {error}");
+            }
+        }
+        self.departures.add_message(number, Message::Ended(number, answer));
+        self.ended.insert(number, own);
     }
 
     /// Ends a command by a signal.
     fn end(&mut self, number: u64, signal: i32) {
         if let Some(at) = self.pending.iter().position(|pending| pending.number == number) {
-            self.pending.remove(at);
+            self.ended.extend(self.pending.remove(at).own.map(|own| (number, own)));
             let answer = Answer { code: 128 + TERM, signal: Some(TERM), ..Answer::default() };
             self.connection.send(&Message::Ended(number, answer));
         }

@@ -106,7 +106,7 @@ fn connect(invitation: &Invitation, worker: &Introduction) -> Result<Connection,
 fn work(invitation: &Invitation, worker: &Introduction) -> Result<End, End> {
     let mut connection = connect(invitation, worker)?;
     let Message::Terms(terms) = await_message(&mut connection, ANSWER)? else { return Err(End::Lost) };
-    let mut session = Session::new(connection, terms).map_err(|error| End::Refused(format!("it can't begin: {error}")))?;
+    let mut session = Session::new(connection, terms, worker.slots).map_err(|error| End::Refused(format!("it can't begin: {error}")))?;
     let end = session.run();
     session.leave();
     Ok(end)
