@@ -54,7 +54,7 @@ help:
 	@echo 'make mutants-by-lot   edit the driver by lot, one line at a time, and say which edits no test finds; SEED=1 COUNT=100, ONLY=17 makes one'
 	@echo '                      of them again; KIND=examples edits the examples. Needs root. No part of the gate'
 	@echo 'make versions         the same with nvcc 11.2, 11.8 and 12.4, which it downloads from Debian, up to 3 GB; or CUDA_VERSIONS=FOLDER'
-	@echo 'make cache            compare builds and rebuilds with and without ccache and sccache; needs both, sccache 0.9 or later'
+	@echo 'make cache            compare builds and rebuilds with and without ccache and sccache; needs both, sccache 0.9 or later; PARTS="edits alone"'
 	@echo 'make cache-edits      build a small project by nvcc and with our cache after each of 200 random edits; SEED=, COUNT='
 	@echo 'make peer             build Debian'\''s sccache as it is and on the crate zigrunk, which it downloads with its crates, 30 MB; run its tests'
 	@echo '                      and calls of nvcc by both; needs nvcc and cargo 1.85. No part of the gate'
@@ -169,8 +169,11 @@ versions: rust
 	@.ci/built check programs || $(MAKE) build
 	@tests/versions.sh
 
+# In PARTS, of `edits libraries alone jobs`, those to measure. SCCACHE is sccache, if it isn't on the path. docs/PERFORMANCE.md has what came out.
+SCCACHE ?= sccache
 cache: rust
-	@tests/cache.sh
+	@mkdir -p out
+	@tests/cache/table.py --sccache "$(SCCACHE)" --out out/cache.json $(PARTS)
 
 # Outside the gate: edits drawn by lot, each build compared with nvcc's.
 cache-edits: rust

@@ -299,6 +299,7 @@ FILE          a call on each line, as you would type it, or a compile_commands.j
 --wait N      fail once there has been no worker for N seconds; 120, unless set
 --give-up N   run a worker's commands elsewhere once it has said nothing for N seconds; 10, unless set
 --timeout N   end a worker's command once it takes N seconds; without it, there is no limit
+--send-files  workers share no disk: device commands go to them with their files, and all others run here
 --unless-made NVCC WORD..    make one call, unless a batch with --incremental has made it in this directory: a launcher for CMake
 --version     print the version
 -h, --help    print this text

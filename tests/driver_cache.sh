@@ -5,7 +5,7 @@
 #
 #   tests/driver_cache.sh [DRIVER]    DRIVER is zigrunk-driver in a workspace's folder; else the one that `make rust` leaves
 #
-# ONLY=TEXT runs the cases whose names have this text. PARTS="stand_ins nvcc whole" runs these parts.
+# ONLY=TEXT runs the cases whose names have this text. PARTS="stand_ins late nvcc whole" runs these parts.
 # shellcheck disable=SC2016 # the stand-ins expand what cases give them
 cd "$(dirname "$0")/.." || exit 1
 . tests/lib.sh
@@ -17,7 +17,7 @@ trap 'umount "$scratch/full" 2> /dev/null; rm -rf "$scratch"' EXIT
 tests=$PWD/tests
 shell=(cache)
 mkdir "$scratch/bin"
-for name in nvcc cache report; do ln -s "$driver" "$scratch/bin/zigrunk-$name"; done
+for name in nvcc batch cache report; do ln -s "$driver" "$scratch/bin/zigrunk-$name"; done
 
 # case_of NAME: begins a case, if it is one of those to run.
 case_of() {
@@ -64,11 +64,11 @@ END_OF_PROGRAM
 }
 
 toolkit() {
-    export CUDA=$scratch/cuda DATA=$tests/drivers/test_plans/data/dry_runs STAND_IN=$tests/driver_cache/tool
+    export CUDA=$scratch/cuda DATA=$tests/drivers/test_plans/data/dry_runs STAND_IN=$tests/driver_cache/tool FATBIN=$tests/driver/fatbin.c
     mkdir -p "$CUDA/bin" "$CUDA/nvvm/bin"
     gcc -O1 -o "$CUDA/bin/gcc" "$tests/driver_cache/program.c" || exit 1
     for tool in bin/cudafe++ bin/ptxas bin/fatbinary bin/cc1plus bin/as nvvm/bin/cicc; do cp "$CUDA/bin/gcc" "$CUDA/$tool"; done
-    ln -s "$tests/driver/nvcc" "$CUDA/bin/nvcc"
+    ln -sf "$tests/driver/nvcc" "$CUDA/bin/nvcc"
     find "$CUDA" -type f -exec touch -d '2020-01-01' {} +
 }
 
@@ -329,6 +329,136 @@ stand_ins() {
     PATH=$path
 }
 
+# begun_early: the commands of the last call that began before one had ended that they need.
+begun_early() {
+    python3 - "$room/calls" << 'END_OF_PROGRAM'
+import json, sys
+commands = json.loads(open(sys.argv[1]).read().splitlines()[-1])["commands"]
+early = {one["kind"] for one in commands if not one["kind"].startswith("gcc -E") and any(one["begin"] < commands[need]["end"] for need in one["needs"])}
+print(*sorted(early))
+END_OF_PROGRAM
+}
+
+# The same with a last host compile in two parts.
+late() {
+    local path=$PATH tool
+    toolkit
+    PATH=$CUDA/bin:$PATH
+    all=(as cicc.80 cicc.90 cudafe++ gcc-S ptxas.80 ptxas.90)
+    if case_of 'late: an unchanged call'; then
+        call -c k.cu -o k.o
+        ran_all first
+        cp k.o first.o && rm k.o
+        call -c k.cu -o k.o
+        ran_none again
+        same 'product, and messages' "$(cmp k.o first.o 2>&1)$(cat "$room/err" "$room/out")" ''
+        call -c k.cu -o other.o
+        ran_none 'for another product'
+        mkdir "$room/tmp/other"
+        call TMPDIR="$room/tmp/other" -c k.cu -o k.o
+        rm -r "$room/tmp/other"
+        ran_none 'for another TMPDIR'
+        call ZIGRUNK_CACHE= -c k.cu -o k.o
+        ran_all 'without the cache'
+        same 'product without the cache' "$(cmp k.o first.o 2>&1)" ''
+        call ZIGRUNK_LATE=0 -c k.cu -o k.o
+        ran 'as one command' gcc-c
+        end
+    fi
+    if case_of 'late: what a change runs again'; then
+        printf '%s\n' first 'device one' > k.cu
+        call -c k.cu -o k.o
+        cp k.o first.o
+        printf '%s\n' first 'device two' > k.cu
+        call -c k.cu -o k.o
+        ran 'after an edit of device code' as cicc.80 cicc.90 cudafe++ ptxas.80 ptxas.90
+        same 'another product' "$(cmp -s k.o first.o; echo $?)" 1
+        printf '%s\n' second 'device one' > k.cu
+        call -c k.cu -o k.o
+        ran_all 'after an edit of all'
+        printf '%s\n' first 'device one' > k.cu
+        call -c k.cu -o k.o
+        ran_none 'after both are taken back'
+        same 'the product of before' "$(cmp k.o first.o 2>&1)" ''
+        end
+    fi
+    if case_of 'late: a tool of the same size and time'; then
+        call -c k.cu -o k.o
+        for tool in bin/ptxas bin/as bin/cc1plus bin/gcc; do
+            cp -p "$CUDA/$tool" "$room/kept"
+            printf x | dd of="$CUDA/$tool" bs=1 seek=$(($(stat -c %s "$CUDA/$tool") - 1)) conv=notrunc 2> /dev/null
+            touch -r "$room/kept" "$CUDA/$tool"
+            call -c k.cu -o k.o
+            case $tool in
+            bin/ptxas) ran "with another $tool" ptxas.80 ptxas.90 ;;
+            *) ran "with another $tool" as gcc-S ;;
+            esac
+            cp -p "$room/kept" "$CUDA/$tool"
+        done
+        end
+    fi
+    if case_of 'late: entries that are not whole'; then
+        call -c k.cu -o k.o
+        cp k.o first.o
+        for change in 'del data[len(data) // 2:]' 'data[-1] ^= 1'; do
+            edit_entries "$change"
+            call -c k.cu -o k.o
+            ran_all "after $change"
+            same "product after $change" "$(cmp k.o first.o 2>&1)" ''
+        done
+        end
+    fi
+    if case_of 'late: modes and odd outputs'; then
+        (umask 077 && call -c k.cu -o k.o)
+        same 'with umask 077' "$(stat -c %a k.o)" 600
+        (umask 022 && call -c k.cu -o k.o && ran_none 'with another umask')
+        same 'with umask 022' "$(stat -c %a k.o)" 644
+        cp k.o first.o && echo target > target && ln -sf target k.o
+        call -c k.cu -o k.o
+        ran 'for a link' as
+        same 'the target of a link' "$(cat target)" target
+        end
+    fi
+    if case_of 'late: an assembler that says something, or fails'; then
+        for does in 'echo odd >&2' 'exit 3'; do
+            call TOOL_DOES="[ \"\$name\" != as ] || { $does; }" -c k.cu -o k.o
+            same "who makes it with $does" "$status $(cat k.o)" '0 made by nvcc'
+        done
+        call -c k.cu -o k.o
+        ran 'at last' as
+        end
+    fi
+    if case_of 'late: what the assembler reads beside'; then
+        for line in '.incbin "data"' '.INCLUDE "data"' '.macro m x'; do
+            echo "$line" > k.cu
+            for _ in 1 2; do call -c k.cu -o k.o; done
+            ran "again with $line" as
+        done
+        end
+    fi
+    if case_of 'cicc begins beside cudafe++ if the cache has nothing for it'; then
+        local waits='case $name in cudafe++) sleep 0.5 ;; esac'
+        call ZIGRUNK_SLOTS=8 TOOL_DOES="$waits" -c k.cu -o k.o
+        ran_all first
+        same 'what begins early' "$(begun_early)" 'cicc compute_80 cicc compute_90'
+        cp k.o first.o
+        call -c k.cu -o k.o
+        ran_none again
+        same 'product' "$(cmp k.o first.o 2>&1)" ''
+        echo other > k.cu
+        call ZIGRUNK_SLOTS=8 ZIGRUNK_EARLY=0 TOOL_DOES="$waits" -c k.cu -o k.o
+        same 'what begins early with ZIGRUNK_EARLY=0' "$(begun_early)" ''
+        echo third > k.cu
+        for number in 7546 7547 7547; do
+            call ZIGRUNK_SLOTS=8 ID=_9f1b1dc8_4_s_cu_778e0101_$number TOOL_DOES="$waits" -c k.cu -o k.o
+        done
+        ran 'with the id of a process' cudafe++
+        same 'what begins early with what may be known' "$(begun_early)" ''
+        end
+    fi
+    PATH=$path
+}
+
 # made [NAME=VALUE..] WORD..: makes the call with the cache and without, and by nvcc. A problem, unless all products in the folder are alike. $missed
 # are the kinds of commands that the cache was asked for and hadn't, $served those that it had.
 made() {
@@ -386,6 +516,8 @@ END_OF_SOURCE
 }
 
 two=(-gencode 'arch=compute_75,code=sm_75' -gencode 'arch=compute_80,code=sm_80')
+# The compiler's part of the last host compile.
+host=gcc--S-__CUDA_ARCH__=800
 real_calls() {
     command -v nvcc > /dev/null || { skip 'calls of nvcc' 'nvcc is not on the path' && return; }
     if case_of 'nvcc: phases'; then
@@ -413,9 +545,9 @@ real_calls() {
         same 'a host function' "$served" 'ptxas-sm_75 ptxas-sm_80'
         sed -i 's/= 4/= 5/' k.cu
         made "${two[@]}" -Iinc -c k.cu -o k.o
-        same 'a kernel' "$served" ''
+        same 'a kernel' "$served" "$host"
         made "${two[@]}" -gencode arch=compute_90,code=sm_90 -Iinc -c k.cu -o k.o
-        same 'a further target' "$served" 'cicc-compute_75 cicc-compute_80 ptxas-sm_75 ptxas-sm_80'
+        same 'a further target' "$served" "cicc-compute_75 cicc-compute_80 cudafe++ ${host/800/900} ptxas-sm_75 ptxas-sm_80"
         end
     fi
     if case_of 'nvcc: lines'; then
@@ -434,7 +566,7 @@ real_calls() {
                 made -arch=sm_80 -Iinc $words ${words:+$([ "$words" = -cuda ] || echo -c)} k.cu
             done
             case $words in
-            -lineinfo) same 'what was served with -lineinfo' "$served" cudafe++ ;;
+            -lineinfo) same 'what was served with -lineinfo' "$served" "cudafe++ $host" ;;
             -g*) same 'what was served with -g' "$served" ptxas-sm_80 ;;
             *) same "what was served with $words" "$served" '' ;;
             esac
@@ -444,7 +576,7 @@ real_calls() {
             made -arch=sm_80 -c l.cu -o l.o
             sed -i '1i // a line' l.cu
             made -arch=sm_80 -c l.cu -o l.o
-            same "served with $line" "${served#ptxas-sm_80}" ''
+            same "served with $line" "$(grep -o 'cudafe++\|cicc\|gcc--S' <<< "$served")" ''
         done
         end
     fi
@@ -478,10 +610,10 @@ real_calls() {
         touch -r inc/size.h "$room/time"
         echo '#define SIZE 256' > inc/size.h && touch -r "$room/time" inc/size.h
         made -arch=sm_80 -I early -Iinc -c k.cu -o k.o
-        same 'another one of the same size and time' "$served" ''
+        same 'another one of the same size and time' "$served" "$host"
         mkdir early && echo '#define SIZE 512' > early/size.h && touch -r "$room/time" early/size.h early
         made -arch=sm_80 -I early -Iinc -c k.cu -o k.o
-        same 'one that appears earlier' "$served" ''
+        same 'one that appears earlier' "$served" "$host"
         end
     fi
     if case_of 'nvcc: the time of a source in line information'; then
@@ -489,20 +621,23 @@ real_calls() {
         made -arch=sm_80 -Iinc -lineinfo -c k.cu -o k.o
         touch -d '2021-01-01' k.cu
         made -arch=sm_80 -Iinc -lineinfo -c k.cu -o k.o
-        same 'what is served' "$served" 'cicc-compute_80 cudafe++'
+        same 'what is served' "$served" "cicc-compute_80 cudafe++ $host"
         end
     fi
     if case_of 'nvcc: files that no record names'; then
         project
         echo one > data
-        printf '%s\n' 'asm(".globl mine\nmine: .incbin \"data\"\n");' >> k.cu
-        touch -d '1 minute ago' k.cu data
-        for text in one two; do
-            echo "$text" > data
-            made -arch=sm_80 -Iinc -c k.cu -o k.o
-            same '.incbin' "${served#cicc-compute_80 cudafe++ ptxas-sm_80}" ''
+        for form in '.incbin \"data\"' '.INCBIN \"data\"' 'nop; .inc/**/bin \"data\"' '\n.macro m x\n.inc\\x \"data\"\n.endm\nm bin'; do
+            printf '%s\n' "asm(\".globl mine\\nmine: $form\\n\");" >> k.cu
+            for late in 0 1; do
+                for text in one two; do
+                    echo "$text" > data
+                    made ZIGRUNK_LATE=$late -arch=sm_80 -Iinc -c k.cu -o k.o
+                    same "host compile with $form, ZIGRUNK_LATE=$late" "$(grep -o gcc--c <<< "$served")" ''
+                done
+            done
+            sed -i '$d' k.cu
         done
-        sed -i '/incbin/d' k.cu
         for word in -fstack-usage -save-temps -fcallgraph-info -fsave-optimization-record; do
             made -arch=sm_80 -Iinc -Xcompiler $word -c k.cu -o k.o
             made -arch=sm_80 -Iinc -Xcompiler $word -c k.cu -o k.o
@@ -576,6 +711,24 @@ whole() {
     same "status and messages of $*" "$status $(cat "$room/err")" "0 $(cat "$room/plain.err")"
 }
 
+# batch [NAME=VALUE..]: makes the calls of a list as a batch.
+batch() {
+    settle
+    : > "$room/calls"
+    env "$@" LOG="$room/log" TMPDIR="$room/tmp" XDG_RUNTIME_DIR="$room/run" "$scratch/bin/zigrunk-batch" list > "$room/out" 2> "$room/err"
+    same 'status of the batch' "$?" 0
+}
+
+# served_whole: the sources of the logged calls that the cache had as a whole.
+served_whole() {
+    python3 - "$room/calls" << 'END_OF_PROGRAM'
+import json, sys
+calls = [json.loads(line) for line in open(sys.argv[1])]
+whole = [call for call in calls if [(one["kind"], one.get("hit")) for one in call["commands"]] == [("nvcc", True)]]
+print(*sorted(word for call in whole for word in call["words"] if word.endswith(".cu")))
+END_OF_PROGRAM
+}
+
 # twice WORD..: makes a call that is kept, and again.
 twice() { whole '' "$@" && whole whole "$@"; }
 
@@ -593,6 +746,17 @@ whole_calls() {
         whole whole -MD -MF k.d "${usual[@]}"
         edit_entries 'del data[len(data) // 2:]'
         twice -MD -MF k.d "${usual[@]}"
+        rm k.d
+        twice -DNAME='"a name"' -UOTHER -forward-unknown-to-host-compiler -std=c++17 -x cu -rdc=true -isystem inc "${usual[@]}"
+        end
+    fi
+    if case_of 'whole: words that builds have'; then
+        project
+        # nvcc gives a preprocessor the words of a macro one by one
+        local common=(-DNDEBUG -D SIZE_OF=8 -UOTHER -isystem early -O3 -use_fast_math -restrict --extended-lambda --expt-relaxed-constexpr)
+        common+=(-maxrregcount=64 -Xptxas -warn-spills -diag-suppress 177 -Xcompiler "-fPIC,-Wall" -Wno-deprecated-gpu-targets -lineinfo)
+        twice "${common[@]}" "${usual[@]}"
+        whole '' -DNDEBUG=2 "${common[@]:1}" "${usual[@]}"
         end
     fi
     if case_of 'whole: messages and failures'; then
@@ -712,6 +876,29 @@ whole_calls() {
         cd "$source" || return
         end
     fi
+    if case_of 'whole: a batch'; then
+        project
+        sed 's/return count/int never; return count/' k.cu > l.cu
+        sed 's/= 4/= 5/' k.cu > m.cu
+        printf 'nvcc -arch=sm_80 -Iinc %s\n' '-MD -MF k.d -c k.cu -o k.o' '-c l.cu -o l.o' '-c m.cu -o m.o' > list
+        touch -d '1 minute ago' list ./*.cu
+        batch
+        same 'whole calls at first' "$(served_whole)" ''
+        mkdir first && mv ./*.o k.d first && mv "$room/err" "$room/first.err"
+        batch
+        same 'whole calls' "$(served_whole)" 'k.cu l.cu m.cu'
+        for product in k.o k.d l.o m.o; do same "$product" "$(cmp $product first/$product 2>&1)" ''; done
+        same messages "$(grep -q never "$room/err" && echo told)$(cmp "$room/err" "$room/first.err" 2>&1)" told
+        sed -i 's/= 5/= 6/' m.cu
+        batch
+        same 'whole calls after an edit' "$(served_whole)" 'k.cu l.cu'
+        same 'another product' "$(cmp -s m.o first/m.o; echo $?)" 1
+        batch ZIGRUNK_CALLS=0
+        same 'whole calls with ZIGRUNK_CALLS=0' "$(served_whole)" ''
+        call -arch=sm_80 -Iinc -c l.cu -o l.o
+        same 'a call by itself' "$(commands true)" nvcc
+        end
+    fi
     if case_of 'whole: odd products'; then
         project
         twice "${usual[@]}"
@@ -730,10 +917,10 @@ whole_calls() {
 }
 
 toolkit_path=$PATH
-for part in ${PARTS:-stand_ins nvcc whole}; do
+for part in ${PARTS:-stand_ins late nvcc whole}; do
     case $part in
-    # The stand-in for fatbinary writes no file for an assembler.
     stand_ins) export ZIGRUNK_LATE=0 ZIGRUNK_CALLS=0 && stand_ins ;;
+    late) unset ZIGRUNK_LATE && export ZIGRUNK_CALLS=0 && PATH=$toolkit_path && late ;;
     nvcc) unset ZIGRUNK_LATE && export ZIGRUNK_CALLS=0 && PATH=$toolkit_path && real_calls ;;
     whole) unset ZIGRUNK_LATE ZIGRUNK_CALLS && PATH=$toolkit_path && whole_calls ;;
     esac

@@ -40,7 +40,7 @@ for name in "${names[@]}"; do
     if [ -x "$bench" ]; then
         echo "$name, cudabench plan: $(each "$bench" plan @ /w /t "$(cat "$data/$name.flag")" "$data/$name.dry1" "$data/$name.dry2")"
     fi
-    for form in text records steps json; do
+    for form in text steps json; do
         one=$(each "$scratch/proved/work" "$form" @ "$data" "$name") other=$(each "$scratch/plain/work" "$form" @ "$data" "$name")
         share=$((other * 100 / one))
         echo "$name, $form: proved $one, plain $other, $share %"

@@ -58,11 +58,11 @@ FIRST = {
     "src/rule": "driver: products", "src/products": "driver: products", "src/programs": "driver: compilers", "src/dry_runs": "driver: to_nvcc",
     "src/json_values": "driver_batch: databases reports", "src/entries": "driver: logs", "src/streams": "driver: outputs driver_batch: failures",
     "src/cache/": "driver_cache: stand_ins", "src/early": "driver: early_starts late_starts", "src/late": "driver: late_starts",
-    "src/withheld": "driver: early_starts", "src/run.": "driver: end_to_end early_starts outputs",
+    "src/farm/": "farm: files work deaths unfit", "src/withheld": "driver: early_starts", "src/run.": "driver: end_to_end early_starts outputs",
     "src/system": "driver: end_to_end signals folders", "src/host": "driver: end_to_end signals logs", "src/call": "driver: end_to_end to_nvcc",
 }
 # No other parts run anything of these files.
-ALONE = ("src/batch/", "src/report/", "src/plan_program")
+ALONE = ("src/batch/", "src/report/", "src/plan_program", "src/farm/")
 
 
 # An edit: the file, the number of a line, what it is before and after, and the operator.

@@ -80,12 +80,26 @@ has_library() {
     inside sh -c '[ -d "$(rustc --print target-libdir --target "$1")" ]' _ "$1"
 }
 
-# by_cargo COMMAND TARGET WORD..: runs cargo for a platform. If Debian has no library of Rust for it, cargo compiles that too, which rustc
-# allows in versions under development. ($flags has words for rustc.)
+# make_library TARGET: compiles Rust's library for a platform that Debian has none for, and puts it where rustc looks, which takes a setting for
+# versions under development. It is compiled beside an empty crate: the workspace has a dependency that is called `std` too.
+make_library() {
+    local folder
+    ! has_library "$1" || return 0
+    # shellcheck disable=SC2016 # for sh
+    folder=$(inside sh -c 'rustc --print target-libdir --target "$1"' _ "$1") || return 1
+    mkdir -p "$work/empty/src"
+    : > "$work/empty/src/lib.rs"
+    printf '%s\n' '[package]' 'name = "empty"' 'version = "0.1.0"' 'edition = "2021"' > "$work/empty/Cargo.toml"
+    inside env RUSTC_BOOTSTRAP=1 cargo build -Zbuild-std=std,panic_abort,panic_unwind --offline --quiet --jobs "$jobs" --release \
+        --manifest-path empty/Cargo.toml --target "$1" || return 1
+    rm -f "$work/empty/target/$1"/release/deps/libempty-*
+    mkdir -p "$root$folder.new" && cp "$work/empty/target/$1"/release/deps/*.rlib "$root$folder.new" && mv "$root$folder.new" "$root$folder"
+}
+
+# by_cargo COMMAND TARGET WORD..: runs cargo for a platform. ($flags has words for rustc.)
 by_cargo() {
-    local library=() settings=("RUSTFLAGS=${flags-}")
-    has_library "$2" || { library=('-Zbuild-std=std,panic_abort') && settings+=(RUSTC_BOOTSTRAP=1); }
-    inside env "${settings[@]}" cargo "$1" "${library[@]}" --offline --quiet --jobs "$jobs" --manifest-path rust/Cargo.toml --target "$2" "${@:3}"
+    make_library "$2" &&
+        inside env "RUSTFLAGS=${flags-}" cargo "$1" --offline --quiet --jobs "$jobs" --manifest-path rust/Cargo.toml --target "$2" "${@:3}"
 }
 
 # built TARGET LINKER: all programs, static so that they need nothing of the platform, and the library. (Link-time optimization takes most

@@ -1,9 +1,8 @@
 #!/usr/bin/env bash
 # Writes a CMake project: twelve CUDA sources, a library and a program, two include directories, separable compilation. Each source has a
-# kernel. The architectures are 75 and 80, unless CMAKE_CUDA_ARCHITECTURES names others. tests/builds.sh and tests/cache.sh build it.
+# kernel. The architectures are 75 and 80, unless CMAKE_CUDA_ARCHITECTURES names others. tests/builds.sh builds it, and tests/cache its sources.
 #
-#   tests/project.sh FOLDER           writes it
-#   tests/project.sh FOLDER CHANGE    changes one of the twelve: `comment`, `host` (a function of the host) or `kernel`
+#   tests/project.sh FOLDER
 set -eu
 
 # a source, its number, and what is before `run`
@@ -31,10 +30,8 @@ void run_$1(const float* values, float* sums, int count) {
 END
 }
 
-case ${2-} in
-'')
-    mkdir -p "$1/include" "$1/more headers"
-    cat > "$1/CMakeLists.txt" << 'END'
+mkdir -p "$1/include" "$1/more headers"
+cat > "$1/CMakeLists.txt" << 'END'
 cmake_minimum_required(VERSION 3.18)
 set(CMAKE_CUDA_ARCHITECTURES 75 80 CACHE STRING "the targets")
 project(Twelve LANGUAGES CXX CUDA)
@@ -45,21 +42,15 @@ target_include_directories(sums PUBLIC include "more headers")
 target_compile_definitions(sums PRIVATE "NAME=\"a name\"")
 set_target_properties(sums program PROPERTIES CUDA_SEPARABLE_COMPILATION ON CUDA_STANDARD 17)
 END
-    echo '__device__ float scaled(float value, int factor);' > "$1/include/device.h"
-    echo '#define SIZE 128' > "$1/more headers/size.h"
-    for number in 1 2 3 4 5 6 7 8 9 10 11; do source_of "$number" > "$1/$number.cu"; done
-    echo '__device__ float scaled(float value, int factor) { return factor * value; }' >> "$1/1.cu"
-    echo 'const char* name() { return NAME; }' >> "$1/2.cu"
-    {
-        source_of 12
-        for number in 1 2 3 4 5 6 7 8 9 10 11; do echo "void run_$number(const float* values, float* sums, int count);"; done
-        echo 'int main() {'
-        for number in 1 2 3 4 5 6 7 8 9 10 11 12; do echo "    run_$number(nullptr, nullptr, 0);"; done
-        echo '}'
-    } > "$1/main.cu"
-    ;;
-comment) sed -i 's/^\/\/ Adds up each block/\/\/ The sum of a block/' "$1/5.cu" ;;
-host) sed -i 's/^    int blocks = .*/    int blocks = count \/ SIZE + 1;/' "$1/5.cu" ;;
-kernel) sed -i 's/scaled(values\[at\], 5)/scaled(values[at], 50)/' "$1/5.cu" ;;
-*) echo 'usage: tests/project.sh FOLDER [comment|host|kernel]' >&2 && exit 2 ;;
-esac
+echo '__device__ float scaled(float value, int factor);' > "$1/include/device.h"
+echo '#define SIZE 128' > "$1/more headers/size.h"
+for number in 1 2 3 4 5 6 7 8 9 10 11; do source_of "$number" > "$1/$number.cu"; done
+echo '__device__ float scaled(float value, int factor) { return factor * value; }' >> "$1/1.cu"
+echo 'const char* name() { return NAME; }' >> "$1/2.cu"
+{
+    source_of 12
+    for number in 1 2 3 4 5 6 7 8 9 10 11; do echo "void run_$number(const float* values, float* sums, int count);"; done
+    echo 'int main() {'
+    for number in 1 2 3 4 5 6 7 8 9 10 11 12; do echo "    run_$number(nullptr, nullptr, 0);"; done
+    echo '}'
+} > "$1/main.cu"

@@ -1,18 +1,15 @@
 //! A call of zigrunk-nvcc, from its words to its status.
-use crate::cache::counts::{self, Counts};
-use crate::cache::{self, calls};
 use crate::environments::Environment;
 use crate::folder::CallFolder;
 use crate::host::{self, Host};
 use crate::jobserver::Make;
 use crate::log::{self, LoggedCall};
-use crate::machine::Ended;
 use crate::places::{absolute, working_directory};
 use crate::planner::{self, Line};
 use crate::products;
 use crate::programs::{self, Compiler};
 use crate::rule::Refusals;
-use crate::run::{Done, Task};
+use crate::served;
 use crate::settings::Settings;
 use crate::split::{self, Outcome, Stop, by_nvcc};
 use crate::streams::{complain, say};
@@ -126,18 +123,11 @@ impl Call<'_> {
 
     /// Whether the cache had the whole call.
     fn is_served(&self, line: &Line) -> bool {
-        let may_be = calls::is_on() && self.settings.launcher.is_empty() && self.settings.runner.is_empty();
-        let store = if may_be { cache::store_of(&self.settings, &line.cwd) } else { None };
-        let Some((store, nvcc)) = store.zip(self.compiler.path.as_deref()) else { return false };
-        let Some(said) = calls::serve(&store, line, nvcc) else { return false };
+        let Some((said, outcome)) = served::serve(&self.settings, line, self.begun) else { return false };
         for (is_error, text) in said {
             let _ = say(if is_error { 2 } else { 1 }, &text);
         }
-        counts::add(store.folder(), Counts { calls: 1, ..Counts::default() });
-        if self.settings.log.is_some() {
-            let (task, done) = served(self.begun);
-            self.log(&Outcome { status: 0, commands: log::commands(&[task], &[done]), counted: None });
-        }
+        self.log(&outcome);
         true
     }
 
@@ -235,14 +225,6 @@ impl Call<'_> {
         }
         status.code
     }
-}
-
-/// What the log has of a call that the cache had as a whole.
-fn served(begun: f64) -> (Task, Done) {
-    let status = Status { code: 0, signal: None, dumped: false };
-    let ended = Ended { status, out: Vec::new(), errors: Vec::new(), times: (begun, host::now()) };
-    let task = Task { kind: "nvcc".into(), ..Task::default() };
-    (task, Done { asked: begun, ended: Some(ended), hit: Some(true), ..Done::default() })
 }
 
 /// How nvcc ends that runs as a child of this process. It gets the signals that come to this one. `None` if that can't be known.

@@ -43,7 +43,7 @@ pub struct Line<'a> {
 /// A dry run: nvcc gets the words of its variables once.
 fn job(words: Vec<String>, folder: &str) -> Job {
     let variables = ["NVCC_PREPEND_FLAGS", "NVCC_APPEND_FLAGS"].map(|name| (name.to_owned(), None));
-    Job { words, folder: folder.to_owned(), variables: variables.into(), shares_slot: false }
+    Job { words, folder: folder.to_owned(), variables: variables.into(), ..Job::default() }
 }
 
 fn planned_job(words: &Words) -> Job {

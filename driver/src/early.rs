@@ -61,7 +61,7 @@ impl HeadStart {
     }
 }
 
-/// Whether commands of a call may begin so. A cache, a runner and workers get the plan's own commands.
+/// Whether commands of a call may begin so. A launcher, a runner and workers get the plan's own commands.
 pub fn is_on(settings: &Settings) -> bool {
     let is_off = env::var_os("ZIGRUNK_EARLY").is_some_and(|value| value == "0");
     !is_off && settings.launcher.is_empty() && settings.runs_here()

@@ -3,9 +3,11 @@
 //! The user's folder is made once, checked once opened, and never removed: nobody else can come between the check and the use.
 use crate::host::nanoseconds;
 use crate::system::{self, Opening};
+use std::ffi::OsStr;
 use std::fs::{self, File, Metadata};
 use std::io;
 use std::os::fd::{AsFd, BorrowedFd, OwnedFd};
+use std::os::unix::ffi::OsStrExt;
 use std::os::unix::fs::MetadataExt;
 use std::path::{Path, PathBuf};
 use std::time::{Duration, SystemTime};
@@ -16,6 +18,23 @@ const MOST_EQUAL_CALLS: usize = 64;
 const LEFT_ALONE: Duration = Duration::new(600, 0);
 /// The same if it's an empty directory: the call was killed before it had a guard.
 const EMPTY_LEFT_ALONE: Duration = Duration::new(10, 0);
+
+/// The file in a call's directory that names folders elsewhere, which go with it. Each name ends with a NUL.
+pub const ELSEWHERE: &str = "elsewhere";
+/// How the names of such folders begin.
+pub const DRAFTS: &str = ".zigrunk.";
+
+/// Removes the folders that a call's directory names. What still runs may make a file while that happens.
+fn remove_elsewhere(call: &Path) {
+    let names = fs::read(call.join(ELSEWHERE)).unwrap_or_default();
+    // A name without its NUL is that of a folder which wasn't made any more.
+    let whole = names.split_inclusive(|&byte| byte == 0).filter_map(|name| name.strip_suffix(&[0]));
+    for folder in whole.map(|name| Path::new(OsStr::from_bytes(name))) {
+        if folder.file_name().is_some_and(|name| name.as_bytes().starts_with(DRAFTS.as_bytes())) {
+            let _ = (0..3).find(|_| fs::remove_dir_all(folder).map_or_else(|error| error.kind() == io::ErrorKind::NotFound, |()| true));
+        }
+    }
+}
 
 /// Whether an open file is the one of a path.
 fn is_at(path: &Path, file: &File) -> bool {
@@ -77,6 +96,7 @@ impl Folder {
     /// Removes a folder in this one, with all that it holds.
     fn clear(&self, name: &str) {
         if self.is_there() {
+            remove_elsewhere(&self.path.join(name));
             let _ = fs::remove_dir_all(self.path.join(name));
         }
     }
@@ -159,7 +179,10 @@ impl CallFolder {
     /// Removes it, and what calls that were killed left long ago.
     pub fn remove(&self) {
         match &self.place {
-            None => drop(fs::remove_dir_all(self.path())),
+            None => {
+                remove_elsewhere(self.path());
+                drop(fs::remove_dir_all(self.path()));
+            }
             Some(place) => {
                 place.user.remove_call(&place.name);
                 remove_left(&place.user);
@@ -256,6 +279,29 @@ mod tests {
 
     fn user_name() -> String {
         format!("zigrunk-{}", system::user())
+    }
+
+    #[test]
+    fn folders_elsewhere_go_with_a_call() {
+        let [scratch, other] = [Scratch::new(), Scratch::new()];
+        let made = |name: &str| {
+            let folder = other.0.join(name);
+            fs::create_dir(&folder).unwrap();
+            fs::write(folder.join("k.o"), "half").unwrap();
+            folder
+        };
+        let [first, second, foreign, cut] = [".zigrunk.1.0", ".zigrunk.1\n1", "mine", ".zigrunk.2"].map(made);
+        let names = |folders: &[&Path]| folders.iter().map(|folder| format!("{}\0", folder.display())).collect::<Vec<_>>().concat();
+        let call = CallFolder::take(&scratch.0, "batch").unwrap();
+        fs::write(call.path().join(ELSEWHERE), names(&[&first, &other.0.join(".zigrunk.missing"), &foreign]) + cut.to_str().unwrap()).unwrap();
+        call.remove();
+        assert_eq!([&first, &second, &foreign, &cut].map(|folder| folder.exists()), [false, true, true, true]);
+        let killed = CallFolder::take(&scratch.0, "batch").unwrap();
+        fs::write(killed.path().join(ELSEWHERE), names(&[&second])).unwrap();
+        drop(killed);
+        let next = CallFolder::take(&scratch.0, "batch").unwrap();
+        assert!(!second.exists(), "the next one removes what a killed one left");
+        next.remove();
     }
 
     #[test]

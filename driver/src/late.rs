@@ -34,10 +34,15 @@ impl Include {
     }
 }
 
+/// The file that a call's assembler includes, if its host compile begins early.
+pub fn included(tmp: &str) -> String {
+    format!("{tmp}/{OWN}/fatbin.s")
+}
+
 /// A variable by which gcc does more than its words say.
 const ODD_VARIABLE: &str = "GCC_COMPARE_DEBUG";
 
-/// Whether a call's commands may be begun so. A cache, a runner and workers get the plan's own.
+/// Whether a call's commands may be begun so. A launcher, a runner and workers get the plan's own.
 pub fn is_on(settings: &Settings) -> bool {
     let is_off = env::var_os("ZIGRUNK_LATE").is_some_and(|value| value == "0");
     !is_off && env::var_os(ODD_VARIABLE).is_none() && settings.launcher.is_empty() && settings.runs_here()
@@ -104,12 +109,13 @@ pub fn begin_early(commands: &mut Vec<PlannedCommand>, tmp: &str) -> Option<Incl
     if !is_gcc(last) || !are_known(before) || !can_write(last) {
         return None;
     }
-    let [text_file, included, file] = ["late.s", "fatbin.s", "fatbin.c"].map(|name| format!("{tmp}/{OWN}/{name}"));
+    let [text_file, file] = ["late.s", "fatbin.c"].map(|name| format!("{tmp}/{OWN}/{name}"));
+    let included = included(tmp);
     let [compiler, assembler] = [Half::Compiler, Half::Assembler].map(|which| half(which, &last.words, &text_file));
     let (moved, read) = moved(before, &file)?;
     let needs = needs_of(before, last)?;
+    let mut assemble = PlannedCommand { words: assembler?, reads: vec![text_file.clone(), file], cacheable: false, ..last.clone() };
     let compile = PlannedCommand { words: compiler?, needs, writes: vec![text_file], cacheable: false, ..last.clone() };
-    let mut assemble = PlannedCommand { words: assembler?, cacheable: false, ..last.clone() };
     assemble.needs.push(before.len());
     let text = placeholder(Global, moved.is_linked, &included).ok()??;
     fs::write(read, text.as_bytes()).ok()?;

@@ -28,6 +28,7 @@ mod programs;
 mod report;
 mod rule;
 mod run;
+mod served;
 mod settings;
 mod slots;
 mod split;

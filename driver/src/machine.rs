@@ -2,6 +2,14 @@
 use crate::system::Status;
 use std::io;
 
+/// The files that a job touches, by their paths.
+#[derive(Clone, PartialEq, Eq, Debug, Default)]
+pub struct Record {
+    pub reads: Vec<String>,
+    /// Those that it writes, and those that it may write.
+    pub writes: Vec<String>,
+}
+
 /// A process to start.
 #[derive(Clone, PartialEq, Eq, Debug, Default)]
 pub struct Job {
@@ -13,6 +21,8 @@ pub struct Job {
     pub variables: Vec<(String, Option<String>)>,
     /// Whether it runs beside another process in the same slot.
     pub shares_slot: bool,
+    /// All files that it touches, if its words name them.
+    pub record: Option<Record>,
 }
 
 /// What a process was, once it has ended.

@@ -9,6 +9,7 @@ use compilers::compiler::NvccHostCompiler;
 use dry_runs::Which;
 use early_starts::{late_file, may_begin_beside, may_go_ahead};
 use nvcc_calls::{Answer, directory_name, file_names, read_call};
+use own_files::makes_own_file;
 use placed_commands::placed_command;
 use plan_scripts::Format;
 use plans::{NvccGeneratedSubcommand as Command, PlanWithOrigins};
@@ -96,10 +97,6 @@ pub struct Early {
     pub file: String,
 }
 
-/// Words for fatbinary that name the image that it makes, and the file for the host compiler.
-const IMAGES: [&str; 2] = ["--create", "-create"];
-const EMBEDDED: [&str; 2] = ["--embedded-fatbin", "-fatbin"];
-
 /// How many bytes a file's name may have.
 const LONGEST_NAME: usize = 255;
 
@@ -110,28 +107,9 @@ impl PlannedCommand {
     }
 
     /// Whether it makes a file that the line asks for and no plan has: another fatbin than nvcc's, or a precompiled header, for which cudafe++
-    /// wants a directory for temporary files with a short name.
+    /// wants a directory for temporary files with a short name. If memory runs out, it may.
     pub fn makes_own_file(&self) -> bool {
-        match self.program.rsplit('/').next() {
-            Some("fatbinary") => self.makes_own_fatbin(),
-            Some("cudafe++") => self.words.iter().any(|word| word.starts_with("--") && word.contains("pch")),
-            _ => false,
-        }
-    }
-
-    /// The values that words with one of these options have behind `=`.
-    fn values(&self, options: [&str; 2]) -> Vec<Option<&str>> {
-        let words = self.words.iter().filter(|word| options.iter().any(|option| word.starts_with(option)));
-        words.map(|word| word.split_once('=').map(|(_, value)| value)).collect()
-    }
-
-    /// Whether a line of fatbinary names another file than nvcc's, which names both for a host compiler. They differ by `.c` then.
-    fn makes_own_fatbin(&self) -> bool {
-        match (&self.values(IMAGES)[..], &self.values(EMBEDDED)[..]) {
-            ([] | [Some(_)], []) | ([], [Some(_)]) => false,
-            ([Some(image)], [Some(embedded)]) => embedded.strip_suffix(".c") != Some(image),
-            _ => true,
-        }
+        list_of(&self.words).map_or(true, |words| makes_own_file(&self.program, &words))
     }
 }
 

@@ -5,12 +5,29 @@ use std::fs;
 use std::path::Path;
 use std::time::SystemTime;
 
+/// The text of a stub file with the name that it is kept by. In front of unnamed and static kernels cicc names it as it is found.
+fn with_kept_name(text: &str, stub: &Path) -> Option<String> {
+    const MARKER: &str = "# 1 ";
+    let name = stub.to_str().filter(|name| name.ends_with(".cudafe1.stub.c"))?;
+    let found = format!("\"{name}\"");
+    let end = format!("{}\"", stub.file_name()?.to_str()?);
+    let mut names = text.lines().filter_map(|line| line.strip_prefix(MARKER));
+    let kept = names.find(|name| name.ends_with(&end) && *name != found)?;
+    text.contains(&found).then(|| text.replace(&found, kept))
+}
+
 /// Moves generated files into the keep directory. A product of this call that has the name of one is newer, and stays.
 pub fn keep(tmp: &Path, keep_dir: &Path, begun: SystemTime) {
     for entry in fs::read_dir(tmp).into_iter().flatten().flatten() {
         let (from, to) = (entry.path(), keep_dir.join(entry.file_name()));
         let is_newer = fs::metadata(&to).and_then(|file| file.modified()).is_ok_and(|time| time > begun);
-        if entry.file_name() == OWN || is_newer || fs::rename(&from, &to).is_ok() {
+        if entry.file_name() == OWN || is_newer {
+            continue;
+        }
+        if let Some(text) = fs::read_to_string(&from).ok().and_then(|text| with_kept_name(&text, &from)) {
+            let _ = fs::write(&from, text);
+        }
+        if fs::rename(&from, &to).is_ok() {
             continue;
         }
         // Another disk has that directory.
@@ -75,6 +92,16 @@ mod tests {
         assert_eq!(kept.each_ref().map(Option::as_deref), [Some("generated"), Some("generated"), Some("of this call")]);
         assert_eq!((scratch.has("tmp/new"), scratch.has("tmp/product").as_deref()), (None, Some("generated")));
         assert!(scratch.0.join("tmp").join(OWN).is_dir() && !scratch.0.join("keep").join(OWN).exists());
+    }
+
+    #[test]
+    fn a_stub_file_has_the_name_that_it_is_kept_by() {
+        let stub = Path::new("/t/k.cudafe1.stub.c");
+        let text = "# 1 \"k.cu\"\n# 1 \"kd/k.cudafe1.stub.c\"\nf();\n# 1 \"/t/k.cudafe1.stub.c\"\ng();\n";
+        assert_eq!(with_kept_name(text, stub), Some(text.replace("/t/", "kd/")));
+        assert_eq!(with_kept_name(text, Path::new("/t/k.cudafe1.cpp")), None);
+        assert_eq!(with_kept_name("# 1 \"k.cu\"\n# 1 \"k.cudafe1.stub.c\"\n", stub), None);
+        assert_eq!(with_kept_name("# 1 \"/t/k.cudafe1.stub.c\"\n", stub), None);
     }
 
     #[test]

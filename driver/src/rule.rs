@@ -92,6 +92,14 @@ impl Watch for RuleMaker<'_, '_> {
         self.voice.tell(done);
     }
 
+    fn may_begin_early(&mut self, task: usize) -> bool {
+        self.cache.as_mut().is_none_or(|cache| cache.may_begin_early(task))
+    }
+
+    fn caught_up(&mut self, task: usize) -> bool {
+        self.cache.as_mut().is_some_and(|cache| cache.caught_up(task))
+    }
+
     fn first_step(&mut self, task: usize) -> Step {
         self.cache.as_mut().map_or(Step::Own, |cache| cache.first(task))
     }

@@ -111,6 +111,16 @@ pub trait Watch {
     /// Hears what has become of the tasks by now.
     fn tell(&mut self, _: &[Done]) {}
 
+    /// Whether a task may begin before all that it needs has ended.
+    fn may_begin_early(&mut self, _: usize) -> bool {
+        true
+    }
+
+    /// Hears that all that a task needs has ended after it has begun. Says whether it wants to be asked when the task's process ends.
+    fn caught_up(&mut self, _: usize) -> bool {
+        false
+    }
+
     /// Says what to do with a task that may start.
     fn first_step(&mut self, _: usize) -> Step {
         Step::Own
@@ -160,6 +170,8 @@ struct Run<'a, M, W> {
     /// Whether each task was started.
     started: Vec<bool>,
     early: BTreeMap<usize, Early>,
+    /// Whether each task may not begin early.
+    is_held: Vec<bool>,
     /// Whether each task has to run once more after it has begun early.
     is_void: Vec<bool>,
     /// Whether each task was started through the cache.
@@ -189,11 +201,11 @@ fn schedule_of(tasks: &[Task], at_once: usize) -> Result<Schedule, BadGraph> {
 pub fn run<M: Machine, W: Watch>(machine: &mut M, watch: &mut W, tasks: &[Task], at_once: usize) -> Result<Vec<Done>, Stopped> {
     let at_once = at_once.max(1);
     let schedule = schedule_of(tasks, at_once).map_err(|_| Stopped::NoProcess("the commands have no schedule".into()))?;
-    let [started, is_void, launched, asked_for] = [(); 4].map(|()| vec![false; tasks.len()]);
+    let [started, is_held, is_void, launched, asked_for] = [(); 5].map(|()| vec![false; tasks.len()]);
     let instead = vec![None; tasks.len()];
     let done = vec![Done::default(); tasks.len()];
     let (again, early) = (Vec::new(), BTreeMap::new());
-    let mut run = Run { machine, watch, tasks, schedule, at_once, done, again, started, early, is_void, launched, asked_for, instead };
+    let mut run = Run { machine, watch, tasks, schedule, at_once, done, again, started, early, is_held, is_void, launched, asked_for, instead };
     let ended = run.run_all();
     if let Err(stopped) = &ended {
         run.machine.end_all(if let Stopped::Signal(number) = stopped { *number } else { crate::system::TERM });
@@ -271,16 +283,20 @@ impl<'a, M: Machine, W: Watch> Run<'a, M, W> {
             let start = task.head_start.as_ref()?;
             let runs = self.started[start.beside] && !self.done[start.beside].has_ended();
             let others_ended = task.needs.iter().all(|&need| need == start.beside || self.done[need].has_ended());
-            (!self.started[number] && runs && others_ended).then_some((number, start))
+            (!self.started[number] && !self.is_held[number] && runs && others_ended).then_some((number, start))
         };
         let has_failed = self.done.iter().any(Done::failed);
         self.tasks.iter().enumerate().filter(|_| !has_failed).find_map(may_begin)
     }
 
-    /// Starts a task beside one that it needs, if a slot is to spare. Says whether it runs.
+    /// Starts a task beside one that it needs, if a slot is to spare. Says whether it runs, or another may.
     fn begin_early(&mut self) -> bool {
         let next = self.next_early().filter(|_| self.has_room());
         let Some((number, start)) = next.filter(|_| self.machine.has_spare_slot()) else { return false };
+        self.is_held[number] = !self.watch.may_begin_early(number);
+        if self.is_held[number] {
+            return true;
+        }
         self.note_asked(Some(number));
         let Ok(withheld) = Withheld::new(&start.withheld) else { return false };
         let runs = self.machine.start(number, &start.job).is_ok();
@@ -291,12 +307,18 @@ impl<'a, M: Machine, W: Watch> Run<'a, M, W> {
         runs
     }
 
-    /// Takes a task up that has begun early, if it is next. Says whether it was. One that may have read too early runs once more.
+    /// Takes a task up that has begun early, if all that it needs has ended. Says whether one has. It has a slot and waits, so it goes on before any
+    /// other starts: that may need its slot. One that may have read too early runs once more.
     fn take_up(&mut self) -> Result<bool, Stopped> {
-        let Some((number, early)) = self.schedule.next().and_then(|next| Some((next, self.early.remove(&next)?))) else { return Ok(false) };
-        self.schedule.started(number)?;
+        let may_start = |number: &usize| self.tasks[*number].needs.iter().all(|&need| self.done[need].has_ended());
+        let ready: Vec<usize> = self.early.keys().copied().filter(may_start).collect();
+        let taken = ready.into_iter().find(|&number| self.schedule.started(number).is_ok());
+        let Some((number, early)) = taken.and_then(|number| Some((number, self.early.remove(&number)?))) else { return Ok(false) };
         let content = self.tasks[number].head_start.as_ref().and_then(|start| start.content().ok());
         self.is_void[number] = !content.is_some_and(|content| early.withheld.give(&content));
+        if self.watch.caught_up(number) && !self.is_void[number] {
+            self.instead[number] = Some(self.tasks[number].job.clone());
+        }
         early.ended.map_or(Ok(()), |ended| self.ended(number, ended))?;
         Ok(true)
     }
@@ -410,6 +432,10 @@ mod tests {
         is_idle: bool,
         /// Whether the job that started last ends first.
         backwards: bool,
+        /// With so many running jobs there is no slot for another, unless it begins early.
+        slots: Option<usize>,
+        /// A file that has to have a content before a job ends that has begun early.
+        read_late: Option<std::path::PathBuf>,
     }
 
     impl Machine for Fake {
@@ -425,11 +451,13 @@ mod tests {
             if let Some((_, number)) = self.signal.filter(|(count, _)| self.started.len() >= *count) {
                 return Event::Signal(number);
             }
-            if self.wants {
+            if self.wants && self.slots.is_none_or(|slots| self.running.len() < slots) {
                 return Event::Slot;
             }
             let ended = if self.backwards { self.running.pop_back() } else { self.running.pop_front() };
             let (number, job) = ended.expect("something runs");
+            let file = self.read_late.as_ref().filter(|_| job.words[0] == "early");
+            assert!(file.is_none_or(|file| std::fs::metadata(file).unwrap().len() > 0), "it waits for ever");
             let code = job.words[1].parse().unwrap();
             let errors = job.words.get(2).map(|text| text.clone().into_bytes()).unwrap_or_default();
             Event::Ended(number, Ended { status: Status { code, signal: None, dumped: false }, out: Vec::new(), errors, times: (1.0, 2.0) })
@@ -615,7 +643,7 @@ mod tests {
     }
 
     /// What is in the file that the second of these tasks reads late, which goes.
-    fn read_late(tasks: &[Task; 2]) -> Option<String> {
+    fn read_late_of(tasks: &[Task; 2]) -> Option<String> {
         let withheld = &tasks[1].head_start.as_ref().unwrap().withheld;
         let text = std::fs::read_to_string(withheld).ok();
         std::fs::remove_dir_all(withheld.parent().unwrap()).unwrap();
@@ -627,7 +655,7 @@ mod tests {
         let tasks = with_head_start("begins", 0, true);
         let mut machine = Fake { is_idle: true, ..Fake::default() };
         assert_eq!(run_all(&mut machine, &tasks, 2), ("firstearly".into(), vec![Some(0); 2]));
-        assert_eq!(read_late(&tasks).unwrap(), "id");
+        assert_eq!(read_late_of(&tasks).unwrap(), "id");
     }
 
     #[test]
@@ -636,7 +664,7 @@ mod tests {
             let tasks = with_head_start("waits", 0, true);
             let mut machine = Fake { is_idle, ..Fake::default() };
             assert_eq!(run_all(&mut machine, &tasks, at_once), ("firstsecond".into(), vec![Some(0); 2]));
-            assert_eq!(read_late(&tasks), None);
+            assert_eq!(read_late_of(&tasks), None);
         }
     }
 
@@ -645,7 +673,7 @@ mod tests {
         let tasks = with_head_start("again", 0, false);
         let mut machine = Fake { is_idle: true, ..Fake::default() };
         assert_eq!(run_all(&mut machine, &tasks, 2), ("firstearlysecond".into(), vec![Some(0); 2]));
-        read_late(&tasks);
+        read_late_of(&tasks);
     }
 
     #[test]
@@ -654,7 +682,7 @@ mod tests {
         let mut machine = Fake { is_idle: true, ..Fake::default() };
         assert_eq!(run_all(&mut machine, &tasks, 2), ("firstearly".into(), vec![Some(3), None]));
         assert_eq!((machine.ended_by, machine.running.len()), (Some(TERM), 0));
-        read_late(&tasks);
+        read_late_of(&tasks);
     }
 
     #[test]
@@ -668,7 +696,18 @@ mod tests {
         let mut machine = Fake { is_idle: true, ..Fake::default() };
         assert_eq!(run_all(&mut machine, &all, 3).1, vec![Some(0); 4]);
         assert_eq!((machine.started.concat(), machine.most_at_once), ("longfirstearlythird".into(), 3));
-        read_late(&tasks);
+        read_late_of(&tasks);
+    }
+
+    #[test]
+    fn what_began_early_goes_on_before_a_heavier_task_has_a_slot() {
+        let tasks = with_head_start("on", 0, true);
+        let [first, second] = tasks.clone();
+        let all = [first, second, Task { weight: 9, ..task("heavy 0", &[0]) }];
+        let read_late = tasks[1].head_start.as_ref().map(|start| start.withheld.clone());
+        let mut machine = Fake { is_idle: true, slots: Some(1), read_late, ..Fake::default() };
+        assert_eq!(run_all(&mut machine, &all, 3), ("firstearlyheavy".into(), vec![Some(0); 3]));
+        assert_eq!(read_late_of(&tasks).unwrap(), "id");
     }
 
     #[test]
@@ -679,6 +718,6 @@ mod tests {
         // The other one starts first, so that what begins early ends before the first.
         let mut machine = Fake { is_idle: true, backwards: true, ..Fake::default() };
         assert_eq!(run_all(&mut machine, &all, 3), ("firstotherearly".into(), vec![Some(0); 3]));
-        assert_eq!(read_late(&tasks).unwrap(), "id");
+        assert_eq!(read_late_of(&tasks).unwrap(), "id");
     }
 }

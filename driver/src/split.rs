@@ -143,10 +143,10 @@ impl Call<'_> {
         if commands.iter().any(PlannedCommand::makes_own_file) {
             return by_nvcc("a tool makes a file of its own");
         }
-        let may_change = !keeps && !has_cache;
-        let late = if late::is_on(self.settings) && may_change { late::begin_early(&mut commands, tmp) } else { None };
-        let is_early = early::is_on(self.settings) && may_change;
-        let compile = commands.len().checked_sub(2).filter(|_| is_early && late.is_some());
+        let late = if late::is_on(self.settings) && !keeps { late::begin_early(&mut commands, tmp) } else { None };
+        let is_early = early::is_on(self.settings) && !keeps;
+        // The cache looks a host compile up by its text, for which the stub file has to be there.
+        let compile = commands.len().checked_sub(2).filter(|_| is_early && late.is_some() && !has_cache);
         let moved = compile.and_then(|compile| early::move_stub(&mut commands, compile, tmp));
         let scratch = self.settings.scratch().map(|path| absolute(path, Path::new(&self.line.cwd)).to_string_lossy().into_owned());
         let surroundings = Surroundings { settings: self.settings, tmp, scratch };

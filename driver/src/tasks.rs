@@ -1,7 +1,7 @@
 //! The commands of a plan as tasks for the machine.
 use crate::caches;
 use crate::early::HeadStart;
-use crate::machine::Job;
+use crate::machine::{Job, Record};
 use crate::planner::{PlannedCommand, Words};
 use crate::run::Task;
 use crate::settings::Settings;
@@ -86,12 +86,18 @@ fn job_of(command: &PlannedCommand, before: &[&[String]], around: &Surroundings<
     let is_of_plan = |name: &str| command.variables.iter().any(|(other, _)| other == name);
     let words = [&before.concat()[..], std::slice::from_ref(&command.program), &command.words[..]].concat();
     let variables = given.into_iter().filter(|(name, _)| !is_of_plan(name)).chain(of_plan).collect();
-    Job { words, folder: command.folder.clone(), variables, shares_slot: false }
+    Job { words, folder: command.folder.clone(), variables, ..Job::default() }
+}
+
+/// The files that a command touches, if its words name them.
+fn record_of(command: &PlannedCommand) -> Option<Record> {
+    let writes = || [&command.writes[..], &command.may_write].concat();
+    command.complete.then(|| Record { reads: command.reads.clone(), writes: writes() })
 }
 
 fn task_of(number: usize, command: &PlannedCommand, around: &Surroundings<'_>) -> Task {
     let settings = around.settings;
-    let bare = job_of(command, &[&settings.runner], around);
+    let bare = Job { record: record_of(command), ..job_of(command, &[&settings.runner], around) };
     let (needs, preprocesses) = (command.needs.clone(), command.preprocesses);
     let (kind, weight) = (kind_of(command), weight_of(command));
     let task = Task { command: Some(number), needs, kind, weight, preprocesses, ..Task::default() };
@@ -107,7 +113,7 @@ fn task_of(number: usize, command: &PlannedCommand, around: &Surroundings<'_>) -
 /// The task that makes the dependency file by nvcc, once the source is preprocessed.
 fn rule_task(words: &Words, commands: &[PlannedCommand]) -> Task {
     let variables = ["NVCC_PREPEND_FLAGS", "NVCC_APPEND_FLAGS"].map(|name| (name.to_owned(), None));
-    let job = Job { words: words.words.clone(), folder: words.folder.clone(), variables: variables.into(), shares_slot: false };
+    let job = Job { words: words.words.clone(), folder: words.folder.clone(), variables: variables.into(), ..Job::default() };
     let needs = (0..commands.len()).filter(|&number| commands[number].preprocesses).collect();
     Task { job, needs, is_rule: true, kind: "nvcc -M".into(), ..Task::default() }
 }

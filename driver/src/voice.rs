@@ -2,6 +2,8 @@
 use crate::machine::Ended;
 use crate::run::{Done, Task};
 use crate::tasks;
+use dependency_rules::without_warnings;
+use rattle_std::alloc::Global;
 
 /// Takes a text for a standard stream, and whether that is standard error.
 pub type Say<'a> = dyn FnMut(bool, &[u8]) + 'a;
@@ -17,9 +19,6 @@ pub struct Habits {
     pub rule_speaks: bool,
 }
 
-/// How lines begin in which nvcc itself warns.
-const WARNING: &[u8] = b"nvcc warning : ";
-
 /// The status of a failed call whose commands nvcc would have run side by side.
 const STATUS_OF_THREADS: i32 = 255;
 
@@ -32,9 +31,9 @@ pub struct End {
     pub is_silent: bool,
 }
 
-/// A text without the lines in which nvcc itself warns.
-fn without_warnings(text: &[u8]) -> Vec<u8> {
-    text.split_inclusive(|&byte| byte == b'\n').filter(|line| !line.starts_with(WARNING)).flatten().copied().collect()
+/// What is left of a text without the lines in which nvcc itself warns. If memory runs out, that is all of it.
+fn without_nvccs_warnings(text: &[u8]) -> Vec<u8> {
+    without_warnings(Global, text).map_or_else(|_| text.to_vec(), |left| left.as_slice().to_vec())
 }
 
 /// The voice of a call.
@@ -121,7 +120,7 @@ impl<'a> Voice<'a> {
     fn tell_end(&mut self, number: usize, ended: &Ended) {
         let said = match self.rule {
             // What nvcc warns of a dry run has told.
-            Some(rule) if rule == number && self.habits.rule_speaks => &without_warnings(&ended.errors),
+            Some(rule) if rule == number && self.habits.rule_speaks => &without_nvccs_warnings(&ended.errors),
             Some(rule) if rule == number => &Vec::new(),
             _ => &ended.errors,
         };

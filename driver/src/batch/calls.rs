@@ -12,6 +12,7 @@ use crate::products::keep;
 use crate::programs::{self, Compiler};
 use crate::rule::Refusals;
 use crate::run::{self, NoRule, Task};
+use crate::served;
 use crate::settings::Settings;
 use crate::split::{self, Outcome, Said, Stop, by_nvcc, with_flags};
 use crate::tasks;
@@ -142,7 +143,7 @@ impl Making<'_> {
     fn whole(&mut self, words: &[String]) -> Result<(), Signalled> {
         let given = [("TMPDIR", self.context.scratch.as_ref()), ("PWD", Some(&self.call.folder))];
         let variables = given.into_iter().filter_map(|(name, value)| Some((name.to_owned(), Some(value?.clone())))).collect();
-        let job = Job { words: [&self.context.settings.runner[..], words].concat(), folder: self.call.folder.clone(), variables, shares_slot: false };
+        let job = Job { words: [&self.context.settings.runner[..], words].concat(), folder: self.call.folder.clone(), variables, ..Job::default() };
         match self.job(job) {
             Ok(ended) => self.take_end(ended),
             Err(Stop::Signal(_)) => return Err(Signalled),
@@ -179,7 +180,7 @@ impl Making<'_> {
         let texts: Vec<String> = words.iter().map(|word| word.to_string_lossy().into_owned()).collect();
         let named = [vec![compiler.name.to_string_lossy().into_owned()], texts.clone()].concat();
         let is_inside = !self.context.settings.inside.is_empty();
-        let split = if is_inside { by_nvcc("it is called by an nvcc") } else { self.split(&compiler, texts) };
+        let split = if is_inside { by_nvcc("it is called by an nvcc") } else { self.split(&compiler, texts, begun) };
         self.turns.plans(false);
         let (reason, outcome) = match split {
             Ok(outcome) => (None, outcome),
@@ -203,14 +204,18 @@ impl Making<'_> {
         Ok(())
     }
 
-    /// Makes a call by its plan.
-    fn split(&mut self, compiler: &Compiler, words: Vec<String>) -> Result<Outcome, Stop> {
+    /// Makes a call, which has begun at a time, by its plan, unless the cache has it as a whole.
+    fn split(&mut self, compiler: &Compiler, words: Vec<String>, begun: f64) -> Result<Outcome, Stop> {
         if self.context.has_few_files {
             return by_nvcc(TOO_FEW_FILES);
         }
         let variable = |name: &str| Some((name.to_owned(), env::var(name).ok()?));
         let variables = ["NVCC_PREPEND_FLAGS", "NVCC_APPEND_FLAGS", "ZIGRUNK_JOBS"].into_iter().filter_map(variable).collect();
         let line = Line { cwd: self.call.folder.clone(), nvcc: compiler.name.to_string_lossy().into_owned(), words, variables };
+        if let Some((mut said, outcome)) = served::serve(&self.context.settings, &line, begun) {
+            self.made.said.append(&mut said);
+            return Ok(outcome);
+        }
         let taken = CallFolder::take(&self.context.temporary, &planner::directory_of(&line)?);
         let folder = taken.map_err(|_| "no temporary directory".to_owned())?;
         self.is_random = !folder.is_named();

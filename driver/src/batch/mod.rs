@@ -201,7 +201,7 @@ fn limits(options: &Options, settings: &Settings) -> Limits {
 fn make(options: &Options) -> Result<i32, String> {
     let has_few_files = system::spare_files() < FEWEST_FILES;
     let settings = Settings { has_workers: options.workers.is_some(), ..Settings::of_environment() };
-    check(&settings)?;
+    check(&settings, options.workers.as_ref().is_some_and(|workers| workers.sends_files))?;
     let list = list(options.list.as_ref(), &settings)?;
     if list.calls.is_empty() {
         return Ok(0);
@@ -254,9 +254,9 @@ fn form(options: &Options) -> Form {
 }
 
 /// What keeps workers from making calls.
-fn check(settings: &Settings) -> Result<(), String> {
-    if settings.has_workers && settings.shared.is_none() {
-        return Err("--workers needs ZIGRUNK_TMP, a directory that all machines share".into());
+fn check(settings: &Settings, sends_files: bool) -> Result<(), String> {
+    if settings.has_workers && !sends_files && settings.shared.is_none() {
+        return Err("--workers needs ZIGRUNK_TMP, a directory that all machines share, or --send-files".into());
     }
     if settings.has_workers && !settings.runner.is_empty() {
         return Err("--workers and ZIGRUNK_RUNNER exclude each other".into());

@@ -17,6 +17,7 @@ FILE          a call on each line, as you would type it, or a compile_commands.j
 --wait N      fail once there has been no worker for N seconds; 120, unless set
 --give-up N   run a worker's commands elsewhere once it has said nothing for N seconds; 10, unless set
 --timeout N   end a worker's command once it takes N seconds; without it, there is no limit
+--send-files  workers share no disk: device commands go to them with their files, and all others run here
 --unless-made NVCC WORD..    make one call, unless a batch with --incremental has made it in this directory: a launcher for CMake
 --version     print the version
 -h, --help    print this text
@@ -75,6 +76,7 @@ struct Workers {
     wait: Option<Duration>,
     patience: Option<Duration>,
     limit: Option<Duration>,
+    sends_files: bool,
 }
 
 /// The value of an option with a number of seconds.
@@ -102,13 +104,14 @@ impl Workers {
     fn conditions(self) -> Result<Option<Conditions>, String> {
         let is_said = self.wait.or(self.patience).or(self.limit).is_some();
         match (self.commands.is_empty(), is_said) {
-            (true, false) => Ok(None),
-            (true, true) => Err("--wait, --give-up and --timeout need --workers".into()),
+            (true, false) if !self.sends_files => Ok(None),
+            (true, _) => Err("--wait, --give-up, --timeout and --send-files need --workers".into()),
             (false, _) => Ok(Some(Conditions {
                 commands: self.commands,
                 patience: self.patience.unwrap_or(PATIENCE),
                 wait: self.wait.unwrap_or(WAIT),
                 limit: self.limit,
+                sends_files: self.sends_files,
             })),
         }
     }
@@ -135,6 +138,7 @@ pub fn parse(words: &[OsString]) -> Result<Wanted, String> {
             "--unless-made" => return Ok(Wanted::UnlessMade(rest.cloned().collect())),
             "--progress" => options.progress = true,
             "--incremental" => options.incremental = true,
+            "--send-files" => workers.sends_files = true,
             "--" => lists.extend(rest.by_ref()),
             option if option.starts_with("-j") || option.starts_with("-k") => {
                 let (option, joined) = option.split_at(2);
@@ -193,11 +197,13 @@ mod tests {
         let seconds = Duration::from_secs;
         let conditions = |commands: &[&str], patience, wait, limit| {
             let commands = commands.iter().map(|&command| command.to_owned()).collect();
-            Some(Conditions { commands, patience: seconds(patience), wait: seconds(wait), limit })
+            Some(Conditions { commands, patience: seconds(patience), wait: seconds(wait), limit, sends_files: false })
         };
         assert_eq!(of("--workers w"), (conditions(&["w"], 10, 120, None), None));
         let line = "--timeout 7 --workers w --wait 3 --workers x --give-up 5 list";
         assert_eq!(of(line), (conditions(&["w", "x"], 5, 3, Some(seconds(7))), Some("list".into())));
+        let sending = conditions(&["w"], 10, 120, None).map(|it| Conditions { sends_files: true, ..it });
+        assert_eq!(of("--send-files --workers w list"), (sending, Some("list".into())));
         assert_eq!(of("-- --workers"), (None, Some("--workers".into())));
     }
 
@@ -217,7 +223,8 @@ mod tests {
             ("--workers w --wait 0", "--wait needs a number from 1, not 0"),
             ("--workers w --give-up", "--give-up needs a number"),
             ("--timeout x", "--timeout needs a number from 1, not x"),
-            ("--timeout 9", "--wait, --give-up and --timeout need --workers"),
+            ("--timeout 9", "--wait, --give-up, --timeout and --send-files need --workers"),
+            ("--send-files a", "--wait, --give-up, --timeout and --send-files need --workers"),
             ("a -j2", "one list at a time, not -j2 too"),
         ] {
             assert_eq!(read(line), Err(wanted.into()), "{line}");

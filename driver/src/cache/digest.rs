@@ -51,7 +51,7 @@ impl Display for Digest {
 }
 
 /// Takes a text in parts, and says its digest.
-#[derive(Clone)]
+#[derive(Clone, Debug)]
 pub struct Hasher {
     state: [u64; 8],
     block: [u8; BLOCK],

@@ -4,6 +4,8 @@ use std::collections::BTreeSet;
 
 /// By these an assembler reads further files.
 const DIRECTIVES: [&[u8]; 2] = [b"incbin", b".include"];
+/// What may hide a directive: the assembler's macros, its comments, and a mode in which directives have no dot.
+const HIDING: [&[u8]; 4] = [b".macro", b".irp", b".mri", b"/*"];
 /// Where strings that reach the assembler stand: statements, and names of sections.
 const ASSEMBLED: [&[u8]; 2] = [b"asm", b"section"];
 
@@ -12,23 +14,66 @@ fn has_numbers(text: &[u8]) -> bool {
     text.windows(2).any(|pair| pair[0] == b'\\' && (pair[1].is_ascii_digit() || matches!(pair[1], b'x' | b'u' | b'U' | b'N')))
 }
 
+/// Where the statement ends that a text begins with: at a semicolon that isn't in a string.
+fn end_of_statement(text: &[u8]) -> usize {
+    let (mut is_inside, mut place) = (false, 0);
+    while let Some(&byte) = text.get(place) {
+        match byte {
+            b';' if !is_inside => return place,
+            b'"' => is_inside = !is_inside,
+            b'\\' if is_inside => place += 1,
+            _ => {}
+        }
+        place += 1;
+    }
+    text.len()
+}
+
+/// Whether this may follow the word with which a statement begins: a bracket, behind words as `volatile` and line markers.
+fn is_statement(rest: &[u8]) -> bool {
+    let is_between = |byte: &u8| byte.is_ascii_whitespace() || byte.is_ascii_lowercase() || *byte == b'_';
+    rest.iter().find(|byte| !is_between(byte)).is_some_and(|byte| matches!(byte, b'(' | b'#'))
+}
+
 /// The rest of each statement from a word on.
 fn statements<'a>(text: &'a [u8], word: &'a [u8]) -> impl Iterator<Item = &'a [u8]> {
     let mut rest = text;
-    std::iter::from_fn(move || {
+    let next = move || {
         let begin = find(rest, word)?;
         rest = &rest[begin + word.len()..];
-        let end = rest.iter().position(|&byte| byte == b';').unwrap_or(rest.len());
-        Some(&rest[..end])
-    })
+        Some(rest)
+    };
+    std::iter::from_fn(next).filter(|rest| is_statement(rest)).map(|rest| &rest[..end_of_statement(rest)])
+}
+
+/// A text in small letters without what may stand between the parts of a directive.
+fn joined(text: &[u8]) -> Vec<u8> {
+    let parts = text.iter().filter(|byte| !matches!(byte, b'"' | b'\\' | b' ' | b'\t' | b'\n'));
+    parts.map(u8::to_ascii_lowercase).collect()
+}
+
+fn has_any(text: &[u8], words: &[&[u8]]) -> bool {
+    words.iter().any(|word| contains(text, word))
+}
+
+/// Whether a statement may have the assembler read a file, though no directive for that is seen.
+fn may_hide(statement: &[u8]) -> bool {
+    has_numbers(statement) || contains(statement, b"R\"") || has_any(&joined(statement), &HIDING)
 }
 
 /// Whether a compiler that reads this text, or the assembler that it runs, may read a file that isn't in it: by a directive, also one that
 /// is cut into several strings, or by a precompiled header.
 pub fn reads_more(text: &[u8]) -> bool {
-    let joined: Vec<u8> = text.iter().copied().filter(|byte| !matches!(byte, b'"' | b'\\' | b' ' | b'\t' | b'\n')).collect();
-    let has_directive = DIRECTIVES.iter().any(|directive| contains(&joined, directive));
-    has_directive || contains(text, b"pch_preprocess") || ASSEMBLED.iter().any(|word| statements(text, word).any(has_numbers))
+    let hides = || ASSEMBLED.iter().any(|word| statements(text, word).any(may_hide));
+    contains(text, b"pch_preprocess") || has_any(&joined(text), &DIRECTIVES) || hides()
+}
+
+/// Whether an assembler that reads this text may read a file beside the one that it's known to include once.
+pub fn assembler_reads_more(text: &[u8], included: &str) -> bool {
+    let own = format!(".include \"{included}\"");
+    let Some(begin) = find(text, own.as_bytes()) else { return true };
+    let others = [&text[..begin], &text[begin + own.len()..]].map(joined);
+    others.iter().any(|text| has_any(text, &DIRECTIVES) || has_any(text, &HIDING))
 }
 
 /// The name in a line marker.
@@ -105,12 +150,39 @@ mod tests {
             ("asm(\".inc\"\n  \"lude \\\"x\\\"\");", true),
             ("__asm__ (\"\\x2eincbi\\x6e x\");", true),
             ("int x __attribute__((section(\"a\\n.inc\\154ude x\")));", true),
+            ("asm(\".INCBIN \\\"data\\\"\");", true),
+            ("asm(\"nop; .inc\\142in \\\"data\\\"\");", true),
+            ("asm(\"nop; .inc/**/bin \\\"data\\\"\");", true),
+            ("asm(\".macro m x\\n.inc\\\\x \\\"data\\\"\\n.endm\\nm bin\");", true),
+            ("asm(\".ir\" \"p x,bin\\n.inc\\\\x \\\"data\\\"\\n.endr\");", true),
+            ("asm(\".mri 1\\ninclude data\");", true),
+            ("asm(R\"(.inc\\142in)\");", true),
+            ("asm volatile\n  (\"\\x2eincbi\\x6e x\");", true),
+            ("__asm__ __volatile__ goto(\"\\56incbi\\156 x\");", true),
+            ("asm(\"nop # \\\" ; \"); const char* s = \"\\0/*\";", false),
             ("extern int f() __asm__ (\"\" \"__isoc99_f\");", false),
             ("asm(\".section a\\n.quad 1\\n\"); const char* s = \"\\0\";", false),
             ("#pragma GCC pch_preprocess \"a.h.gch\"", true),
         ];
         for (text, wanted) in cases {
             assert_eq!(reads_more(text.as_bytes()), wanted, "{text}");
+        }
+    }
+
+    #[test]
+    fn an_assembler_may_include_one_file() {
+        let cases = [
+            ("\t.text\n\t.include \"/t/f.s\"\n", false),
+            ("\t.text\n", true),
+            ("\t.include \"/t/f.s\"\n\t.include \"/t/f.s\"\n", true),
+            ("\t.include \"/t/f.s\"\n\t.InC/**/bin \"data\"\n", true),
+            ("\t.include \"/t/f.s\"\n\t.incbin \"data\"\n", true),
+            ("\t.MACRO m x\n\t.include \"/t/f.s\"\n", true),
+            ("\t.include \"/t/other.s\"\n", true),
+            ("\t.include \"/t/f.s\"\n\t.string \"include\"\n", false),
+        ];
+        for (text, wanted) in cases {
+            assert_eq!(assembler_reads_more(text.as_bytes(), "/t/f.s"), wanted, "{text}");
         }
     }
 

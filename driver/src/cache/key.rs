@@ -6,6 +6,7 @@ use crate::cache::recipe::Recipe;
 use crate::cache::tool::Kind;
 use command_keys::{KeyTool, command_key, tool_variables};
 use rattle_std::alloc::Global;
+use std::borrow::Cow;
 use std::ffi::{OsStr, OsString};
 use std::fs;
 use std::os::unix::ffi::OsStrExt;
@@ -14,7 +15,7 @@ use std::path::Path;
 use token_texts::{sees_lines, token_text};
 
 /// What every key begins with. It changes with what is in an entry, or in a key.
-const FORM: &[u8] = b"zigrunk command 2";
+const FORM: &[u8] = b"zigrunk command 3";
 
 /// What a text is that a command reads.
 #[derive(Clone, Copy, PartialEq, Eq, Debug)]
@@ -23,6 +24,8 @@ pub enum Role {
     Preprocessed,
     /// A preprocessor read it, and what it wrote is another text of the command.
     Source,
+    /// The command reads it once it has parsed the others, and may begin before it is there.
+    Late,
     Other,
 }
 
@@ -42,9 +45,15 @@ fn text_identity(text: &[u8], directory: &[u8]) -> Digest {
 
 /// What counts of a preprocessed text if lines, blanks and comments don't. `None` if the text may see its lines, or isn't sure to have
 /// these tokens.
-fn token_identity(text: &[u8], directory: &[u8]) -> Option<Digest> {
+fn token_identity(text: &[u8], recipe: &Recipe) -> Option<Digest> {
     let tokens = if sees_lines(text) { None } else { token_text(Global, text).ok()? };
-    tokens.map(|tokens| text_identity(tokens.as_slice(), directory))
+    Some(text_identity(&recipe.unnamed(tokens?.as_slice())?, recipe.directory.as_bytes()))
+}
+
+/// A text as it counts. `None` if the name that doesn't count may reach more than line markers.
+fn counted<'a>(text: &'a Text, recipe: &Recipe) -> Option<Cow<'a, [u8]>> {
+    let is_seen = |stem: &String| text.role == Role::Preprocessed && marked::shows(&text.content, stem.as_bytes());
+    if recipe.stem.as_ref().is_some_and(is_seen) { None } else { recipe.unnamed(&text.content) }
 }
 
 fn key_tool(kind: Kind) -> KeyTool {
@@ -64,7 +73,8 @@ fn words_key(recipe: &Recipe, environment: &[(OsString, OsString)]) -> Option<Ve
     let names_count = recipe.directory.is_empty();
     let counted: Vec<_> = chosen.as_slice().iter().filter(|variable| names_count || variable.0 != b"PWD").chain(preloaded).copied().collect();
     let words: Vec<&[u8]> = recipe.counted.iter().map(String::as_bytes).collect();
-    let key = command_key(Global, &words, &counted, &[recipe.directory.as_bytes()]).ok()??;
+    let stem = recipe.stem.as_deref().unwrap_or_default();
+    let key = command_key(Global, &words, &counted, &[recipe.directory.as_bytes(), stem.as_bytes()]).ok()??;
     Some(key.as_slice().to_vec())
 }
 
@@ -96,34 +106,55 @@ pub fn start_of(recipe: &Recipe, tool: &Digest, environment: &[(OsString, OsStri
     Some(start)
 }
 
-/// The key of a command by its texts as they are. `None` if PTX names a file with a backslash.
-pub fn key_by_texts(mut start: Hasher, recipe: &Recipe, texts: &[Text]) -> Option<Digest> {
-    start.add(b"texts");
-    for text in texts {
-        start.update(&text_identity(&text.content, recipe.directory.as_bytes()).0);
-        if recipe.kind == Kind::Ptxas {
-            add_named(&mut start, &text.content, Path::new(&recipe.job.folder))?;
-        }
-    }
-    Some(start.finish())
-}
+/// The key of a command, but for the texts that it reads late.
+#[derive(Clone, Debug)]
+pub struct Part(Hasher);
 
-/// The key of a command by the tokens of its preprocessed texts. Commands that have it in common make the same, but may say other things.
-/// `None` if lines count, or if no text is preprocessed.
-pub fn key_by_tokens(mut start: Hasher, recipe: &Recipe, texts: &[Text]) -> Option<Digest> {
-    let directory = recipe.directory.as_bytes();
-    if recipe.lines_count || !texts.iter().any(|text| text.role == Role::Preprocessed) {
-        return None;
-    }
-    start.add(b"tokens");
-    for text in texts {
-        match text.role {
-            Role::Preprocessed => start.update(&token_identity(&text.content, directory)?.0),
-            Role::Source => {}
-            Role::Other => start.update(&text_identity(&text.content, directory).0),
+impl Part {
+    /// That by texts as they are. `None` if PTX names a file with a backslash, or if a name shows that isn't to count.
+    pub fn by_texts(mut start: Hasher, recipe: &Recipe, texts: &[Text]) -> Option<Part> {
+        start.add(b"texts");
+        for text in texts.iter().filter(|text| text.role != Role::Late) {
+            start.update(&text_identity(&counted(text, recipe)?, recipe.directory.as_bytes()).0);
+            if recipe.kind == Kind::Ptxas {
+                add_named(&mut start, &text.content, Path::new(&recipe.job.folder))?;
+            }
         }
+        Some(Part(start))
     }
-    Some(start.finish())
+
+    /// That by the tokens of preprocessed texts. Commands that have it in common make the same, but may say other things. `None` if lines
+    /// count, or if no text is preprocessed.
+    pub fn by_tokens(mut start: Hasher, recipe: &Recipe, texts: &[Text]) -> Option<Part> {
+        if recipe.lines_count || !texts.iter().any(|text| text.role == Role::Preprocessed) {
+            return None;
+        }
+        start.add(b"tokens");
+        for text in texts {
+            match text.role {
+                Role::Preprocessed => start.update(&token_identity(&text.content, recipe)?.0),
+                Role::Source | Role::Late => {}
+                Role::Other => start.update(&text_identity(&counted(text, recipe)?, recipe.directory.as_bytes()).0),
+            }
+        }
+        Some(Part(start))
+    }
+
+    /// The whole key.
+    pub fn key(&self, recipe: &Recipe, texts: &[Text]) -> Digest {
+        let mut hasher = self.0.clone();
+        for text in texts.iter().filter(|text| text.role == Role::Late) {
+            hasher.update(&text_identity(&text.content, recipe.directory.as_bytes()).0);
+        }
+        hasher.finish()
+    }
+
+    /// Under this the store says that it has an entry, whatever was read late.
+    pub fn mark(&self) -> Digest {
+        let mut hasher = self.0.clone();
+        hasher.add(b"but for what is read late");
+        hasher.finish()
+    }
 }
 
 #[cfg(test)]
@@ -142,6 +173,8 @@ mod tests {
             lines_count: directory.is_empty(),
             question: None,
             assembles: false,
+            included: None,
+            stem: None,
         }
     }
 
@@ -155,12 +188,13 @@ mod tests {
 
     /// The key by tokens of a recipe with a preprocessed text and others.
     fn tokens(recipe: &Recipe, text: &str, others: &[(Role, &str)]) -> Option<Digest> {
-        key_by_tokens(start(recipe, &[]), recipe, &texts(&[&[(Role::Preprocessed, text)], others].concat()))
+        let texts = texts(&[&[(Role::Preprocessed, text)], others].concat());
+        Part::by_tokens(start(recipe, &[]), recipe, &texts).map(|part| part.key(recipe, &texts))
     }
 
     fn key(recipe: &Recipe, variables: &[(&str, &str)], text: &str) -> Digest {
         let environment: Vec<_> = variables.iter().map(|(name, value)| (name.into(), value.into())).collect();
-        key_by_texts(start(recipe, &environment), recipe, &texts(&[(Role::Preprocessed, text)])).unwrap()
+        Part::by_texts(start(recipe, &environment), recipe, &texts(&[(Role::Preprocessed, text)])).unwrap().key(recipe, &[])
     }
 
     #[test]
@@ -187,7 +221,7 @@ mod tests {
         let named = recipe("-g", "");
         assert_ne!(key(&named, &[("PWD", "/w")], "text"), key(&named, &[("PWD", "/other")], "text"));
         let another = start_of(&cicc, &Digest::of(b"another"), &[]).unwrap();
-        assert_ne!(key_by_texts(another, &cicc, &texts(&[(Role::Other, "text")])), Some(one));
+        assert_ne!(Part::by_texts(another, &cicc, &texts(&[(Role::Other, "text")])).unwrap().key(&cicc, &[]), one);
     }
 
     #[test]
@@ -214,7 +248,40 @@ mod tests {
         assert_ne!(of(Role::Other, "id"), of(Role::Other, "id\n"));
         assert_eq!(of(Role::Source, "x"), of(Role::Source, "y"));
         assert_eq!(tokens(&cicc, "f(\"/t/k\");\n", &[]), tokens(&recipe("-m64", "/u"), "f(\"/u/k\");\n", &[]));
-        assert_eq!(key_by_tokens(start(&cicc, &[]), &cicc, &texts(&[(Role::Other, "int a;\n")])), None, "no preprocessed text");
+        assert!(Part::by_tokens(start(&cicc, &[]), &cicc, &texts(&[(Role::Other, "int a;\n")])).is_none(), "no preprocessed text");
+    }
+
+    #[test]
+    fn a_name_that_does_not_count_may_only_stand_in_line_markers() {
+        let of = |stem: &str, text: &str| {
+            let recipe = Recipe { stem: Some(stem.into()), ..recipe(&format!("-o /t/{stem}.cpp"), "/t") };
+            let texts = texts(&[(Role::Preprocessed, text)]);
+            let by_texts = Part::by_texts(start(&recipe, &[]), &recipe, &texts).map(|part| part.key(&recipe, &texts));
+            (by_texts, Part::by_tokens(start(&recipe, &[]), &recipe, &texts).map(|part| part.key(&recipe, &texts)))
+        };
+        let one = of("k.80.cudafe1", "# 1 \"k.80.cudafe1.cpp\"\nint a;\n");
+        assert_eq!(one, of("k.90.cudafe1", "# 1 \"k.90.cudafe1.cpp\"\nint a;\n"));
+        assert!(one.0.is_some() && one.1.is_some());
+        let others = [of("k.90.cudafe1", "# 1 \"k.80.cudafe1.cpp\"\nint a;\n"), of("k.80.cudafe1", "# 1 \"k.80.cudafe1.cpp\"\nint b;\n")];
+        assert!(others.iter().all(|other| other.0 != one.0 && other.1 != one.1));
+        assert_eq!(of("k.80.cudafe1", "char* a = \"k.80.cudafe1\";\n").0, None);
+        assert_eq!(of("k.80.cudafe1", "int \0;\n").0, None);
+    }
+
+    #[test]
+    fn what_is_read_late_counts_in_keys_but_not_in_marks() {
+        let cicc = recipe("-m64", "/t");
+        let with = |text: &str, id: &str| {
+            let texts = texts(&[(Role::Preprocessed, text), (Role::Late, id)]);
+            let parts = [Part::by_texts(start(&cicc, &[]), &cicc, &texts).unwrap(), Part::by_tokens(start(&cicc, &[]), &cicc, &texts).unwrap()];
+            parts.map(|part| (part.key(&cicc, &texts), part.mark(), part.key(&cicc, &[])))
+        };
+        for (one, other) in with("int a;\n", "_1").into_iter().zip(with("int a;\n", "_2")) {
+            assert!(one.0 != other.0 && one.1 == other.1 && one.2 == other.2 && one.1 != one.2);
+        }
+        for (one, other) in with("int a;\n", "_1").into_iter().zip(with("int b;\n", "_1")) {
+            assert!(one.0 != other.0 && one.1 != other.1);
+        }
     }
 
     #[test]

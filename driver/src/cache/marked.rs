@@ -1,5 +1,9 @@
-//! Texts in which the call's directory has a mark.
+//! Texts in which the call's directory has a mark, and a name that doesn't count.
 use crate::cache::digest::Hasher;
+use std::borrow::Cow;
+
+/// What stands in a text in place of a name that doesn't count.
+const NAME: u8 = 0;
 
 /// Where a text begins in another, at the earliest. An empty one is nowhere.
 pub fn find(text: &[u8], sought: &[u8]) -> Option<usize> {
@@ -36,6 +40,33 @@ pub fn parts<'a>(text: &'a [u8], directory: &[u8]) -> Vec<&'a [u8]> {
     parts
 }
 
+/// A text with a mark wherever it has a name. `None` if it has such marks itself.
+pub fn unnamed<'a>(text: &'a [u8], name: &[u8]) -> Option<Cow<'a, [u8]>> {
+    if text.contains(&NAME) {
+        return None;
+    }
+    let parts = parts(text, name);
+    Some(if parts.len() > 1 { Cow::Owned(parts.join(&NAME)) } else { Cow::Borrowed(text) })
+}
+
+/// The text that has a name in place of each mark.
+pub fn named(text: &[u8], name: &[u8]) -> Vec<u8> {
+    text.split(|&byte| byte == NAME).collect::<Vec<_>>().join(name)
+}
+
+/// Whether a text has a name in the form that a symbol has: with `_` for what a symbol can't have. No mark is put there.
+pub fn has_symbol(text: &[u8], name: &[u8]) -> bool {
+    let is_plain = |byte: u8| byte.is_ascii_alphanumeric() || matches!(byte, b'.' | b'_' | b'$');
+    let symbol: Vec<u8> = name.iter().map(|&byte| if is_plain(byte) { byte } else { b'_' }).collect();
+    symbol != name && contains(text, &symbol)
+}
+
+/// Whether a preprocessed text has a name elsewhere than in line markers.
+pub fn shows(text: &[u8], name: &[u8]) -> bool {
+    let lines = text.split(|&byte| byte == b'\n').filter(|line| !line.starts_with(b"# "));
+    contains(text, name) && lines.into_iter().any(|line| contains(line, name))
+}
+
 /// Takes a text into a digest, with marks for a directory.
 pub fn add_to(hasher: &mut Hasher, text: &[u8], directory: &[u8]) {
     let parts = parts(text, directory);
@@ -68,6 +99,20 @@ impl Marked {
 #[cfg(test)]
 mod tests {
     use super::*;
+
+    #[test]
+    fn a_name_has_marks() {
+        let text = b"# 1 \"k.a.cpp\"\n.file \"k.a.cpp\"\nk.b";
+        let marked = unnamed(text, b"k.a").unwrap();
+        assert_eq!((&marked[..], named(&marked, b"k.a")), (&b"# 1 \"\0.cpp\"\n.file \"\0.cpp\"\nk.b"[..], text.to_vec()));
+        assert_eq!(named(&marked, b"j.c"), b"# 1 \"j.c.cpp\"\n.file \"j.c.cpp\"\nk.b");
+        assert_eq!((unnamed(b"a\0b", b"k"), unnamed(b"ab", b"k").unwrap()), (None, Cow::Borrowed(&b"ab"[..])));
+        assert_eq!((named(b"", b"k"), named(b"\0", b"k")), (vec![], b"k".to_vec()));
+        let symbols = [("_I_k_a.b.cpp", "k-a.b", true), ("_I_k-a.b", "k-a.b", false), ("_I_k.b", "k.b", false)];
+        assert!(symbols.iter().all(|(text, name, wanted)| has_symbol(text.as_bytes(), name.as_bytes()) == *wanted));
+        let cases = [("# 1 \"k.a.cpp\"\nint a;\n", false), ("int a;\n", false), ("# 1 \"k.a\"\nk.a", true), (" # 1 \"k.a\"", true)];
+        assert_eq!(cases.map(|(text, _)| shows(text.as_bytes(), b"k.a")), cases.map(|(_, wanted)| wanted));
+    }
 
     #[test]
     fn texts_are_found_where_they_begin() {

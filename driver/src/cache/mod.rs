@@ -27,8 +27,8 @@ use crate::system::Status;
 use calls::Product;
 use digest::{Digest, Hasher};
 use entry::{Entry, Made};
-use key::{Role, Text, key_by_texts, key_by_tokens};
-use marked::{Marked, contains};
+use key::{Part, Role, Text};
+use marked::{Marked, contains, has_symbol};
 use recipe::{Output, Recipe};
 use std::collections::BTreeMap;
 use std::env;
@@ -52,10 +52,29 @@ pub fn store_of(settings: &Settings, cwd: &str) -> Option<Store> {
 }
 
 /// The keys of a command.
-#[derive(Clone, Copy, PartialEq, Eq, Debug)]
+#[derive(Clone, PartialEq, Eq, Debug)]
 struct Keys {
     texts: Digest,
     tokens: Option<Digest>,
+    /// What says in the store that it has an entry of such texts, whatever the command reads late.
+    marks: Vec<Digest>,
+}
+
+/// Its keys but for what it reads late: by texts, and by tokens.
+#[derive(Clone, Debug)]
+struct Parts(Part, Option<Part>);
+
+impl Parts {
+    /// The keys of a command that reads these texts.
+    fn keys(&self, recipe: &Recipe, texts: &[Text]) -> Keys {
+        let has_late = texts.iter().any(|text| text.role == Role::Late);
+        let marks = if has_late { self.marks().collect() } else { Vec::new() };
+        Keys { texts: self.0.key(recipe, texts), tokens: self.1.as_ref().map(|part| part.key(recipe, texts)), marks }
+    }
+
+    fn marks(&self) -> impl Iterator<Item = Digest> {
+        [Some(&self.0), self.1.as_ref()].into_iter().flatten().map(Part::mark)
+    }
 }
 
 /// What becomes of a task.
@@ -67,6 +86,8 @@ enum State {
     Fresh,
     /// What it reads is preprocessed.
     Asked,
+    /// The cache has nothing for it, and it has begun before all is there that it reads. With its text.
+    Begun(Box<Parts>, Vec<u8>),
     /// Nothing was found under its keys, and it runs.
     Missed(Keys, Vec<u8>),
     /// It has run, and the cache has what it made.
@@ -170,7 +191,8 @@ impl<'a> Session<'a> {
 
     /// What to do with a task that may start.
     pub fn first(&mut self, task: usize) -> Step {
-        let Some(candidate) = self.candidates.get_mut(&task).filter(|candidate| matches!(candidate.state, State::Fresh)) else { return Step::Own };
+        let waits = |candidate: &&mut Candidate| matches!(candidate.state, State::Fresh | State::Begun(..));
+        let Some(candidate) = self.candidates.get_mut(&task).filter(waits) else { return Step::Own };
         let recipe = &candidate.recipe;
         if !recipe.has_plain_outputs() {
             candidate.state = State::Own;
@@ -192,6 +214,35 @@ impl<'a> Session<'a> {
             State::Missed(keys, text) => self.ran(task, &keys, &text, ended),
             _ => self.runs_alone(task),
         }
+    }
+
+    /// Whether a task, which reads a file late, may begin before that is there: if the cache has nothing for it, whatever will be in the file.
+    pub fn may_begin_early(&mut self, task: usize) -> bool {
+        let Some(candidate) = self.candidates.get(&task) else { return true };
+        if !matches!(candidate.state, State::Fresh) || candidate.recipe.has_products() {
+            return false;
+        }
+        let Some((parts, text)) = self.parts(task) else {
+            self.set(task, State::Own, None);
+            return true;
+        };
+        let is_new = parts.marks().all(|mark| self.store.read(&mark).is_none());
+        if is_new {
+            self.set(task, State::Begun(Box::new(parts), text), Some(false));
+        }
+        is_new
+    }
+
+    /// Hears that all is there that a task reads which has begun early. Says whether it wants to hear how its process ends.
+    pub fn caught_up(&mut self, task: usize) -> bool {
+        let Some(candidate) = self.candidates.get(&task) else { return false };
+        let State::Begun(parts, text) = &candidate.state else { return false };
+        let recipe = &candidate.recipe;
+        let late = recipe.reads.iter().filter(|file| recipe.role_of(file) == Role::Late);
+        let late: Option<Vec<Text>> = late.map(|file| Some(Text { role: Role::Late, content: content_of(file).ok()? })).collect();
+        let state = late.map_or(State::Own, |late| State::Missed(parts.keys(recipe, &late), text.clone()));
+        self.set(task, state, None);
+        true
     }
 
     /// Whether the cache had what a task makes, if it was looked up.
@@ -226,41 +277,50 @@ impl<'a> Session<'a> {
         self.has_other_lines && tasks.iter().zip(done).any(speaks)
     }
 
-    /// The texts that a task reads, or `None` if they aren't known. The first one has its line markers.
-    fn texts(recipe: &Recipe) -> Option<Vec<Text>> {
+    /// The texts that a task reads, without those that it reads late if they aren't there yet. `None` if they aren't known. The first one
+    /// has its line markers.
+    fn texts(recipe: &Recipe, has_late: bool) -> Option<Vec<Text>> {
         let preprocessed = recipe.question.iter().map(|(_, file)| (file, Role::Preprocessed));
-        let own = recipe.reads.iter().map(|file| (file, recipe.role_of(file)));
+        let own = recipe.reads.iter().map(|file| (file, recipe.role_of(file))).filter(|(_, role)| has_late || *role != Role::Late);
         let text = |(file, role): (&PathBuf, Role)| Some(Text { role, content: content_of(file).ok()? });
         let texts: Vec<Text> = preprocessed.chain(own).map(text).collect::<Option<_>>()?;
-        let reads_more = recipe.assembles && recipe.kind == Kind::Host && texts.first().is_none_or(|text| host_text::reads_more(&text.content));
-        (!reads_more).then_some(texts)
+        let is_known = texts.first().is_some_and(|text| !recipe.reads_more(&text.content));
+        is_known.then_some(texts)
+    }
+
+    /// A task's keys but for what it reads late, which isn't there yet, and the first text that it reads.
+    fn parts(&mut self, task: usize) -> Option<(Parts, Vec<u8>)> {
+        let (start, texts) = self.asked(task, false)?;
+        let recipe = &self.candidates.get(&task)?.recipe;
+        let parts = Parts(Part::by_texts(start.clone(), recipe, &texts)?, Part::by_tokens(start, recipe, &texts));
+        Some((parts, texts.into_iter().next()?.content))
     }
 
     /// What counts of a task beside the texts that it reads, and these.
-    fn asked(&mut self, task: usize) -> Option<(Hasher, Vec<Text>)> {
+    fn asked(&mut self, task: usize, has_late: bool) -> Option<(Hasher, Vec<Text>)> {
         let recipe = &self.candidates.get(&task)?.recipe;
         let environment = recipe.environment();
         let (program, folder) = (Path::new(recipe.job.words.first()?), Path::new(&recipe.job.folder));
         let tool = self.tools.identity(&Run { kind: recipe.kind, program, folder, environment: &environment })?;
-        Some((key::start_of(recipe, &tool, &environment)?, Session::texts(recipe)?))
+        Some((key::start_of(recipe, &tool, &environment)?, Session::texts(recipe, has_late)?))
     }
 
     fn look_up(&mut self, task: usize, times: (f64, f64)) -> Step {
-        let Some((start, texts)) = self.asked(task) else { return self.runs_alone(task) };
+        let Some((start, texts)) = self.asked(task, true) else { return self.runs_alone(task) };
         let Some(candidate) = self.candidates.get(&task) else { return Step::Own };
         let recipe = &candidate.recipe;
-        let Some(key) = key_by_texts(start.clone(), recipe, &texts) else { return self.runs_alone(task) };
-        if let Some(taken) = self.entry(&key).and_then(|entry| self.take(recipe, &entry, times)) {
+        let Some(by_texts) = Part::by_texts(start.clone(), recipe, &texts) else { return self.runs_alone(task) };
+        if let Some(taken) = self.entry(&by_texts.key(recipe, &texts)).and_then(|entry| self.take(recipe, &entry, times)) {
             return self.hit(task, taken);
         }
-        let tokens = key_by_tokens(start, recipe, &texts);
-        if let Some(taken) = tokens.and_then(|key| self.take_other(recipe, &key, times)) {
+        let keys = Parts(by_texts, Part::by_tokens(start, recipe, &texts)).keys(recipe, &texts);
+        if let Some(taken) = keys.tokens.and_then(|key| self.take_other(recipe, &key, times)) {
             self.has_other_lines = true;
             return self.hit(task, taken);
         }
         let job = recipe.job.clone();
         let text = texts.into_iter().next().map(|text| text.content).unwrap_or_default();
-        self.set(task, State::Missed(Keys { texts: key, tokens }, text), Some(false));
+        self.set(task, State::Missed(keys, text), Some(false));
         Step::Instead(job)
     }
 
@@ -289,7 +349,7 @@ impl<'a> Session<'a> {
         let (directory, mut products) = (self.tmp.as_bytes(), Vec::new());
         for (output, text) in recipe.outputs.iter().zip(&entry.outputs) {
             match text {
-                Made::File(text) => products.extend(recipe.put(output, text.filled(directory)).ok()?),
+                Made::File(text) => products.extend(recipe.put(output, recipe.named(text.filled(directory))).ok()?),
                 Made::Nothing if output.path.exists() => return None,
                 Made::Nothing => {}
             }
@@ -325,6 +385,7 @@ impl<'a> Session<'a> {
     /// Keeps an entry by its texts. One without messages is found by its tokens too.
     fn keep(&self, keys: &Keys, entry: &Entry) -> io::Result<()> {
         self.store.write(&keys.texts, &entry.to_bytes())?;
+        keys.marks.iter().try_for_each(|mark| self.store.write(mark, &keys.texts.0))?;
         let tokens = keys.tokens.filter(|_| !entry.speaks());
         tokens.map_or(Ok(()), |tokens| self.store.write(&tokens, &keys.texts.0))
     }
@@ -352,10 +413,13 @@ impl<'a> Session<'a> {
         let messages = [&ended.out[..], &ended.errors].concat();
         let (out, errors) = (Marked::of(&ended.out, directory), Marked::of(&ended.errors, directory));
         let is_named = [&out, &errors].iter().any(|text| text.0.iter().any(|part| names(part, &recipe.directory)));
+        let is_named = is_named || recipe.stem.as_ref().is_some_and(|stem| contains(&messages, stem.as_bytes()));
+        // If an assembler alone says something, nvcc makes the call.
+        let is_odd = recipe.included.is_some() && !messages.is_empty();
         let shown = host_text::shown_files(text, &messages).into_iter().map(|name| self.shown(recipe, name));
         let shown = shown.collect::<Option<_>>()?;
         let terminal = if messages.is_empty() { Vec::new() } else { self.terminal.clone() };
-        (!is_named).then_some(Entry { outputs, out, errors, shown, terminal })
+        (!is_named && !is_odd).then_some(Entry { outputs, out, errors, shown, terminal })
     }
 }
 
@@ -372,10 +436,11 @@ fn made(recipe: &Recipe, output: &Output, modes: u32) -> Option<Made> {
     if status.mode() & 0o7777 != modes || is_id && !host_text::is_stable_id(&text) {
         return None;
     }
-    let marked = Marked::of(&text, recipe.directory.as_bytes());
+    let marked = Marked::of(&recipe.unnamed(&text)?, recipe.directory.as_bytes());
     let is_binary = recipe.kind == Kind::Ptxas || recipe.assembles || text.contains(&0);
     let is_named = !recipe.directory.is_empty() && marked.0.iter().any(|part| names(part, &recipe.directory));
-    if is_named || (is_binary && marked.has_marks()) {
+    let has_symbol = recipe.stem.as_ref().is_some_and(|stem| has_symbol(&text, stem.as_bytes()));
+    if is_named || has_symbol || (is_binary && marked.has_marks()) {
         return None;
     }
     Some(Made::File(marked))

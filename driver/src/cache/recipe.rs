@@ -1,10 +1,14 @@
 //! What the cache has to know of a command.
+use crate::cache::host_text::{assembler_reads_more, reads_more};
 use crate::cache::key::Role;
+use crate::cache::marked;
 use crate::cache::tool::Kind;
 use crate::cache::words::{self, Role as WordRole};
+use crate::late;
 use crate::machine::Job;
 use crate::planner::PlannedCommand;
 use crate::tasks::OWN;
+use std::borrow::Cow;
 use std::collections::{BTreeMap, BTreeSet};
 use std::env;
 use std::ffi::{OsStr, OsString};
@@ -43,6 +47,10 @@ pub struct Recipe {
     pub question: Option<(Job, PathBuf)>,
     /// Whether it runs the assembler.
     pub assembles: bool,
+    /// For an assembler alone: the file that it includes, which is made of another that it reads.
+    pub included: Option<String>,
+    /// What cudafe++'s files begin with, as `k.compute_90.cudafe1`, if that doesn't count: it depends on the list of targets.
+    pub stem: Option<String>,
 }
 
 /// The outputs of a command, by its record.
@@ -77,6 +85,16 @@ fn words_of(kind: Kind, words: &[String], folder: &Path, reads: &[PathBuf], outp
     outputs.iter().all(is_moved).then_some([counted, run])
 }
 
+/// What cudafe++'s files begin with, by the words of a command that writes them, or assembler text of one.
+fn stem_of(kind: Kind, words: &[String]) -> Option<&str> {
+    let file = match kind {
+        Kind::CudaFe => words.windows(2).find(|pair| pair[0] == "--gen_c_file_name").map(|pair| &pair[1]),
+        Kind::Host if words.iter().any(|word| word == "-S") => words.iter().find(|word| !word.starts_with('-') && word.ends_with(".cudafe1.cpp")),
+        _ => None,
+    };
+    Path::new(file?).file_name()?.to_str()?.strip_suffix(".cpp").filter(|stem| stem.ends_with(".cudafe1"))
+}
+
 /// The process that preprocesses what a compile reads, and says nothing else.
 fn question(job: &Job, file: &str) -> Job {
     let mut words = job.words.clone();
@@ -97,7 +115,9 @@ impl Recipe {
         let kind = Kind::of(program)?;
         let is_host = kind == Kind::Host;
         let is_odd = ODD_VARIABLES.iter().any(|name| env::var_os(name).is_some());
-        if command.preprocesses || is_odd || if is_host { !words::is_compile(words) } else { !command.complete } {
+        let is_assembly = is_host && words::is_assembly(words);
+        let is_known = if is_host { is_assembly || words::is_compile(words) } else { command.complete };
+        if command.preprocesses || is_odd || !is_known {
             return None;
         }
         let names_count = words::names_count(kind, words);
@@ -109,12 +129,14 @@ impl Recipe {
             return None;
         }
         let [counted, run] = words_of(kind, words, Path::new(&job.folder), &reads, &outputs, names_count)?;
+        let stem = stem_of(kind, words).filter(|_| !names_count).map(String::from);
         let job = Job { words: [std::slice::from_ref(program), &run].concat(), ..job.clone() };
         let file = format!("{tmp}/{OWN}/cache.{number}.ii");
-        let question = is_host.then(|| (question(&job, &file), file.into()));
+        let question = (is_host && !is_assembly).then(|| (question(&job, &file), file.into()));
         let assembles = run.iter().any(|word| word == "-c");
         let directory = if names_count { String::new() } else { tmp.to_owned() };
-        Some(Recipe { kind, counted, job, reads, outputs, directory, lines_count: names_count, question, assembles })
+        let included = is_assembly.then(|| late::included(tmp));
+        Some(Recipe { kind, counted, job, reads, outputs, directory, lines_count: names_count, question, assembles, included, stem })
     }
 
     /// Whether each product can be made by a new file in its place: nothing is there, or a plain file.
@@ -127,7 +149,27 @@ impl Recipe {
         match file.extension().and_then(OsStr::to_str) {
             _ if self.question.is_some() => Role::Source,
             Some("ii") => Role::Preprocessed,
+            Some("module_id") if self.kind == Kind::Cicc => Role::Late,
             _ => Role::Other,
+        }
+    }
+
+    /// Whether its assembler may read another file than those that the command is known to read, given the first text that it reads.
+    pub fn reads_more(&self, text: &[u8]) -> bool {
+        let assembler_reads = || self.included.as_ref().map_or_else(|| reads_more(text), |own| assembler_reads_more(text, own));
+        self.assembles && self.kind == Kind::Host && assembler_reads()
+    }
+
+    /// A text with a mark in place of the name that doesn't count. `None` if it has such marks itself.
+    pub fn unnamed<'a>(&self, text: &'a [u8]) -> Option<Cow<'a, [u8]>> {
+        self.stem.as_ref().map_or(Some(Cow::Borrowed(text)), |stem| marked::unnamed(text, stem.as_bytes()))
+    }
+
+    /// The text that has the name in place of each mark.
+    pub fn named(&self, text: Vec<u8>) -> Vec<u8> {
+        match &self.stem {
+            Some(stem) => marked::named(&text, stem.as_bytes()),
+            None => text,
         }
     }
 
@@ -235,7 +277,8 @@ mod tests {
         let compile = "/b/gcc -c -x c++ /t/x.cpp -o k.o";
         let cases = [
             (compile.replace("-c ", "-c -save-temps "), "/t/x.cpp"),
-            (compile.replace("c++", "assembler"), "/t/x.cpp"),
+            (compile.replace("c++", "c"), "/t/x.cpp"),
+            (compile.replace("-c", "-S").replace("c++", "assembler"), "/t/x.cpp"),
             (compile.replace("/t/x.cpp", "/t/x.cpp /t/y.cpp"), "/t/x.cpp"),
             (compile.replace("gcc", "clang++"), "/t/x.cpp"),
             (compile.replace("gcc", "gcc.sh"), "/t/x.cpp"),

@@ -73,11 +73,16 @@ fn is_program(file: &mut File) -> bool {
     file.read_exact(&mut begin).is_ok() && begin == PROGRAM && file.rewind().is_ok()
 }
 
+/// How a compiler runs: the program, its folder and its environment.
+type Compiler = (PathBuf, PathBuf, Vec<(OsString, OsString)>);
+
 /// The tools of a call's commands.
 pub struct Tools<'a> {
     store: &'a Store,
     /// Those that were looked at.
     known: BTreeMap<PathBuf, Option<Digest>>,
+    /// The programs that compilers run.
+    parts: Vec<(Compiler, Vec<PathBuf>)>,
 }
 
 /// A tool, and where it runs.
@@ -119,7 +124,7 @@ impl Run<'_> {
 
 impl<'a> Tools<'a> {
     pub fn new(store: &'a Store) -> Tools<'a> {
-        Tools { store, known: BTreeMap::new() }
+        Tools { store, known: BTreeMap::new(), parts: Vec::new() }
     }
 
     /// The digest of a file's contents; `None` if it can't be read, or is to be a program and isn't.
@@ -150,6 +155,17 @@ impl<'a> Tools<'a> {
         digest
     }
 
+    /// The compiler proper and the assembler that gcc runs.
+    fn parts(&mut self, run: &Run<'_>) -> Option<Vec<PathBuf>> {
+        let compiler = (run.program.to_owned(), run.folder.to_owned(), run.environment.to_vec());
+        if let Some((_, parts)) = self.parts.iter().find(|(other, _)| *other == compiler) {
+            return Some(parts.clone());
+        }
+        let parts: Vec<PathBuf> = ["cc1plus", "as"].into_iter().map(|part| run.part(part)).collect::<Option<_>>()?;
+        self.parts.push((compiler, parts.clone()));
+        Some(parts)
+    }
+
     /// The files that were looked at, and their digests.
     pub fn all(&self) -> impl Iterator<Item = (&Path, Digest)> {
         self.known.iter().filter_map(|(path, digest)| Some((path.as_path(), (*digest)?)))
@@ -160,9 +176,9 @@ impl<'a> Tools<'a> {
     pub fn identity(&mut self, run: &Run<'_>) -> Option<Digest> {
         let mut hasher = Hasher::default();
         hasher.update(&self.known(run.program, true)?.0);
-        let parts: &[&str] = if run.kind == Kind::Host { &["cc1plus", "as"] } else { &[] };
+        let parts = if run.kind == Kind::Host { self.parts(run)? } else { Vec::new() };
         for part in parts {
-            hasher.update(&self.known(&run.part(part)?, true)?.0);
+            hasher.update(&self.known(&part, true)?.0);
         }
         let libraries = if run.kind == Kind::Cicc { run.libraries()? } else { Vec::new() };
         for library in libraries {

@@ -53,7 +53,19 @@ const CUDA_FE: Known = Known {
 
 /// Words of cicc beside those.
 const CICC: Known = Known {
-    alone: &["--no-version-ident", "-O0", "-extra-device-vectorization", "-g", "-generate-line-info", "-inline-info", "-m64", "-tused"],
+    alone: &[
+        "--gen_div_approx_ftz",
+        "--no-version-ident",
+        "-O0",
+        "-extra-device-vectorization",
+        "-fast-math",
+        "-g",
+        "-generate-line-info",
+        "-inline-info",
+        "-kernel-params-are-restrict",
+        "-m64",
+        "-tused",
+    ],
     beginnings: &["-fmad=", "-ftz=", "-prec_div=", "-prec_sqrt="],
     with_value: &["--gen_device_file_name", "--include_file_name", "-arch", "-maxreg", "-o", "-split-compile"],
     naming: &["-g", "-generate-line-info", "-inline-info"],
@@ -73,9 +85,12 @@ const PTXAS: Known = Known {
         "-g",
         "-lineinfo",
         "-m64",
+        "-suppress-stack-size-warning",
         "-v",
+        "-warn-lmem-usage",
+        "-warn-spills",
     ],
-    beginnings: &["--maxrregcount=", "-arch=sm_", "-dlcm=", "-maxrregcount=", "-split-compile="],
+    beginnings: &["--allow-expensive-optimizations=", "--maxrregcount=", "-arch=sm_", "-dlcm=", "-maxrregcount=", "-split-compile="],
     with_value: &["-o"],
     naming: &["--dont-merge-basicblocks", "--generate-line-info", "--return-at-end", "-g", "-lineinfo"],
 };
@@ -101,6 +116,7 @@ const HOST: Known = Known {
         "-fno-asynchronous-unwind-tables",
         "-fno-common",
         "-fno-exceptions",
+        "-fno-gnu-unique",
         "-fno-math-errno",
         "-fno-omit-frame-pointer",
         "-fno-plt",
@@ -124,6 +140,7 @@ const HOST: Known = Known {
         "-g2",
         "-ggdb",
         "-m64",
+        "-pedantic",
         "-pthread",
         "-w",
     ],
@@ -151,9 +168,11 @@ const HOST: Known = Known {
     naming: &["-g", "-g1", "-g2", "-ggdb", "-gdwarf-"],
 };
 
-/// Words of a host compiler that only its preprocessor reads, whose text counts by itself: those that go on, and one with a value.
+/// Words of a host compiler that only its preprocessor reads, whose text counts by itself: those that go on, and those with a value.
 const PREPROCESSED: [&str; 3] = ["-D", "-I", "-U"];
-const PREPROCESSED_WITH_VALUE: &str = "-isystem";
+const PREPROCESSED_WITH_VALUE: [&str; 4] = ["-D", "-I", "-U", "-isystem"];
+/// Those of them that say where a preprocessor looks.
+const SEARCHED: [&str; 2] = ["-I", "-isystem"];
 /// Words of these beginnings that go to other programs, or mean this machine's processor.
 const NOT_KNOWN: [&str; 5] = ["-Wa,", "-Wl,", "-Wp,", "-march=native", "-mtune=native"];
 
@@ -204,7 +223,7 @@ fn role(kind: Kind, word: &str) -> Option<Role> {
     if NOT_KNOWN.iter().any(|begin| word.starts_with(begin)) {
         return None;
     }
-    if kind == Kind::Host && word == PREPROCESSED_WITH_VALUE {
+    if kind == Kind::Host && PREPROCESSED_WITH_VALUE.contains(&word) {
         return Some(Role::PreprocessedValue);
     }
     if kind == Kind::Host && PREPROCESSED.iter().any(|begin| goes_on(word, begin)) {
@@ -235,11 +254,22 @@ pub fn names_count(kind: Kind, words: &[String]) -> bool {
     words.iter().any(|word| known(kind).iter().any(|list| list.names(word)))
 }
 
+/// Whether a host compiler makes one file of a language, in one of these phases.
+fn makes_one(words: &[String], language: &str, phases: &[&str]) -> bool {
+    let count = |sought: &[&str]| words.iter().filter(|word| sought.contains(&word.as_str())).count();
+    let languages = words.windows(2).filter(|pair| pair[0] == "-x" && pair[1] == language).count();
+    let made = count(&["-c", "-S"]) == 1 && count(phases) == 1;
+    made && (count(&["-x"]), languages) == (1, 1) && count(&["-o"]) == 1
+}
+
 /// Whether these are the words of a host compile of C++ to an object, or to assembler text.
 pub fn is_compile(words: &[String]) -> bool {
-    let count = |sought: &[&str]| words.iter().filter(|word| sought.contains(&word.as_str())).count();
-    let languages = words.windows(2).filter(|pair| pair[0] == "-x" && pair[1] == "c++").count();
-    count(&["-c", "-S"]) == 1 && (count(&["-x"]), languages) == (1, 1) && count(&["-o"]) == 1
+    makes_one(words, "c++", &["-c", "-S"])
+}
+
+/// Whether these are the words by which a host compiler has assembler text made an object.
+pub fn is_assembly(words: &[String]) -> bool {
+    makes_one(words, "assembler", &["-c"])
 }
 
 /// Whether all words of a preprocessor are known: it reads what its text's line markers name, and writes that text alone.
@@ -264,8 +294,8 @@ pub fn included(words: &[String]) -> Vec<&str> {
 
 /// The words of a preprocessor that say where it looks for what it includes.
 pub fn search_words(words: &[String]) -> Vec<String> {
-    let is_value = |place: usize| place > 0 && words[place - 1] == PREPROCESSED_WITH_VALUE;
-    let counts = |place: &usize| is_value(*place) || words[*place] == PREPROCESSED_WITH_VALUE || goes_on(&words[*place], "-I");
+    let is_option = |place: usize| SEARCHED.contains(&words[place].as_str());
+    let counts = |&place: &usize| is_option(place) || place > 0 && is_option(place - 1) || goes_on(&words[place], "-I");
     (0..words.len()).filter(counts).map(|place| words[place].clone()).collect()
 }
 
@@ -289,6 +319,41 @@ mod tests {
         assert!(is_known(Kind::Cicc, &format!("{front} -arch compute_80 -m64 -ftz=0 -prec_div=1 -fmad=1 -tused x.ii -o x.ptx")));
         assert!(is_known(Kind::Ptxas, "-arch=sm_80 -m64 x.ptx -o x.cubin"));
         assert!(is_known(Kind::Host, "-D__CUDA_ARCH__=800 -c -x c++ -Wno-psabi -I/i -isystem /s -m64 -O2 x.cpp -o k.o"));
+        assert!(is_preprocess(&list("-D__CUDACC__ -E -x c++ -I/i -D NAME=name -U X -include cuda_runtime.h -m64 k.cu -o k.ii")));
+        assert!(!is_preprocess(&list("-E -x c++ k.cu -o k.ii -D")));
+        assert_eq!(search_words(&list("-D NAME -I/i -isystem /s -U X")), ["-I/i", "-isystem", "/s"]);
+    }
+
+    #[test]
+    fn what_nvcc_makes_of_its_options_is_known() {
+        let cases = [
+            ("--std=c++20 --std=c++03", Kind::CudaFe, "--c++20 --c++03"),
+            ("-std=c++11 -std=c++14", Kind::Cicc, "--c++11 --c++14"),
+            ("-extended-lambda -expt-relaxed-constexpr", Kind::CudaFe, "--extended-lambda --relaxed_constexpr"),
+            ("-rdc=true -keep-device-functions", Kind::Cicc, "--device-c --keep-device-functions"),
+            ("-G", Kind::CudaFe, "--debug_mode"),
+            ("-G", Kind::Cicc, "--debug_mode -O0 -g"),
+            ("-G", Kind::Ptxas, "-g --dont-merge-basicblocks --return-at-end"),
+            ("-lineinfo", Kind::Cicc, "-generate-line-info -inline-info"),
+            ("-lineinfo", Kind::Ptxas, "--generate-line-info -lineinfo"),
+            ("-use_fast_math", Kind::Cicc, "--gen_div_approx_ftz -fast-math -ftz=1 -prec_div=0 -prec_sqrt=0"),
+            ("-restrict -maxrregcount 32", Kind::Cicc, "-kernel-params-are-restrict -maxreg 32"),
+            ("-maxrregcount 32", Kind::Ptxas, "-maxrregcount=32 --maxrregcount=32"),
+            ("-diag-suppress 1 -Xcudafe --diag_warn=2", Kind::CudaFe, "--diag_suppress 1 --diag_warn=2"),
+            ("-diag-error 1 -w", Kind::Cicc, "--diag_error 1 --diag_error=1 --no_warnings"),
+            ("-Werror all-warnings", Kind::CudaFe, "--promote_warnings"),
+            ("-Werror all-warnings", Kind::Ptxas, "--warning-as-error"),
+            ("-split-compile 2", Kind::Cicc, "-split-compile 2"),
+            ("-split-compile 2 -rdc=true", Kind::Ptxas, "-split-compile=2 --compile-only"),
+            ("-Xptxas -v,-O1,-dlcm=ca", Kind::Ptxas, "-v -O1 -O0 -O2 -O3 -dlcm=ca"),
+            ("-Xptxas -warn-spills", Kind::Ptxas, "-warn-spills -warn-lmem-usage -suppress-stack-size-warning"),
+            ("-Xptxas --allow-expensive-optimizations=true", Kind::Ptxas, "--allow-expensive-optimizations=true"),
+            ("-Xcicc -extra-device-vectorization", Kind::Cicc, "-extra-device-vectorization --unicode_source_kind=UTF-8"),
+            ("-Xcompiler -pedantic,-fno-gnu-unique", Kind::Host, "-pedantic -fno-gnu-unique"),
+        ];
+        for (options, kind, words) in cases {
+            assert!(is_known(kind, words), "{options}: {words}");
+        }
     }
 
     #[test]
@@ -355,10 +420,10 @@ mod tests {
 
     #[test]
     fn words_of_preprocessors_are_known() {
-        let nvccs = "-D__CUDA_ARCH__=750 -E -x c++ -DA -I/i -isystem /s -include cuda_runtime.h -m64 k.cu -o k.ii";
+        let nvccs = "-D__CUDA_ARCH__=750 -E -x c++ -D A -U B -I/i -isystem /s -I j -include cuda_runtime.h -m64 k.cu -o k.ii";
         assert!(is_preprocess(&list(nvccs)));
         assert_eq!(included(&list(nvccs)), ["cuda_runtime.h"]);
-        assert_eq!(search_words(&list(nvccs)), ["-I/i", "-isystem", "/s"]);
+        assert_eq!(search_words(&list(nvccs)), ["-I/i", "-isystem", "/s", "-I", "j"]);
         for word in ["-c", "-MD", "-imacros m.h", "-dD", "-C", "-P", "-H", "-nostdinc", "-iquote q", "-idirafter d", "-fdirectives-only", "-B."] {
             assert!(!is_preprocess(&list(&format!("{nvccs} {word}"))), "{word}");
         }

@@ -1,0 +1,36 @@
+//! A call that the cache has as a whole.
+use crate::cache::counts::{self, Counts};
+use crate::cache::{self, calls};
+use crate::host;
+use crate::log;
+use crate::machine::Ended;
+use crate::planner::Line;
+use crate::programs;
+use crate::run::{Done, Task};
+use crate::settings::Settings;
+use crate::split::{Outcome, Said};
+use crate::system::Status;
+use std::env;
+use std::path::Path;
+
+/// Makes what the cache has of a whole call, which has begun at a time, in seconds. Gives what it said and what has come of it, or `None` if the
+/// call has to be made.
+pub fn serve(settings: &Settings, line: &Line, begun: f64) -> Option<(Said, Outcome)> {
+    if !calls::is_on() || !settings.launcher.is_empty() || !settings.runs_here() {
+        return None;
+    }
+    let store = cache::store_of(settings, &line.cwd)?;
+    let nvcc = programs::find(line.nvcc.as_ref(), &env::var_os("PATH").unwrap_or_default(), Path::new(&line.cwd))?;
+    let said = calls::serve(&store, line, &nvcc)?;
+    counts::add(store.folder(), Counts { calls: 1, ..Counts::default() });
+    let commands = if settings.log.is_some() { logged(begun) } else { Vec::new() };
+    Some((said, Outcome { status: 0, commands, counted: None }))
+}
+
+/// What the log has of such a call.
+fn logged(begun: f64) -> Vec<String> {
+    let status = Status { code: 0, signal: None, dumped: false };
+    let ended = Ended { status, out: Vec::new(), errors: Vec::new(), times: (begun, host::now()) };
+    let task = Task { kind: "nvcc".into(), ..Task::default() };
+    log::commands(&[task], &[Done { asked: begun, ended: Some(ended), hit: Some(true), ..Done::default() }])
+}
