@@ -831,6 +831,10 @@ whole_calls() {
             { call "${usual[@]}" $words && settle && call "${usual[@]}" $words; }
             same "served with $words" "$status $([ "$(commands true)" = nvcc ] && echo whole)" '0 '
         done
+        rm -f k.d
+        # nvcc takes the targets of the GPUs that it finds
+        whole '' -arch=native -c k.cu -o k.o
+        whole '' -arch=native -c k.cu -o k.o
         end
     fi
     if case_of 'whole: tools and variables'; then

@@ -97,6 +97,12 @@ struct Gathered<'a> {
     seen: BTreeMap<PathBuf, Seen>,
 }
 
+/// Whether a line asks for the targets of the machine's own GPUs, which nvcc looks for at each call.
+fn asks_for_native(line: &Line) -> bool {
+    let texts = line.words.iter().chain(line.variables.iter().map(|(_, value)| value));
+    texts.flat_map(|text| text.split([' ', '\t', '=', ','])).any(|part| part == "native")
+}
+
 impl Gathered<'_> {
     /// Notes a file whose contents are known. `None` if it may have been another when the call read it.
     fn add(&mut self, seen: Seen, cwd: &Path) -> Option<()> {
@@ -138,7 +144,7 @@ impl Session<'_> {
         let has_lists = call.line.words.iter().any(|word| word.starts_with('@') || word.starts_with("-optf") || word.starts_with("--options-file"));
         let made = self.candidates.values().flat_map(|candidate| &candidate.recipe.outputs).filter(|output| output.path != output.written_to).count();
         let has_rule = call.rule.is_some() == call.tasks.iter().any(|task| task.is_rule);
-        !has_lists && has_rule && made == self.products.len() && call.of_plan().all(is_known)
+        !has_lists && !asks_for_native(call.line) && has_rule && made == self.products.len() && call.of_plan().all(is_known)
     }
 
     /// The processes of a call that preprocess, each with the file that has its text.
@@ -253,6 +259,17 @@ impl Session<'_> {
 mod tests {
     use super::*;
     use std::os::unix::fs::symlink;
+
+    #[test]
+    fn a_line_asks_for_native_by_a_word_or_a_variable() {
+        let asks = |words: &[&str], flags: &str| {
+            let words = words.iter().map(|word| (*word).into()).collect();
+            let variables = vec![("NVCC_APPEND_FLAGS".into(), flags.into())];
+            asks_for_native(&Line { cwd: "/w".into(), nvcc: "nvcc".into(), words, variables })
+        };
+        assert!(asks(&["-arch=native", "-c", "k.cu"], "") && asks(&["-arch", "native"], "") && asks(&["-c"], "-O2 -arch=native"));
+        assert!(!asks(&["-c", "native/k.cu", "-o", "native.o"], "-DNATIVE"));
+    }
 
     #[test]
     fn a_script_may_only_run_a_program() {
