@@ -523,6 +523,10 @@ impl Machine for Host {
         self.start_with(number, job, self.null.as_raw_fd())
     }
 
+    fn end(&mut self, number: usize) {
+        self.signal(number, KILL);
+    }
+
     fn end_all(&mut self, signal: i32) {
         self.wants = false;
         let begun = Instant::now();
@@ -640,6 +644,19 @@ mod tests {
             start(&mut host, 4, &of_path);
             assert_eq!(next_end(&mut host), (4, 127, "zigrunk-nvcc: sh: not found\n".into()));
             assert!(host.running.is_empty() && host.events.is_empty() && (host.now() - now()).abs() < 60.0);
+        });
+    }
+
+    #[test]
+    fn a_job_that_is_ended_does_nothing_more() {
+        in_own_process(|| {
+            let mut host = plain_host();
+            start(&mut host, 3, &shell("trap '' TERM; kill -STOP $$; echo on"));
+            start(&mut host, 4, &shell("sleep 0.1; echo other"));
+            host.end(3);
+            assert_eq!(next_end(&mut host), (3, 137, String::new()));
+            host.end(3);
+            assert_eq!(next_end(&mut host), (4, 0, "other\n".into()));
         });
     }
 

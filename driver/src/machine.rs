@@ -77,6 +77,9 @@ pub trait Machine {
     /// If there is no process or no file for it. The slot stays.
     fn start(&mut self, number: usize, job: &Job) -> io::Result<()>;
 
+    /// Ends a job, which does nothing more from now on. Its end comes as an event.
+    fn end(&mut self, _: usize) {}
+
     /// Ends all jobs, by a signal and then by KILL, and waits for them.
     fn end_all(&mut self, signal: i32);
 

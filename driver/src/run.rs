@@ -308,14 +308,18 @@ impl<'a, M: Machine, W: Watch> Run<'a, M, W> {
     }
 
     /// Takes a task up that has begun early, if all that it needs has ended. Says whether one has. It has a slot and waits, so it goes on before any
-    /// other starts: that may need its slot. One that may have read too early runs once more.
+    /// other starts: that may need its slot. One that may have read too early runs once more, and ends before it could read what isn't there.
     fn take_up(&mut self) -> Result<bool, Stopped> {
         let may_start = |number: &usize| self.tasks[*number].needs.iter().all(|&need| self.done[need].has_ended());
         let ready: Vec<usize> = self.early.keys().copied().filter(may_start).collect();
         let taken = ready.into_iter().find(|&number| self.schedule.started(number).is_ok());
-        let Some((number, early)) = taken.and_then(|number| Some((number, self.early.remove(&number)?))) else { return Ok(false) };
+        let Some((number, mut early)) = taken.and_then(|number| Some((number, self.early.remove(&number)?))) else { return Ok(false) };
         let content = self.tasks[number].head_start.as_ref().and_then(|start| start.content().ok());
-        self.is_void[number] = !content.is_some_and(|content| early.withheld.give(&content));
+        let is_written = content.is_some_and(|content| early.withheld.write(&content));
+        if !is_written {
+            self.machine.end(number);
+        }
+        self.is_void[number] = !early.withheld.give() || !is_written;
         if self.watch.caught_up(number) && !self.is_void[number] {
             self.instead[number] = Some(self.tasks[number].job.clone());
         }
@@ -413,8 +417,9 @@ fn plain(error: &io::Error) -> String {
 #[cfg(test)]
 mod tests {
     use super::*;
-    use crate::system::{INT, Status, TERM};
+    use crate::system::{INT, Status, TERM, UNBLOCKED};
     use std::collections::VecDeque;
+    use std::os::unix::fs::OpenOptionsExt;
 
     /// A machine whose jobs end in the order in which they start, or in the other. A job's words are its name, its status and what it says.
     #[derive(Default)]
@@ -436,6 +441,8 @@ mod tests {
         slots: Option<usize>,
         /// A file that has to have a content before a job ends that has begun early.
         read_late: Option<std::path::PathBuf>,
+        /// The jobs that were ended before somebody could open that file.
+        ended: Vec<usize>,
     }
 
     impl Machine for Fake {
@@ -471,6 +478,12 @@ mod tests {
             self.running.push_back((number, job.clone()));
             self.most_at_once = self.most_at_once.max(self.running.len());
             Ok(())
+        }
+
+        fn end(&mut self, number: usize) {
+            let open = self.read_late.take().map(|file| std::fs::File::options().read(true).custom_flags(UNBLOCKED).open(file));
+            assert_eq!(open.unwrap().unwrap_err().kind(), io::ErrorKind::WouldBlock, "it can be read already");
+            self.ended.push(number);
         }
 
         fn end_all(&mut self, signal: i32) {
@@ -671,8 +684,10 @@ mod tests {
     #[test]
     fn a_task_that_read_too_early_runs_once_more() {
         let tasks = with_head_start("again", 0, false);
-        let mut machine = Fake { is_idle: true, ..Fake::default() };
+        let read_late = tasks[1].head_start.as_ref().map(|start| start.withheld.clone());
+        let mut machine = Fake { is_idle: true, read_late, ..Fake::default() };
         assert_eq!(run_all(&mut machine, &tasks, 2), ("firstearlysecond".into(), vec![Some(0); 2]));
+        assert_eq!(machine.ended, [1], "it ends before it reads what isn't there");
         read_late_of(&tasks);
     }
 

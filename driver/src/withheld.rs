@@ -37,12 +37,14 @@ impl Withheld {
         Ok(Withheld { file, begun: Instant::now(), longest })
     }
 
-    /// Writes the content and lets readers go on. Says whether all of them see it: not if the disk is full, or if the kernel may have
-    /// lost patience.
-    pub fn give(mut self, content: &[u8]) -> bool {
-        let is_written = self.file.write_all(content).is_ok();
-        let is_in_time = self.begun.elapsed() < self.longest;
-        is_written & is_in_time & system::give(self.file.as_fd()).is_ok()
+    /// Writes the content. Says whether nobody has opened the file before: not if the disk is full, or if the kernel may have lost patience.
+    pub fn write(&mut self, content: &[u8]) -> bool {
+        self.file.write_all(content).is_ok() && self.begun.elapsed() < self.longest
+    }
+
+    /// Lets readers go on. Says whether none had to until now.
+    pub fn give(self) -> bool {
+        system::give(self.file.as_fd()).is_ok()
     }
 }
 
@@ -62,12 +64,14 @@ mod tests {
     #[test]
     fn readers_wait_for_the_content() {
         let path = path_of("wait");
-        let withheld = Withheld::new(&path).unwrap();
+        let mut withheld = Withheld::new(&path).unwrap();
         let (sender, read) = mpsc::channel();
         let other = path.clone();
         let reader = thread::spawn(move || sender.send(fs::read(other).unwrap()).unwrap());
         assert!(read.recv_timeout(Duration::from_millis(100)).is_err(), "it reads before the content is there");
-        assert!(withheld.give(b"content"));
+        assert!(withheld.write(b"content"));
+        assert!(read.recv_timeout(Duration::from_millis(100)).is_err(), "it reads before it may");
+        assert!(withheld.give());
         assert_eq!(read.recv().unwrap(), b"content");
         reader.join().unwrap();
         fs::remove_file(path).unwrap();
@@ -76,8 +80,8 @@ mod tests {
     #[test]
     fn what_comes_late_is_told() {
         let path = path_of("late");
-        let withheld = Withheld { longest: Duration::ZERO, ..Withheld::new(&path).unwrap() };
-        assert!(!withheld.give(b"content"));
+        let mut withheld = Withheld { longest: Duration::ZERO, ..Withheld::new(&path).unwrap() };
+        assert!(!withheld.write(b"content"));
         fs::remove_file(path).unwrap();
     }
 
@@ -93,7 +97,8 @@ mod tests {
     #[test]
     fn a_full_disk_is_told() {
         let file = File::options().write(true).open("/dev/full").unwrap();
-        let withheld = Withheld { file, begun: Instant::now(), longest: Duration::from_secs(9) };
-        assert!(!withheld.give(b"content"));
+        let mut withheld = Withheld { file, begun: Instant::now(), longest: Duration::from_secs(9) };
+        assert!(!withheld.write(b"content"));
+        assert!(!withheld.give(), "nobody waits for it");
     }
 }
