@@ -177,7 +177,7 @@ end_shell() {
 
 # begin NAME: begins a case, whose working directory is $room/work.
 begin() {
-    name=$1
+    case_name=$1
     problems=''
     rm -rf "$room"
     mkdir -p "$room/work" "$room/tmp"
@@ -189,7 +189,7 @@ end_case() {
     local found=${problems%$'\n'}
     cd "$scratch" || exit 1
     unset problems
-    count "${shell[*]}: $name" "${found#  }"
+    count "${shell[*]}: $case_name" "${found#  }"
     [ -z "$found" ] || [ -z "${STOP_EARLY-}" ] || end_shell
 }
 
