@@ -5,18 +5,18 @@
 
 An edit changes one line of code: it negates a condition, drops a call, and so on (RUST, SCRIPT). The seed and its number say which line and which
 operator, so --only makes one edit again, and --first begins at another than the first. One that doesn't compile is drawn again, and so is one of
-tests/mutants_known.txt. Then the tests of its file run until one fails, the likeliest first. Tests count if they fail twice. One that takes too
-long has failed.
+tests/mutants_known.txt. Then tests run until one fails: the unit tests of its module and all others for each edit, and then, for those that none of
+them finds, the parts of the scripts, the likeliest first. A test counts if it fails twice and passes without the edit. One that takes too long has
+failed.
 
 An edited driver may send any signal, remove any file and take all memory. So tests run where they see no other process, can write only below the
 folder of their lane, and have 4 GB each. That takes root, or a kernel that lets users make namespaces.
 
-Prints each edit that no test finds as a diff, and 'caught N of M'. The last line is 'N passed, M failed': edits that got through are failures if
-fewer than --bound percent were caught.
+Prints each edit that no test finds as a diff, how many seconds of a processor each took, and 'caught N of M'. The last line is 'N passed, M failed':
+edits that got through are failures if fewer than --bound percent were caught.
 """
 import argparse
 import difflib
-import hashlib
 import json
 import os
 import random
@@ -26,6 +26,7 @@ import subprocess
 import sys
 import tempfile
 import threading
+import time
 from collections import Counter
 from concurrent.futures import ThreadPoolExecutor
 from pathlib import Path
@@ -33,8 +34,11 @@ from typing import NamedTuple
 
 ROOT = Path(__file__).resolve().parent.parent
 WORK = Path(os.environ.get("MUTANTS_WORK", ROOT / "out/mutants"))
-# How many seconds the unit tests or a part of a script may take, and how many parts a lane runs side by side: they mostly wait.
-LONGEST, SIDE_BY_SIDE = 480, 3
+# How many seconds the unit tests or a part of a script may take on an idle machine, of time and of a processor for each process. A busy one may take
+# as many times longer as it has processes for each processor.
+LONGEST, LONGEST_BUSY = 240, 20
+# How many parts a lane runs side by side: they mostly wait.
+SIDE_BY_SIDE = 3
 # As in a release: sums that overflow don't panic.
 BUILD = {"CARGO_PROFILE_DEV_DEBUG": "0", "CARGO_PROFILE_DEV_OVERFLOW_CHECKS": "false", "CARGO_PROFILE_DEV_DEBUG_ASSERTIONS": "false"}
 
@@ -42,7 +46,7 @@ BUILD = {"CARGO_PROFILE_DEV_DEBUG": "0", "CARGO_PROFILE_DEV_OVERFLOW_CHECKS": "f
 SANDBOX = ["unshare", *([] if os.geteuid() == 0 else ["--user", "--map-root-user"]), "--mount", "--pid", "--fork", "--kill-child", "--mount-proc",
            "bash", "-c", 'mount --make-rprivate / && mount --bind "$1" /mnt && mount --bind "$2" /tmp && mkdir -p "$1" && mount --bind /mnt "$1" &&'
            ' mount -o remount,bind,ro / && mount -o remount,bind,ro /dev && mount -t tmpfs tmpfs /dev/shm &&'
-           ' ulimit -v 4000000 && "${@:3}"; exit', "sandbox"]
+           f' ulimit -v 4000000 -t {LONGEST_BUSY} && "${{@:3}}"; status=$?; times > /tmp/times; exit $status', "sandbox"]
 
 # The files of each kind, and the parts of its tests.
 DRIVER_PARTS = "driver: unit end_to_end folders early_starts late_starts compilers to_nvcc outputs products logs plans signals jobservers slots"
@@ -173,12 +177,28 @@ def draw(chance: random.Random, lines: list[tuple[Path, int]]) -> Edit | None:
     return Edit(path.relative_to(ROOT), number, line, new, operator) if new != line else None
 
 
+def patience() -> float:
+    """By how much this machine is slower than an idle one."""
+    return max(1.0, os.getloadavg()[0] / (os.cpu_count() or 1))
+
+
+def processor_time(times: str) -> float:
+    """The seconds of a processor in what bash says of its own time and that of its children."""
+    return sum(60 * int(minutes) + float(seconds) for minutes, seconds in re.findall(r"(\d+)m([\d.]+)s", times))
+
+
+# A build of the sources: the unit tests and the program.
+Built = NamedTuple("Built", [("tests", "list[Path]"), ("program", Path)])
+
+
 class Lane:
     """A copy of the sources in which edits are made, one after the other."""
 
     def __init__(self, number: int, kind: str) -> None:
         self.folder, self.kind = WORK / f"lane{number}", kind
-        self.program, self.tests, self.running = Path(), list[Path](), set[subprocess.Popen[str]]()
+        self.built, self.unedited, self.running = Built([], Path()), Built([], Path()), set[subprocess.Popen[str]]()
+        self.sound: dict[tuple[str, str], bool] = {}
+        self.seconds = 0.0
         self.sources = self.folder / "out/rust" if kind == "driver" else self.folder
         for old in self.folder.glob("tmp*"):
             shutil.rmtree(old, ignore_errors=True)
@@ -193,56 +213,94 @@ class Lane:
 
     def build(self, *words: str) -> list[Path]:
         """Runs cargo with these words. Says which programs it made: none, if something doesn't compile."""
-        command = ["cargo", *words, "--offline", "--quiet", "-p", "zigrunk-driver", "--message-format=json"]
+        command = ["bash", "-c", '"$@"; status=$?; times >&2; exit $status', "build", "cargo", *words, "--offline", "--quiet", "-p", "zigrunk-driver"]
+        command.append("--message-format=json")
         made = subprocess.run(command, cwd=self.sources, env=os.environ | BUILD, capture_output=True, text=True, check=False)
+        self.seconds += processor_time(made.stderr)
         found = [json.loads(line)["executable"] for line in made.stdout.splitlines() if '"executable":"' in line]
         return [Path(program) for program in found] if made.returncode == 0 else []
 
     def compiles(self, path: str) -> bool:
         """Builds the unit tests. Says whether they compile. The program comes later, since most edits are found without it."""
         if self.kind == "driver":
-            self.tests = self.build("test", "--no-run", "--lib", *["--test", "report"] * ("src/report/" in path))
-        return bool(self.tests) or self.kind != "driver"
+            tests = self.build("test", "--no-run", "--lib", *["--test", "report"] * ("src/report/" in path))
+            self.built = Built(tests, self.built.program)
+        return bool(self.built.tests) or self.kind != "driver"
+
+    def keep(self) -> bool:
+        """Keeps a build without an edit, in which tests that find one have to pass. Says whether there is one."""
+        if self.kind != "driver":
+            return True
+        tests, programs = self.build("test", "--no-run", "--lib", "--test", "report"), self.build("build", "--bins")
+        kept = self.folder / "out/unedited/target/debug"
+        kept.mkdir(parents=True, exist_ok=True)
+        copies = [Path(shutil.copy(path, kept)) for path in [*tests, *programs]]
+        self.unedited = Built(copies[:-1], copies[-1]) if tests and programs else self.unedited
+        return bool(tests and programs)
 
     def run(self, words: list[str], **settings: str) -> tuple[int, str]:
         """Runs a test where it can do no harm. Says its status and what it printed."""
         own = tempfile.mkdtemp(prefix="tmp", dir=self.folder)
+        begun = time.monotonic()
         with subprocess.Popen([*SANDBOX, str(self.folder), own, *words], cwd=self.folder, env={**os.environ, **settings, "TMPDIR": "/tmp"}, text=True,
                               errors="replace", stdin=subprocess.DEVNULL, stdout=subprocess.PIPE, stderr=subprocess.STDOUT) as process:
             self.running.add(process)
-            try:
-                said, _ = process.communicate(timeout=LONGEST)
-            except subprocess.TimeoutExpired:
-                process.kill()
-                said = "it takes too long\n"
+            said = ""
+            while process.returncode is None:
+                try:
+                    said, _ = process.communicate(timeout=5)
+                except subprocess.TimeoutExpired:
+                    if time.monotonic() - begun > LONGEST * patience():
+                        process.kill()
         self.running.discard(process)
+        times = Path(own) / "times"
+        self.seconds += processor_time(times.read_text()) if times.exists() else 0.0
         shutil.rmtree(own, ignore_errors=True)
-        return process.returncode, said
+        return process.returncode, said or "it takes too long\n"
 
-    def fault(self, script: str, part: str) -> str:
-        """Runs a part of the tests. Says what fails first, or nothing."""
-        if part == "unit":
-            status, said = self.run(["sh", "-c", 'for tests; do "$tests" -q || exit; done', "unit", *map(str, self.tests)])
+    def fault(self, built: Built, script: str, part: str) -> str:
+        """Runs a part of the tests with a build. Says what fails first, or nothing. A part `unit NAME` are the unit tests whose names begin so."""
+        if part.startswith("unit"):
+            names = part.split()[1:]
+            status, said = self.run(["sh", "-c", 'tests=$1 && shift && for test in $tests; do "$test" -q "$@" || exit; done', "unit",
+                                     " ".join(map(str, built.tests)), *names])
             failures = re.findall(r"^    (\S+)$", said, re.M)
         else:
-            words = [f"tests/{script}.sh", *([str(self.program)] if self.kind == "driver" else [])]
-            status, said = self.run(words, STOP_EARLY="1", **({"PARTS": part} if part != "all" else {}))
+            words = [f"tests/{script}.sh", *([str(built.program)] if self.kind == "driver" else [])]
+            settings = {"PARTS": part} if part != "all" else {}
+            status, said = self.run(words, STOP_EARLY="1", PATIENCE=str(round(6 * patience())), **settings)
             failures = [line for line in said.splitlines() if ": skipped, " not in line]
         return f"{script} {part}: {(failures or [said[-150:]])[0][:150]}" if status != 0 else ""
 
+    def caught_by(self, script: str, part: str) -> str:
+        """Which test of a part finds the edit, or nothing. It fails twice, and passes without the edit."""
+        if not self.fault(self.built, script, part):
+            return ""
+        again = self.fault(self.built, script, part)
+        if again and self.kind == "driver" and (script, part) not in self.sound:
+            self.sound[script, part] = not self.fault(self.unedited, script, part) or not self.fault(self.unedited, script, part)
+        return again if self.sound.get((script, part), True) else ""
+
+    def edit(self, edit: Edit, makes: bool = True) -> None:
+        """Makes an edit, or takes it back."""
+        lines = (ROOT / edit.path).read_text().splitlines()
+        lines[edit.line] = edit.new if makes else edit.old
+        (self.sources / edit.path).write_text("\n".join(lines) + "\n")
+
+    def unit_test(self, path: str) -> str:
+        """Runs the unit tests until one finds the edit of a file. Says which, or nothing."""
+        parts = [part for part in parts_of(path, self.kind) if part[1].startswith("unit")]
+        return next(filter(None, (self.caught_by(*part) for part in parts)), "")
+
     def test(self, path: str) -> str:
-        """Runs the tests of a file until one fails, twice. Says which, or nothing."""
-        parts = parts_of(path, self.kind)
-        if parts[0][1] == "unit" and self.fault(*(unit := parts.pop(0))) and (found := self.fault(*unit)):
-            return found
+        """Runs the parts of the scripts for a file until one finds the edit. Says which, or nothing."""
+        parts = [part for part in parts_of(path, self.kind) if not part[1].startswith("unit")]
         if self.kind == "driver":
-            self.program = next(iter(self.build("build", "--bins")), self.program)
+            self.built = Built([], next(iter(self.build("build", "--bins")), self.built.program))
         caught: list[str] = []
 
         def try_part(script_part: tuple[str, str]) -> None:
-            if caught or not self.fault(*script_part):
-                return
-            again = self.fault(*script_part)
+            again = "" if caught else self.caught_by(*script_part)
             if again and not caught:
                 caught.append(again)
                 for process in list(self.running):
@@ -257,7 +315,8 @@ def parts_of(path: str, kind: str) -> list[tuple[str, str]]:
     """The parts of the tests for a file, each once, in their order."""
     first = next((parts for place, parts in FIRST.items() if place in path), "")
     others = "" if any(place in path for place in ALONE) else KINDS[kind][1]
-    found: dict[tuple[str, str], None] = {}
+    module = path.partition("driver/src/")[2].removesuffix(".rs").removesuffix("/mod").replace("/", "::")
+    found: dict[tuple[str, str], None] = {("driver", f"unit {module}::"): None} if module else {}
     script = ""
     for word in ("driver: unit " * (kind == "driver") + f"{first} {others}").split():
         if word.endswith(":"):
@@ -281,7 +340,7 @@ class Lot:
         self.args, self.known = args, known()
         self.lines = [(path, number) for path in sources(args.kind) for number in code_lines(path)]
         self.numbers = iter([args.only] if args.only else range(args.first, args.first + args.count))
-        self.lock, self.counts, self.caught = threading.Lock(), Counter[str](), Counter[str]()
+        self.lock, self.counts, self.caught, self.seconds = threading.Lock(), Counter[str](), Counter[str](), {True: 0.0, False: 0.0}
 
     def edit(self, number: int, lane: Lane | None) -> Edit:
         """The edit of a number, built in a lane."""
@@ -293,30 +352,39 @@ class Lot:
                 continue
             if lane is None:
                 return edit
-            text = (ROOT / edit.path).read_text()
-            lines = text.splitlines()
-            lines[edit.line] = edit.new
-            (lane.sources / edit.path).write_text("\n".join(lines) + "\n")
+            lane.edit(edit)
             if lane.compiles(str(edit.path)):
                 return edit
             self.counts["not compiled"] += 1
-            (lane.sources / edit.path).write_text(text)
+            lane.edit(edit, False)
 
     def work(self, lane: Lane) -> None:
-        """Makes edits as long as there are any."""
+        """Makes edits as long as there are any. The unit tests come first for all of them."""
+        left: list[tuple[int, Edit, float]] = []
         while (number := self.next_number()) is not None:
+            lane.seconds = 0.0
             edit = self.edit(number, lane)
+            failure = lane.unit_test(str(edit.path))
+            lane.edit(edit, False)
+            if failure:
+                self.tell(number, edit, failure, lane.seconds)
+            else:
+                left.append((number, edit, lane.seconds))
+                print(f"edit {number}, {edit.path}:{edit.line + 1}, {edit.operator}: no unit test fails, {edit.new.strip()}", flush=True)
+        for number, edit, seconds in left:
+            lane.seconds = seconds
+            lane.edit(edit)
             failure = lane.test(str(edit.path))
-            text = (ROOT / edit.path).read_text()
-            (lane.sources / edit.path).write_text(text)
-            self.caught[" ".join(failure.split()[:2]).rstrip(":")] += 1
-            what = f"caught by {failure}\n" if failure else f"no test fails\n{difference(edit, text)}"
-            print(f"edit {number}, {edit.path}:{edit.line + 1}, {edit.operator}: {what}", end="", flush=True)
+            lane.edit(edit, False)
+            self.tell(number, edit, failure, lane.seconds)
 
-    def state(self) -> str:
-        """The digest of what is edited and of all tests: as long as it stays, tests that passed without an edit needn't run so again."""
-        tests = [path for path in (ROOT / "tests").rglob("*") if path.is_file()]
-        return hashlib.sha256(b"".join(path.read_bytes() for path in sorted({*tests, *(path for path, _ in self.lines)}))).hexdigest()
+    def tell(self, number: int, edit: Edit, failure: str, seconds: float) -> None:
+        """Notes what became of an edit, and how long that took of a processor."""
+        with self.lock:
+            self.caught[" ".join(failure.split()[:2]).rstrip(":")] += 1
+            self.seconds[bool(failure)] += seconds
+        what = f"caught by {failure}" if failure else f"no test fails\n{difference(edit, (ROOT / edit.path).read_text())}".rstrip()
+        print(f"edit {number}, {edit.path}:{edit.line + 1}, {edit.operator}, {seconds:.0f} s: {what}", flush=True)
 
     def next_number(self) -> int | None:
         with self.lock:
@@ -341,13 +409,8 @@ def main() -> int:
     if args.draw:
         return 0
     lanes = [Lane(number, args.kind) for number in range(1, 1 + min(args.lanes, 1 if args.only else args.count))]
-    if not all([lane.compiles("") for lane in lanes]):
+    if not all([lane.keep() for lane in lanes]):
         sys.exit("without an edit: it does not build")
-    passed = WORK / f"passed.{args.kind}"
-    if not passed.exists() or passed.read_text() != lot.state():
-        if failure := lanes[0].test(""):
-            sys.exit(f"without an edit: {failure}")
-        passed.write_text(lot.state())
     threads = [threading.Thread(target=lot.work, args=(lane,)) for lane in lanes]
     for thread in threads:
         thread.start()
@@ -358,6 +421,10 @@ def main() -> int:
     for what, count in lot.caught.most_common():
         print(f"{count:5} by {what}")
     print(f"{lot.counts['not compiled']} edits did not compile, {lot.counts['known']} are known to change nothing")
+    for is_caught, count in ((True, caught), (False, survived)):
+        print(f"{lot.seconds[is_caught] / max(count, 1):.0f} s of a processor for one that {'is' if is_caught else 'is not'} caught")
+    for part in sorted({part for lane in lanes for part, is_sound in lane.sound.items() if not is_sound}):
+        print(f"without an edit {' '.join(part)} fails, so it counts for none")
     print(f"caught {caught} of {caught + survived}, seed {args.seed}")
     failed = survived if 100 * caught < args.bound * (caught + survived) else 0
     print(f"{caught} passed, {failed} failed")
