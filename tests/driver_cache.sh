@@ -17,6 +17,7 @@ trap 'umount "$scratch/full" 2> /dev/null; rm -rf "$scratch"' EXIT
 tests=$PWD/tests
 shell=(cache)
 mkdir "$scratch/bin"
+export XDG_CACHE_HOME=$scratch/users
 for name in nvcc batch cache report; do ln -s "$driver" "$scratch/bin/zigrunk-$name"; done
 
 # case_of NAME: begins a case, if it is one of those to run.
@@ -295,7 +296,7 @@ stand_ins() {
         call ZIGRUNK_CACHE=yes XDG_CACHE_HOME="$room/users" -c k.cu -o k.o
         same "the user's folder" "$(ls "$room/users")" zigrunk
         call ZIGRUNK_CACHE=relative -c k.cu -o k.o
-        same 'a relative folder' "$(find relative -type f | wc -l)" "$(find "$room/users/zigrunk" -type f | wc -l)"
+        same 'a relative folder' "$(find relative -type f | wc -l)" "$(find "$room/users/zigrunk" -type f -not -path '*/programs/*' | wc -l)"
         end
     fi
     if case_of 'a dependency file'; then
@@ -791,6 +792,60 @@ whole_calls() {
         rm inc/size.h
         call "${words[@]}"
         same 'without a header' "$([ "$status" != 0 ] && grep -q size.h "$room/err" && echo told)" told
+        end
+    fi
+    if case_of 'whole: files that are read once'; then
+        project
+        mkdir a b && printf '%s\n' '#pragma once' 'inline int more() { return 5; }' > a/more.h
+        printf '%s\n' '#include "a/more.h"' '#include "b/more.h"' >> k.cu
+        ln -s ../a/more.h b/more.h
+        twice "${usual[@]}"
+        rm b/more.h && echo 'inline int further() { return 6; }' > b/more.h
+        twice "${usual[@]}"
+        cp a/more.h b/more.h && touch -d '1 minute ago' a/more.h b/more.h
+        whole '' "${usual[@]}"
+        whole '' "${usual[@]}"
+        echo 'inline int further() { return 7; } int here = further();' > b/more.h
+        whole '' "${usual[@]}"
+        end
+    fi
+    if case_of 'whole: sources of the same layout'; then
+        project
+        printf '%s\n' '#define HERE __LINE__' '#define JOIN(a, b) a##b' '#define TEXT(x) #x' >> inc/size.h
+        sed -i 's/float\* values/float* values \/\/ comment\n/; s/^const/\/\/ it\x27s one\n\nconst/' k.cu
+        twice -MD -MF k.d "${usual[@]}"
+        cp k.cu "$room/first.cu" && cp inc/size.h "$room/first.h"
+        for edit in 's,// comment,/* other // words */,' '1i // line' 's,// it.*,/* some\nlines */ // "more,' '$G' 's/ = / =   /' 's,int unused,  &,'; do
+            sed -i "$edit" k.cu
+            whole whole -MD -MF k.d "${usual[@]}"
+            sed -i "${edit//const/define}" inc/size.h
+            whole whole -MD -MF k.d "${usual[@]}"
+        done
+        for edit in 's,// comment,// \\\\\n comment,' 's,// comment,/* /* */,' '1i const char* r = R"(//)";' 's/file()/file ()/' '1i #line 5'; do
+            cp "$room/first.cu" k.cu
+            sed -i "$edit" k.cu
+            whole '' -MD -MF k.d "${usual[@]}"
+        done
+        rm k.d
+        for line in __LINE__ HERE 'JOIN(HE, RE)' 'JOIN(__LI, NE__)' 'WORD(1)' '__builtin_LINE()'; do
+            cp "$room/first.cu" k.cu
+            echo "int here = $line;" >> k.cu
+            twice '-DWORD(x)=x+__LINE__' "${usual[@]}"
+            sed -i '1i // line' k.cu
+            whole '' '-DWORD(x)=x+__LINE__' "${usual[@]}"
+            sed -i '1s/line/other/' k.cu
+            whole "$([[ $line == *builtin* ]] || echo whole)" '-DWORD(x)=x+__LINE__' "${usual[@]}"
+        done
+        for words in -lineinfo -g '-Xcompiler -g'; do
+            cp "$room/first.cu" k.cu
+            # shellcheck disable=SC2086 # several words
+            { twice $words "${usual[@]}" && sed -i 's/comment/other/' k.cu && whole '' $words "${usual[@]}"; }
+        done
+        cp "$room/first.cu" k.cu
+        echo 'int warns() { int never; return 0; } // comment' >> k.cu
+        twice "${usual[@]}"
+        sed -i '$s/comment/other/' k.cu
+        whole '' "${usual[@]}"
         end
     fi
     if case_of 'whole: a file that appears'; then

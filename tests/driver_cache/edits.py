@@ -19,7 +19,10 @@ HEADER = """#pragma once
 // constants
 #define SIZE {size}
 #define OTHER {other}
-inline int blocks(int count) {{ return (count + SIZE - 1) / {block}; }}
+#define HERE {line}
+#define JOINED(a, b) a##b
+#define TEXT(x) #x
+inline int blocks(int count) {{ return (count + SIZE - 1){inside}/ {block}; }}
 {lines}template <typename F> __device__ int applied(F f, int value) {{ return f(value); }}
 """
 SOURCE = """#include "size.h"
@@ -38,15 +41,22 @@ int calls_{name} = {host};
 {lines}int narrow_{name}(double value) {{ return value; }}
 __device__ int lambda_{name}(int value) {{ {unused}return applied([=](int x) {{ return x + value; }}, 2) + WANTED(value > 1); }}
 int checked_{name}(int value) {{ return WANTED(value > {host}); }}
+int here_{name} = {here};
+const char* text_{name}() {{ return TEXT(a{inside}+ "b // c"{inside}); }}
 void run_{name}(float* values, int* numbers, int count) {{ {blank}scale_{name}<2><<<blocks(count), 32>>>(values); fill<<<1, 64>>>(numbers); }}
 """
 TARGETS = ["75", "80", "90"]
 Values = dict[str, object]
-LINES = ["", "", "// a line\n", "\n", "/* two\nlines */\n"]
-KINDS = ["comment", "lines", "lines", "header_lines", "line", "unused", "kernel", "newer", "older", "host", "size", "other", "block", "blank",
-         "targets", "words", "umask", "early", "product", "touch", "back", "same_time"]
+LINES = ["", "", "// a line\n", "\n", "/* two\nlines */\n", "// it's one\n", "/* a // b */ // \"c\n", "  \t\n", "#if 0\nit's\n#endif\n",
+         "// joined \\\n lines\n", "/* /* */\n", "// \u00fc\n", "#if 0 // or not\n/* x\n*/ #else\n#endif\n"]
+INSIDE = ["", "", " ", "/**/", " /* x */", "\n", " // x\n", "\n\n  // /* x\n"]
+HERE = ["0", "HERE", "JOINED(HE, RE)", "JOINED(__LI, NE__)"]
+KINDS = ["comment", "lines", "lines", "header_lines", "header_lines", "header_line", "inside", "inside", "header_inside", "here", "line",
+         "unused", "kernel", "newer", "older", "host", "size", "other", "block", "blank", "targets",
+         "words", "umask", "early", "product", "touch", "back", "same_time"]
 WORDS: list[list[str]] = [
     [], ["-O3"], ["-lineinfo"], ["-g"], ["-dc"], ["-DX=1"], ["-std=c++20"], ["-MD"], ["-Xcompiler", "-fPIC"], ["-Xcompiler", "-Wconversion"],
+    ["-Xcompiler", "-Wall"], [], [], ["-DHERE_IS=__LINE__"],
 ]
 Build = tuple[int, bytes, int | None, bytes | None]
 
@@ -56,8 +66,9 @@ class Project:
 
     def __init__(self, folder: pathlib.Path, lot: random.Random) -> None:
         self.folder, self.lot = folder, lot
-        self.header: Values = {"size": 64, "other": 1, "block": 32, "lines": ""}
-        values: Values = {"comment": "one", "kernel": 1, "newer": 2, "older": 3, "host": 4, "blank": "", "lines": "", "line": 0, "unused": ""}
+        self.header: Values = {"size": 64, "other": 1, "block": 32, "lines": "", "line": "0", "inside": " "}
+        values: Values = {"comment": "one", "kernel": 1, "newer": 2, "older": 3, "host": 4, "blank": "", "lines": "", "line": 0, "unused": "",
+                          "here": "0", "inside": ""}
         self.sources: dict[str, Values] = {name: dict(values) for name in "ab"}
         self.targets, self.umask, self.early, self.product = ["80"], 0o022, False, "{}.o"
         self.words: list[str] = []
@@ -88,8 +99,9 @@ class Project:
         self.earlier.append((dict(self.header), {name: dict(values) for name, values in self.sources.items()}, list(self.targets)))
         if kind in ("size", "other", "block"):
             self.header[kind] = self.lot.randrange(1, 4)
-        elif kind == "header_lines":
-            self.header["lines"] = self.lot.choice(LINES)
+        elif kind in ("header_lines", "header_line", "header_inside"):
+            values = {"lines": LINES, "line": ["0", "__LINE__"], "inside": INSIDE}[kind.removeprefix("header_")]
+            self.header[kind.removeprefix("header_")] = self.lot.choice(values)
         elif kind in self.sources[source]:
             self.edit_source(self.sources[source], kind)
         else:
@@ -101,9 +113,9 @@ class Project:
         """Changes something in a source."""
         lot = self.lot
         if kind == "comment":
-            values[kind] = lot.choice(["one", "two", "three", "two\n// lines"])
-        elif kind == "lines":
-            values[kind] = lot.choice(LINES)
+            values[kind] = lot.choice(["one", "two", "three", "two\n// lines", "it's /* one", "\u00fc"])
+        elif kind in ("lines", "inside", "here"):
+            values[kind] = lot.choice({"lines": LINES, "inside": INSIDE, "here": HERE}[kind])
         elif kind == "line":
             values[kind] = lot.choice(["0", "__LINE__", "__builtin_LINE()"])
         elif kind == "unused":
@@ -231,8 +243,8 @@ def main() -> int:
                 failed += 1
                 print(f"edit {number} of seed {options.seed}, {edit}: {problem}", flush=True)
         log = (room / "log").read_text(encoding="utf-8")
-    hits, misses = log.count('"hit":true'), log.count('"hit":false')
-    print(f"{hits} hits, {misses} misses")
+    hits, misses, calls = (log.count(text) for text in ('"hit":true', '"hit":false', '[{"kind":"nvcc"'))
+    print(f"{hits} hits, {calls} of them whole calls, {misses} misses")
     print(f"{options.count - failed} passed, {failed} failed")
     return 1 if failed else 0
 

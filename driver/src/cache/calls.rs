@@ -11,6 +11,7 @@ use crate::planner::Line;
 use crate::split::Said;
 use std::env;
 use std::ffi::{OsStr, OsString};
+use std::io;
 use std::os::unix::ffi::OsStrExt;
 use std::path::{Path, PathBuf};
 
@@ -113,9 +114,13 @@ impl Answer {
         rest.0.is_empty().then_some(Answer { products, said, terminal })
     }
 
+    fn is_silent(&self) -> bool {
+        self.said.iter().all(|(_, text)| text.is_empty())
+    }
+
     /// Whether its messages would be the same now.
     fn may_be_said(&self) -> bool {
-        self.said.iter().all(|(_, text)| text.is_empty()) || self.terminal == terminal()
+        self.is_silent() || self.terminal == terminal()
     }
 }
 
@@ -127,7 +132,7 @@ fn keys(line: &Line, nvcc: &Path) -> [Digest; 2] {
 /// The key of a call: its nvcc, its words and its variables, and its folder if that counts.
 fn key(line: &Line, nvcc: &Path, folder: Option<&str>, variables: impl Iterator<Item = (OsString, OsString)>) -> Digest {
     let mut hasher = Hasher::default();
-    hasher.add(b"zigrunk call 1");
+    hasher.add(b"zigrunk call 2");
     hasher.add(folder.unwrap_or_default().as_bytes());
     hasher.add(nvcc.as_os_str().as_bytes());
     hasher.update(&(line.words.len() as u64).to_le_bytes());
@@ -152,29 +157,47 @@ pub fn serve(store: &Store, line: &Line, nvcc: &Path) -> Option<Said> {
     keys(line, nvcc).iter().find_map(|key| serve_by(store, key, cwd))
 }
 
+/// What the store has of a call with this key, and what the call depends on now. Says too whether other sources have taken the place of some.
+fn found(store: &Store, key: &Digest, manifest: &Manifest, cwd: &Path) -> Option<(Answer, Manifest, bool)> {
+    let answer = |of: &Manifest| Answer::of_bytes(&store.read(&of.digest(key))?);
+    let now = manifest.again(cwd)?;
+    if let Some(answer) = answer(&now) {
+        return answer.may_be_said().then_some((answer, now, false));
+    }
+    let now = manifest.alike(&now, cwd)?;
+    let answer = answer(manifest).filter(Answer::is_silent)?;
+    Some((answer, now, true))
+}
+
 fn serve_by(store: &Store, key: &Digest, cwd: &Path) -> Option<Said> {
     let manifest = Manifest::of_bytes(&store.read(key)?)?;
-    let now = manifest.again(cwd)?;
-    let answer = Answer::of_bytes(&store.read(&now.digest(key))?).filter(Answer::may_be_said)?;
+    let (answer, now, is_alike) = found(store, key, &manifest, cwd)?;
     for product in &answer.products {
         put(product.is_new, &cwd.join(&product.path), &product.text).ok()?;
     }
-    if now.is_better_than(&manifest) {
+    if is_alike {
+        let _ = write(store, key, &now, &answer);
+    } else if now.is_better_than(&manifest) {
         let _ = store.write(key, &now.to_bytes());
     }
     Some(answer.said)
 }
 
+/// Keeps the answer of a call that depends on files as they are in a manifest.
+fn write(store: &Store, key: &Digest, manifest: &Manifest, answer: &Answer) -> io::Result<()> {
+    store.write(&manifest.digest(key), &answer.to_bytes()).and_then(|()| store.write(key, &manifest.to_bytes()))
+}
+
 /// Keeps what a call has made, if the store can be written.
 pub fn keep(store: &Store, line: &Line, nvcc: &Path, folder_counts: bool, manifest: &Manifest, answer: &Answer) {
     let key = keys(line, nvcc)[usize::from(folder_counts)];
-    let _ = store.write(&manifest.digest(&key), &answer.to_bytes()).and_then(|()| store.write(&key, &manifest.to_bytes()));
+    let _ = write(store, &key, manifest, answer);
 }
 
 #[cfg(test)]
 mod tests {
     use super::*;
-    use crate::cache::manifest::{Lacking, Seen, Vain};
+    use crate::cache::manifest::{Form, Lacking, Seen, Vain};
     use std::fs;
 
     fn line(words: &str, cwd: &str) -> Line {
@@ -227,7 +250,7 @@ mod tests {
         let keep = |text: &str, folder_counts: bool| {
             fs::write(room.join("k.cu"), text).unwrap();
             let vain = Vain::now(Path::new(""), vec![Lacking { name: b"a.h".to_vec(), may_be_folder: true }], &room).unwrap();
-            let manifest = Manifest { files: vec![Seen::now(Path::new("k.cu"), &room).unwrap()], vain: vec![vain] };
+            let manifest = Manifest { files: vec![Seen::now(Path::new("k.cu"), &room).unwrap()], vain: vec![vain], defines: None };
             super::keep(&store, &line, nvcc, folder_counts, &manifest, &Answer { said: vec![(false, text.into())], ..answer() });
         };
         let served = || serve(&store, &line, nvcc).map(|said| String::from_utf8(said[0].1.clone()).unwrap());
@@ -243,6 +266,34 @@ mod tests {
         assert!(served().is_some() && room.join("k.o").exists());
         fs::write(room.join("a.h"), "").unwrap();
         assert_eq!(served(), None);
+        fs::remove_dir_all(room).unwrap();
+    }
+
+    #[test]
+    fn a_silent_call_is_served_while_its_source_has_the_same_layout() {
+        let room = env::temp_dir().join(format!("layouts-{}", std::process::id()));
+        let _ = fs::remove_dir_all(&room);
+        fs::create_dir_all(&room).unwrap();
+        let (store, line, nvcc) = (Store::new(room.join("store"), 1 << 20), line("-c k.cu", room.to_str().unwrap()), Path::new("/b/nvcc"));
+        let put = |text: &str| fs::write(room.join("k.cu"), text).unwrap();
+        let keep = |said: &[u8]| {
+            put("int a;\n");
+            let (seen, text) = Seen::with_text(Path::new("k.cu"), &room).unwrap();
+            let manifest = Manifest { files: vec![Seen { form: Form::of_source(&text), ..seen }], vain: Vec::new(), defines: Some(Vec::new()) };
+            super::keep(&store, &line, nvcc, false, &manifest, &Answer { said: vec![(true, said.to_vec())], ..answer() });
+        };
+        let served = || serve(&store, &line, nvcc).is_some();
+        keep(b"");
+        for (text, wanted) in [("// x\n\nint a;\n", true), ("int b;\n", false), ("int a; // y\n", true), ("int a;\n", true)] {
+            put(text);
+            assert_eq!(served(), wanted, "{text}");
+        }
+        assert_eq!(store.content().entries, 4, "a manifest, and an answer for each text that was served");
+        store.clear().unwrap();
+        keep(b"warns");
+        assert!(served());
+        put("// x\n\nint a;\n");
+        assert!(!served(), "a message may name lines");
         fs::remove_dir_all(room).unwrap();
     }
 }

@@ -27,10 +27,6 @@ const ORDERS: [[usize; 16]; 10] = [
     [6, 15, 14, 9, 11, 3, 0, 8, 12, 2, 13, 7, 1, 4, 10, 5],
     [10, 2, 8, 4, 7, 6, 1, 5, 15, 11, 9, 14, 3, 12, 13, 0],
 ];
-/// Which words of the state each step of a round mixes: its columns, then its diagonals.
-const STEPS: [[usize; 4]; 8] =
-    [[0, 4, 8, 12], [1, 5, 9, 13], [2, 6, 10, 14], [3, 7, 11, 15], [0, 5, 10, 15], [1, 6, 11, 12], [2, 7, 8, 13], [3, 4, 9, 14]];
-
 /// A digest. It is shown in hexadecimal digits.
 #[derive(Clone, Copy, PartialEq, Eq, Debug)]
 pub struct Digest(pub [u8; 32]);
@@ -70,16 +66,58 @@ impl Default for Hasher {
     }
 }
 
-/// Mixes two words of a block into four words of the state.
-fn mix(state: &mut [u64; 16], [a, b, c, d]: [usize; 4], words: [u64; 2]) {
-    state[a] = state[a].wrapping_add(state[b]).wrapping_add(words[0]);
-    state[d] = (state[d] ^ state[a]).rotate_right(32);
-    state[c] = state[c].wrapping_add(state[d]);
-    state[b] = (state[b] ^ state[c]).rotate_right(24);
-    state[a] = state[a].wrapping_add(state[b]).wrapping_add(words[1]);
-    state[d] = (state[d] ^ state[a]).rotate_right(16);
-    state[c] = state[c].wrapping_add(state[d]);
-    state[b] = (state[b] ^ state[c]).rotate_right(63);
+/// Mixes two words of a block into four words of the state. A macro, since only with numbers that the compiler knows do they stay in registers.
+macro_rules! mix {
+    ($state:ident, $words:expr, $a:literal, $b:literal, $c:literal, $d:literal) => {
+        let [first, second] = $words;
+        $state[$a] = $state[$a].wrapping_add($state[$b]).wrapping_add(first);
+        $state[$d] = ($state[$d] ^ $state[$a]).rotate_right(32);
+        $state[$c] = $state[$c].wrapping_add($state[$d]);
+        $state[$b] = ($state[$b] ^ $state[$c]).rotate_right(24);
+        $state[$a] = $state[$a].wrapping_add($state[$b]).wrapping_add(second);
+        $state[$d] = ($state[$d] ^ $state[$a]).rotate_right(16);
+        $state[$c] = $state[$c].wrapping_add($state[$d]);
+        $state[$b] = ($state[$b] ^ $state[$c]).rotate_right(63);
+    };
+}
+
+/// Mixes all words of a block into the state in the order of each of these rounds: its columns, then its diagonals.
+macro_rules! rounds {
+    ($state:ident, $words:ident, $($round:literal)*) => {
+        $({
+            const ORDER: [usize; 16] = ORDERS[$round % 10];
+            mix!($state, [$words[ORDER[0]], $words[ORDER[1]]], 0, 4, 8, 12);
+            mix!($state, [$words[ORDER[2]], $words[ORDER[3]]], 1, 5, 9, 13);
+            mix!($state, [$words[ORDER[4]], $words[ORDER[5]]], 2, 6, 10, 14);
+            mix!($state, [$words[ORDER[6]], $words[ORDER[7]]], 3, 7, 11, 15);
+            mix!($state, [$words[ORDER[8]], $words[ORDER[9]]], 0, 5, 10, 15);
+            mix!($state, [$words[ORDER[10]], $words[ORDER[11]]], 1, 6, 11, 12);
+            mix!($state, [$words[ORDER[12]], $words[ORDER[13]]], 2, 7, 8, 13);
+            mix!($state, [$words[ORDER[14]], $words[ORDER[15]]], 3, 4, 9, 14);
+        })*
+    };
+}
+
+/// A block as words.
+fn words_of(block: &[u8; BLOCK]) -> [u64; 16] {
+    std::array::from_fn(|place| {
+        let bytes = &block[8 * place..8 * place + 8];
+        u64::from_le_bytes(std::array::from_fn(|at| bytes[at]))
+    })
+}
+
+/// Mixes a block into a state, behind which so many bytes are mixed in, with it.
+fn mix_in(state: &mut [u64; 8], block: &[u8; BLOCK], mixed: u64, is_last: bool) {
+    let words = words_of(block);
+    let mut work = [0; 16];
+    work[..8].copy_from_slice(state);
+    work[8..].copy_from_slice(&START);
+    work[12] ^= mixed;
+    work[14] ^= if is_last { u64::MAX } else { 0 };
+    rounds!(work, words, 0 1 2 3 4 5 6 7 8 9 10 11);
+    for place in 0..8 {
+        state[place] ^= work[place] ^ work[place + 8];
+    }
 }
 
 impl Hasher {
@@ -90,11 +128,24 @@ impl Hasher {
             if self.filled == BLOCK {
                 self.mix_block(false);
             }
+            if self.filled == 0 {
+                part = self.mix_blocks(part);
+            }
             let size = part.len().min(BLOCK - self.filled);
             self.block[self.filled..self.filled + size].copy_from_slice(&part[..size]);
             self.filled += size;
             part = &part[size..];
         }
+    }
+
+    /// Mixes the blocks of a text in but for the last, and gives what is left.
+    fn mix_blocks<'a>(&mut self, mut part: &'a [u8]) -> &'a [u8] {
+        while let Some((block, rest)) = part.split_first_chunk().filter(|(_, rest)| !rest.is_empty()) {
+            self.mixed += BLOCK as u64;
+            mix_in(&mut self.state, block, self.mixed, false);
+            part = rest;
+        }
+        part
     }
 
     /// Takes a text with its length, so that texts that follow each other don't run together.
@@ -105,24 +156,7 @@ impl Hasher {
 
     fn mix_block(&mut self, is_last: bool) {
         self.mixed += self.filled as u64;
-        let mut words = [0; 16];
-        for (word, bytes) in words.iter_mut().zip(self.block.chunks_exact(8)) {
-            *word = bytes.iter().rev().fold(0, |word, &byte| word << 8 | u64::from(byte));
-        }
-        let mut state = [0; 16];
-        state[..8].copy_from_slice(&self.state);
-        state[8..].copy_from_slice(&START);
-        state[12] ^= self.mixed;
-        state[14] ^= if is_last { u64::MAX } else { 0 };
-        for round in 0..12 {
-            let order = &ORDERS[round % 10];
-            for (step, places) in STEPS.iter().enumerate() {
-                mix(&mut state, *places, [words[order[2 * step]], words[order[2 * step + 1]]]);
-            }
-        }
-        for (place, word) in self.state.iter_mut().enumerate() {
-            *word ^= state[place] ^ state[place + 8];
-        }
+        mix_in(&mut self.state, &self.block, self.mixed, is_last);
         self.filled = 0;
     }
 

@@ -9,6 +9,9 @@ const HIDING: [&[u8]; 4] = [b".macro", b".irp", b".mri", b"/*"];
 /// Where strings that reach the assembler stand: statements, and names of sections.
 const ASSEMBLED: [&[u8]; 2] = [b"asm", b"section"];
 
+/// How many bytes the words have at most by which a text sees its lines.
+const LONGEST_LINE_WORD: usize = 16;
+
 /// Whether a string of C has a byte by its number, which may hide a directive.
 fn has_numbers(text: &[u8]) -> bool {
     text.windows(2).any(|pair| pair[0] == b'\\' && (pair[1].is_ascii_digit() || matches!(pair[1], b'x' | b'u' | b'U' | b'N')))
@@ -97,6 +100,21 @@ pub fn tells_time(text: &[u8]) -> bool {
     let is_year = |place: usize| place >= 8 && are_digits(place - 4, 4) && text[place - 5] == b' ' && is_digit(place - 6) && text[place - 8] == b' ';
     let tells = |(place, byte): (usize, &u8)| (*byte == b':' && is_time(place)) || (*byte == b'"' && is_year(place));
     text.iter().enumerate().any(tells)
+}
+
+/// Whether a text sees its lines, as its definition says: it's only asked where one of the words may begin for which it looks.
+pub fn sees_lines(text: &[u8]) -> bool {
+    let sees = |begin: &[u8]| {
+        let mut rest = text;
+        let mut windows = std::iter::from_fn(|| {
+            rest = &rest[find(rest, begin)?..];
+            let window = &rest[..rest.len().min(LONGEST_LINE_WORD)];
+            rest = &rest[1..];
+            Some(window)
+        });
+        windows.any(token_texts::sees_lines)
+    };
+    [&b"__LINE__"[..], b"__builtin_", b"source_location"].into_iter().any(sees)
 }
 
 /// The files of a text's line markers that messages name.
@@ -217,6 +235,18 @@ mod tests {
         for (text, wanted) in cases {
             assert_eq!(tells_time(text.as_bytes()), wanted, "{text}");
         }
+    }
+
+    #[test]
+    fn a_text_sees_its_lines_by_some_words() {
+        let words =
+            ["__LINE__", "__builtin_LINE", "__builtin_FILE", "__builtin_COLUMN", "source_location", "__builtin_LIN", "__LINE_", "source_locatio"];
+        for word in words {
+            for text in [format!("int __builtin_abs {word}"), format!("__builtin_{word}(x)"), format!("a__LINE{word}")] {
+                assert_eq!(sees_lines(text.as_bytes()), token_texts::sees_lines(text.as_bytes()), "{text}");
+            }
+        }
+        assert!(words.iter().all(|word| word.len() <= LONGEST_LINE_WORD));
     }
 
     #[test]

@@ -1,6 +1,6 @@
 //! The key of a command: what its outputs and messages depend on.
 use crate::cache::digest::{Digest, Hasher};
-use crate::cache::host_text::files_of_ptx;
+use crate::cache::host_text::{files_of_ptx, sees_lines};
 use crate::cache::marked;
 use crate::cache::recipe::Recipe;
 use crate::cache::tool::Kind;
@@ -12,7 +12,7 @@ use std::fs;
 use std::os::unix::ffi::OsStrExt;
 use std::os::unix::fs::MetadataExt;
 use std::path::Path;
-use token_texts::{sees_lines, token_text};
+use token_texts::token_text;
 
 /// What every key begins with. It changes with what is in an entry, or in a key.
 const FORM: &[u8] = b"zigrunk command 3";

@@ -2,10 +2,14 @@
 //!
 //! A file counts by its contents. It isn't read again if its stamp is the one it had, and if it had been as it is for a while when it was
 //! read: the time of a file's last change of any kind can't be set. A folder's stamp says in the same way that nothing has appeared in it.
+//!
+//! A source whose layout is as it was may stand for what it was, if the call can't see the difference.
 use crate::cache::digest::{Digest, Hasher};
 use crate::cache::entry::{Rest, put_number, put_text};
+use crate::cache::layout::{layout_of, words_of};
+use crate::cache::lines::{Macros, definitions_in, without_definitions};
 use crate::cache::store::digest_of;
-use crate::streams::content;
+use crate::streams::{content, content_of};
 use std::ffi::OsStr;
 use std::fs::{self, File, Metadata};
 use std::os::unix::ffi::OsStrExt;
@@ -40,6 +44,35 @@ pub fn is_older(status: &Metadata, moment: SystemTime, by: Duration) -> bool {
     times.iter().all(|time| time.is_some_and(|time| moment.duration_since(time).is_ok_and(|age| age > by)))
 }
 
+/// The layouts of a source.
+#[derive(Clone, PartialEq, Eq, Debug)]
+pub struct Layouts {
+    /// That with its lines.
+    lined: Digest,
+    /// That without, if it has one.
+    free: Option<Digest>,
+    /// Whether its lines are known not to count.
+    is_free: bool,
+}
+
+/// What a file is to a call.
+#[derive(Clone, PartialEq, Eq, Debug)]
+pub enum Form {
+    /// No text that a preprocessor reads.
+    Other,
+    /// A text of which each byte counts.
+    Text,
+    Source(Layouts),
+}
+
+impl Form {
+    /// That of a source.
+    pub fn of_source(text: &[u8]) -> Form {
+        let digest = |is_lined: bool| layout_of(text, is_lined).map(|layout| Digest::of(&layout));
+        digest(true).map_or(Form::Text, |lined| Form::Source(Layouts { lined, free: digest(false), is_free: false }))
+    }
+}
+
 /// A file that was read.
 #[derive(Clone, PartialEq, Eq, Debug)]
 pub struct Seen {
@@ -48,6 +81,7 @@ pub struct Seen {
     pub digest: Digest,
     /// Unless it had only just been changed.
     pub stamp: Option<Stamp>,
+    pub form: Form,
 }
 
 impl Seen {
@@ -56,7 +90,7 @@ impl Seen {
         let mut file = File::open(cwd.join(path)).ok()?;
         let status = file.metadata().ok().filter(Metadata::is_file)?;
         let digest = digest_of(&mut file).ok()?;
-        Some(Seen { path: path.to_owned(), digest, stamp: Stamp::settled(&status) })
+        Some(Seen { path: path.to_owned(), digest, stamp: Stamp::settled(&status), form: Form::Other })
     }
 
     /// The same, with its text.
@@ -64,7 +98,7 @@ impl Seen {
         let file = File::open(cwd.join(path)).ok()?;
         let status = file.metadata().ok().filter(Metadata::is_file)?;
         let text = content(&file).ok()?;
-        Some((Seen { path: path.to_owned(), digest: Digest::of(&text), stamp: Stamp::settled(&status) }, text))
+        Some((Seen { path: path.to_owned(), digest: Digest::of(&text), stamp: Stamp::settled(&status), form: Form::Text }, text))
     }
 
     /// The same file as it is now.
@@ -73,7 +107,17 @@ impl Seen {
         if self.stamp.is_some_and(|stamp| stamp == Stamp::of(&status)) {
             return Some(self.clone());
         }
-        Seen::now(&self.path, cwd)
+        if !matches!(self.form, Form::Source(_)) {
+            return Some(Seen { form: self.form.clone(), ..Seen::now(&self.path, cwd)? });
+        }
+        let (now, text) = Seen::with_text(&self.path, cwd)?;
+        let form = if now.digest == self.digest { self.form.clone() } else { Form::of_source(&text) };
+        Some(Seen { form, ..now })
+    }
+
+    /// The layouts of a source.
+    fn layouts(&self) -> Option<&Layouts> {
+        if let Form::Source(layouts) = &self.form { Some(layouts) } else { None }
     }
 }
 
@@ -118,6 +162,8 @@ impl Vain {
 pub struct Manifest {
     pub files: Vec<Seen>,
     pub vain: Vec<Vain>,
+    /// What the command lines of preprocessors define, if a source may stand for another one of its layout.
+    pub defines: Option<Vec<Vec<u8>>>,
 }
 
 impl Manifest {
@@ -136,7 +182,52 @@ impl Manifest {
     pub fn again(&self, cwd: &Path) -> Option<Manifest> {
         let files = self.files.iter().map(|seen| seen.again(cwd)).collect::<Option<_>>()?;
         let vain = self.vain.iter().map(|vain| vain.again(cwd)).collect::<Option<_>>()?;
-        Some(Manifest { files, vain })
+        Some(Manifest { files, vain, defines: self.defines.clone() })
+    }
+
+    /// The same as it is now, if what has changed of it doesn't count: sources of which the layouts are as they were.
+    pub fn alike(&self, now: &Manifest, cwd: &Path) -> Option<Manifest> {
+        let defines = self.defines.as_ref()?;
+        let mut alike = now.clone();
+        let mut unsure = Vec::new();
+        for (place, (earlier, seen)) in self.files.iter().zip(&mut alike.files).enumerate() {
+            if earlier.digest == seen.digest {
+                continue;
+            }
+            let (before, after) = (earlier.layouts()?, seen.layouts()?);
+            let is_lined = before.lined == after.lined;
+            if !is_lined && (before.free.is_none() || before.free != after.free) || self.has_copy_of(place, seen) {
+                return None;
+            }
+            unsure.extend((!is_lined && !before.is_free).then_some(place));
+            seen.form = Form::Source(Layouts { is_free: before.is_free || !is_lined, ..after.clone() });
+        }
+        let is_free = unsure.is_empty() || !alike.may_see_lines(&unsure, defines, cwd)?;
+        is_free.then_some(alike)
+    }
+
+    /// Whether another file has the content that a file has had, or has now: gcc leaves out a copy of a file that is to be read only once.
+    fn has_copy_of(&self, place: usize, now: &Seen) -> bool {
+        let is_copy = |seen: &Seen| seen.digest == now.digest || seen.digest == self.files[place].digest;
+        self.files.iter().enumerate().any(|(other, seen)| other != place && is_copy(seen))
+    }
+
+    /// Whether the lines of some sources may count. `None` if that isn't known.
+    fn may_see_lines(&self, places: &[usize], defines: &[Vec<u8>], cwd: &Path) -> Option<bool> {
+        let files = self.files.iter().filter(|seen| seen.form != Form::Other);
+        let texts: Vec<Vec<u8>> = files.map(|seen| content_of(&cwd.join(&seen.path)).ok()).collect::<Option<_>>()?;
+        let definitions = texts.iter().map(|text| definitions_in(text)).collect::<Option<Vec<_>>>()?;
+        let mut macros = Macros::default();
+        definitions.iter().try_for_each(|text| macros.read(text))?;
+        for definition in defines {
+            macros.define(definition);
+        }
+        let sees = |place: &usize| {
+            let layout = layout_of(&content_of(&cwd.join(&self.files[*place].path)).ok()?, false)?;
+            let uses = without_definitions(&layout);
+            Some(macros.see_lines(words_of(&uses)))
+        };
+        places.iter().map(sees).collect::<Option<Vec<bool>>>().map(|sees| sees.contains(&true))
     }
 
     /// The digest of what counts, beside a call's own key.
@@ -165,6 +256,7 @@ impl Manifest {
             put_text(&mut bytes, seen.path.as_os_str().as_bytes());
             bytes.extend(seen.digest.0);
             put_stamp(&mut bytes, seen.stamp);
+            put_form(&mut bytes, &seen.form);
         }
         put_number(&mut bytes, self.vain.len());
         for vain in &self.vain {
@@ -176,21 +268,49 @@ impl Manifest {
                 bytes.push(u8::from(lacking.may_be_folder));
             }
         }
+        bytes.push(u8::from(self.defines.is_some()));
+        let defines = self.defines.iter().flatten();
+        put_number(&mut bytes, defines.clone().count());
+        defines.for_each(|definition| put_text(&mut bytes, definition));
         bytes
     }
 
     /// The manifest that bytes are; `None` if they are none.
     pub fn of_bytes(bytes: &[u8]) -> Option<Manifest> {
         let mut rest = Rest(bytes);
-        let files = rest.list(|rest| Some(Seen { path: path(rest)?, digest: rest.digest()?, stamp: rest.list(stamp)?.pop() }))?;
+        let files = rest.list(|rest| Some(Seen { path: path(rest)?, digest: rest.digest()?, stamp: rest.list(stamp)?.pop(), form: form(rest)? }))?;
         let vain = rest.list(|rest| Some(Vain { folder: path(rest)?, stamp: rest.list(stamp)?.pop(), lacks: rest.list(lacking)? }))?;
-        rest.0.is_empty().then_some(Manifest { files, vain })
+        let (has_defines, defines) = (rest.flag()?, rest.list(Rest::text)?);
+        rest.0.is_empty().then_some(Manifest { files, vain, defines: has_defines.then_some(defines) })
     }
 }
 
 fn put_stamp(to: &mut Vec<u8>, stamp: Option<Stamp>) {
     put_number(to, usize::from(stamp.is_some()));
     to.extend(stamp.into_iter().flat_map(|stamp| stamp.0.concat()));
+}
+
+fn put_form(to: &mut Vec<u8>, form: &Form) {
+    to.push(match form {
+        Form::Other => 0,
+        Form::Text => 1,
+        Form::Source(_) => 2,
+    });
+    if let Form::Source(layouts) = form {
+        to.extend(layouts.lined.0);
+        put_number(to, usize::from(layouts.free.is_some()));
+        to.extend(layouts.free.iter().flat_map(|free| free.0));
+        to.push(u8::from(layouts.is_free));
+    }
+}
+
+fn form(rest: &mut Rest<'_>) -> Option<Form> {
+    match rest.bytes(1)? {
+        [0] => Some(Form::Other),
+        [1] => Some(Form::Text),
+        [2] => Some(Form::Source(Layouts { lined: rest.digest()?, free: rest.list(Rest::digest)?.pop(), is_free: rest.flag()? })),
+        _ => None,
+    }
 }
 
 fn path(rest: &mut Rest<'_>) -> Option<PathBuf> {
@@ -229,7 +349,7 @@ mod tests {
         fn manifest(&self) -> Manifest {
             let lacks = vec![Lacking { name: b"a.h".to_vec(), may_be_folder: true }, Lacking { name: b"sub".to_vec(), may_be_folder: false }];
             let vain = Vain::now(Path::new("inc"), lacks, &self.0).unwrap();
-            Manifest { files: vec![Seen::now(Path::new("k.cu"), &self.0).unwrap()], vain: vec![vain] }
+            Manifest { files: vec![Seen::now(Path::new("k.cu"), &self.0).unwrap()], vain: vec![vain], defines: None }
         }
 
         fn again(&self, manifest: &Manifest) -> Option<Digest> {
@@ -248,6 +368,10 @@ mod tests {
         let scratch = Scratch::new("form");
         let mut manifest = scratch.manifest();
         manifest.files[0].stamp = Some(Stamp([[1; 8], [2; 8], [3; 8], [4; 8], [5; 8], [6; 8], [255; 8]]));
+        manifest.defines = Some(vec![b"A=1".to_vec(), Vec::new()]);
+        for text in ["int a;\n", "f(\n", "??"] {
+            manifest.files.push(Seen { form: Form::of_source(text.as_bytes()), ..manifest.files[0].clone() });
+        }
         let bytes = manifest.to_bytes();
         assert_eq!(Manifest::of_bytes(&bytes), Some(manifest));
         for size in 0..bytes.len() {
@@ -290,6 +414,66 @@ mod tests {
         assert_eq!(now.files[0].digest, Digest::of(b"one"), "its size and time are the same, but not its stamp");
     }
 
+    /// What stands for a call once a source of it, which includes a header, has become another.
+    fn alike(scratch: &Scratch, header: &str, texts: [&str; 2], defines: &str) -> Option<Manifest> {
+        let put = |text: &str| fs::write(scratch.0.join("k.cu"), text).unwrap();
+        fs::write(scratch.0.join("inc/a.h"), header).unwrap();
+        put(texts[0]);
+        let seen = |name: &str| Seen::with_text(Path::new(name), &scratch.0).unwrap();
+        let (source, text) = seen("k.cu");
+        let files = vec![Seen { form: Form::of_source(&text), ..source }, seen("inc/a.h").0];
+        let manifest = Manifest { files, vain: Vec::new(), defines: Some(vec![defines.into()]) };
+        put(texts[1]);
+        let now = manifest.again(&scratch.0).unwrap();
+        let again = manifest.alike(&now, &scratch.0);
+        assert!(again.as_ref().is_none_or(|again| again.digest(&Digest::of(b"call")) == now.digest(&Digest::of(b"call"))));
+        assert!(Manifest { defines: None, ..manifest.clone() }.alike(&now, &scratch.0).is_none());
+        again
+    }
+
+    #[test]
+    fn a_source_of_the_same_layout_stands_for_another() {
+        let scratch = Scratch::new("alike");
+        let is_alike = |header: &str, texts: [&str; 2], defines: &str| alike(&scratch, header, texts, defines).is_some();
+        let header = "#define check(x) fail(x, __LINE__)\n#define SIZE 64\n";
+        let cases = [
+            (["int a; // one\n", "int a;   // other\n"], true),
+            (["int a;\n", "// a line\nint a;\n"], true),
+            (["int a = SIZE;\n", "\n int a = SIZE;\n"], true),
+            (["check(a); // one\n", "check(a); /* other */\n"], true),
+            (["check(a);\n", "\ncheck(a);\n"], false),
+            (["#define here check(1)\n", "\n#define here check(1)\n"], true),
+            (["#define here check(1)\nhere\n", "\n#define here check(1)\nhere\n"], false),
+            (["__LINE__", "/* x\n*/ __LINE__"], false),
+            (["int a;\n", "int b;\n"], false),
+            (["f(\n#if 1\n#endif\n)\n", "\nf(\n#if 1\n#endif\n)\n"], false),
+            (["int a;\n", "int a; // \\\n"], false),
+        ];
+        for (texts, wanted) in cases {
+            assert_eq!(is_alike(header, texts, "A=1"), wanted, "{texts:?}");
+        }
+        let lines = ["A(1)\n", "\nA(1)\n"];
+        assert_eq!(["A=check", "A=SIZE"].map(|defines| is_alike(header, lines, defines)), [false, true]);
+        assert!(!is_alike("??=define A __LINE__\n", lines, ""), "a header in which definitions may hide");
+        assert!(is_alike("int a; // one", ["int a;", "int a; // two"], "") && !is_alike("int a;", ["int a;", "int a; // two"], ""), "a copy");
+        assert!(!is_alike("int a; // two", ["int a;", "int a; // two"], ""), "a copy now");
+    }
+
+    #[test]
+    fn lines_that_do_not_count_are_known_the_next_time() {
+        let scratch = Scratch::new("free");
+        let manifest = alike(&scratch, "#define A 1\n", ["A\n", "\nA\n"], "").unwrap();
+        assert!(manifest.files[0].layouts().unwrap().is_free);
+        fs::write(scratch.0.join("inc/a.h"), "").unwrap();
+        let now = manifest.again(&scratch.0).unwrap();
+        assert_eq!(manifest.alike(&now, &scratch.0), None, "a header has changed of which each byte counts");
+        fs::write(scratch.0.join("inc/a.h"), "#define A 1\n").unwrap();
+        fs::write(scratch.0.join("k.cu"), "\n\n\nA\n").unwrap();
+        let now = manifest.again(&scratch.0).unwrap();
+        assert!(manifest.alike(&now, &scratch.0).is_some_and(|again| again.files[0].layouts().unwrap().is_free));
+        assert_eq!(alike(&scratch, "", ["A // x\n", "A\n"], "").map(|again| again.files[0].layouts().unwrap().is_free), Some(false));
+    }
+
     #[test]
     fn what_is_settled_has_a_stamp() {
         let own = Seen::now(Path::new("/bin/sh"), Path::new("/")).unwrap();
@@ -297,8 +481,8 @@ mod tests {
         let status = fs::metadata("/bin/sh").unwrap();
         let future = SystemTime::now() + Duration::from_secs(1000);
         assert!(is_older(&status, future, Duration::from_secs(900)) && !is_older(&status, SystemTime::UNIX_EPOCH, Duration::ZERO));
-        let better = Manifest { files: vec![own.clone()], vain: Vec::new() };
-        let worse = Manifest { files: vec![Seen { stamp: None, ..own }], vain: Vec::new() };
+        let better = Manifest { files: vec![own.clone()], ..Manifest::default() };
+        let worse = Manifest { files: vec![Seen { stamp: None, ..own }], ..Manifest::default() };
         assert!(better.is_better_than(&worse) && !worse.is_better_than(&better) && !better.is_better_than(&better));
     }
 

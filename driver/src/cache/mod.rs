@@ -6,6 +6,8 @@ mod entry;
 mod host_text;
 mod includes;
 mod key;
+mod layout;
+mod lines;
 mod manifest;
 mod marked;
 mod place;
@@ -105,7 +107,7 @@ struct Candidate {
 /// The cache during a call.
 pub struct Session<'a> {
     store: &'a Store,
-    tools: Tools<'a>,
+    tools: Tools,
     tmp: &'a str,
     candidates: BTreeMap<usize, Candidate>,
     terminal: Vec<u8>,

@@ -50,6 +50,15 @@ fn folder(value: &OsStr, cwd: &Path) -> Option<PathBuf> {
     }
 }
 
+/// What is known of programs may take so many bytes.
+const LIMIT_OF_PROGRAMS: u64 = 64 << 20;
+
+/// Where a user's calls keep the digests of programs, whatever cache they use. They say nothing to other machines.
+pub fn programs() -> Option<Store> {
+    let folder = users(env::var_os("XDG_CACHE_HOME"), env::var_os("HOME"))?;
+    Some(Store::new(folder.join("programs"), LIMIT_OF_PROGRAMS))
+}
+
 /// The limit that the environment says.
 pub fn limit() -> u64 {
     env::var("ZIGRUNK_CACHE_SIZE").ok().and_then(|text| bytes_of(&text)).unwrap_or(USUAL_LIMIT)

@@ -1,9 +1,9 @@
 //! Where a preprocessor has looked in vain before it found a file.
 use crate::cache::includes::{Folders, Names};
 use crate::cache::manifest::{Lacking, Vain, is_older};
-use std::collections::{BTreeMap, BTreeSet};
+use std::collections::{BTreeMap, BTreeSet, HashMap, HashSet};
 use std::env;
-use std::ffi::OsStr;
+use std::ffi::{OsStr, OsString};
 use std::fs;
 use std::io::ErrorKind;
 use std::os::unix::ffi::OsStrExt;
@@ -28,20 +28,23 @@ pub struct Search<'a> {
     folders: &'a Folders,
     /// When the call began.
     begun: SystemTime,
-    known: BTreeMap<PathBuf, Place>,
+    // (paths as they are spelled, since to compare them part by part takes far longer than to look twice at one with two spellings)
+    known: HashMap<OsString, Place>,
     /// Where no file was, and whether a folder may be there.
-    vain: BTreeMap<PathBuf, bool>,
+    vain: HashMap<OsString, bool>,
+    /// The names that were sought, beside which folder, and whether the search went on.
+    sought: HashSet<(Option<OsString>, Vec<u8>, bool)>,
 }
 
 impl<'a> Search<'a> {
     pub fn new(cwd: &'a Path, folders: &'a Folders, begun: SystemTime) -> Search<'a> {
-        let vain = folders.missing.iter().map(|folder| (folder.clone(), false)).collect();
-        Search { cwd, folders, begun, known: BTreeMap::new(), vain }
+        let vain = folders.missing.iter().map(|folder| (folder.clone().into_os_string(), false)).collect();
+        Search { cwd, folders, begun, known: HashMap::new(), vain, sought: HashSet::new() }
     }
 
     /// What is at a place. `None` if that isn't sure, or if a file there is so new that it may not have been there.
     fn place(&mut self, path: &Path) -> Option<Place> {
-        if let Some(known) = self.known.get(path) {
+        if let Some(known) = self.known.get(path.as_os_str()) {
             return Some(*known);
         }
         let place = match fs::metadata(self.cwd.join(path)) {
@@ -50,7 +53,7 @@ impl<'a> Search<'a> {
             Err(error) if matches!(error.kind(), ErrorKind::NotFound | ErrorKind::NotADirectory) => Place::Nothing,
             _ => return None,
         };
-        self.known.insert(path.to_owned(), place);
+        self.known.insert(path.as_os_str().to_owned(), place);
         Some(place)
     }
 
@@ -69,6 +72,9 @@ impl<'a> Search<'a> {
 
     /// Notes where a name is sought: beside a text first, if it is in quotes there.
     fn seek(&mut self, beside: Option<&Path>, name: &[u8], goes_on: bool) -> Option<()> {
+        if !self.sought.insert((beside.map(|folder| folder.as_os_str().to_owned()), name.to_vec(), goes_on)) {
+            return Some(());
+        }
         let (name, folders) = (Path::new(OsStr::from_bytes(name)), self.folders);
         let quoted = folders.quoted.iter().filter(|_| beside.is_some()).map(PathBuf::as_path);
         self.seek_in(folders.doubled.iter().map(PathBuf::as_path), name, true)?;
@@ -93,6 +99,11 @@ impl<'a> Search<'a> {
     /// Notes where a name on the compiler's line is sought.
     pub fn seek_given(&mut self, name: &str) -> Option<()> {
         self.seek(Some(Path::new("")), name.as_bytes(), false)
+    }
+
+    /// The files that were found, by the paths by which they were sought.
+    pub fn found(&self) -> impl Iterator<Item = &Path> {
+        self.known.iter().filter(|(_, place)| **place == Place::File).map(|(path, _)| Path::new(path))
     }
 
     /// By which names a file that was read may have been sought in the folders.
@@ -125,7 +136,7 @@ impl<'a> Search<'a> {
 
     /// Notes that there is no file at a place.
     pub fn lacks(&mut self, path: PathBuf) {
-        self.vain.entry(path).or_insert(true);
+        self.vain.entry(path.into_os_string()).or_insert(true);
     }
 
     /// The deepest folder on the way to a place where nothing is, and what that lacks.
@@ -145,7 +156,7 @@ impl<'a> Search<'a> {
     pub fn vain(mut self) -> Option<Vec<Vain>> {
         let mut lacks: BTreeMap<PathBuf, BTreeSet<Lacking>> = BTreeMap::new();
         for (path, may_be_folder) in std::mem::take(&mut self.vain) {
-            let (folder, lacking) = self.reduced(&path, may_be_folder)?;
+            let (folder, lacking) = self.reduced(Path::new(&path), may_be_folder)?;
             lacks.entry(folder).or_default().insert(lacking);
         }
         lacks.into_iter().map(|(folder, lacks)| Vain::now(&folder, lacks.into_iter().collect(), self.cwd)).collect()

@@ -1,24 +1,35 @@
 //! Which tool a command runs: the digest of the contents of all that a tool consists of.
 //!
-//! A file that the store knows by its place, its size, its times and its number isn't read again. That trusts the file system: the time
-//! of a file's last change of any kind can't be set, so a file of the same size and time with other contents is another.
+//! A file that the user's folder knows by its place, its size, its times and its number isn't read again. That trusts the file system: the
+//! time of a file's last change of any kind can't be set, so a file of the same size and time with other contents is another.
 use crate::cache::digest::{Digest, Hasher};
+use crate::cache::place;
 use crate::cache::store::{Store, digest_of};
 use crate::programs;
+use crate::system;
 use std::collections::BTreeMap;
 use std::ffi::{OsStr, OsString};
 use std::fs::{self, File, Metadata};
 use std::io::{Read, Seek};
+use std::os::fd::AsFd;
 use std::os::unix::ffi::OsStrExt;
 use std::os::unix::fs::MetadataExt;
 use std::path::{Path, PathBuf};
 use std::process::{Command, Stdio};
+use std::thread;
 use std::time::{Duration, SystemTime};
 
 /// What programs begin with that the kernel runs itself. A script may run anything.
 const PROGRAM: &[u8] = b"\x7fELF";
 /// A file that changed within this time may change again without another time.
 const FRESH: Duration = Duration::from_secs(2);
+/// A file of so many bytes is digested by one call at a time: others that want to know it wait.
+const LARGE: u64 = 1 << 20;
+/// The file that has the lock of whoever digests large files.
+const TURN: &str = "turn";
+/// How long a call waits for another that digests files, and how long until it looks again.
+const PATIENCE: Duration = Duration::from_secs(10);
+const PAUSE: Duration = Duration::from_millis(2);
 
 /// A kind of tools.
 #[derive(Clone, Copy, PartialEq, Eq, Debug)]
@@ -77,8 +88,9 @@ fn is_program(file: &mut File) -> bool {
 type Compiler = (PathBuf, PathBuf, Vec<(OsString, OsString)>);
 
 /// The tools of a call's commands.
-pub struct Tools<'a> {
-    store: &'a Store,
+pub struct Tools {
+    /// Where digests of files are kept: the user's folder if it can be written, else the cache.
+    stores: Vec<Store>,
     /// Those that were looked at.
     known: BTreeMap<PathBuf, Option<Digest>>,
     /// The programs that compilers run.
@@ -122,9 +134,32 @@ impl Run<'_> {
     }
 }
 
-impl<'a> Tools<'a> {
-    pub fn new(store: &'a Store) -> Tools<'a> {
-        Tools { store, known: BTreeMap::new(), parts: Vec::new() }
+/// The turn of a call to digest large files; when it's dropped, it is the next one's. `None` if there are no turns here, or after a long wait.
+fn turn(store: &Store) -> Option<File> {
+    fs::create_dir_all(store.folder()).ok()?;
+    let file = File::options().write(true).create(true).truncate(false).open(store.folder().join(TURN)).ok()?;
+    let tries = PATIENCE.as_millis() / PAUSE.as_millis();
+    let takes = |_: &u128| {
+        let is_mine = system::try_lock(file.as_fd()).unwrap_or(true);
+        if !is_mine {
+            thread::sleep(PAUSE);
+        }
+        is_mine
+    };
+    (0..tries).find(takes).map(|_| file)
+}
+
+impl Tools {
+    pub fn new(store: &Store) -> Tools {
+        Tools::in_stores(place::programs().into_iter().chain([store.clone()]).collect())
+    }
+
+    fn in_stores(stores: Vec<Store>) -> Tools {
+        Tools { stores, known: BTreeMap::new(), parts: Vec::new() }
+    }
+
+    fn kept(&self, stamp: &Digest) -> Option<Digest> {
+        self.stores.iter().find_map(|store| Some(Digest(store.read(stamp)?.try_into().ok()?)))
     }
 
     /// The digest of a file's contents; `None` if it can't be read, or is to be a program and isn't.
@@ -132,15 +167,20 @@ impl<'a> Tools<'a> {
         let mut file = File::open(path).ok()?;
         let status = file.metadata().ok().filter(Metadata::is_file)?;
         let stamp = stamp(path, &status);
-        if let Some(known) = self.store.read(&stamp).and_then(|known| known.try_into().ok()) {
-            return Some(Digest(known));
+        if let Some(kept) = self.kept(&stamp) {
+            return Some(kept);
         }
         if is_tool && !is_program(&mut file) {
             return None;
         }
+        let is_kept = is_settled(&status);
+        let turn = self.stores.first().filter(|_| is_kept && status.len() >= LARGE).and_then(turn);
+        if let Some(kept) = turn.as_ref().and_then(|_| self.kept(&stamp)) {
+            return Some(kept);
+        }
         let digest = digest_of(&mut file).ok()?;
-        if is_settled(&status) {
-            let _ = self.store.write(&stamp, &digest.0);
+        if is_kept {
+            let _ = self.stores.iter().find(|store| store.write(&stamp, &digest.0).is_ok());
         }
         Some(digest)
     }
@@ -238,7 +278,7 @@ mod tests {
             let store = Store::new(self.0.join("store"), 1 << 20);
             let program = self.0.join("bin/cicc");
             let environment = [("NVVMIR_LIBRARY_DIR".into(), self.0.join("named").into_os_string())];
-            Tools::new(&store).identity(&Run { kind: Kind::Cicc, program: &program, folder: Path::new("/"), environment: &environment })
+            Tools::in_stores(vec![store]).identity(&Run { kind: Kind::Cicc, program: &program, folder: Path::new("/"), environment: &environment })
         }
     }
 
@@ -275,7 +315,7 @@ mod tests {
         let settled = Path::new("/bin/sh");
         assert!(is_settled(&fs::metadata(settled).unwrap()));
         assert_eq!(store.content().entries, 0);
-        let tools = Tools::new(&store);
+        let tools = Tools::in_stores(vec![store.clone()]);
         assert_eq!(tools.digest(settled, true), Some(digest_of(&mut File::open(settled).unwrap()).unwrap()));
         assert_eq!(store.content().entries, 1);
         let status = fs::metadata(settled).unwrap();

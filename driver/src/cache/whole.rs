@@ -1,8 +1,9 @@
 //! Keeps a whole call: finds out what was read for it, and where something was sought in vain.
 use crate::cache::calls::{self, Answer, Product};
-use crate::cache::host_text::{files_entered, tells_time};
+use crate::cache::host_text::{files_entered, sees_lines, tells_time};
 use crate::cache::includes::{self, Folders, names_in};
-use crate::cache::manifest::{Manifest, Seen, Stamp, is_older};
+use crate::cache::manifest::{Form, Manifest, Seen, Stamp, is_older};
+use crate::cache::marked::contains;
 use crate::cache::searches::{MARGIN, Search};
 use crate::cache::{Session, State, names, terminal, words};
 use crate::machine::Job;
@@ -11,14 +12,18 @@ use crate::programs;
 use crate::run::Task;
 use crate::split::Said;
 use crate::streams::content_of;
-use std::collections::{BTreeMap, BTreeSet};
+use std::collections::{BTreeMap, BTreeSet, HashMap};
 use std::env;
 use std::ffi::{OsStr, OsString};
 use std::fs;
 use std::os::unix::ffi::OsStrExt;
+use std::os::unix::fs::MetadataExt;
 use std::path::{Path, PathBuf};
 use std::process::{Command, Stdio};
 use std::time::SystemTime;
+
+/// Where programs bring their headers: these don't change by an edit, so each of their bytes may count.
+const INSTALLED: &str = "/usr";
 
 /// A call that has come to its end, and has succeeded.
 pub struct Finished<'a> {
@@ -95,6 +100,8 @@ struct Gathered<'a> {
     search: Search<'a>,
     begun: SystemTime,
     seen: BTreeMap<PathBuf, Seen>,
+    /// Whether the text of a preprocessor may see its lines.
+    sees_lines: bool,
 }
 
 /// Whether a line asks for the targets of the machine's own GPUs, which nvcc looks for at each call.
@@ -114,6 +121,25 @@ impl Gathered<'_> {
         self.seen.insert(seen.path.clone(), seen);
         Some(())
     }
+
+    /// Notes further paths to files that gcc may have read only once. `None` if there is a copy of one: gcc leaves that out if both were
+    /// last changed in the same second.
+    fn add_copies(&mut self, once: &BTreeSet<PathBuf>, cwd: &Path) -> Option<()> {
+        let mut sizes: HashMap<u64, Vec<_>> = HashMap::new();
+        let found: BTreeSet<PathBuf> = self.search.found().filter(|path| !self.seen.contains_key(*path)).map(Path::to_owned).collect();
+        for path in once.iter().chain(&found) {
+            let status = fs::metadata(cwd.join(path)).ok()?;
+            let (file, same_size) = ((status.dev(), status.ino()), sizes.entry(status.len()).or_default());
+            let alike: Vec<_> = same_size.iter().filter(|(other, _)| once.contains(other)).collect();
+            if alike.iter().any(|(_, other)| *other == file) {
+                self.add(Seen::with_text(path, cwd)?.0, cwd)?;
+            } else if alike.iter().any(|(other, _)| content_of(&cwd.join(path)).ok() == content_of(&cwd.join(other)).ok()) {
+                return None;
+            }
+            same_size.push((path.clone(), file));
+        }
+        Some(())
+    }
 }
 
 impl Session<'_> {
@@ -124,10 +150,12 @@ impl Session<'_> {
             return None;
         }
         let folders = self.folders(call)?;
-        let mut gathered = Gathered { search: Search::new(call.cwd(), &folders, call.begun), begun: call.begun, seen: BTreeMap::new() };
+        let search = Search::new(call.cwd(), &folders, call.begun);
+        let mut gathered = Gathered { search, begun: call.begun, seen: BTreeMap::new(), sees_lines: false };
         self.gather_files(call, &mut gathered)?;
         self.gather_programs(call, &nvcc, &mut gathered)?;
-        let manifest = Manifest { files: gathered.seen.into_values().collect(), vain: gathered.search.vain()? };
+        let defines = self.defines(call).filter(|_| !gathered.sees_lines);
+        let manifest = Manifest { files: gathered.seen.into_values().collect(), vain: gathered.search.vain()?, defines };
         let answer = self.answer(call)?;
         calls::keep(self.store, call.line, &nvcc, self.folder_counts(call), &manifest, &answer);
         Some(())
@@ -163,27 +191,41 @@ impl Session<'_> {
         jobs.all(|job| asked(job) == asked(first)).then(|| folders_of(first))?
     }
 
+    /// What the command lines of the call's preprocessors define. `None` if lines and comments may count: for debuggers, or in messages.
+    fn defines(&self, call: &Finished<'_>) -> Option<Vec<Vec<u8>>> {
+        let lines_count = self.candidates.values().any(|candidate| candidate.recipe.lines_count);
+        let is_silent = call.said.iter().all(|(_, text)| text.is_empty());
+        let defined: BTreeSet<Vec<u8>> = self.preprocessors(call).flat_map(|(job, _)| words::defined(&job.words)).map(Into::into).collect();
+        (is_silent && !lines_count).then(|| defined.into_iter().collect())
+    }
+
     /// Notes what preprocessors have read, and where they have looked.
     fn gather_files(&self, call: &Finished<'_>, gathered: &mut Gathered<'_>) -> Option<()> {
         let mut files: BTreeSet<PathBuf> = BTreeSet::new();
         for (job, text) in self.preprocessors(call) {
             let text = content_of(&text).ok().filter(|text| !tells_time(text))?;
+            gathered.sees_lines |= sees_lines(&text);
             files.extend(files_entered(&text)?.into_iter().map(|name| PathBuf::from(OsStr::from_bytes(name))));
             words::included(&job.words).into_iter().try_for_each(|name| gathered.search.seek_given(name))?;
         }
         files.extend(call.commands.iter().filter(|command| command.preprocesses).flat_map(|command| &command.reads).map(PathBuf::from));
         files.retain(|file| !file.starts_with(self.tmp));
+        let (mut once, mut has_import) = (BTreeSet::new(), false);
         let any: BTreeSet<Vec<u8>> = files.iter().flat_map(|file| gathered.search.names_of(file)).collect();
         for file in &files {
             let (seen, text) = Seen::with_text(file, call.cwd())?;
-            gathered.add(seen, call.cwd())?;
+            let form = if file.starts_with(INSTALLED) { Form::Text } else { Form::of_source(&text) };
+            gathered.add(Seen { form, ..seen }, call.cwd())?;
             let names = names_in(&text);
             if names.is_odd {
                 return None;
             }
             gathered.search.seek_all(file, &names, &any)?;
+            has_import |= contains(&text, b"import");
+            once.extend(contains(&text, b"once").then(|| file.clone()));
         }
-        gathered.search.seek_anywhere(&any)
+        gathered.search.seek_anywhere(&any)?;
+        gathered.add_copies(if has_import { &files } else { &once }, call.cwd())
     }
 
     /// Notes which programs nvcc has run, and where they were sought.
@@ -200,7 +242,7 @@ impl Session<'_> {
         self.gather_parts(call, gathered)?;
         for (path, digest) in self.tools.all() {
             let stamp = fs::metadata(path).ok().as_ref().and_then(Stamp::settled);
-            gathered.add(Seen { path: path.to_owned(), digest, stamp }, call.cwd())?;
+            gathered.add(Seen { path: path.to_owned(), digest, stamp, form: Form::Other }, call.cwd())?;
         }
         Some(())
     }

@@ -292,6 +292,12 @@ pub fn included(words: &[String]) -> Vec<&str> {
     words.windows(2).filter(|pair| pair[0] == "-include").map(|pair| pair[1].as_str()).collect()
 }
 
+/// What the words of a preprocessor define.
+pub fn defined(words: &[String]) -> Vec<&str> {
+    let joined = words.iter().filter_map(|word| word.strip_prefix("-D")).filter(|definition| !definition.is_empty());
+    joined.chain(words.windows(2).filter(|pair| pair[0] == "-D").map(|pair| pair[1].as_str())).collect()
+}
+
 /// The words of a preprocessor that say where it looks for what it includes.
 pub fn search_words(words: &[String]) -> Vec<String> {
     let is_option = |place: usize| SEARCHED.contains(&words[place].as_str());
@@ -422,7 +428,7 @@ mod tests {
     fn words_of_preprocessors_are_known() {
         let nvccs = "-D__CUDA_ARCH__=750 -E -x c++ -D A -U B -I/i -isystem /s -I j -include cuda_runtime.h -m64 k.cu -o k.ii";
         assert!(is_preprocess(&list(nvccs)));
-        assert_eq!(included(&list(nvccs)), ["cuda_runtime.h"]);
+        assert_eq!((included(&list(nvccs)), defined(&list(nvccs))), (vec!["cuda_runtime.h"], vec!["__CUDA_ARCH__=750", "A"]));
         assert_eq!(search_words(&list(nvccs)), ["-I/i", "-isystem", "/s", "-I", "j"]);
         for word in ["-c", "-MD", "-imacros m.h", "-dD", "-C", "-P", "-H", "-nostdinc", "-iquote q", "-idirafter d", "-fdirectives-only", "-B."] {
             assert!(!is_preprocess(&list(&format!("{nvccs} {word}"))), "{word}");
