@@ -217,8 +217,9 @@ class Lane:
         command.append("--message-format=json")
         made = subprocess.run(command, cwd=self.sources, env=os.environ | BUILD, capture_output=True, text=True, check=False)
         self.seconds += processor_time(made.stderr)
-        found = [json.loads(line)["executable"] for line in made.stdout.splitlines() if '"executable":"' in line]
-        return [Path(program) for program in found] if made.returncode == 0 else []
+        found = [json.loads(line) for line in made.stdout.splitlines() if '"executable":"' in line]
+        # Tests of a program have cargo make the program, too.
+        return [Path(one["executable"]) for one in found if one["profile"]["test"] == (words[0] == "test")] if made.returncode == 0 else []
 
     def compiles(self, path: str) -> bool:
         """Builds the unit tests. Says whether they compile. The program comes later, since most edits are found without it."""

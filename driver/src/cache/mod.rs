@@ -468,3 +468,30 @@ fn move_products(recipe: &Recipe) -> Option<Vec<Product>> {
     let products = recipe.outputs.iter().filter(|output| output.path != output.written_to);
     products.map(|output| recipe.put(output, content_of(&output.written_to).ok()?).ok()?).collect()
 }
+
+#[cfg(test)]
+mod tests {
+    use super::*;
+    use std::os::unix::fs::symlink;
+
+    #[test]
+    fn products_come_where_a_tool_puts_them() {
+        let folder = env::temp_dir().join(format!("put-{}", std::process::id()));
+        let _ = fs::remove_dir_all(&folder);
+        fs::create_dir(&folder).unwrap();
+        let [file, other, link] = ["file", "other", "link"].map(|name| folder.join(name));
+        put(true, &file, b"one").unwrap();
+        fs::hard_link(&file, &other).unwrap();
+        put(false, &file, b"two").unwrap();
+        assert_eq!(fs::read(&other).unwrap(), b"two", "it writes to what is there");
+        put(true, &file, b"three").unwrap();
+        assert_eq!([&file, &other].map(|path| fs::read(path).unwrap()), [&b"three"[..], b"two"], "it makes a new one");
+        symlink(&other, &link).unwrap();
+        for is_new in [true, false] {
+            assert_eq!(put(is_new, &link, b"four").unwrap_err().kind(), ErrorKind::AlreadyExists);
+        }
+        assert_eq!((fs::read(&other).unwrap(), fs::read_link(&link).unwrap()), (b"two".to_vec(), other), "what is no plain file stays");
+        assert!(put(true, &folder.join("missing/file"), b"five").is_err());
+        fs::remove_dir_all(folder).unwrap();
+    }
+}
