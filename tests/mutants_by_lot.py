@@ -17,6 +17,7 @@ edits that got through are failures if fewer than --bound percent were caught.
 """
 import argparse
 import difflib
+import filecmp
 import json
 import os
 import random
@@ -191,6 +192,11 @@ def processor_time(times: str) -> float:
 Built = NamedTuple("Built", [("tests", "list[Path]"), ("program", Path)])
 
 
+def copy_other(source: str, to: str) -> str:
+    """Copies a file, with the time of now, unless the same is there: nothing is built again for that."""
+    return to if os.path.exists(to) and filecmp.cmp(source, to, shallow=False) else str(shutil.copy(source, to))
+
+
 class Lane:
     """A copy of the sources in which edits are made, one after the other."""
 
@@ -206,10 +212,11 @@ class Lane:
             shutil.copytree(ROOT / name, self.folder / name, symlinks=True, dirs_exist_ok=True)
         if kind == "driver":
             others = shutil.ignore_patterns("target", "driver")
-            shutil.copytree(ROOT / "out/rust", self.sources, symlinks=True, dirs_exist_ok=True, ignore=others)
-            # An edit may have stayed here, so these files have to be newer.
-            shutil.rmtree(self.sources / "driver", ignore_errors=True)
-            shutil.copytree(ROOT / "driver", self.sources / "driver", copy_function=shutil.copy)
+            shutil.copytree(ROOT / "out/rust", self.sources, symlinks=True, dirs_exist_ok=True, ignore=others, copy_function=copy_other)
+            shutil.copytree(ROOT / "driver", self.sources / "driver", dirs_exist_ok=True, copy_function=copy_other)
+            for path in self.sources.glob("driver/**/*.rs"):
+                if not (ROOT / path.relative_to(self.sources)).exists():
+                    path.unlink()
 
     def build(self, *words: str) -> list[Path]:
         """Runs cargo with these words. Says which programs it made: none, if something doesn't compile."""
