@@ -27,7 +27,6 @@ import subprocess
 import sys
 import tempfile
 import threading
-import time
 from collections import Counter
 from concurrent.futures import ThreadPoolExecutor
 from pathlib import Path
@@ -249,7 +248,7 @@ class Lane:
     def run(self, words: list[str], **settings: str) -> tuple[int, str]:
         """Runs a test where it can do no harm. Says its status and what it printed."""
         own = tempfile.mkdtemp(prefix="tmp", dir=self.folder)
-        begun = time.monotonic()
+        waited = 0
         with subprocess.Popen([*SANDBOX, str(self.folder), own, *words], cwd=self.folder, env={**os.environ, **settings, "TMPDIR": "/tmp"}, text=True,
                               errors="replace", stdin=subprocess.DEVNULL, stdout=subprocess.PIPE, stderr=subprocess.STDOUT) as process:
             self.running.add(process)
@@ -258,7 +257,9 @@ class Lane:
                 try:
                     said, _ = process.communicate(timeout=5)
                 except subprocess.TimeoutExpired:
-                    if time.monotonic() - begun > LONGEST * patience():
+                    # Time in which this process was stopped along with the test doesn't count.
+                    waited += 5
+                    if waited > LONGEST * patience():
                         process.kill()
         self.running.discard(process)
         times = Path(own) / "times"

@@ -305,6 +305,9 @@ mod tests {
         for (text, at, reason) in cases {
             assert_eq!(parse(text.as_bytes()), Err(Fault { at, reason }), "{text}");
         }
+        for byte in 0..=b' ' {
+            assert_eq!(parse(&[b'"', byte, b'"']).is_err(), byte < b' ', "{byte}");
+        }
         let nested = |depth: usize| ["[".repeat(depth), "]".repeat(depth)].concat();
         assert!(parse(nested(100).as_bytes()).is_ok());
         assert_eq!(parse(nested(100_000).as_bytes()).unwrap_err().reason, "too deep");

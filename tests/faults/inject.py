@@ -131,6 +131,16 @@ def send(number: int, what: signal.Signals) -> None:
         pass
 
 
+def wait_for(call: "subprocess.Popen[bytes]") -> int:
+    """The status of a call, which has to end within so many seconds of this process: one that was stopped along with the call didn't wait."""
+    for _ in range(10 * PATIENCE):
+        try:
+            return call.wait(0.1)
+        except subprocess.TimeoutExpired:
+            pass
+    return call.wait(0)
+
+
 def one_of(draw: random.Random, living: list[Process]) -> Process:
     """A process, by its role first: the roles that are rare are as likely as others."""
     role = draw.choice(sorted({process.role for process in living}))
@@ -259,13 +269,14 @@ class Trial:
     def end(self, call: "subprocess.Popen[bytes]", mark: str) -> int:
         """Waits for the end of a call and of all its processes. Says its status."""
         try:
-            status = call.wait(PATIENCE)
+            status = wait_for(call)
         except subprocess.TimeoutExpired:
             self.problem(f"hangs: {processes(mark, call.pid)}")
             status = -1
-        last = time.monotonic() + 5
         left = processes(mark, call.pid)
-        while left and time.monotonic() < last:
+        for _ in range(250):
+            if not left:
+                break
             time.sleep(0.02)
             left = processes(mark, call.pid)
         if left:
@@ -304,7 +315,7 @@ class Trial:
         mark = f"{os.getpid()}.{self.number}.next"
         call = room.start(mark, False, [])
         try:
-            status = call.wait(PATIENCE)
+            status = wait_for(call)
         except subprocess.TimeoutExpired:
             self.problem("the next call hangs")
             for process in processes(mark, call.pid):
