@@ -372,6 +372,30 @@ mod tests {
     }
 
     #[test]
+    fn workers_need_files_and_no_runner() {
+        for case in 0..16 {
+            let [has_workers, sends_files, shares, has_runner] = [1, 2, 4, 8].map(|bit| case & bit != 0);
+            let shared = shares.then(|| PathBuf::from("/shared"));
+            let runner = if has_runner { vec!["step.sh".into()] } else { Vec::new() };
+            let found = check(&Settings { has_workers, shared, runner, ..Settings::default() }, sends_files);
+            let wanted = match (has_workers, sends_files || shares, has_runner) {
+                (true, false, _) => Some("--workers needs"),
+                (true, true, true) => Some("--workers and ZIGRUNK_RUNNER"),
+                _ => None,
+            };
+            assert_eq!(found.as_ref().err().is_some(), wanted.is_some(), "{case}");
+            assert!(found.err().is_none_or(|reason| reason.starts_with(wanted.unwrap())), "{case}");
+        }
+    }
+
+    #[test]
+    fn a_list_that_cannot_be_read_is_none() {
+        for name in ["/", "/missing"] {
+            assert_eq!(list(Some(&name.into()), &Settings::default()).err(), Some(format!("cannot read {name}")));
+        }
+    }
+
+    #[test]
     fn a_signal_counts_more_than_a_call_that_failed() {
         let failed = Outcomes { status: 7, ..Outcomes::default() };
         let ended = Outcomes { signal: Some(system::TERM), ..failed };
