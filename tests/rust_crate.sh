@@ -59,16 +59,38 @@ examples_write() {
     done
 }
 
-# new_project: a project that adds the crate plans a call by the lines of docs/EMBEDDING.md. nvcc and its tools are stand-ins, and the dry runs
-# are those of a real call.
+# new_project NAME: a project that adds the crate, with a program of this name. Its source comes in.
 new_project() {
-    local crate=$PWD/zigrunk project=$scratch/project
-    mkdir -p "$project/src"
-    sed -n '/^```rust$/,/^```$/p' "$top/docs/EMBEDDING.md" | grep -v '^```' > "$project/src/main.rs"
-    (cd "$project" && cargo init -q --vcs none --name ten_lines . && cargo add -q --path "$crate" && cargo build -q) || return 1
+    local crate=$PWD/zigrunk project=$scratch/$1
+    mkdir -p "$project/src" && cat > "$project/src/main.rs"
+    (cd "$project" && cargo init -q --vcs none --name "$1" . && cargo add -q --path "$crate" && cargo build -q)
+}
+
+# lines_of PAGE: the program that a page shows.
+lines_of() {
+    sed -n '/^```rust$/,/^```$/p' "$1" | grep -v '^```'
+}
+
+# names_tools NAME WORD..: whether such a program ends its lines with the programs of the call that it plans. nvcc and its tools are stand-ins,
+# and the dry runs are those of a real call.
+names_tools() {
+    : > "$room/words"
     diff <(for tool in gcc cudafe++ gcc cicc ptxas fatbinary gcc; do echo "$room/bin/$tool"; done) \
-        <(PATH=$room/bin:$PATH NVCC_APPEND_FLAGS='-DX=1 -DY=2' "$CARGO_TARGET_DIR/debug/ten_lines" "$room/w" "$room/t" -c kernel.cu -o kernel.o) &&
+        <(PATH=$room/bin:$PATH NVCC_APPEND_FLAGS='-DX=1 -DY=2' "$CARGO_TARGET_DIR/debug/$1" "${@:2}" | sed 's/.* //')
+}
+
+# ten_lines: by the lines of docs/EMBEDDING.md. nvcc has the words of the environment too.
+ten_lines() {
+    lines_of "$top/docs/EMBEDDING.md" | new_project ten_lines && names_tools ten_lines "$room/w" "$room/t" -c kernel.cu -o kernel.o &&
         [ "$(grep -c -- '-DX=1 -DY=2' "$room/words")" = 2 ]
+}
+
+# five_lines: by those of the package's page, of which the fifth plans.
+five_lines() {
+    lines_of zigrunk/README.md | sed "s,\"/w\",\"$room/w\",; s,\"/t\",\"$room/t\",; s,\"k\.,\"kernel.,g" > "$scratch/lines"
+    [ "$(sed -n '/\.plan()/=' "$scratch/lines")" = 5 ] || return 1
+    { echo 'fn main() -> Result<(), Box<dyn std::error::Error>> {' && cat "$scratch/lines" && printf '%s\n' 'Ok(())' '}'; } |
+        new_project five_lines && names_tools five_lines
 }
 
 # misuses: whether a program says of each misuse what the table of the other languages says.
@@ -119,7 +141,8 @@ check 'the versions' grep -qx "version = \"$version\"" Cargo.toml
 check 'the tests' cargo test -q "${plain[@]}"
 check 'programs are no tests' cargo test -q -p cudaplan -p zigrunk-cli
 check 'what the examples write' examples_write "$CARGO_TARGET_DIR/debug/examples"
-check 'the ten lines of the page in a new project' new_project
+check 'the ten lines of the page in a new project' ten_lines
+check 'the five lines of the package in a new project' five_lines
 check 'misuses' misuses
 if cargo clippy --version > /dev/null 2>&1; then
     linted 'plain' "${plain[@]}"
