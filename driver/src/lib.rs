@@ -78,3 +78,20 @@ pub fn run_words(words: &[OsString]) -> i32 {
         2
     })
 }
+
+#[cfg(test)]
+mod tests {
+    use super::*;
+
+    #[test]
+    fn programs_go_by_their_own_names_or_a_first_word() {
+        let run = |words: &[&str]| run_words(&words.iter().map(OsString::from).collect::<Vec<_>>());
+        assert_eq!(named("plan".as_ref()), "zigrunk-plan");
+        for words in [&[][..], &["zigrunk-driver"], &["zigrunk-driver", "odd"], &["odd", "nvc"]] {
+            assert_eq!(run(words), 2, "{words:?}");
+        }
+        for words in [["/b/zigrunk-plan", "--help", ""], ["zigrunk-driver", "plan", "--help"]] {
+            assert_eq!(run(&words), 0, "{words:?}");
+        }
+    }
+}
