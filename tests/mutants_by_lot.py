@@ -37,6 +37,8 @@ WORK = Path(os.environ.get("MUTANTS_WORK", ROOT / "out/mutants"))
 # How many seconds the unit tests or a part of a script may take on an idle machine, of time and of a processor for each process. A busy one may take
 # as many times longer as it has processes for each processor.
 LONGEST, LONGEST_BUSY = 240, 20
+# How many seconds all processes of a test may sleep: then it hangs.
+LONGEST_STILL = 40
 # How many parts a lane runs side by side: they mostly wait.
 SIDE_BY_SIDE = 3
 # As in a release: sums that overflow don't panic.
@@ -182,6 +184,21 @@ def patience() -> float:
     return max(1.0, os.getloadavg()[0] / (os.cpu_count() or 1))
 
 
+def activity(root: int) -> "tuple[list[tuple[int, int]], bool]":
+    """The processes below one with the ticks of a processor that each has had, and whether any could go on now."""
+    stats: dict[int, list[str]] = {}
+    for path in Path("/proc").glob("[0-9]*/stat"):
+        try:
+            stats[int(path.parent.name)] = path.read_text().rpartition(")")[2].split()
+        except OSError:
+            pass
+    below = {root}
+    while more := {number for number, stat in stats.items() if int(stat[1]) in below} - below:
+        below |= more
+    found = sorted((number, int(stats[number][11]) + int(stats[number][12])) for number in below if number in stats)
+    return found, any(stats[number][0] in "RD" for number, _ in found)
+
+
 def processor_time(times: str) -> float:
     """The seconds of a processor in what bash says of its own time and that of its children."""
     return sum(60 * int(minutes) + float(seconds) for minutes, seconds in re.findall(r"(\d+)m([\d.]+)s", times))
@@ -248,7 +265,8 @@ class Lane:
     def run(self, words: list[str], **settings: str) -> tuple[int, str]:
         """Runs a test where it can do no harm. Says its status and what it printed."""
         own = tempfile.mkdtemp(prefix="tmp", dir=self.folder)
-        waited = 0
+        waited, still = 0, 0
+        before: tuple[list[tuple[int, int]], bool] = ([], True)
         with subprocess.Popen([*SANDBOX, str(self.folder), own, *words], cwd=self.folder, env={**os.environ, **settings, "TMPDIR": "/tmp"}, text=True,
                               errors="replace", stdin=subprocess.DEVNULL, stdout=subprocess.PIPE, stderr=subprocess.STDOUT) as process:
             self.running.add(process)
@@ -258,8 +276,10 @@ class Lane:
                     said, _ = process.communicate(timeout=5)
                 except subprocess.TimeoutExpired:
                     # Time in which this process was stopped along with the test doesn't count.
-                    waited += 5
-                    if waited > LONGEST * patience():
+                    waited, now = waited + 5, activity(process.pid)
+                    still = still + 5 if now == before and not now[1] else 0
+                    before = now
+                    if waited > LONGEST * patience() or still > LONGEST_STILL:
                         process.kill()
         self.running.discard(process)
         times = Path(own) / "times"
@@ -277,7 +297,7 @@ class Lane:
         else:
             words = [f"tests/{script}.sh", *([str(built.program)] if self.kind == "driver" else [])]
             settings = {"PARTS": part} if part != "all" else {}
-            status, said = self.run(words, STOP_EARLY="1", PATIENCE=str(round(6 * patience())), **settings)
+            status, said = self.run(words, STOP_EARLY="1", **settings)
             failures = [line for line in said.splitlines() if ": skipped, " not in line]
         return f"{script} {part}: {(failures or [said[-150:]])[0][:150]}" if status != 0 else ""
 
