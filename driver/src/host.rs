@@ -649,13 +649,16 @@ mod tests {
 
     #[test]
     fn a_job_that_is_ended_does_nothing_more() {
+        let room = Room::new();
+        let go = room.path("go");
         in_own_process(|| {
             let mut host = plain_host();
             start(&mut host, 3, &shell("trap '' TERM; kill -STOP $$; echo on"));
-            start(&mut host, 4, &shell("sleep 0.1; echo other"));
+            start(&mut host, 4, &shell(&format!("until [ -e {} ]; do sleep 0.01; done; echo other", go.display())));
             host.end(3);
             assert_eq!(next_end(&mut host), (3, 137, String::new()));
             host.end(3);
+            fs::write(&go, "").unwrap();
             assert_eq!(next_end(&mut host), (4, 0, "other\n".into()));
         });
     }

@@ -311,7 +311,6 @@ mod tests {
     fn a_tool_that_is_settled_is_not_read_again() {
         let scratch = Scratch::new("settled");
         let store = Store::new(scratch.0.join("store"), 1 << 20);
-        let own = env::current_exe().unwrap();
         let settled = Path::new("/bin/sh");
         assert!(is_settled(&fs::metadata(settled).unwrap()));
         assert_eq!(store.content().entries, 0);
@@ -321,7 +320,11 @@ mod tests {
         let status = fs::metadata(settled).unwrap();
         store.write(&stamp(settled, &status), &[7; 32]).unwrap();
         assert_eq!(tools.digest(settled, true), Some(Digest([7; 32])));
-        assert!(tools.digest(&own, true).is_some());
+        let new = scratch.put("bin/cicc", "\x7fELF one");
+        let mut file = File::options().read(true).write(true).open(&new).unwrap();
+        file.set_modified(SystemTime::now() + 1000 * FRESH).unwrap();
+        assert_eq!(tools.digest(&new, true), Some(digest_of(&mut file).unwrap()));
+        assert_eq!(store.content().entries, 1);
     }
 
     #[test]
@@ -338,7 +341,7 @@ mod tests {
         let run = |environment: &[(OsString, OsString)]| {
             let gcc = programs::find("gcc".as_ref(), &env::var_os("PATH").unwrap(), Path::new("/")).unwrap();
             let run = Run { kind: Kind::Host, program: &gcc, folder: Path::new("/"), environment };
-            ["cc1plus", "as"].map(|name| run.part(name))
+            ["cc1", "as"].map(|name| run.part(name))
         };
         let scratch = Scratch::new("gcc");
         let other = scratch.put("bin/as", "\x7fELF");
