@@ -100,6 +100,7 @@ unsafe extern "C" {
     fn signalfd(fd: c_int, set: *const SignalSet, flags: c_int) -> c_int;
     fn sigprocmask(how: c_int, set: *const SignalSet, old: *mut SignalSet) -> c_int;
     fn tcsetattr(fd: c_int, when: c_int, modes: *const [u32; 16]) -> c_int;
+    fn umask(mask: c_uint) -> c_uint;
     fn unlinkat(folder: c_int, name: *const c_char, flags: c_int) -> c_int;
     fn unlockpt(fd: c_int) -> c_int;
     fn waitpid(pid: c_int, status: *mut c_int, options: c_int) -> c_int;
@@ -118,6 +119,18 @@ fn owned(answer: c_int) -> io::Result<OwnedFd> {
 /// The effective user's number.
 pub fn user() -> u32 {
     unsafe { geteuid() }
+}
+
+/// Has new files of this process and its children lack these modes. Says which ones they lacked until now.
+pub fn set_mask(mask: u32) -> u32 {
+    unsafe { umask(mask) }
+}
+
+/// The modes that new files of this process lack. A thread that makes a file meanwhile would give it more.
+pub fn mask() -> u32 {
+    let mask = set_mask(0o77);
+    set_mask(mask);
+    mask
 }
 
 /// This process's number.

@@ -5,7 +5,7 @@ use super::fields::{Bytes, Field};
 use std::path::PathBuf;
 
 /// The version of the messages. A batch refuses workers of others.
-pub const VERSION: u32 = 2;
+pub const VERSION: u32 = 3;
 /// How many bytes a message has at most.
 pub const LONGEST: usize = 1 << 26;
 /// How many bytes a message has at most that comes from somebody who hasn't shown that he knows the secret.
@@ -39,6 +39,8 @@ pub struct Terms {
     pub shared: Option<PathBuf>,
     /// How many milliseconds a worker waits for a message before it ends its commands. Messages come four times as often.
     pub patience: u64,
+    /// The modes that new files don't get.
+    pub mask: u32,
 }
 
 /// What a worker says of its machine.
@@ -159,7 +161,7 @@ macro_rules! records {
 }
 records! {
     Introduction { name, process, slots }
-    Terms { environment, has_terminal, temporary, has_own_temporary, tools, shared, patience }
+    Terms { environment, has_terminal, temporary, has_own_temporary, tools, shared, patience, mask }
     Evidence { tools, shared, lack_of_room, time }
     Witness { path, size, changed }
     Order { words, folder, variables, tool, folders, witnesses, products, inputs }
@@ -302,6 +304,7 @@ mod tests {
                 tools: vec!["/b/nvcc".into()],
                 shared: Some("/s/file".into()),
                 patience: 6000,
+                mask: 0o27,
             }),
             Message::Evidence(Evidence {
                 tools: vec![None, Some([5; 32])],

@@ -165,6 +165,7 @@ impl Farm {
             has_own_temporary: settings.launcher.is_empty(),
             // A worker ends its commands before the batch gives it up.
             patience: u64::try_from(conditions.patience.as_millis() * 6 / 10).unwrap_or(u64::MAX),
+            mask: system::mask(),
         };
         let plans = crate::places::absolute(settings.plans(), &cwd);
         let unlimited = Settings { slots: Some(0), ..settings.clone() };
@@ -703,6 +704,8 @@ impl Farm {
         for member in &mut self.members {
             member.connection.send(&Message::Bye);
         }
+        // What starts workers may wait for the end of its standard input.
+        self.inputs.clear();
         let begun = Instant::now();
         while begun.elapsed() < LEAVING && (self.starters.running > 0 || self.members.iter().any(|member| member.connection.is_behind())) {
             while let Some(event) = self.host.look() {
@@ -712,7 +715,6 @@ impl Farm {
                 self.wait(20);
             }
         }
-        self.inputs.clear();
         self.members.clear();
         // No draft is left.
         let _ = self.elsewhere.set_len(0);

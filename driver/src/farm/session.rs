@@ -89,6 +89,7 @@ impl Session {
     ///
     /// If there is no folder for temporary files, or this machine can't run commands.
     pub fn new(mut connection: Connection, terms: Terms, slots: u32) -> io::Result<Session> {
+        system::set_mask(terms.mask);
         let folder = Rc::new(own_folder(&terms.temporary)?);
         let temporary = folder.path().to_owned();
         let shown = terms.clone();
