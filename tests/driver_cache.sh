@@ -291,7 +291,7 @@ stand_ins() {
         done
         call ZIGRUNK_EXPLAIN=1 ZIGRUNK_LAUNCHER=env -c k.cu -o k.o
         ran_all 'with a launcher'
-        same 'messages with a launcher' "$(cat "$room/err")" "zigrunk-nvcc: ZIGRUNK_CACHE doesn't count beside ZIGRUNK_LAUNCHER, ZIGRUNK_RUNNER or workers"
+        same 'messages with a launcher' "$(cat "$room/err")" "zigrunk-nvcc: ZIGRUNK_CACHE doesn't count beside ZIGRUNK_LAUNCHER or ZIGRUNK_RUNNER"
         same 'the folder' "$([ -e "$room/cache" ] || echo none)" none
         call ZIGRUNK_CACHE=yes XDG_CACHE_HOME="$room/users" -c k.cu -o k.o
         same "the user's folder" "$(ls "$room/users")" zigrunk
