@@ -223,6 +223,22 @@ time.sleep(100)'
         same dependencies "$(sed s/wanted4/k4/g wanted.d | diff - k.d)" ''
         end
     fi
+    if case_of 'a cache'; then
+        if ! PATH=$real_path command -v nvcc > /dev/null; then
+            problems='' && skip 'a cache, with real nvcc' 'nvcc is not on the path' && cd "$scratch" && return
+        fi
+        printf '%s\n' '__global__ void k(float *x) { x[threadIdx.x] *= 2; }' 'void c(float *x) { k<<<1, 32>>>(x); }' > k.cu
+        echo 'nvcc -gencode=arch=compute_80,code=sm_80 -gencode=arch=compute_90,code=sm_90 -c k.cu -o k.o' > list
+        PATH=$real_path sh list && mv k.o wanted.o
+        for turn in first second; do
+            rm -f k.o
+            PATH=$scratch/bin:$real_path ZIGRUNK_CACHE=$room/cache ZIGRUNK_LOG=$room/log.$turn farm --workers "$(worker n1)" --workers "$(worker n2)" list
+            same "status and messages, $turn" "$status$(cat "$room/err")" 0
+            same "object, $turn" "$(objcopy --strip-unneeded wanted.o a && objcopy --strip-unneeded k.o b && cmp a b 2>&1)" ''
+        done
+        same 'hits and misses' "$(grep -o '"hit":[a-z]*' "$room/log.first" | sort -u) $(grep -o '"hit":[a-z]*' "$room/log.second" | sort -u)" '"hit":false "hit":true'
+        end
+    fi
 }
 
 # two_nodes [WORD..]: starts a batch of six calls whose commands take a while, on two workers, of which n1 starts as the words before it say. Waits
@@ -452,6 +468,31 @@ deaths() {
         same 'status, objects, and less than all commands' "$status $(find . -name '*.o' | wc -l) $(($(grep -o '40 of 40 calls, [0-9]*' "$room/err" | tail -n 1 | cut -d ' ' -f 5) < 36))" '0 40 1'
         end
     fi
+    if case_of 'few files may be open'; then
+        sources 6
+        farm --workers "$(worker n1)" --workers "ulimit -n 32; $(worker n2)" list
+        same 'status, few of a worker' "$status" 0
+        products
+        rm -f ./*.o
+        (ulimit -n 40 && timeout 100 zigrunk-batch --wait 5 --workers "$(worker n1)" --workers "$(worker n2)" list) > "$room/out" 2> "$room/err"
+        same 'status, few of the batch' $? 0
+        products
+        end
+    fi
+    if case_of 'the shared directory is removed'; then
+        two_nodes
+        rm -rf "$room/share/zigrunk-$user"
+        within 60 has_ended || { problems+='  it ends late'$'\n'; kill -KILL "$process"; }
+        { wait "$process"; } 2> /dev/null
+        same status $? 1
+        for number in 1 2 3 4 5 6; do
+            grep -q "^zigrunk-batch: line $number: exit status 1: " "$room/err" || cmp -s "wanted/k$number.o" "k$number.o" || problems+="  call $number is lost"$'\n'
+        done
+        PAUSE=0 farm --workers "$(worker n1)" list
+        same 'status and messages of the next one' "$status$(cat "$room/err")" 0
+        products
+        end
+    fi
     if case_of 'two workers of one name'; then
         sources 3
         farm --workers "$(worker n1)" --workers "sleep 0.5; $(worker n1)" list
@@ -491,6 +532,23 @@ without room for temporary files|mount -t tmpfs -o size=16k none ROOM/tmp|there 
 that may not write to the shared directory|mount --bind ROOM/share ROOM/share && mount -o remount,bind,ro ROOM/share|there is no room in ROOM/share/.*
 with old sources|mkdir ROOM/old && cp k*.cu ROOM/old && mount --bind ROOM/old ROOM/work && cd ROOM/work|it.* ROOM/work/.*
 END
+    if case_of 'a machine with another umask'; then
+        sources 2
+        umask 027
+        farm --workers "umask 077; $(worker n1)" list
+        umask 022
+        same 'status, messages and modes' "$status$(cat "$room/err") $(stat -c %a k1.o k2.o | sort -u)" '0 640'
+        products
+        end
+    fi
+    if case_of 'a machine on which nothing can be written'; then
+        sources 2
+        farm --workers "$(elsewhere n1 "mount --bind $room/tmp $room/tmp && mount -o remount,bind,ro $room/tmp && export TMPDIR=/proc")" \
+            --workers "$(worker n2)" list
+        same status "$status" 0
+        products
+        end
+    fi
     if case_of 'a machine with another compiler than that of a call'; then
         mkdir wanted "$room/own"
         cp "$CUDA/bin/gcc" "$room/own/gcc"
