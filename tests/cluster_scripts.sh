@@ -1,7 +1,7 @@
 #!/usr/bin/env bash
 # Runs examples/slurm/step.sh, examples/slurm/array.sh and examples/ssh/parallel.sh with stand-ins for Slurm, ssh and GNU parallel, by each of dash, bash and busybox
-# sh that is installed, and examples/ssh/remote.py with stand-ins for ssh and zigrunk, and the library that `make rust` leaves. Prints a line for
-# each case that fails, and last 'N passed, M failed'; the status is 1 if one failed.
+# sh that is installed, and examples/ssh/remote.py with stand-ins for ssh and zigrunk, and the library that `make rust` leaves, whose zigrunk-batch
+# array.sh starts. Prints a line for each case that fails, and last 'N passed, M failed'; the status is 1 if one failed.
 #
 #   tests/cluster_scripts.sh [FOLDER]    FOLDER is examples, unless given
 #
@@ -11,6 +11,8 @@ cd "$(dirname "$0")/.." || exit 1
 examples=$(realpath "${1:-examples}")
 . tests/lib.sh
 trap 'kill $(jobs -p) 2> /dev/null; rm -rf "$scratch"' EXIT
+built=$(realpath "${DRIVER_BIN:-out/rust/target/release}")
+[ -x "$built/zigrunk-batch" ] || skip_all 'scripts of clusters' 'make rust makes zigrunk-batch first'
 unset STEP_LOG STEP_WRAPPER "${!ZIGRUNK@}"
 
 # The stand-in for srun takes the first node of $NODES that isn't left out, logs it, and does what $PLACES/NODE says: it may run the
@@ -186,26 +188,101 @@ machines() {
     same 'status and messages' "$status $(sed 's/ssh -o.* user/ssh user/' "$room/err")" $'0 parallel.sh: left out: user@two\nparallel.sh: back: user@two'
     same 'machines with calls' "$(sed 's/ -o [^ ]*//g' "$room/log.live")" $'ssh user@one\nssh user@two'
     end_case
+
+    begin 'GNU parallel that waits for ever'
+    printf '%s\n' user@one user@two > nodes
+    runs ssh/parallel.sh PARALLEL_DOES='[ -e again ] || { touch again; printf "Seq\n1\t\t\t\t\t\t3\t0\n2\t\t\t\t\t\t0\t0\n" > calls.log; exec sleep 300; }; printf "3\t\t\t\t\t\t0\t9\n4\t\t\t\t\t\t0\t0\n" >> calls.log' nodes list
+    same 'status and messages' "$status $(cat "$room/err")" '2 '
+    same 'calls that aren'"'"'t made again' "$(grep -c '^parallel .*\[--resume\] \[--joblog\] \[calls.log\]' "$room/log")" 2
+    end_case
 }
 
-# arrays: the stand-in for sbatch runs an array's tasks one after the other.
+# arrays: the stand-in for sbatch starts the tasks of an array, and the one for scancel ends them.
 arrays() {
-    mkdir -p "${room%/*}/slurm"
-    printf '%s\n' '#!/bin/sh' 'printf "%s\n" "$*" >> "$LOG"' 'while [ "$1" != "${1#-}" ]; do' '    case $1 in --array=*) last=${1#--array=1-} ;; esac' '    shift' 'done' \
-        'worst=0' 'for SLURM_ARRAY_TASK_ID in $(seq "$last"); do' '    export SLURM_ARRAY_TASK_ID' '    sh "$@" || { code=$?; [ "$code" -le "$worst" ] || worst=$code; }' \
-        'done' 'exit "$worst"' > "${room%/*}/slurm/sbatch"
-    printf '%s\n' '#!/bin/sh' 'echo "MaxArraySize            = ${ARRAY-1001}"' 'echo "MaxJobCount             = ${JOBS-10000}"' > "${room%/*}/slurm/scontrol"
-    chmod +x "${room%/*}"/slurm/*
-    for limits in 'ARRAY=1001 7' 'ARRAY=4 3,3,1' 'JOBS=5 4,3' 'ARRAY=8 7' 'ARRAY=7 6,1'; do
-        begin "an array job, ${limits% *}"
-        printf '%s\n' 'echo 1' 'echo 2; exit 4' '' 'echo "4 $ZIGRUNK_JOBS"' 'echo 5' 'exit 3' > list
-        printf 'echo 7' >> list
-        : > "$room/log"
-        env LOG="$room/log" "${limits% *}" PATH="${room%/*}/slurm:$PATH" "${shell[@]}" "$examples/slurm/array.sh" list --comment=x > "$room/out" 2>&1
-        same 'status and output' "$? $(tr '\n' , < "$room/out")" '4 1,2,4 1,5,7,'
-        same arrays "$(sed -n 's/.*--array=1-\([0-9]*\) --comment=x .*array.sh list$/\1/p' "$room/log" | paste -sd ,)" "${limits#* }"
+    local limits stand_ins=$scratch/slurm
+    array_stand_ins "$stand_ins"
+    for limits in 'ARRAY=1001 7' 'ARRAY=4 3' 'JOBS=5 4' 'ARRAY_TASKS=2 2'; do
+        array_case "an array job, ${limits% *}"
+        array "${limits% *}" list "--comment=a 'b" -Q -c2
+        same 'status and output' "$status $(tr '\n' , < "$room/out")" '4 1,2,4,5,7,'
+        same messages "$(cat "$room/err")" $'zigrunk-batch: line 2: exit status 4: echo 2; exit 4\nzigrunk-batch: line 6: exit status 3: sh -c \'exit 3\''
+        same 'the array' "$(sed -n "s/.*\[-n1\].* \[--array=1-\([0-9]*\)\] \[--comment=a 'b\] \[-c2\] \[--wrap\].*/\1/p" "$room/log")" "${limits#* }"
+        for _ in $(seq 400); do ! tail -n 1 "$room/log" | grep -qx 'scancel -Q 7' || break; sleep 0.05; done
+        same 'what leaves the queue' "$(tail -n 1 "$room/log")" 'scancel -Q 7'
         end_case
     done
+    array_case 'an array job that Slurm refuses'
+    array REFUSES=1 list
+    same 'status and messages' "$status $(grep -v 'what starts workers' "$room/err")" $'1 sbatch: error: no such partition\nzigrunk-batch: there is no worker'
+    end_case
+    array_case 'an array job, without an answer of scontrol'
+    array ARRAY=x list
+    same 'status and messages' "$status $(cat "$room/err" "$room/log")" '1 array.sh: scontrol does not say how many tasks an array may have'
+    end_case
+    arrays_that_end
+}
+
+# ^C, and a batch that is killed
+arrays_that_end() {
+    local how script last
+    for how in INT:130 KILL:137; do
+        array_case "an array job, ${how%:*}"
+        printf '%s\n' 'touch began; sleep 300' 'sleep 300' > list
+        array_variables
+        env --default-signal=INT "${variables[@]}" "${shell[@]}" "$examples/slurm/array.sh" list > "$room/out" 2>&1 &
+        script=$! last=$((SECONDS + 60))
+        until [ -e began ] || [ "$SECONDS" -gt "$last" ]; do sleep 0.05; done
+        kill -s "${how%:*}" "$script"
+        { wait "$script"; } 2> /dev/null
+        same status "$?" "${how#*:}"
+        until tail -n 1 "$room/log" | grep -qx 'scancel -Q 7' || [ "$SECONDS" -gt "$last" ]; do sleep 0.05; done
+        same 'what leaves the queue' "$(tail -n 1 "$room/log")" 'scancel -Q 7'
+        end_case
+    done
+}
+
+# array_stand_ins FOLDER
+array_stand_ins() {
+    mkdir -p "$1"
+    cat > "$1/sbatch" << 'END'
+#!/bin/sh
+for word; do
+    printf ' [%s]' "$word"
+    case $word in --array=*) last=${word#--array=1-} ;; esac
+done >> "$LOG"
+echo >> "$LOG"
+[ -z "${REFUSES-}" ] || { echo 'sbatch: error: no such partition' >&2 && exit 1; }
+for SLURM_ARRAY_TASK_ID in $(seq "$last"); do
+    export SLURM_ARRAY_TASK_ID
+    setsid sh -c "$word" > /dev/null 2>&1 < /dev/null &
+    echo "$!" >> "$LOG.tasks"
+done
+echo '7;cluster'
+END
+    printf '%s\n' '#!/bin/sh' 'for id in $(cat "$LOG.tasks"); do kill -- "-$id"; done 2> /dev/null' 'echo "scancel $*" >> "$LOG"' > "$1/scancel"
+    printf '%s\n' '#!/bin/sh' 'echo "MaxArraySize            = ${ARRAY-1001}"' 'echo "MaxJobCount             = ${JOBS-10000}"' > "$1/scontrol"
+    chmod +x "$1"/*
+}
+
+# array_case NAME: begins a case with a list of seven lines.
+array_case() {
+    begin "$1"
+    printf '%s\n' 'echo 1' 'echo 2; exit 4' '' 'echo 4' 'echo 5' "sh -c 'exit 3'" > list
+    printf 'echo 7' >> list
+    : > "$room/log"
+    mkdir "$room/share"
+}
+
+# array_variables: sets $variables to what an array job gets.
+array_variables() {
+    variables=(LOG="$room/log" TMPDIR="$room/tmp" ZIGRUNK_TMP="$room/share" ZIGRUNK_HOST=127.0.0.1 ARRAY_WAIT=60 PATH="$scratch/slurm:$built:$PATH")
+}
+
+# array NAME=VALUE WORD..: runs array.sh with this variable and these words.
+array() {
+    array_variables
+    env "${variables[@]}" "$1" "${shell[@]}" "$examples/slurm/array.sh" "${@:2}" > "$room/out" 2> "$room/err"
+    status=$?
 }
 
 cases() {

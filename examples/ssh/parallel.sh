@@ -9,7 +9,10 @@
 # the connection, gets no calls until it answers again. ssh gives up on a silent machine after 15 seconds.
 #
 # ssh passes no variables on, so --env names them. If a machine dies, its calls run again elsewhere, at most three times; a
-# call that fails by itself is repeated too. The status is the number of failed calls, and 101 for more than 100 or if no machine answers.
+# call that fails by itself is repeated too. GNU parallel waits for ever if a call has failed on a machine that has left and on all others, so
+# the script starts it again then. calls.log has a line for each call. The status is the number of failed calls, and 101 for more than 100
+# or if no machine answers.
+# shellcheck disable=SC2317 # a trap calls what seems to be out of reach
 ZIGRUNK_JOBS=${ZIGRUNK_JOBS:-1}
 export ZIGRUNK_JOBS
 place=$(mktemp -d /tmp/parallel.XXXXXX) || exit 101
@@ -55,6 +58,14 @@ look() {
     mv "$place/new" "$place/live"
 }
 
+# look_at_calls: ends GNU parallel if it has run nothing for three looks.
+idle=0
+look_at_calls() {
+    calls=$(cat "$place/calls" 2> /dev/null) && [ -z "$(ps -o pid= --ppid "$calls")" ] || { idle=0 && return; }
+    idle=$((idle + 1))
+    [ "$idle" -lt 3 ] || { idle=0 && : > "$place/idle" && kill -9 "$calls"; }
+}
+
 clean() {
     { [ -z "$watcher" ] || kill "$watcher"; [ -z "$calls" ] || { kill "$calls" && wait "$calls"; }; } 2> /dev/null
     each leaves
@@ -71,11 +82,28 @@ look
 ! diff "$place/all" "$place/live" | sed -n 's/^<.* /parallel.sh: left out: /p' | grep . >&2 || :
 (
     trap - EXIT HUP INT TERM
-    while sleep 3; do look; done
+    while sleep 3; do
+        look
+        look_at_calls
+    done
 ) &
 watcher=$!
-parallel --will-cite --sshloginfile "$place/live" --workdir "$PWD" --retries 3 --joblog calls.log \
-    --env PATH --env ZIGRUNK_JOBS --env ZIGRUNK_TMP --env ZIGRUNK_PROGRAM --env ZIGRUNK_LAUNCHER --env TMPDIR \
-    --env NVCC_PREPEND_FLAGS --env NVCC_APPEND_FLAGS -a "$2" < /dev/null &
-calls=$!
-wait "$calls"
+rm -f calls.log
+again=''
+while :; do
+    parallel --will-cite --sshloginfile "$place/live" --workdir "$PWD" --retries 3 --resume --joblog calls.log \
+        --env PATH --env ZIGRUNK_JOBS --env ZIGRUNK_TMP --env ZIGRUNK_PROGRAM --env ZIGRUNK_LAUNCHER --env TMPDIR \
+        --env NVCC_PREPEND_FLAGS --env NVCC_APPEND_FLAGS -a "$2" < /dev/null &
+    calls=$!
+    echo "$calls" > "$place/calls"
+    wait "$calls" 2> /dev/null
+    status=$?
+    rm -f "$place/calls"
+    [ -e "$place/idle" ] || break
+    rm "$place/idle"
+    again=1
+done
+# One that started again doesn't count the calls of the one before.
+[ -z "$again" ] ||
+    status=$(awk -F '\t' 'NR > 1 { bad[$1] = $7 != 0 || $8 != 0 } END { for (call in bad) sum += bad[call]; print (sum > 100 ? 101 : sum + 0) }' calls.log)
+exit "$status"
