@@ -3,12 +3,12 @@
 # Prints a line for each check that fails, the times of builds, and last 'N passed, M failed'; the status is 1 if one failed.
 # docs/CLUSTER.md names the packages.
 #
-#   tests/cluster.sh [PROGRAM]    PROGRAM is the zigrunk that `make build` leaves, unless given. zigrunk-nvcc is that of DRIVER_BIN, or what
-#                                 `make rust` leaves
+#   tests/cluster.sh [PROGRAM]    PROGRAM is the zigrunk that `make build` leaves, or else `make rust`, unless given. zigrunk-nvcc is that of
+#                                 DRIVER_BIN, or what `make rust` leaves
 #
 # First come the parts whose times count, one after the other. Then come the deaths, side by side, in lanes that have nodes of their own.
 #
-# PARTS names the parts to run, all unless set. SEED is that of the deaths drawn by lot. CALLS, NAPS and SIZES are the numbers of calls that
+# PARTS names the parts to run, all unless set. SEED is that of the deaths drawn by lot, a new one unless set. CALLS, NAPS and SIZES are the numbers of calls that
 # nvcc compiles, of calls that only sleep, and of nodes: CALLS=20 NAPS=30 SIZES='1 2 3' makes the tables of docs/CLUSTER.md.
 cd "$(dirname "$0")/.." || exit 1
 . tests/lib.sh
@@ -18,23 +18,27 @@ for tool in slurmctld:slurm-wlm slurmd:slurm-wlm munged:munge salloc:slurm-wlm i
 done
 [ "$(id -u)" = 0 ] || skip_all cluster 'network namespaces and a Slurm of its own take root'
 [ "$(nproc)" -ge 3 ] || skip_all cluster 'three nodes take three cores'
-ZIGRUNK_PROGRAM=$(realpath "${1:-${ZIGRUNK_PROGRAM:-crates/zigrunk/out/zigrunk}}")
-[ -x "$ZIGRUNK_PROGRAM" ] || skip_all cluster 'make build makes zigrunk first'
+program=${DRIVER_BIN:-out/rust/target/release}/zigrunk
+[ ! -x crates/zigrunk/out/zigrunk ] || program=crates/zigrunk/out/zigrunk
+ZIGRUNK_PROGRAM=$(realpath "${1:-${ZIGRUNK_PROGRAM:-$program}}")
+[ -x "$ZIGRUNK_PROGRAM" ] || skip_all cluster 'make build or make rust makes zigrunk first'
 unset NVCC_PREPEND_FLAGS NVCC_APPEND_FLAGS MAKEFLAGS "${!SLURM@}" "${!SBATCH@}" "${!STEP_@}"
 unset ZIGRUNK_RUNNER ZIGRUNK_LAUNCHER ZIGRUNK_PLAN ZIGRUNK_JOBS ZIGRUNK_BATCH
 examples=$PWD/examples here=$PWD/tests
 chmod 755 "$scratch"
-# Slurm has the first 21 of 31 nodes.
-top=$scratch run=$scratch/run partitions='1-3 4-6 7-9 10-21' compiled=${CALLS:-8} sleeping=${NAPS:-10}
+# Slurm has the first 42 of 52 nodes.
+top=$scratch run=$scratch/run partitions='1-3 4-6 7-9 10-21 22-33 34-36 37-39 40-42' compiled=${CALLS:-8} sleeping=${NAPS:-10}
 mkdir "$run" "$scratch/work" "$scratch/tmp"
 bindings/c/library.sh "${DRIVER_BIN:-out/rust/target/release}/libzigrunk.a" "$scratch/library" > /dev/null || skip_all cluster 'make rust makes the library first'
 # a python3 that starts at once stands first
 export ZIGRUNK_PROGRAM ZIGRUNK_LIBRARY=$scratch/library/lib/libzigrunk.so.1 ZIGRUNK_TMP=$scratch/tmp PATH=${DRIVER_BIN:-$PWD/out/rust/target/release}:/usr/bin:$PATH
+SEED=${SEED:-$RANDOM}
 . tests/cluster/nodes.bash
 . tests/cluster/slurm.bash
 . tests/cluster/ssh.bash
 . tests/cluster/makeflow.bash
 . tests/cluster/deaths.bash
+. tests/cluster/jobs.bash
 . tests/cluster/sent.bash
 
 # The parts run in a process group of their own, so that a signal to the test ends it at once, whatever runs.
@@ -59,13 +63,13 @@ trap 'exit 129' HUP
 trap 'exit 130' INT
 trap 'exit 143' TERM
 
-# timed COMMAND WORD..: runs it; its seconds are $seconds, in tenths. It may set the time of its end, $end.
+# timed COMMAND WORD..: runs it; its seconds are $seconds, in tenths.
 timed() {
-    local start end=''
+    local start
     start=$(date +%s%N)
     "$@"
     status=$?
-    seconds=$(printf '%s\n' $(((${end:-$(date +%s%N)} - start) / 100000000)) | sed 's/.$/.&/')
+    seconds=$(printf '%s\n' $((($(date +%s%N) - start) / 100000000)) | sed 's/.$/.&/')
 }
 
 targets='-gencode=arch=compute_80,code=sm_80 -gencode=arch=compute_86,code=sm_86 -gencode=arch=compute_90,code=sm_90'
@@ -81,22 +85,9 @@ batch() {
     salloc -Q --no-kill -p "$partition" -N"$1" -n"$1" env "${@:3}" zigrunk-batch "${words[@]}" "$2" 2> err > out
 }
 
-# array LIST: an array job. sbatch --wait looks for the end only after 10 s and 42 s, so squeue says when that was, and array_statuses waits.
+# array LIST [NAME=VALUE..]: an array job, whose workers each have a core.
 array() {
-    "$examples/slurm/array.sh" "$1" -o calls.%a.log &
-    arrays+=("$!")
-    sleep 1
-    while [ -n "$(squeue -h)" ]; do sleep 0.2; done
-    end=$(date +%s%N)
-}
-arrays=()
-
-array_statuses() {
-    local id
-    for id in "${arrays[@]}"; do
-        wait "$id"
-        same 'status of an array' $? 0
-    done
+    env "${@:2}" "$examples/slurm/array.sh" "$1" -Q -p "$partition" 2> err > out
 }
 
 # objects SUFFIX COUNT: a line for each object that isn't nvcc's. Symbols that strip removes hold nvcc's random file names.
@@ -113,11 +104,11 @@ left() {
     sleep 4
     for id in $(own); do
         case $({ tr "\0" " " < "/proc/$id/cmdline"; } 2> /dev/null) in
-        '' | munged* | slurm* | *tests/cluster.sh*) ;;
+        '' | munged* | slurm* | *sbin/sshd* | sshd* | *tests/cluster.sh*) ;;
         *) { tr "\0" " " < "/proc/$id/cmdline"; } 2> /dev/null | cut -c 1-80 ;;
         esac
     done
-    find "$scratch/tmp" -mindepth 2
+    find "$scratch"/tmp "$scratch"/lane.*/tmp -mindepth 2 2> /dev/null
 }
 
 sources() {
@@ -146,6 +137,7 @@ by_nvcc() {
 by_array() {
     calls zigrunk-nvcc array "$compiled" > by_array
     timed array by_array
+    same 'status of the array' "$status$(cat out err)" 0
     same 'objects of the array' "$(objects array "$compiled")" ''
     echo "the same by an array job on three nodes: $seconds s, ideal $(echo "$whole" | awk '{printf "%.1f", $1 / 3}') s"
 }
@@ -198,12 +190,6 @@ sleeping_batch() {
     timed batch 3 by_batch ZIGRUNK_LAUNCHER="$PWD/nap" ZIGRUNK_LAUNCHED='-E cudafe++ cicc ptxas fatbinary -c'
     same 'status of sleeping commands' "$status" 0
     echo "$((sleeping * 13)) commands of 0.3 s by the batch form on three nodes: $seconds s, ideal $((sleeping * 13 / 10)) s"
-}
-
-sleeping_array() {
-    calls zigrunk-nvcc nap "$sleeping" > by_array
-    ZIGRUNK_RUNNER="$PWD/nap" timed array by_array
-    echo "$((sleeping * 13)) commands of 0.3 s by an array job on three nodes: $seconds s, ideal $((sleeping * 13 / 10)) s"
 }
 
 # What Slurm costs for a command that does nothing: as a step, as a job that srun waits for, and as a batch job among others.
@@ -264,30 +250,35 @@ on_nodes() {
 # shellcheck disable=SC2046 # several names
 one_by_one() {
     first=1 second=2 partition=from1
-    [ -z "$(chosen by_array by_batch_form makeflow_sizes makeflow_deaths makeflow_transfer by_files)" ] || try by_nvcc
-    try $(chosen by_array by_batch_form sleeping_batch sleeping_array by_sending costs)
-    first=26 second=27
+    [ -z "$(chosen by_array by_batch_form makeflow_sizes makeflow_deaths makeflow_transfer by_files shared_cache)" ] || try by_nvcc
+    try $(chosen by_array by_batch_form sleeping_batch by_sending costs)
+    first=47 second=48
     with_makeflow=''
     ! makeflow_here || with_makeflow=1
     [ -z "$with_makeflow" ] || try $(chosen makeflow_sizes)
-    try array_statuses
 }
 
 # side_by_side: the other parts, in lanes.
 # shellcheck disable=SC2046 # several names
 side_by_side() {
-    beside commands 1 $(chosen in_preprocessor in_cicc in_ptxas two_nodes)
-    beside nodes 4 $(chosen in_last_compile no_toolkit other_toolkit full_disk no_share tries_run_out)
+    beside commands 1 $(chosen in_preprocessor in_cicc in_ptxas two_nodes in_last_compile)
+    beside nodes 4 $(chosen no_toolkit other_toolkit full_disk no_share read_only tries_run_out)
     beside others 7 $(chosen compile_error cancelled frozen killed_worker killed_stepd blackhole cancelled_step)
     beside lot 10 $(chosen drawn_by_lot)
-    beside controller 29 $(chosen controller)
-    beside ssh 22 $(chosen by_ssh by_files)
-    [ -z "$with_makeflow" ] || beside makeflow 26 $(chosen makeflow_deaths makeflow_transfer makeflow_errors)
+    beside lot_again 22 $(chosen drawn_again)
+    beside daemons 34 $(chosen killed_slurmd restarted_slurmd drained suspended two_batches)
+    beside jobs 37 $(chosen interrupted requeued preempted shared_cache)
+    beside arrays 40 $(chosen array_task_cancelled array_no_share array_interrupted)
+    beside ssh 43 $(chosen by_ssh by_files)
+    [ -z "$with_makeflow" ] || beside makeflow 47 $(chosen makeflow_deaths makeflow_transfer makeflow_errors)
+    beside controller 50 $(chosen controller)
     join_lanes
+    same 'jobs left' "$(squeue -h)" ''
+    same 'processes and directories left' "$(left)" ''
 }
 
 all_parts() {
-    start_nodes 31 || skip_all cluster 'no network namespaces here'
+    start_nodes 52 || skip_all cluster 'no network namespaces here'
     export ZIGRUNK_HOST=$address
     start_slurm 0 || skip_all cluster 'Slurm does not start'
     stand_in

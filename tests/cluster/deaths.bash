@@ -59,9 +59,18 @@ wrong() {
     for number in $(seq "$count"); do cmp "$right/k$number.right" "k$number.$suffix"; done 2>&1
 }
 
+# ends WHAT: waits for the build, and ends it once it takes far too long. Its status is that of the build.
+ends() {
+    local last=$((SECONDS + ${HANGS:-240}))
+    while kill -0 "$job" 2> /dev/null && [ "$SECONDS" -lt "$last" ]; do sleep 0.1; done
+    same "a build that hangs, $1" "$(kill -0 "$job" 2> /dev/null && echo yes)" ''
+    kill "$job" 2> /dev/null
+    wait "$job"
+}
+
 # finish WHAT [PATTERN]: the build ends with 0 and all objects, and says no more than lines that match.
 finish() {
-    wait "$job"
+    ends "$1"
     same "status $1" $? 0
     same "objects $1" "$(wrong)" ''
     same "messages $1" "$(grep -h -v -e '^salloc: error: Node failure' -e "$lost" -e '^zigrunk-batch: what starts workers' -e '^srun: ' -e '^slurmstepd: ' -e '^$' ${2:+-e "$2"} out err)" ''
@@ -223,10 +232,31 @@ no_share() {
     prepared "mount -t tmpfs none '$scratch/tmp'" 'no_share' "n$second gets no work: it doesn't see $scratch/tmp"
 }
 
-# Deaths at moments drawn from SEED: in each of three builds ten of twelve nodes vanish one after the other, with old objects there before.
+# dies NUMBER: a node dies in a way that is drawn from SEED. It serves no more commands of this build.
+dies() {
+    local how=$((RANDOM % 6)) ids
+    ids=$(processes_of "$1")
+    case $how in
+    0) link "$1" down ;;
+    1) end_processes "$1" ;;
+    2) xargs -r kill -STOP <<< "$ids" ;;
+    3) end_of "$1" zigrunk-worker ;;
+    4) end_of "$1" slurmstepd ;;
+    *) power_off "$1" ;;
+    esac
+    echo "$how" >> "$scratch/deaths"
+}
+
+# end_of NUMBER PROGRAM: kills what runs there of a program.
+end_of() {
+    # shellcheck disable=SC2046 # several ids
+    kill -9 $(processes_of "$1" | xargs -r ps -o pid=,args= -p | awk -v name="$2" 'index($2, name) { print $1 }') 2> /dev/null
+}
+
+# Deaths at moments and of kinds drawn from SEED: in each of three builds ten of twelve nodes die one after the other, with old objects there before.
 drawn_by_lot() {
     local turn all left number
-    RANDOM=${SEED:-1}
+    RANDOM=$SEED
     all=$(seq -s ' ' "$first" "$((first + 11))")
     for turn in 1 2 3; do
         for number in $(seq 24); do echo old > "$scratch/stand_in/k$number.lot"; done
@@ -236,11 +266,17 @@ drawn_by_lot() {
         while [ "${#left[@]}" -gt 2 ]; do
             sleep "$((RANDOM % 2)).$((RANDOM % 10))"
             number=$((RANDOM % ${#left[@]}))
-            power_off "${left[number]}"
+            dies "${left[number]}"
             left=("${left[@]:0:number}" "${left[@]:number+1}")
         done
         finish "of build $turn with ten deaths drawn by lot"
-        for number in $all; do [[ " ${left[*]} " = *" $number "* ]] || start_node "$number"; done
+        for number in $all; do [[ " ${left[*]} " = *" $number "* ]] || { end_processes "$number" && start_node "$number"; }; done
         wait_idle
     done
+    echo "deaths by lot with SEED=$SEED, by link, processes, standing still, worker, slurmstepd, power: $(for number in 0 1 2 3 4 5; do grep -c "$number" "$scratch/deaths"; done | paste -sd ' ')"
+}
+
+# The same with another seed, on other nodes.
+drawn_again() {
+    SEED=$((SEED + 1)) drawn_by_lot
 }

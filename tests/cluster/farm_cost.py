@@ -3,10 +3,11 @@
 
     tests/cluster/farm_cost.py [--calls N] [--naps N] DRIVER
 
-For N calls for ten targets, 60 unless you say so, on 200 workers of four slots, it prints the processor's time of zigrunk-batch for each command, its
-memory, and when the first command ends; for 60 commands that do nothing on three real workers, its time for each; and for N calls of commands that
-take 0.3 seconds on three workers of one slot, 39 unless you say so, how much longer it takes than the commands alone. All have to stay within the
-limits below. Those of times count only if nothing else keeps this machine busy. The last line is 'N passed, M failed'.
+For N calls for ten targets, 60 unless you say so, on 200 workers of four slots, it prints the processor's time of zigrunk-batch for each command,
+its memory, when the first command ends, and how long the batch goes on once all is made; for 60 commands that do nothing on three real workers, its
+time for each; and for N calls of commands that take 0.3 seconds on three workers of one slot, 39 unless you say so, how much longer it takes than
+the commands alone. All have to stay within the limits below. Those of times count only if nothing else keeps this machine busy. The last line is 'N
+passed, M failed'.
 """
 import argparse
 import os
@@ -25,6 +26,7 @@ MOST_MILLISECONDS = 2.0  # of the batch's process for a command
 MOST_MEGABYTES = 2000.0
 MOST_START = 5.0
 MOST_OVER = 1.1  # of what the commands take alone
+MOST_TAIL = 3.0  # per cent of the time, once the last product is there
 NAP = 0.3
 
 
@@ -43,6 +45,8 @@ class Run:
             self.first = time.monotonic() - begun if b" commands" in Path("progress").read_bytes() else 0.0
         os.waitid(os.P_PID, process, os.WEXITED | os.WNOWAIT)
         self.seconds = time.monotonic() - begun
+        last = max((file.stat().st_mtime for file in Path().glob("*.o")), default=time.time())
+        self.tail = 100 * (time.time() - last) / self.seconds
         own = Path(f"/proc/{process}/stat").read_text().rpartition(")")[2].split()
         self.milliseconds = 1000 * (int(own[11]) + int(own[12])) / os.sysconf("SC_CLK_TCK")
         _, status, used = os.wait4(process, 0)
@@ -88,7 +92,8 @@ def rows(driver: Path, environment: dict[str, str], folder: Path, args: argparse
              ("MB of it", many.megabytes, MOST_MEGABYTES),
              ("ms of it for a command that does nothing", (more.milliseconds - few.milliseconds) / 60, MOST_MILLISECONDS)]
     if os.getloadavg()[0] < (os.cpu_count() or 1):
-        return [*found, ("s until commands have ended", many.first, MOST_START), ("of the ideal time", naps.seconds / ideal, MOST_OVER)]
+        return [*found, ("s until commands have ended", many.first, MOST_START), ("% of the time once all is made", many.tail, MOST_TAIL),
+                ("of the ideal time", naps.seconds / ideal, MOST_OVER)]
     print("times: skipped, this machine is busy")
     return found
 
@@ -119,7 +124,7 @@ def main() -> int:
         for what, value, most in found:
             failed += value > most
             print(f"{value:7.2f} of {most:7.2f}  {what}")
-    skipped = "" if len(found) == 5 else ", 1 skipped"
+    skipped = "" if len(found) == 6 else ", 1 skipped"
     print(f"{len(found) - failed} passed, {failed} failed{skipped}")
     return int(failed > 0)
 

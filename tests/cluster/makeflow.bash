@@ -109,8 +109,8 @@ makeflow_errors() {
 
 # makeflow_here: whether this machine has Makeflow.
 makeflow_here() {
-    for tool in makeflow work_queue_worker; do
-        command -v "$tool" > /dev/null || { skip makeflow "$tool is not on the path (package coop-computing-tools)" && return 1; }
+    for tool in makeflow:coop-computing-tools work_queue_worker:coop-computing-tools orted:openmpi-bin; do
+        command -v "${tool%:*}" > /dev/null || { skip makeflow "${tool%:*} is not on the path (package ${tool#*:})" && return 1; }
     done
     # its library for MPI asks for these from root
     export OMPI_ALLOW_RUN_AS_ROOT=1 OMPI_ALLOW_RUN_AS_ROOT_CONFIRM=1

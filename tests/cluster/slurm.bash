@@ -52,13 +52,17 @@ AccountingStorageType=accounting_storage/none
 JobAcctGatherType=jobacct_gather/none
 MpiDefault=none
 SlurmdParameters=config_overrides
+PreemptType=preempt/partition_prio
+PreemptMode=REQUEUE
+MaxStepCount=40
 END
         for number in $numbers; do
             echo "NodeName=n$number NodeAddr=$net.$number CPUs=1 RealMemory=2000 State=UNKNOWN"
         done
         for number in $partitions; do
-            echo "PartitionName=from${number%-*} Nodes=n[$number] Default=$([ "${number%-*}" = 1 ] && echo YES || echo NO) MaxTime=INFINITE State=UP"
+            echo "PartitionName=from${number%-*} Nodes=n[$number] Default=$([ "${number%-*}" = 1 ] && echo YES || echo NO) MaxTime=INFINITE State=UP PriorityTier=1"
         done
+        [ "$1" != 0 ] || echo 'PartitionName=urgent Nodes=n[37-39] Default=NO State=UP PriorityTier=10'
     } > "$SLURM_CONF"
     start_controller -c || return
     for number in $numbers; do start_node "$number" || return; done

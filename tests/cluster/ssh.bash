@@ -52,7 +52,7 @@ by_ssh() {
     : > "$TOOL_LOG"
     # shellcheck disable=SC2034 # wrong reads them
     suffix=ssh count=12
-    calls_of_two ssh 12 | sed "s,^nvcc,env NVCC=$NVCC TOOL_LOG=$TOOL_LOG TOOL_SECONDS=0.3 zigrunk-nvcc," > by_ssh
+    calls_of_two ssh 12 | sed "s,^nvcc,env ZIGRUNK_EARLY=0 ZIGRUNK_LATE=0 NVCC=$NVCC TOOL_LOG=$TOOL_LOG TOOL_SECONDS=0.3 zigrunk-nvcc," > by_ssh
     PATH=$tools:$PATH "$examples/ssh/parallel.sh" "$run/machines" by_ssh > out 2> err &
     id=$! job=$!
     moment 1 "^start n$second cicc"

@@ -30,7 +30,7 @@ products = PRODUCTS.get(tool, ["-o"])
 makes: list[str] = []
 reads: list[str] = []
 others = [tool]
-node = os.environ.get("SLURMD_NODENAME") or os.uname().nodename
+node = os.uname().nodename
 
 
 def note(kind: str, name: str = "") -> None:
@@ -100,8 +100,11 @@ finally:
         os.remove(scratch)
 hold = os.environ.get("TOOL_HOLD", "")
 time.sleep(seconds + 10 if hold and re.match(hold, f"{node} {tool} {''.join(makes[:1])}") else seconds)
+# By this a batch knows what a call has read.
+marker = b'# 0 "<built-in>"\n' if "-E" in words else b""
 for number, name in enumerate(makes):
     with open(name, "wb", buffering=0) as product:
+        product.write(marker)
         product.write(f"{text} {number}\n".encode() * 50)
         time.sleep(seconds / 6)
         product.write(END)
