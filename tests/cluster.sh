@@ -111,6 +111,11 @@ left() {
     find "$scratch"/tmp "$scratch"/lane.*/tmp -mindepth 2 2> /dev/null
 }
 
+# left_in_tmp: what is in the directory that all share, but for the user's folder, which stays.
+left_in_tmp() {
+    find "$scratch/tmp" -mindepth 1 ! -path "$scratch/tmp/zigrunk-0"
+}
+
 sources() {
     for number in $(seq 30); do
         cat > "k$number.cu" << END

@@ -33,7 +33,7 @@ end_makeflow() {
     wait "$job"
     same "status $1" $? "$2"
     seconds=$(printf '%s\n' $((($(date +%s%N) - start) / 100000000)) | sed 's/.$/.&/')
-    same "files left $1" "$(ls -A "$scratch/tmp")" ''
+    same "files left $1" "$(left_in_tmp)" ''
     for number in 0 1 2; do end_processes "$((first + number))"; done
     same "workers left $1" "$(pgrep -f "^work_queue_worker.* $address $port")" ''
 }

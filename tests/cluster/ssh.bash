@@ -132,7 +132,7 @@ by_files() {
     echo "$compiled calls for 3 targets over ssh without a shared disk, with four machines of which three are lost: $((SECONDS - begun)) s"
     by_files_errors
     same 'what remote.py leaves on a machine' "$(ssh -F "$run/ssh_config" m3 'ls -A /tmp')" ''
-    same 'what remote.py leaves here' "$(ls -A "$scratch/tmp")$(pgrep -fa "ControlPath=/tmp/zigrunk.*$run/ssh_config")" ''
+    same 'what remote.py leaves here' "$(left_in_tmp)$(pgrep -fa "ControlPath=/tmp/zigrunk.*$run/ssh_config")" ''
 }
 
 by_files_errors() {
