@@ -363,6 +363,22 @@ mod tests {
     }
 
     #[test]
+    fn all_that_is_known_are_options() {
+        for known in [CUDA_FE, CICC, PTXAS, HOST] {
+            let lists = [known.alone, known.beginnings, known.with_value, known.naming];
+            assert!(lists.concat().iter().all(|word| word.len() > 1 && word.starts_with('-')), "{lists:?}");
+            assert!(known.naming.iter().all(|word| known.alone.contains(word) || known.beginnings.contains(word)), "{lists:?}");
+        }
+    }
+
+    #[test]
+    fn a_host_compiler_takes_each_word() {
+        let tried = std::process::Command::new("g++").args(["-x", "c++", "-fsyntax-only", "/dev/null"]).args(HOST.alone).output();
+        let tried = tried.ok().filter(|_| cfg!(target_arch = "x86_64"));
+        assert!(tried.as_ref().is_none_or(|tried| tried.status.success()), "{tried:?}");
+    }
+
+    #[test]
     fn other_words_are_not() {
         let cases = [
             (Kind::CudaFe, "--error_output=e.txt"),
