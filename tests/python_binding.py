@@ -303,6 +303,8 @@ class Calls(unittest.TestCase):
         tool = zigrunk.CommandTool.CICC
         environment = {"PWD": "/t", "HOME": "/"}
         self.assertEqual(zigrunk.command_key(tool, ["cicc", "\udcff/t/a"], environment, ["/t"]), b"cicc\x000\xff\0A/a\x000PWD\x001\0A\x002")
+        roots = zigrunk.command_key(tool, ["-I/u/proj", "/u/proj-deps/a", "/u/proj/a/k.cu"], {}, ["/u/proj", "/u/proj/a"])
+        self.assertEqual(roots, b"-I\0A\x000/u/proj-deps/a\x000\0B/k.cu\x000")
         self.assertEqual(zigrunk.command_key(zigrunk.CommandTool.HOST, []), b"")
         self.assertEqual(len(zigrunk.command_key(tool, ["w" * 100_000])), 100_002)
         self.rejects(zigrunk.Status.BAD_LINE, "a text contains NUL", zigrunk.command_key, tool, ["a\0b"])

@@ -233,7 +233,7 @@ typedef struct zigrunk_key_call {
     size_t words_count;
     const zigrunk_variable *variables; /* its environment; of a name that occurs twice, the last value counts */
     size_t variables_count;
-    const zigrunk_text *roots; /* directories whose paths don't count, at most 26; one that is in another comes before it */
+    const zigrunk_text *roots; /* directories whose paths don't count, absolute and without / at the end; at most 26 */
     size_t roots_count;
     uint32_t tool;     /* ZIGRUNK_TOOL_CICC .. as zigrunk_step has it */
     uint32_t reserved; /* 0 */
@@ -472,9 +472,11 @@ ZIGRUNK_CHECK_RESULT zigrunk_list_answer zigrunk_nvcc_line(const zigrunk_nvcc_ca
 
 /* Writes the key of a command, the text that a cache hashes together with the contents of the command's files and whatever tells one
  * version of the tool from another. The key has the words and those variables that may change what the tool makes, and a mark
- * in place of each root, wherever a text has it. So commands with the same key differ only in their roots, and a command has the
- * same key in another temporary directory, unless the path of that one also occurs elsewhere in the command. PWD counts for cicc and
- * host compilers, whose debugging information has it: set it to the command's directory, or leave it out.
+ * in place of each root: /u/proj in /u/proj/k.cu, not in /u/proj-deps. Of a root and one in it the inner one counts, in whatever
+ * order they are; a root's mark says its place in the list. So commands with the same key differ only in their roots, and a command
+ * has the same key in another temporary directory, unless the path of that one also occurs elsewhere in the command. A root that
+ * isn't absolute is a name, which counts wherever a text has it. PWD counts for cicc and host compilers, whose debugging information
+ * has it: set it to the command's directory, or leave it out.
  *
  * ZIGRUNK_BAD_NUMBER if a number has no meaning or there are more than 26 roots, ZIGRUNK_BAD_LINE if a text contains NUL. */
 ZIGRUNK_CHECK_RESULT zigrunk_text_answer zigrunk_command_key(const zigrunk_key_call *call, uint8_t *out, size_t out_size);

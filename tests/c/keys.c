@@ -40,11 +40,32 @@ static void check_words(void) {
     release(a);
     call.roots = roots, call.roots_count = 3;
     a = ask_text(call_key, &call);
-    CHECK(IS_KEY(&a, "cicc\0000-I\0A\0C\0000\0000\0Ct\0000\xff\0000"));
+    CHECK(IS_KEY(&a, "cicc\0000-I\0A\0C\0000\0000/tt\0000\xff\0000"));
     release(a);
     call.words_count = 0;
     a = ask_text(call_key, &call);
     CHECK(IS_KEY(&a, ""));
+    release(a);
+}
+
+/* Roots end where a name ends, and of a root and one in it the inner one counts, in any order. */
+static void check_roots(void) {
+    zigrunk_text words[] = {text_of("-I/u/proj"), text_of("/u/proj-deps/a"), text_of("/u/proj/a/k.cu"), text_of("-I/u/proj/ab")};
+    zigrunk_text outer_first[] = {text_of("/u/proj"), text_of("/u/proj/a")}, inner_first[] = {outer_first[1], outer_first[0]};
+    zigrunk_key_call call = key_call_of(ZIGRUNK_TOOL_CICC, words, 4);
+    call.roots = outer_first, call.roots_count = 2;
+    answer a = ask_text(call_key, &call);
+    CHECK(IS_KEY(&a, "-I\0A\0000/u/proj-deps/a\0000\0B/k.cu\0000-I\0A/ab\0000"));
+    release(a);
+    call.roots = inner_first;
+    a = ask_text(call_key, &call);
+    CHECK(IS_KEY(&a, "-I\0B\0000/u/proj-deps/a\0000\0A/k.cu\0000-I\0B/ab\0000"));
+    release(a);
+    /* a root that isn't absolute is a name, and counts anywhere */
+    zigrunk_text name = text_of("proj");
+    call.roots = &name, call.roots_count = 1;
+    a = ask_text(call_key, &call);
+    CHECK(IS_KEY(&a, "-I/u/\0A\0000/u/\0A-deps/a\0000/u/\0A/a/k.cu\0000-I/u/\0A/ab\0000"));
     release(a);
 }
 
@@ -56,7 +77,7 @@ static void check_variables(void) {
     zigrunk_key_call call = key_call_of(ZIGRUNK_TOOL_HOST, &word, 1);
     call.variables = variables, call.variables_count = 6, call.roots = &root, call.roots_count = 1;
     answer a = ask_text(call_key, &call);
-    CHECK(IS_KEY(&a, "g++\0000CPATH\0001:\0A:/u\0002PWD\0001\0A\0002"));
+    CHECK(IS_KEY(&a, "g++\0000CPATH\0001:/t:/u\0002PWD\0001\0A\0002"));
     release(a);
     call.tool = ZIGRUNK_TOOL_CICC;
     a = ask_text(call_key, &call);
@@ -139,7 +160,7 @@ static size_t put(char *at, const char *text) {
 
 /* The same command twice, in two places, and its key. */
 static size_t made(command *one, command *other, char *key) {
-    static const char *const pieces[] = {"-o", "a", "/", "/a.o", "=", ":", "t", "\x01", "A0", "\xc3"};
+    static const char *const pieces[] = {"-o", "a", "/", "/a.o", "=", ":", "t", "\x01", "A0", "\xc3", "/tt", "/Tt", "/w-", "/V/V."};
     size_t first = 0, second = 0, length = 0;
     for (int i = 0; i < WORDS; i++) {
         size_t first_start = first, second_start = second;
@@ -149,9 +170,10 @@ static size_t made(command *one, command *other, char *key) {
                 first += put(one->bytes + first, here[number]);
                 second += put(other->bytes + second, there[number]);
                 key[length++] = '\0', key[length++] = (char)('A' + number);
-                /* "/t" and then "/u" would be another root. */
-                first += put(one->bytes + first, "."), second += put(other->bytes + second, ".");
-                key[length++] = '.';
+                /* Before the end of a word nothing has to follow. "/t" and then "/u" would be another root. */
+                const char *end = left == 1 ? "" : "/.";
+                first += put(one->bytes + first, end), second += put(other->bytes + second, end);
+                length += put(key + length, end);
             } else {
                 const char *piece = pieces[number - ROOTS];
                 /* "/" and then "t" would be a root. */
@@ -231,6 +253,7 @@ static void check_many(void) {
 
 int main(int count, char **arguments) {
     check_words();
+    check_roots();
     check_variables();
     check_refusals();
     check_random(count > 1 ? atol(arguments[1]) : 1000);

@@ -1137,9 +1137,9 @@ def command_key(tool: CommandTool, words: Sequence[str],
     the tool from another.
 
     `words` begins with the program. The key has these words and those variables that may change what the tool makes, and a mark in place of
-    each root, wherever a text has it: a directory whose path doesn't count, such as the temporary one. One that is in another comes
-    before it. So commands with the same key differ only in their roots. PWD counts for cicc and host compilers, whose debugging
-    information has it: set it to the command's directory, or leave it out.
+    each root: a directory whose path doesn't count, such as the temporary one, absolute and without `/` at the end. Of a root and one in it
+    the inner one counts, in whatever order they are; a root's mark says its place in the list. So commands with the same key differ only in
+    their roots. PWD counts for cicc and host compilers, whose debugging information has it: set it to the command's directory, or leave it out.
 
     Raises `ZigrunkError` if there are more than 26 roots, or if a text contains NUL.
     """

@@ -14,15 +14,16 @@ pub struct KeyCall<'a, S> {
     pub words: &'a [S],
     /// Its environment. Of a name that occurs twice, the last value counts.
     pub variables: &'a [Variable<'a>],
-    /// Directories whose paths don't count, such as the temporary one; at most 26. One that is in another comes before it.
+    /// Directories whose paths don't count, such as the temporary one: absolute, without `/` at the end, at most 26.
     pub roots: &'a [&'a Path],
 }
 
 /// The key of a command: the bytes that a cache hashes together with the contents of the command's files and whatever tells one version
 /// of the tool from another.
 ///
-/// The key has the words and those variables that may change what the tool makes, and a mark in place of each root, wherever a text has
-/// it. So commands with the same key differ only in their roots, and a command has the same key in another temporary
+/// The key has the words and those variables that may change what the tool makes, and a mark in place of each root: `/u/proj` in
+/// `/u/proj/k.cu`, not in `/u/proj-deps`. Of a root and one in it the inner one counts, in whatever order they are; a root's mark says
+/// its place in the list. So commands with the same key differ only in their roots, and a command has the same key in another temporary
 /// directory, unless the path of that one also occurs elsewhere in the command. `PWD` counts for cicc and host compilers, whose debugging
 /// information has it: set it to the command's directory, or leave it out.
 ///

@@ -3,43 +3,51 @@ use Rattle.std.proofs.Common.{◌≡◌, ℕ, zero, suc, ◌+◌, ◌-◌, ◌<�
 use Rattle.std.specs.List.{position_from, list_all}
 use Rattle.std.proofs.lemmas.Bool.{false≢true, and_parts, and_from, false_from_ne_true}
 use Rattle.std.proofs.lemmas.Slice.Eq.{bytes_eq-Decides}
+use Rattle.std.proofs.Math.Seq.{drop-append_seam}
 use Rattle.std.proofs.lemmas.Option.{none-some, same_Some}
 use Rattle.texts.specs.Path.{lacks}
 use Rattle.command_keys.specs.declared.marks.Part.{Part}
 use Rattle.command_keys.specs.declared.marks.Part.TheVariants.{Byte, Root}
-use Rattle.command_keys.specs.Marks.{begins_with, root_at, root_of, part_at, length_behind, parts_past, parts, text_of_part, text_of, are_told}
+use Rattle.command_keys.specs.Marks.{has_in_front, begins_with, begins_with_all, may_end, longest, root_at, root_of, part_at, length_behind, parts_past, parts, text_of_part, text_of, are_told, is_told}
 
 -- a text that begins with a root is the root and the rest
+front-split : (c : ℕ) (cs root : List ℕ) → has_in_front (c ∷ cs) root ≡ true → root ++ drop (length root - 1) cs ≡ c ∷ cs
+front-split c cs root h = grind (arith, false≢true, bytes_eq-Decides, sub-one, take-append-drop)
+
 begins-split : (c : ℕ) (cs root : List ℕ) → begins_with (c ∷ cs) root ≡ true → root ++ drop (length root - 1) cs ≡ c ∷ cs
-begins-split c cs root h = grind (arith, false≢true, bytes_eq-Decides, sub-one, take-append-drop)
+begins-split c cs root h = front-split c cs root (and_parts (has_in_front (c ∷ cs) root) (may_end root (drop (length root) (c ∷ cs))) h).0
 
 -- the position that is found, counted from the first of the list
-record Found (text : List ℕ) (roots : List (List ℕ)) (start number : ℕ) : Type 0 where
+record Found (text : List ℕ) (most : ℕ) (roots : List (List ℕ)) (start number : ℕ) : Type 0 where
   pub place : ℕ
   pub is : number ≡ start + place
   pub within : place < length roots
-  pub begins : begins_with text (get_or roots place []) ≡ true
+  pub begins : begins_with_all text most (get_or roots place []) ≡ true
 
-found-from : (text : List ℕ) (roots : List (List ℕ)) (start number : ℕ) → position_from (begins_with text) start roots ≡ Some number → Found text roots start number
-found-from text [] start number e = absurd (none-some number e)
-found-from text (root ∷ roots) start number e =
-    elim (begins_with text root) as (λ b. begins_with text root ≡ b → cond b (Some start) (position_from (begins_with text) (start + 1) roots) ≡ Some number → Found text (root ∷ roots) start number) [
+found-from : (text : List ℕ) (most : ℕ) (roots : List (List ℕ)) (start number : ℕ) → position_from (begins_with_all text most) start roots ≡ Some number → Found text most roots start number
+found-from text most [] start number e = absurd (none-some number e)
+found-from text most (root ∷ roots) start number e =
+    elim (begins_with_all text most root) as (λ b. begins_with_all text most root ≡ b → cond b (Some start) (position_from (begins_with_all text most) (start + 1) roots) ≡ Some number → Found text most (root ∷ roots) start number) [
       | true ↦ λ is e.
           let same : start ≡ number = same_Some start number e in
           record { place = 0; is = omega (arith, same); within = omega arith; begins = is }
       | false ↦ λ is e.
-          let more = found-from text roots (start + 1) number e in
+          let more = found-from text most roots (start + 1) number e in
           let at : number ≡ start + 1 + more.place = more.is in
           let below : more.place < length roots = more.within in
           record { place = suc more.place; is = omega (arith, at); within = omega (arith, below); begins = more.begins }
     ] refl e
 
--- a root that is found begins the text, and has a number of the list
+-- a root that is found is the longest that begins the text
+pub root-found : (roots : List (List ℕ)) (text : List ℕ) (number : ℕ) → root_at roots text ≡ Some number → begins_with_all text (longest text roots) (root_of roots number) ≡ true
+root-found roots text number e = grind (arith, (found-from text (longest text roots) roots 0 number e))
+
+-- it begins the text, and has a number of the list
 pub root-begins : (roots : List (List ℕ)) (text : List ℕ) (number : ℕ) → root_at roots text ≡ Some number → begins_with text (root_of roots number) ≡ true
-root-begins roots text number e = grind (arith, (found-from text roots 0 number e))
+root-begins roots text number e = (and_parts (begins_with text (root_of roots number)) (length (root_of roots number) == longest text roots) (root-found roots text number e)).0
 
 pub root-within : (roots : List (List ℕ)) (text : List ℕ) (number : ℕ) → root_at roots text ≡ Some number → number < length roots
-root-within roots text number e = grind (arith, (found-from text roots 0 number e))
+root-within roots text number e = grind (arith, (found-from text (longest text roots) roots 0 number e))
 
 -- the text of the parts is the text
 pub text-past : (roots : List (List ℕ)) (skipped : ℕ) (text : List ℕ) → text_of roots (parts_past skipped roots text) ≡ drop skipped text
@@ -67,11 +75,20 @@ root-first : (roots : List (List ℕ)) (number : ℕ) (root rest : List ℕ) →
 root-first roots number [] rest is begins e = grind (arith, false≢true)
 root-first roots number (r ∷ rs) rest is begins e = grind (arith, sub-one, parts-behind)
 
+told-root : (number : ℕ) (found : Option ℕ) → is_told (Root number) found ≡ true → found ≡ Some number
+told-root number None h = absurd (false≢true h)
+told-root number (Some other) h = grind (arith, h)
+
 -- parts are found again in their text
 pub parts-told : (roots : List (List ℕ)) (ps : List Part) → are_told roots ps ≡ true → parts roots (text_of roots ps) ≡ ps
 parts-told roots [] h = refl
 parts-told roots (Byte byte ∷ ps) h = grind (arith, (parts-told roots ps))
-parts-told roots (Root number ∷ ps) h = grind (arith, root-first, root-begins, (parts-told roots ps))
+parts-told roots (Root number ∷ ps) h =
+    let text = root_of roots number ++ text_of roots ps in
+    let both = and_parts (is_told (Root number) (root_at roots text)) (are_told roots ps) h in
+    let at : root_at roots text ≡ Some number = told-root number (root_at roots text) both.0 in
+    root-first roots number (root_of roots number) (text_of roots ps) refl (root-begins roots text number at) at
+    ∙ ap (λ parts. Root number ∷ parts) (parts-told roots ps both.1)
 
 -- a text without NUL has no part that is NUL
 abbrev pub is_plain_part : Part → Bool
@@ -89,10 +106,16 @@ plain-past roots zero (c ∷ cs) h =
       | Some number ↦ plain-past roots (length (root_of roots number) - 1) cs both.1
     ]
 
+-- a text with a root's bytes in front begins with it if it may end there
+pub behind_bytes : (text root rest : List ℕ) → has_in_front text root ≡ true → text ≡ root ++ rest → begins_with text root ≡ may_end root rest
+behind_bytes text root rest front is =
+    ap (λ b. b && may_end root (drop (length root) text)) front
+    ∙ ap (may_end root) (ap (drop (length root)) is ∙ drop-append_seam root rest)
+
 -- what std says of a root that is stripped off
 pub stripped : (text root : List ℕ) (rest : Option (Bor (List ℕ))) → (length root == 0) ≡ false →
     MatchOption rest (bytes_eq (take (length root) text) root ≡ false) (λ r. (bytes_eq (take (length root) text) root ≡ true) × (r.now ≡ drop (length root) text) × (length r.now + length root ≡ length text)) →
-    MatchOption rest (begins_with text root ≡ false) (λ r. (begins_with text root ≡ true) × (text ≡ root ++ r.now))
+    MatchOption rest (has_in_front text root ≡ false) (λ r. (has_in_front text root ≡ true) × (text ≡ root ++ r.now))
 stripped text root rest some h = grind (arith, false≢true, false_from_ne_true, bytes_eq-Decides, take-append-drop)
 
 -- a text that begins with a root, and what follows it

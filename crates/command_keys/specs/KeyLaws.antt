@@ -1,7 +1,8 @@
 -- The laws of keys, for all commands and all roots.
-use Rattle.std.specs.Prelude.{◌≡◌, ℕ, List, true}
+use Rattle.std.specs.Prelude.{◌≡◌, ◌≤◌, ℕ, List, true, Some, length}
 use Rattle.command_keys.specs.Keys.{Command, command_key, is_plain, renamed_command, are_free}
 use Rattle.command_keys.specs.KeyReading.{restored}
+use Rattle.command_keys.specs.Marks.{begins_with, root_at, root_of}
 
 -- a key is read back as its command
 abbrev pub KeysReadBack : Type 0
@@ -18,3 +19,10 @@ abbrev pub RenamedKeysAreEqual : Type 0
 RenamedKeysAreEqual =
     (roots others : List (List ℕ)) (command : Command) → are_free roots others command ≡ true →
     command_key others (renamed_command roots others command) ≡ command_key roots command
+
+-- the root that counts is the innermost, wherever it is in the list: a text begins with it, and with no longer one
+abbrev pub InnermostCounts : Type 0
+InnermostCounts =
+    (roots : List (List ℕ)) (text : List ℕ) (number other : ℕ) → root_at roots text ≡ Some number →
+    (begins_with text (root_of roots number) ≡ true)
+    × (begins_with text (root_of roots other) ≡ true → length (root_of roots other) ≤ length (root_of roots number))

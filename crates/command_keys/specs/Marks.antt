@@ -1,17 +1,43 @@
 -- Texts in which marks replace roots: directories whose paths don't count, such as a temporary one.
-use Rattle.std.specs.Prelude.{◌≡◌, ℕ, zero, suc, ◌-◌, ◌==◌, List, [], ◌∷◌, nat_eq, length, get_or, Bool, true, false, ◌&&◌, Option, Some, None, refl, codes}
+use Rattle.std.specs.Prelude.{◌≡◌, ℕ, zero, suc, ◌-◌, ◌==◌, List, [], ◌∷◌, nat_eq, nat_lt, length, drop, get_or, fold, Bool, true, false, not, ◌&&◌, ◌||◌, if◌then◌else◌, Option, Some, None, refl, codes}
 use Rattle.std.specs.List.{flat_map, position_from, starts_with}
 use Rattle.command_keys.specs.declared.marks.Part.{Part}
 use Rattle.command_keys.specs.declared.marks.Part.TheVariants.{Byte, Root}
 
--- whether a text begins with a root; with an empty one, none does
-abbrev pub begins_with : List ℕ → List ℕ → Bool
-begins_with text [] = false
-begins_with text (c ∷ cs) = starts_with nat_eq text (c ∷ cs)
+-- whether nothing follows, or a `/`: `-deps` behind `/u/proj` is of another name
+abbrev pub ends_name : List ℕ → Bool
+ends_name [] = true
+ends_name (c ∷ cs) = c == 47
 
--- the number of the first root of the list that a text begins with
+-- whether a root may end in front of a rest: an absolute path where its last name ends, another text anywhere
+abbrev pub may_end : List ℕ → List ℕ → Bool
+may_end [] rest = true
+may_end (c ∷ cs) rest = not (c == 47) || ends_name rest
+
+-- whether a text has a root's bytes in front; those of an empty one, none has
+abbrev pub has_in_front : List ℕ → List ℕ → Bool
+has_in_front text [] = false
+has_in_front text (c ∷ cs) = starts_with nat_eq text (c ∷ cs)
+
+-- whether a text begins with a root
+abbrev pub begins_with : List ℕ → List ℕ → Bool
+begins_with text root = has_in_front text root && may_end root (drop (length root) text)
+
+-- the length of the longest root so far that a text begins with, given a further root
+abbrev pub with_longer : List ℕ → ℕ → List ℕ → ℕ
+with_longer text most root = if begins_with text root && nat_lt most (length root) then length root else most
+
+-- the length of the longest root that a text begins with, 0 if there is none
+abbrev pub longest : List ℕ → List (List ℕ) → ℕ
+longest text roots = fold (with_longer text) 0 roots
+
+-- whether a text begins with a root that has this length
+abbrev pub begins_with_all : List ℕ → ℕ → List ℕ → Bool
+begins_with_all text most root = begins_with text root && (length root == most)
+
+-- the number of the innermost root that a text begins with: the longest, wherever it is in the list
 abbrev pub root_at : List (List ℕ) → List ℕ → Option ℕ
-root_at roots text = position_from (begins_with text) 0 roots
+root_at roots text = position_from (begins_with_all text (longest text roots)) 0 roots
 
 -- the root with a number; empty if there is none
 abbrev pub root_of : List (List ℕ) → ℕ → List ℕ
@@ -61,12 +87,18 @@ abbrev pub are_told : List (List ℕ) → List Part → Bool
 are_told roots [] = true
 are_told roots (part ∷ parts) = is_told part (root_at roots (text_of roots (part ∷ parts))) && are_told roots parts
 
--- Examples: the first root of the list counts, roots follow each other, and an empty root is nowhere.
-pub first_root_counts : parts (codes "/t" ∷ codes "/t/u" ∷ []) (codes "a/t/u") ≡ Byte 97 ∷ Root 0 ∷ Byte 47 ∷ Byte 117 ∷ []
-first_root_counts = refl
+-- Examples: the innermost root counts, in any order; a directory ends where its name does; a name is everywhere, and an empty root nowhere.
+pub inner_root_counts : parts (codes "/t" ∷ codes "/t/u" ∷ []) (codes "a/t/u") ≡ Byte 97 ∷ Root 1 ∷ []
+inner_root_counts = refl
 
 pub inner_root_first : parts (codes "/t/u" ∷ codes "/t" ∷ []) (codes "/t/u/t") ≡ Root 0 ∷ Root 1 ∷ []
 inner_root_first = refl
+
+pub longer_names_are_others : parts (codes "/t/u" ∷ codes "/t" ∷ []) (codes "/t/u-x") ≡ Root 1 ∷ Byte 47 ∷ Byte 117 ∷ Byte 45 ∷ Byte 120 ∷ []
+longer_names_are_others = refl
+
+pub of_equal_roots_the_first : parts (codes "/t" ∷ codes "/t" ∷ []) (codes "/t") ≡ Root 0 ∷ []
+of_equal_roots_the_first = refl
 
 pub no_root_overlaps : parts (codes "aa" ∷ []) (codes "aaa") ≡ Root 0 ∷ Byte 97 ∷ []
 no_root_overlaps = refl

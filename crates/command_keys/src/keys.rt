@@ -71,9 +71,10 @@ fn push_variables(
 
 /// The key of a command: its `words`, the program first, and `variables`, names with their values, in the order given.
 ///
-/// In each text, from the left, a mark replaces each of `roots` that begins there, wherever that is: NUL and a letter, `A` for
-/// the first root. Of several that begin at one byte, the first of the list counts, so put a directory before one that
-/// contains it. An empty root is nowhere. NUL and `0` end a word, NUL and `1` a name, NUL and `2` a value.
+/// In each text, from the left, a mark replaces each of `roots` that begins there: NUL and a letter, `A` for the first root of the list.
+/// A root that begins with `/` is a directory, and counts only in front of a `/` or at the end of the text: `/u/proj` isn't in
+/// `/u/proj-deps`. Another root is a name, and counts anywhere. Of several that begin at one byte, the longest counts, so the innermost
+/// directory, wherever it is in the list. An empty root is nowhere. NUL and `0` end a word, NUL and `1` a name, NUL and `2` a value.
 ///
 /// `None` if a text of the command contains NUL, or if there are more than `MOST_ROOTS` roots. The work is linear in the length of the
 /// texts, times that of all roots.

@@ -9,3 +9,8 @@ pub fn keys()
     ensures equal { spec.EqualKeysRename }
     ensures renamed { spec.RenamedKeysAreEqual }
 {}
+
+/// Of the roots that begin at one byte the innermost counts, in whatever order they are.
+pub fn roots()
+    ensures { spec.InnermostCounts }
+{}

@@ -1,6 +1,6 @@
 //! Texts in which marks replace roots.
 
-ghost use Rattle.std.specs.Prelude.{◌≡◌, [], ◌∷◌, ◌++◌, ◌<◌, ◌≤◌, Some, None, true, false, map, length, OnOk, MatchOption};
+ghost use Rattle.std.specs.Prelude.{◌≡◌, [], ◌∷◌, ◌++◌, ◌<◌, ◌≤◌, Some, None, true, false, fold, map, length, OnOk, MatchOption};
 ghost use Rattle.command_keys.specs.Fitting.{fits};
 ghost use Rattle.command_keys.specs.Keys.{key_of_part, key_of_text, shown};
 ghost use Rattle.command_keys.specs.Marks as spec;
@@ -16,10 +16,30 @@ pub enum Part {
     Root(usize),
 }
 
-// What follows a root in a text that begins with it. No text begins with an empty one.
-fn behind<'a>(text: &'a [u8], root: &[u8]) -> Option<&'a [u8]>
-    ensures { MatchOption result (spec.begins_with text.now root.now ≡ false)
-        (λ rest. (spec.begins_with text.now root.now ≡ true) × (text.now ≡ root.now ++ rest.now)) }
+// Whether nothing follows, or a `/`.
+fn ends_name(rest: &[u8]) -> bool
+    ensures { result ≡ spec.ends_name rest.now }
+{
+    match rest.first() {
+        None => true,
+        Some(byte) => *byte == b'/',
+    }
+}
+
+// Whether a root may end in front of a rest: an absolute path where its last name ends, another text anywhere.
+fn may_end(root: &[u8], rest: &[u8]) -> bool
+    ensures { result ≡ spec.may_end root.now rest.now }
+{
+    match root.first() {
+        None => true,
+        Some(byte) => *byte != b'/' || ends_name(rest),
+    }
+}
+
+// What follows the bytes of a root in a text that has them in front. None has those of an empty one.
+fn past_bytes<'a>(text: &'a [u8], root: &[u8]) -> Option<&'a [u8]>
+    ensures { MatchOption result (spec.has_in_front text.now root.now ≡ false)
+        (λ rest. (spec.has_in_front text.now root.now ≡ true) × (text.now ≡ root.now ++ rest.now)) }
 {
     if root.is_empty() {
         return None;
@@ -27,14 +47,61 @@ fn behind<'a>(text: &'a [u8], root: &[u8]) -> Option<&'a [u8]>
     text.strip_prefix(root)
 }
 
-// The number of the first root that a text begins with, and what follows it.
+// What follows a root in a text that begins with it.
+fn behind<'a>(text: &'a [u8], root: &[u8]) -> Option<&'a [u8]>
+    ensures { MatchOption result (spec.begins_with text.now root.now ≡ false)
+        (λ rest. (spec.begins_with text.now root.now ≡ true) × (text.now ≡ root.now ++ rest.now)) }
+{
+    let rest = past_bytes(text, root)?;
+    if may_end(root, rest) {
+        Some(rest)
+    } else {
+        None
+    }
+}
+
+// The length of the longest root so far that a text begins with, given a further root.
+fn with_longer(text: &[u8], most: usize, root: &[u8]) -> usize
+    ensures { result ≡ spec.with_longer text.now most root.now }
+{
+    match behind(text, root) {
+        Some(_) if most < root.len() => root.len(),
+        _ => most,
+    }
+}
+
+// The length of the longest root that a text begins with, 0 if there is none.
+fn longest(roots: &[&[u8]], text: &[u8]) -> usize
+    ensures { result ≡ spec.longest text.now (map shown roots.now) }
+{
+    let mut most = 0;
+    for root in roots {
+        most = with_longer(text, most, root);
+    }
+    most
+}
+
+// What follows a root of a length in a text that begins with it.
+fn behind_all<'a>(text: &'a [u8], most: usize, root: &[u8]) -> Option<&'a [u8]>
+    ensures { MatchOption result (spec.begins_with_all text.now most root.now ≡ false)
+        (λ rest. (spec.begins_with_all text.now most root.now ≡ true) × (text.now ≡ root.now ++ rest.now)) }
+{
+    if root.len() == most {
+        behind(text, root)
+    } else {
+        None
+    }
+}
+
+// The number of the innermost root that a text begins with, and what follows it.
 fn root_at<'a>(roots: &[&[u8]], text: &'a [u8]) -> Option<(usize, &'a [u8])>
     ensures { MatchOption result (spec.root_at (map shown roots.now) text.now ≡ None) (λ found.
         (spec.root_at (map shown roots.now) text.now ≡ Some found.0)
         × (text.now ≡ spec.root_of (map shown roots.now) found.0 ++ found.1.now)) }
 {
+    let most = longest(roots, text);
     for (number, root) in roots.iter().enumerate() {
-        if let Some(rest) = behind(text, root) {
+        if let Some(rest) = behind_all(text, most, root) {
             return Some((number, rest));
         }
     }

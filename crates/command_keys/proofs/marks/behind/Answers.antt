@@ -1,6 +1,9 @@
-use Rattle.command_keys.proofs.MarkLemmas.{stripped}
-use Rattle.std.proofs.Common.{◌∙◌, sym}
+use Rattle.std.proofs.Common.{arith}
+use Rattle.command_keys.proofs.MarkLemmas.{behind_bytes}
 use Rattle.command_keys.proofs.marks.behind.Goals as goal
 
-pub returns : goal.returns
-returns c = stripped c.args.text.now c.args.root.now c.strip_prefix.result (sym c.is_empty.ensures ∙ c.if-is_empty.false) c.strip_prefix.ensures.cases
+pub returns-then-may_end : goal.returns-then-may_end
+returns-then-may_end c = grind (arith, behind_bytes)
+
+pub returns-else-may_end : goal.returns-else-may_end
+returns-else-may_end c = grind (arith, behind_bytes)
