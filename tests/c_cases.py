@@ -9,7 +9,6 @@ of wrong_cases.txt is taken for right, or if too few cases were made.
 ZIGRUNK_LIBRARY has to name the shared object, and PYTHONPATH the binding's folder."""
 
 import collections
-import dataclasses
 import json
 import os
 import re
@@ -26,9 +25,7 @@ WRONG = "wrong_cases.txt"
 ESCAPES = {"s": " ", "n": "\n", "t": "\t", "r": "\r", "_": "\u00a0", "%": "%", "e": ""}
 STANDARD = [".cpp1.ii", ".cpp4.ii", ".cudafe1.c", ".cudafe1.cpp", ".cudafe1.stub.c"]
 TOOLS = {"cicc": Tool.CICC, "cudafe++": Tool.CUDAFE, "ptxas": Tool.PTXAS, "nvcc": Tool.NVCC, "nvc": Tool.NVC, "nvc++": Tool.NVCXX}
-LANGUAGES = {"C": "c", "Cxx": "c++", "ObjectiveC": "objc", "ObjectiveCxx": "objc++", "Cuda": "cuda", "CudaFE": "cuda", "Ptx": "ptx",
-             "Cubin": "cubin"}
-LANGUAGE_FACTS: dict[int, str] = {
+LANGUAGES: dict[int, str] = {
     zigrunk.Language.C: "C", zigrunk.Language.CXX: "Cxx", zigrunk.Language.OBJC: "ObjectiveC", zigrunk.Language.OBJCXX: "ObjectiveCxx",
     zigrunk.Language.CUDA: "Cuda", zigrunk.Language.CUDAFE: "CudaFE", zigrunk.Language.PTX: "Ptx", zigrunk.Language.CUBIN: "Cubin"}
 # the outputs of a line in the order of facts
@@ -52,9 +49,8 @@ FLAGS = ["", "-c", "--compile", "-dc", "--device-c", "-dw", "--device-w", "-ptx"
 
 # Kinds that tell all that a case expects, and kinds that tell a part of it, each with the fewest cases to be made. A wrong case
 # of the second kind may look right.
-WHOLE = {"candidates": 7, "c_quote": 4, "c_split": 8, "files": 6, "lookups": 4, "needs": 7, "parse": 135, "parse as records": 135,
-         "plan as JSON": 63, "plan as records": 63, "plan as text": 63, "plan_text": 82, "quote": 4, "rename": 40,
-         "reread": 14, "split": 77}
+WHOLE = {"candidates": 7, "c_quote": 4, "c_split": 8, "files": 6, "lookups": 4, "needs": 7, "parse": 135, "plan as JSON": 63,
+         "plan as records": 63, "plan as text": 63, "plan_text": 82, "quote": 4, "rename": 40, "reread": 14, "split": 77}
 PART = {"normal_form": 120, "read": 60, "read_within": 24, "suffixes": 18, "write": 74}
 
 # What a case expects, a list for each fact; a value of JSON, by its members; a status, and the answer or the message; and a kind, the
@@ -239,33 +235,25 @@ def refusal(facts: Facts) -> str | None:
     return None
 
 
-def facts_of_line(said: Json) -> Facts:
-    """What the JSON of a line says, as facts."""
-    facts = [[said["language"], said["input"]]]
-    facts += [["dashes"]] if said["double_dash_input"] else []
-    facts += [["flag", said["compilation_flag"]]] if said["compilation_flag"] else []
-    for output in sorted(said["outputs"], key=lambda it: KEYS.index(it["key"])):
-        facts.append([output["key"], output["path"]] + (["optional"] if output["optional"] else []))
-    facts += [["depfile", said["depfile"]]] if said["depfile"] is not None else []
-    for name, member in [("dependency", "dependency_args"), ("preprocessor", "preprocessor_args"), ("common", "common_args"),
-                         ("arch", "arch_args"), ("unhashed", "unhashed_args"), ("dist", "extra_dist_files"),
-                         ("hashed", "extra_hash_files")]:
-        facts += [[name, *said[member]]] if said[member] else []
-    for name, member in [("external-assembler", "uses_external_assembler"), ("msvc-includes", "msvc_show_includes"),
-                         ("msvc-language", "msvc_explicit_language"), ("profile", "profile_generate"),
-                         ("whole-includes", "suppress_rewrite_includes_only")]:
-        facts += [[name]] if said[member] else []
-    facts += [["color", said["color_mode"]]] if said["color_mode"] != "auto" else []
-    too_hard = said["too_hard_for_preprocessor_cache_mode"]
+def facts_of_line(line: zigrunk.Line) -> Facts:
+    """What the records of a line say, as facts."""
+    facts = [[LANGUAGES[line.language], line.input]]
+    facts += [["dashes"]] if line.double_dash_input else []
+    facts += [["flag", line.compilation_flag]] if line.compilation_flag else []
+    for output in sorted(line.outputs, key=lambda it: KEYS.index(it.key)):
+        facts.append([output.key, output.path] + (["optional"] if output.optional else []))
+    facts += [["depfile", line.depfile]] if line.depfile is not None else []
+    for name, words in [("dependency", line.dependency_args), ("preprocessor", line.preprocessor_args), ("common", line.common_args),
+                        ("arch", line.arch_args), ("unhashed", line.unhashed_args), ("dist", line.extra_dist_files),
+                        ("hashed", line.extra_hash_files)]:
+        facts += [[name, *words]] if words else []
+    for name, is_so in [("external-assembler", line.uses_external_assembler), ("msvc-includes", line.msvc_show_includes),
+                        ("msvc-language", line.msvc_explicit_language), ("profile", line.profile_generate),
+                        ("whole-includes", line.suppress_rewrite_includes_only)]:
+        facts += [[name]] if is_so else []
+    facts += [["color", zigrunk.ColorMode(line.color_mode).name.lower()]] if line.color_mode != zigrunk.ColorMode.AUTO else []
+    too_hard = line.too_hard_for_preprocessor_cache_mode
     return facts + ([["too-hard", too_hard]] if too_hard is not None else [])
-
-
-def members_of(line: zigrunk.Line) -> Json:
-    """The records of a line, as the JSON form has them."""
-    members = dataclasses.asdict(line) | {"version": 1, "color_mode": zigrunk.ColorMode(line.color_mode).name.lower()}
-    members["language"] = LANGUAGES[LANGUAGE_FACTS[line.language]]
-    plain: Json = json.loads(json.dumps(members))
-    return plain
 
 
 def parse(case: Case) -> list[Result]:
@@ -273,19 +261,10 @@ def parse(case: Case) -> list[Result]:
     if tool not in TOOLS:
         return []
     line = TOOLS[tool], cwd, case.words, split_settings(settings)[0]
-    (status, said), (records_status, records) = told(zigrunk.line, *line), told(zigrunk.line_records, *line)
+    status, said = told(zigrunk.line_records, *line)
     message = refusal(case.facts)
-    expected: Answer
-    if message is not None:
-        expected = Status.BAD_LINE, message
-        return [("parse", expected, (status, said)), ("parse as records", expected, (records_status, records))]
-    expected = Status.OK, [[LANGUAGES[case.facts[0][0]], *case.facts[0][1:]], *case.facts[1:]]
-    got = status, facts_of_line(json.loads(said)) if status == Status.OK else said
-    if records_status == Status.OK:
-        # the records tell more languages apart than the JSON form, and say the same else
-        facts = facts_of_line(members_of(records) | {"language": LANGUAGE_FACTS[records.language]})
-        records = facts if members_of(records) == json.loads(said) else [["not what the JSON form says", records]]
-    return [("parse", expected, got), ("parse as records", (Status.OK, case.facts), (records_status, records))]
+    expected: Answer = (Status.OK, case.facts) if message is None else (Status.BAD_LINE, message)
+    return [("parse", expected, (status, facts_of_line(said) if status == Status.OK else said))]
 
 
 def line_of(case: Case) -> tuple[Tool, str, list[str], list[tuple[str, str]]] | None:
@@ -301,7 +280,7 @@ def own_input(line: tuple[Tool, str, list[str], list[tuple[str, str]]], canonica
     """Expected words with the line's own path of the input, which C writes, in the place of the canonical one at the end."""
     if line[0] != Tool.NVCC or words[-1:] != canonical:
         return words
-    own = json.loads(zigrunk.line(*line))["input"]
+    own = zigrunk.line_records(*line).input
     return words[:-1] + [own] if own in line[2] else words
 
 
@@ -327,7 +306,7 @@ def reread(case: Case) -> list[Result]:
     status, words = told(zigrunk.line_words, *line)
     if status != Status.OK:
         return [("reread", fault(case.facts[0][1:]), (status, words))]
-    same = told(zigrunk.line, line[0], line[1], words, line[3]) == told(zigrunk.line, *line)
+    same = told(zigrunk.line_records, line[0], line[1], words, line[3]) == told(zigrunk.line_records, *line)
     return [("reread", case.facts, [["yes" if same else "no"]])]
 
 
@@ -359,7 +338,7 @@ def normal_form(case: Case) -> list[Result]:
     expected: Answer
     if name == "pass":
         expected = Status.TO_NVCC, "goes to nvcc: " + " ".join(words)
-    elif told(zigrunk.line, Tool.NVCC, "/w", case.facts[1][1:])[0] == Status.BAD_LINE:
+    elif told(zigrunk.line_records, Tool.NVCC, "/w", case.facts[1][1:])[0] == Status.BAD_LINE:
         expected = Status.TO_NVCC, "goes to nvcc: its words can be read in two ways"
     else:
         expected = dry_run_of("/w", case.facts[1][1:])

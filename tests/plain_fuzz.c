@@ -14,7 +14,6 @@
 TWO(zigrunk_abi_version);
 TWO(zigrunk_candidates);
 TWO(zigrunk_command_key);
-TWO(zigrunk_line);
 TWO(zigrunk_line_records);
 TWO(zigrunk_line_words);
 TWO(zigrunk_lookups_within);
@@ -401,15 +400,13 @@ static void try_line(void) {
     call.variables_count = drawn_variables(variables, 4);
     call.tool = chance(10) ? drawn_number(6) : first->tool;
     call.reserved = chance(200);
-    uint64_t form = random_below(3);
+    int lists_words = !chance(2);
     show("cwd", call.cwd);
     show_list("word", words.at, words.count);
     show_variables(variables, call.variables_count);
     for (int i = 0; i < 2; i++) {
         answered *a = &answers[i];
-        if (form == 0) {
-            is_text_answer(a, OF(i, zigrunk_line)(&call, a->out, room_for[BYTES]));
-        } else if (form == 1) {
+        if (lists_words) {
             is_list_answer(a, OF(i, zigrunk_line_words)(&call, a->ranges, room_for[RANGES], a->out, room_for[BYTES]));
         } else {
             zigrunk_line_answer it =
@@ -565,7 +562,7 @@ static struct {
     {"zigrunk_remap", try_remap, 10, {0}},
     {"zigrunk_candidates", try_candidates, 4, {0}},
     {"zigrunk_command_key", try_key, 12, {0}},
-    {"zigrunk_line, _records, _words", try_line, 30, {0}},
+    {"zigrunk_line_records, _words", try_line, 30, {0}},
     {"zigrunk_nvcc_line", try_nvcc_line, 14, {0}},
     {"zigrunk_lookups_within", try_lookups, 2, {0}},
     {"zigrunk_plan", try_plan, 3, {0}},

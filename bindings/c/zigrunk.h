@@ -85,7 +85,7 @@ extern "C" {
 #define ZIGRUNK_LANGUAGE_OBJC 2u
 #define ZIGRUNK_LANGUAGE_OBJCXX 3u
 #define ZIGRUNK_LANGUAGE_CUDA 4u
-#define ZIGRUNK_LANGUAGE_CUDAFE 5u /* cudafe++; the JSON form says "cuda" here too */
+#define ZIGRUNK_LANGUAGE_CUDAFE 5u /* cudafe++ */
 #define ZIGRUNK_LANGUAGE_PTX 6u
 #define ZIGRUNK_LANGUAGE_CUBIN 7u
 
@@ -448,18 +448,15 @@ ZIGRUNK_CHECK_RESULT zigrunk_steps_answer zigrunk_plan_steps(const zigrunk_plan_
     zigrunk_step *steps, size_t steps_size, size_t *numbers, size_t numbers_size,
     zigrunk_range *ranges, size_t ranges_size, uint8_t *out, size_t out_size);
 
-/* Reads a line of a tool and writes what it says as JSON: its input, its outputs, and its words by what they are for.
- * zigrunk.h(3) lists the members. ZIGRUNK_BAD_LINE if the line compiles nothing, or no cache can serve it. */
-ZIGRUNK_CHECK_RESULT zigrunk_text_answer zigrunk_line(const zigrunk_line_call *call, uint8_t *out, size_t out_size);
-
-/* Reads the same line and writes what it says as records: its outputs, in the order of their keys, and the ranges of all its
- * texts; the line's own record is in the answer. All of it is written if each of the three buffers is large enough, and
- * nothing otherwise. It refuses what zigrunk_line refuses; then only the message is written, and the other counts are 0. */
+/* Reads a line of a tool and writes what it says as records: its outputs, in the order of their keys, and the ranges of all its
+ * texts; the line's own record is in the answer. All of it is written if each of the three buffers is large enough, and nothing
+ * otherwise. ZIGRUNK_BAD_LINE if the line compiles nothing, or no cache can serve it; then only the message is written, and the
+ * other counts are 0. */
 ZIGRUNK_CHECK_RESULT zigrunk_line_answer zigrunk_line_records(const zigrunk_line_call *call,
     zigrunk_output *outputs, size_t outputs_size, zigrunk_range *ranges, size_t ranges_size, uint8_t *out, size_t out_size);
 
-/* Reads a line of a tool and lists the words that it is written back as. ZIGRUNK_BAD_LINE as zigrunk_line, and if the line
- * has no output. */
+/* Reads a line of a tool and lists the words that it is written back as. ZIGRUNK_BAD_LINE as zigrunk_line_records, and if the
+ * line has no output. */
 ZIGRUNK_CHECK_RESULT zigrunk_list_answer zigrunk_line_words(const zigrunk_line_call *call,
     zigrunk_range *ranges, size_t ranges_size, uint8_t *out, size_t out_size);
 

@@ -256,12 +256,6 @@ static zigrunk_list_answer try_candidates(buffers *into) {
     return call_candidates(&more, into->ranges, 4096, into->out, sizeof into->out);
 }
 
-static zigrunk_list_answer try_line(buffers *into) {
-    line_words words = words_of("-arch sm_75 --module_id_file_name k.id k.cpp1.ii -o k.ptx");
-    zigrunk_line_call call = line_call_of(ZIGRUNK_TOOL_CICC, &words);
-    return as_list(call_line(&call, into->out, sizeof into->out));
-}
-
 static zigrunk_list_answer try_line_words(buffers *into) {
     line_words words = words_of("-MD -MF k.d -DA -c k.cu -o k.o -t 2");
     zigrunk_line_call call = line_call_of(ZIGRUNK_TOOL_NVCC, &words);
@@ -334,7 +328,7 @@ static const struct {
     {"plan over a limit", try_exceeding_plan}, {"steps", try_steps}, {"refused steps", try_refused_steps},
     {"steps over a limit", try_exceeding_steps}, {"steps for an odd directory", try_odd_steps}, {"look-ups", try_lookups},
     {"look-ups from an odd directory", try_odd_lookups}, {"look-ups within a limit", try_limited_lookups},
-    {"look-ups over a limit", try_exceeding_lookups}, {"candidates", try_candidates}, {"line", try_line},
+    {"look-ups over a limit", try_exceeding_lookups}, {"candidates", try_candidates},
     {"written line", try_line_words}, {"refused line", try_refused_line}, {"line as records", try_line_records},
     {"refused line as records", try_refused_line_records}, {"nvcc line", try_nvcc_line}, {"passed line", try_passed_line},
     {"canonical names", try_remap}, {"key", try_key},

@@ -1,5 +1,5 @@
 /* Lines of tools and of nvcc, and canonical names: valid, failing and hostile input. */
-#include "lines.h"
+#include "line_records.h"
 
 /* A list of texts, with a blank between them. */
 static int are_words(const answer *a, const char *line) {
@@ -16,10 +16,11 @@ static int are_words(const answer *a, const char *line) {
     return 1;
 }
 
-static int has(const answer *a, const char *part) {
-    size_t length = strlen(part);
-    for (size_t i = 0; i + length <= a->length; i++) {
-        if (memcmp(a->out + i, part, length) == 0) {
+/* Whether a text of a line's records is this one. */
+static int has(const line_records *r, const char *text) {
+    for (size_t i = 0; i < r->told.ranges; i++) {
+        zigrunk_text found = line_text(r, i);
+        if (found.length == strlen(text) && memcmp(found.bytes, text, found.length) == 0) {
             return 1;
         }
     }
@@ -28,32 +29,6 @@ static int has(const answer *a, const char *part) {
 
 static const char cicc_line[] =
     "--device-c -arch compute_80 --module_id_file_name kernel.module_id kernel.cpp1.ii --simt-only -o kernel.ptx";
-
-/* The whole text for a line of cicc. */
-static void check_json(void) {
-    line_words words = words_of(cicc_line);
-    zigrunk_line_call call = line_call_of(ZIGRUNK_TOOL_CICC, &words);
-    answer a = ask_text(call_line, &call);
-    CHECK(a.status == ZIGRUNK_OK);
-    CHECK(is_text(&a, "{\"arch_args\":[],\"color_mode\":\"off\",\"common_args\":[\"--device-c\",\"-arch\",\"compute_80\","
-                      "\"--module_id_file_name\",\"kernel.module_id\",\"--simt-only\"],\"compilation_flag\":\"\","
-                      "\"dependency_args\":[],\"depfile\":null,\"double_dash_input\":false,"
-                      "\"extra_dist_files\":[\"/w/kernel.module_id\"],\"extra_hash_files\":[\"/w/kernel.module_id\"],"
-                      "\"input\":\"kernel.cpp1.ii\",\"language\":\"ptx\",\"msvc_explicit_language\":false,"
-                      "\"msvc_show_includes\":false,\"outputs\":[{\"key\":\"obj\",\"optional\":false,\"path\":\"/w/kernel.ptx\"}],"
-                      "\"preprocessor_args\":[],\"profile_generate\":false,\"suppress_rewrite_includes_only\":false,"
-                      "\"too_hard_for_preprocessor_cache_mode\":null,\"unhashed_args\":[],\"uses_external_assembler\":false,"
-                      "\"version\":1}"));
-    release(a);
-    words = words_of("-MD -MF k.d -c k.cu -o k.o -t 2");
-    call = line_call_of(ZIGRUNK_TOOL_NVCC, &words);
-    a = ask_text(call_line, &call);
-    CHECK(a.status == ZIGRUNK_OK && has(&a, "\"compilation_flag\":\"-c\"") && has(&a, "\"language\":\"cuda\""));
-    CHECK(has(&a, "{\"key\":\"d\",\"optional\":false,\"path\":\"k.d\"},{\"key\":\"obj\",\"optional\":false,\"path\":\"k.o\"}"));
-    CHECK(has(&a, "\"input\":\"k.cu\"") && has(&a, "\"unhashed_args\":[\"-t2\"]"));
-    CHECK(has(&a, "\"dependency_args\":[\"-MD\",\"-MF\",\"k.d\",\"-MT\",\"k.o\"],\"depfile\":null"));
-    release(a);
-}
 
 /* A line that a tool writes back. These lines of device tools are also those that tests/program.sh gives to `cudaplan line`. */
 static void writes(uint32_t tool, const char *line, const char *back) {
@@ -86,21 +61,21 @@ static void check_environment(void) {
     zigrunk_line_call call = line_call_of(ZIGRUNK_TOOL_NVCC, &words);
     call.variables = variables;
     call.variables_count = 2;
-    answer a = ask_text(call_line, &call);
-    CHECK(a.status == ZIGRUNK_OK && has(&a, "\"-DA\",\"-DB\"") && has(&a, "\"path\":\"j.o\""));
-    release(a);
+    line_records r = ask_line_records(&call);
+    CHECK(r.told.status == ZIGRUNK_OK && has(&r, "-DA") && has(&r, "-DB") && r.told.outputs == 1 && has(&r, "j.o"));
+    release_line_records(r);
     call.tool = ZIGRUNK_TOOL_NVCXX;
-    a = ask_text(call_line, &call);
-    CHECK(a.status == ZIGRUNK_OK && !has(&a, "-DA") && !has(&a, "j.o"));
-    release(a);
+    r = ask_line_records(&call);
+    CHECK(r.told.status == ZIGRUNK_OK && !has(&r, "-DA") && !has(&r, "j.o"));
+    release_line_records(r);
 }
 
 /* A call that both functions refuse. */
 static void refuses(const zigrunk_line_call *call, int32_t status, const char *text) {
-    answer a = ask_text(call_line, call);
-    CHECK(a.status == status && is_text(&a, text));
-    release(a);
-    a = ask_list(call_line_words, call);
+    line_records r = ask_line_records(call);
+    CHECK(r.told.status == status && r.told.length == strlen(text) && memcmp(r.out, text, strlen(text)) == 0);
+    release_line_records(r);
+    answer a = ask_list(call_line_words, call);
     CHECK(a.status == status && a.count == 0 && is_text(&a, text));
     release(a);
 }
@@ -115,16 +90,16 @@ static void check_bad_lines(void) {
     }
     words = words_of("-E a.cu");
     zigrunk_line_call call = line_call_of(ZIGRUNK_TOOL_NVCC, &words);
-    answer a = ask_text(call_line, &call);
-    CHECK(a.status == ZIGRUNK_BAD_LINE);
-    release(a);
+    line_records r = ask_line_records(&call);
+    CHECK(r.told.status == ZIGRUNK_BAD_LINE);
+    release_line_records(r);
     /* without an output, a line can be read and not written back */
     words = words_of("k.cpp1.ii");
     call = line_call_of(ZIGRUNK_TOOL_CICC, &words);
-    a = ask_text(call_line, &call);
-    CHECK(a.status == ZIGRUNK_OK && has(&a, "\"outputs\":[]"));
-    release(a);
-    a = ask_list(call_line_words, &call);
+    r = ask_line_records(&call);
+    CHECK(r.told.status == ZIGRUNK_OK && r.told.outputs == 0);
+    release_line_records(r);
+    answer a = ask_list(call_line_words, &call);
     CHECK(a.status == ZIGRUNK_BAD_LINE && a.count == 0 && is_text(&a, "Missing \"ptx\" file output"));
     release(a);
 }
@@ -255,9 +230,9 @@ static void check_long_lines(void) {
     answer a = ask_list(call_line_words, &call);
     CHECK(a.status == ZIGRUNK_OK && a.count == count && is_word(&a, 0, "-DA") && is_word(&a, count - 1, "/w/k.ptx"));
     release(a);
-    a = ask_text(call_line, &call);
-    CHECK(a.status == ZIGRUNK_OK && a.length > (count - 3) * strlen("\"-DA\","));
-    release(a);
+    line_records r = ask_line_records(&call);
+    CHECK(r.told.status == ZIGRUNK_OK && r.told.line.common_args.length == count - 3 && has(&r, "k.cpp1.ii"));
+    release_line_records(r);
     renamed_words more = {words, count, words, 0};
     a = ask_list(call_remap, &more);
     CHECK(a.status == ZIGRUNK_OK && a.count == count && is_word(&a, count - 3, "x_0.cpp1.ii"));
@@ -278,7 +253,6 @@ static void check_long_lines(void) {
 }
 
 int main(void) {
-    check_json();
     check_words();
     check_environment();
     check_bad_lines();

@@ -59,10 +59,6 @@ typedef struct renamed_words {
     size_t suffixes_count;
 } renamed_words;
 
-static inline zigrunk_text_answer call_line(const void *more, uint8_t *out, size_t out_size) {
-    return zigrunk_line(more, out, out_size);
-}
-
 static inline zigrunk_list_answer call_line_words(const void *more, zigrunk_range *ranges, size_t ranges_size, uint8_t *out,
     size_t out_size) {
     return zigrunk_line_words(more, ranges, ranges_size, out, out_size);

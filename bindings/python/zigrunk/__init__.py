@@ -89,7 +89,7 @@ class Language(enum.IntEnum):
     OBJCXX = 3
     CUDA = 4
     CUDAFE = 5
-    """Of cudafe++. The JSON form says "cuda" here too."""
+    """Of cudafe++."""
     PTX = 6
     CUBIN = 7
 
@@ -577,7 +577,6 @@ _CALLS = {
         ctypes.POINTER(_PlanCall), ctypes.POINTER(_Group), ctypes.c_size_t, ctypes.POINTER(_Command), ctypes.c_size_t,
         ctypes.POINTER(_Step), ctypes.c_size_t, ctypes.POINTER(ctypes.c_size_t), ctypes.c_size_t,
     ] + _RANGES + _OUT),
-    "zigrunk_line": (_TextAnswer, [ctypes.POINTER(_LineCall)] + _OUT),
     "zigrunk_line_records": (_LineAnswer, [ctypes.POINTER(_LineCall), ctypes.POINTER(_Output), ctypes.c_size_t] + _RANGES + _OUT),
     "zigrunk_line_words": (_ListAnswer, [ctypes.POINTER(_LineCall)] + _RANGES + _OUT),
     "zigrunk_nvcc_line": (_ListAnswer, [ctypes.POINTER(_NvccCall)] + _RANGES + _OUT),
@@ -883,15 +882,6 @@ def _line_call(tool: Tool, cwd: str, words: Sequence[str],
     return _LineCall(_text(_bytes(cwd)), *_array(words), *_variables(environment), int(tool), 0)
 
 
-def line(tool: Tool, cwd: str, words: Sequence[str],
-         environment: Union[Mapping[str, str], Sequence[Tuple[str, str]]] = ()) -> str:
-    """Reads a line of a tool, without the tool's name, and gives what it says as JSON.
-
-    Raises `ZigrunkError` if the line compiles nothing, or if no cache can serve it.
-    """
-    return _ask_text(_library.zigrunk_line, ctypes.byref(_line_call(tool, cwd, words, environment)))
-
-
 def _line(line: _LineRecord, outputs: Sequence[_Output], texts: Sequence[str]) -> Line:
     def words(part: _Range) -> Tuple[str, ...]:
         return tuple(texts[part.offset:part.offset + part.length])
@@ -925,9 +915,9 @@ def _line(line: _LineRecord, outputs: Sequence[_Output], texts: Sequence[str]) -
 
 def line_records(tool: Tool, cwd: str, words: Sequence[str],
                  environment: Union[Mapping[str, str], Sequence[Tuple[str, str]]] = ()) -> Line:
-    """Reads a line of a tool, without the tool's name, and gives what it says as an object.
+    """Reads a line of a tool, without the tool's name, and gives what it says.
 
-    Raises `ZigrunkError` as `line` does.
+    Raises `ZigrunkError` if the line compiles nothing, or if no cache can serve it.
     """
     record, sizes = _line_call(tool, cwd, words, environment), (8, 64, 4096)
     for _ in range(_ATTEMPTS):
@@ -946,7 +936,7 @@ def line_words(tool: Tool, cwd: str, words: Sequence[str],
                environment: Union[Mapping[str, str], Sequence[Tuple[str, str]]] = ()) -> List[str]:
     """Reads a line of a tool, without the tool's name, and gives the words that it is written back as.
 
-    Raises `ZigrunkError` as `line` does, and if the line has no output.
+    Raises `ZigrunkError` as `line_records` does, and if the line has no output.
     """
     return _ask_list(_library.zigrunk_line_words, ctypes.byref(_line_call(tool, cwd, words, environment)))
 

@@ -68,7 +68,7 @@ pub use programs::{
     FoundProgram, Lookup, candidates, find_program, find_programs, find_programs_within, lookups, lookups_within,
 };
 pub use texts::{Texts, TextsIter};
-pub use tools::{LineCall, NvccCall, Tool, line, line_words, remap};
+pub use tools::{LineCall, NvccCall, Tool, line_words, remap};
 pub(crate) use variable::pairs;
 pub use variable::{Variable, variables};
 pub use words::{quote, split};

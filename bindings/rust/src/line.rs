@@ -1,4 +1,4 @@
-//! What lines of tools say, as records.
+//! What lines of tools say.
 
 use std::fmt;
 
@@ -19,7 +19,7 @@ pub enum Language {
     ObjectiveCxx,
     /// CUDA.
     Cuda,
-    /// What cudafe++ makes. The JSON form says `cuda` here too.
+    /// What cudafe++ makes.
     CudaFe,
     /// PTX, which cicc makes.
     Ptx,

@@ -131,10 +131,6 @@ fn with_line_call<S: AsRef<str>, R>(call: &LineCall<'_, S>, take: impl FnOnce(&r
     })
 }
 
-pub(crate) fn line<S: AsRef<str>>(call: &LineCall<'_, S>) -> Result<String, Error> {
-    with_line_call(call, |record| text_of(zigrunk_sys::line(record)?))
-}
-
 pub(crate) fn line_words<S: AsRef<str>>(call: &LineCall<'_, S>) -> Result<Texts, Error> {
     with_line_call(call, |record| texts_of(zigrunk_sys::line_words(record)?))
 }

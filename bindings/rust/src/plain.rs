@@ -141,11 +141,6 @@ fn with_line_call<S: AsRef<str>, R>(call: &LineCall<'_, S>, take: impl FnOnce(&c
     take(&c_lines::LineCall { cwd: input(call.cwd), words: &words, variables: &variables, tool, reserved: 0 })
 }
 
-pub(crate) fn line<S: AsRef<str>>(call: &LineCall<'_, S>) -> Result<String, Error> {
-    let json = with_line_call(call, |record| c_lines::call_json(Global, record))?;
-    Ok(json.as_str().to_owned())
-}
-
 pub(crate) fn line_words<S: AsRef<str>>(call: &LineCall<'_, S>) -> Result<Texts, Error> {
     Ok(texts_of(&with_line_call(call, |record| c_lines::call_words(Global, record))?))
 }

@@ -42,21 +42,11 @@ pub struct LineCall<'a, S> {
     pub variables: &'a [Variable<'a>],
 }
 
-/// Reads a line of a tool and writes what it says as JSON: its input, its outputs, and its words by what they are for.
-/// zigrunk.h(3) lists the members. [`line_records`](crate::line_records) gives the same as a value.
-///
-/// # Errors
-///
-/// [`ErrorKind::BadLine`](crate::ErrorKind) if the line compiles nothing or no cache can serve it, [`ErrorKind::OutOfMemory`](crate::ErrorKind).
-pub fn line<S: AsRef<str>>(call: &LineCall<'_, S>) -> Result<String, Error> {
-    backend::line(call)
-}
-
 /// Reads a line of a tool and lists the words that it is written back as.
 ///
 /// # Errors
 ///
-/// [`ErrorKind::BadLine`](crate::ErrorKind) as for [`line()`], and if the line has no output; [`ErrorKind::OutOfMemory`](crate::ErrorKind).
+/// [`ErrorKind::BadLine`](crate::ErrorKind) as for [`line_records`](crate::line_records), and if the line has no output; [`ErrorKind::OutOfMemory`](crate::ErrorKind).
 pub fn line_words<S: AsRef<str>>(call: &LineCall<'_, S>) -> Result<Texts, Error> {
     backend::line_words(call)
 }

@@ -1,5 +1,3 @@
-pub mod FormsAgree
 pub mod LineAllOrNothing
-pub mod LineJsonLemmas
 pub mod LineReading
 pub mod RecordedLineLemmas

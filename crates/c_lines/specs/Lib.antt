@@ -1,5 +1,4 @@
 pub mod LineCalls
-pub mod LineJson
 pub mod LineRecordCalls
 pub mod LineRecordLaws
 pub mod LineRecords

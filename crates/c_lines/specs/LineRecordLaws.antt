@@ -1,16 +1,9 @@
 -- What holds of all records of a line, and of all answers with them.
-use Rattle.std.specs.Prelude.{◌≡◌, ◌⊎◌, List, ◌<◌, ◌≤◌, length, take, drop, Result, Ok, Err}
+use Rattle.std.specs.Prelude.{◌≡◌, ◌⊎◌, List, ◌<◌, ◌≤◌, length, take, drop}
 use Rattle.compilers.specs.declared.arguments.ParsedArguments.{ParsedArguments}
-use Rattle.serde_json.specs.Written.{compact_text}
-use Rattle.c_texts.specs.declared.refusal.Refused.{Refused}
-use Rattle.c_texts.specs.Outcomes.{Outcome, of_text}
-use Rattle.c_texts.specs.Refusals.{refusal}
-use Rattle.c_lines.specs.declared.line_call.LineCall.{LineCall}
 use Rattle.c_lines.specs.declared.line_record.LineAnswer.{LineAnswer}
-use Rattle.c_lines.specs.LineJson.{line_data}
 use Rattle.c_lines.specs.LineRecords.{RecordedLine, records_of, Buffers, TellsLine}
 use Rattle.c_lines.specs.LineRecordsRead.{arguments_in}
-use Rattle.c_lines.specs.Lines.{json_outcome, parsed_in}
 
 -- the records of arguments are read back as these arguments
 abbrev pub RecordsReadBack : Type 0
@@ -19,15 +12,6 @@ RecordsReadBack = (p : ParsedArguments) → arguments_in (records_of p) ≡ p
 -- two lines with the same records and texts have the same arguments
 abbrev pub RecordsAreOneToOne : Type 0
 RecordsAreOneToOne = (one other : ParsedArguments) → records_of one ≡ records_of other → one ≡ other
-
--- arguments as JSON, or a refusal
-abbrev pub as_json : Result ParsedArguments Refused → Outcome
-as_json (Ok p) = of_text (compact_text (line_data p))
-as_json (Err r) = refusal r
-
--- JSON and records are of the same arguments, and have the same refusals
-abbrev pub FormsAgree : Type 0
-FormsAgree = (call : LineCall) → json_outcome call ≡ as_json (parsed_in call)
 
 -- two calls with one outcome return the same answer, whatever memory they may write
 abbrev pub AnswersAreTheSame : Type 0

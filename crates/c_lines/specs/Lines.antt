@@ -15,7 +15,6 @@ use Rattle.device_lines.specs.DeviceWords.{cicc_words, cudafe_words}
 use Rattle.device_lines.specs.Ptxas.{ptxas_options}
 use Rattle.device_lines.specs.Reading.{tool_reading}
 use Rattle.host_lines.specs.Nvhpc.{nvhpc_reading}
-use Rattle.serde_json.specs.Written.{compact_text}
 use Rattle.texts.specs.declared.fault.Fault.{Fault}
 use Rattle.texts.specs.declared.language.Language.TheVariants.{Ptx, Cubin, CudaFE}
 use Rattle.c_lines.specs.declared.line_call.LineCall.{LineCall}
@@ -27,9 +26,8 @@ use Rattle.c_texts.specs.declared.refusal.Refused.TheVariants.{Told}
 use Rattle.c_texts.specs.declared.status.Status.TheVariants.{BadLine}
 use Rattle.c_texts.specs.Failures.{or_refused}
 use Rattle.c_texts.specs.Outcomes.{Outcome, of_texts}
-use Rattle.c_texts.specs.Refusals.{ended, ended_text}
+use Rattle.c_texts.specs.Refusals.{ended}
 use Rattle.c_lines.specs.LineCalls.{Line, line_in}
-use Rattle.c_lines.specs.LineJson.{line_data}
 
 -- what a tool reads a line as
 abbrev pub read_by : LineTool → Line → Reading
@@ -63,10 +61,6 @@ parsed_by tool line = arguments_of (read_by tool line)
 abbrev pub parsed_in : LineCall → Result ParsedArguments Refused
 parsed_in call = and_then (line_in call) (λ at. parsed_by at.0 at.1)
 
--- the JSON of a call's line
-abbrev pub call_json : LineCall → Result (List ℕ) Refused
-call_json call = and_then (parsed_in call) (λ p. Ok (compact_text (line_data p)))
-
 -- the places of a line: its own path of the input, and no directory
 abbrev pub places_of : ParsedArguments → Places
 places_of p = record { temp_dir = []; canonical_input = p.input }
@@ -95,9 +89,6 @@ rewritten_by tool line = and_then (parsed_by tool line) (λ p. or_refused (words
 
 abbrev pub call_words : LineCall → Result Outcome Refused
 call_words call = and_then (line_in call) (λ at. rewritten_by at.0 at.1)
-
-abbrev pub json_outcome : LineCall → Outcome
-json_outcome call = ended_text (call_json call)
 
 abbrev pub words_outcome : LineCall → Outcome
 words_outcome call = ended (call_words call)

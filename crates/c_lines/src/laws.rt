@@ -14,8 +14,3 @@ pub fn whole_records()
     ensures written { spec.AnswersAreWritten }
     ensures too_small { spec.NothingIsWritten }
 {}
-
-/// [`line`](crate::line) and [`line_records`](crate::line_records) write the same arguments, or refuse a call with the same status and text.
-pub fn forms_agree()
-    ensures { spec.FormsAgree }
-{}

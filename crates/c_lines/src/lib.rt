@@ -1,12 +1,11 @@
-//! The calls on lines of tools over memory that a C program owns: what a line says, as JSON or as records, the words that it is
-//! written back as, and what to run for a line of nvcc.
+//! The calls on lines of tools over memory that a C program owns: what a line says, the words that it is written back as, and what
+//! to run for a line of nvcc.
 //!
 //! `c_texts` says what holds of all calls. The crate `zigrunk_c` exports these to C, one function for each.
 #![tactic(auto)]
 
 pub mod laws;
 mod line_call;
-mod line_json;
 mod line_record;
 mod lines;
 mod nvcc_outline;
@@ -15,7 +14,7 @@ mod recording;
 
 pub use line_call::LineCall;
 pub use line_record::{LineAnswer, LineRecord, OutputRecord};
-pub use lines::{call_json, call_words, line, line_words};
+pub use lines::{call_words, line_words};
 pub use nvcc_outline::{NvccLineCall, call_outline, nvcc_line};
 pub use recorded_line::RecordedLine;
 pub use recording::{call_records, line_records};

@@ -1,19 +1,16 @@
-//! Lines of tools: what they say, and the words that they are written back as.
+//! Lines of tools: their arguments, and the words that they are written back as.
 
 ghost use Rattle.std.specs.Prelude.{◌≡◌, [], IfOk, Ok, map, string_bytes};
 ghost use Rattle.texts.specs.Fault.{UnlessMemory};
 ghost use Rattle.compilers.specs.Compiler.{reading_of};
 ghost use Rattle.c_lines.specs.LineCalls.{line_seen};
 ghost use Rattle.c_texts.specs.Failures.{or_refused};
-ghost use Rattle.c_texts.specs.Outcomes.{GivesList, GivesText, of_texts};
+ghost use Rattle.c_texts.specs.Outcomes.{GivesList, of_texts};
 ghost use Rattle.c_texts.specs.Refusals.{Answers};
 ghost use Rattle.c_lines.specs.Lines as spec;
 
 use crate::line_call::{Line, LineCall, LineTool, line_in};
-use crate::line_json::line_json;
-use c_texts::{
-    ListAnswer, Outcome, Range, Refused, Status, TextAnswer, or_refused, write_list, write_text,
-};
+use c_texts::{ListAnswer, Outcome, Range, Refused, Status, or_refused, write_list};
 use compilers::arguments::{CompilerArguments, ParsedArguments};
 use compilers::command::CompileCommandImpl;
 use compilers::compiler::{CCompilerImpl, Places};
@@ -240,17 +237,6 @@ fn rewritten_by(alloc: Global, tool: LineTool, line: &Line<'_>) -> Result<Outcom
     words
 }
 
-/// What [`line()`] tells: the JSON of a call's line.
-pub fn call_json(alloc: Global, call: &LineCall<'_>) -> Result<Text, Refused>
-    ensures { Answers result (spec.call_json call.now) }
-{
-    let parsed = parsed_in(alloc, call)?;
-    let json = line_json(alloc, &parsed);
-    // Dropped by a call: see "Explicit drops" in docs/ARCHITECTURE.md.
-    drop(parsed);
-    Ok(Text::new(json?))
-}
-
 /// What [`line_words`] tells: the words of a call's line.
 pub fn call_words(alloc: Global, call: &LineCall<'_>) -> Result<Outcome, Refused>
     ensures { Answers result (spec.call_words call.now) }
@@ -266,20 +252,10 @@ pub fn call_words(alloc: Global, call: &LineCall<'_>) -> Result<Outcome, Refused
     }
 }
 
-/// Reads a line of a tool, as `CCompilerImpl::parse_arguments` of that tool, and writes what it says as JSON.
-///
-/// A number without a meaning is the first refusal, then a text that isn't UTF-8. Then comes a line that compiles nothing,
-/// or that no cache can serve.
-pub fn line(alloc: Global, call: &LineCall<'_>, out: &mut [u8]) -> TextAnswer
-    ensures { GivesText (spec.json_outcome call.now) result out.old out.new }
-{
-    write_text(call_json(alloc, call), out)
-}
-
 /// Reads a line of a tool and lists the words that it is written back as, as `CCompilerImpl::generate_compile_commands` of that
 /// tool. The input's path is that of the line.
 ///
-/// Refuses what [`line()`] refuses, and then arguments that can't be written back.
+/// Refuses what [`line_records`](crate::line_records) refuses, and then arguments that can't be written back.
 pub fn line_words(
     alloc: Global,
     call: &LineCall<'_>,

@@ -25,7 +25,8 @@ pub fn call_records(alloc: Global, call: &LineCall<'_>) -> Result<RecordedLine, 
 /// Reads a line of a tool, as `CCompilerImpl::parse_arguments` of that tool, and writes what it says as records: those of its
 /// outputs and its texts. The answer has the record of the line.
 ///
-/// Refuses what [`line`](crate::line) refuses, with the same texts.
+/// A number without a meaning is the first refusal, then a text that isn't UTF-8. Then comes a line that compiles nothing,
+/// or that no cache can serve.
 pub fn line_records(
     alloc: Global,
     call: &LineCall<'_>,

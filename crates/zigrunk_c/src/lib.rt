@@ -140,14 +140,6 @@ pub extern "C" fn zigrunk_plan_steps(
     c_steps::plan_steps(alloc, call, groups, commands, steps, numbers, ranges, out)
 }
 
-/// Writes what a line of a tool says as JSON.
-#[unsafe(no_mangle)]
-pub extern "C" fn zigrunk_line(alloc: Global, call: &LineCall<'_>, out: &mut [u8]) -> TextAnswer
-    ensures { GivesText (lines.json_outcome call.now) result out.old out.new }
-{
-    c_lines::line(alloc, call, out)
-}
-
 /// Lists the words that a line of a tool is written back as.
 #[unsafe(no_mangle)]
 pub extern "C" fn zigrunk_line_words(
@@ -174,7 +166,7 @@ pub extern "C" fn zigrunk_nvcc_line(
     c_lines::nvcc_line(alloc, call, ranges, out)
 }
 
-/// Writes what a line of a tool says as records.
+/// Writes what a line of a tool says.
 #[unsafe(no_mangle)]
 pub extern "C" fn zigrunk_line_records(
     alloc: Global,

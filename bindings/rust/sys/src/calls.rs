@@ -157,16 +157,6 @@ fn room_of(words: &Slice<'_, Text<'_>>, cwd: &Text<'_>) -> usize {
     length_of(words.as_slice()) + words.len() * (cwd.len() + 8)
 }
 
-/// What a line of a tool says, as JSON.
-///
-/// # Errors
-///
-/// [`Unsettled`].
-pub fn line(call: &LineCall<'_>) -> Told {
-    // SAFETY: the record borrows what it points to, and the buffer is exclusive.
-    unsafe { text(room_of(&call.words, &call.cwd) * 2 + 1024, |out, size| c::zigrunk_line(call, out, size)) }
-}
-
 /// The words that a line of a tool is written back as.
 ///
 /// # Errors

@@ -19,7 +19,6 @@ unsafe extern "C" {
         out_size: usize,
     ) -> ListAnswer;
     pub fn zigrunk_quote(words: *const Text<'_>, words_count: usize, out: *mut u8, out_size: usize) -> TextAnswer;
-    pub fn zigrunk_line(call: *const LineCall<'_>, out: *mut u8, out_size: usize) -> TextAnswer;
     pub fn zigrunk_line_records(
         call: *const LineCall<'_>,
         outputs: *mut Output,

@@ -19,7 +19,7 @@ mod schedule;
 
 pub use buffers::Unsettled;
 pub use calls::{
-    Outcome, RecordedLine, Stepped, abi_version, candidates, command_key, line, line_records, line_words, lookups_within,
-    message, nvcc_line, plan, plan_steps, quote, remap, split, version,
+    Outcome, RecordedLine, Stepped, abi_version, candidates, command_key, line_records, line_words, lookups_within, message,
+    nvcc_line, plan, plan_steps, quote, remap, split, version,
 };
 pub use schedule::Schedule;

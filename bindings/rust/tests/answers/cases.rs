@@ -7,8 +7,8 @@ use std::path::Path;
 
 use zigrunk::{
     Call, CommandTool, Form, FoundProgram, HostCompiler, KeyCall, LineCall, Lookup, NvccCall, PlanCall, Tool, Variable,
-    candidates, command_key, line, line_records, line_words, lookups, lookups_within, message, needs, plan, plan_text, quote,
-    remap, split, variables,
+    candidates, command_key, line_records, line_words, lookups, lookups_within, message, needs, plan, plan_text, quote, remap,
+    split, variables,
 };
 
 use crate::draws::Draws;
@@ -92,7 +92,6 @@ fn lines(_: &DryRuns, draws: &mut Draws, told: &mut Told) {
     let variables = variables(&pairs);
     let call = LineCall { tool: *draws.one_of(&TOOLS), cwd: folder(draws), words: &words, variables: &variables };
     told.tell("call", &call);
-    told.tell("line", line(&call));
     told.tell("records", line_records(&call));
     told.tell("words", line_words(&call));
 }
