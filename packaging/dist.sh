@@ -3,6 +3,7 @@
 #
 #   dist/zigrunk-VERSION.tar.gz                the sources, with a Makefile that needs cargo
 #   dist/zigrunk_VERSION_ARCHITECTURE.deb      packages of them: amd64, and arm64 if rustc and gcc can make it
+#   dist/zigrunk-VERSION-py3-none-PLATFORM.whl  the package for Python with the library of each
 #   dist/zigrunk-VERSION-x86_64-linux.tar.gz   the proved programs and library, if crates/*/out have what these sources make
 #   dist/SHA256SUMS
 #
@@ -133,7 +134,7 @@ debianize() {
     gzip -n -9 < CHANGELOG.md > "$root/usr/share/doc/zigrunk/CHANGELOG.md.gz"
 }
 
-# package ARCHITECTURE TARGET PREFIX: the Debian package of an architecture.
+# package ARCHITECTURE TARGET PREFIX: the Debian package of an architecture, and a wheel with its library.
 package() {
     local root=$scratch/$1
     build "$2" "$3"
@@ -143,6 +144,7 @@ package() {
         echo 'Depends names libc6, but libzigrunk.so.1 needs the above too' >&2
         exit 1
     fi
+    bindings/python/wheel.py "$root/usr/lib/libzigrunk.so.1" dist > /dev/null
     mkdir "$root/DEBIAN"
     echo "libzigrunk 1 zigrunk (>= $version)" > "$root/DEBIAN/shlibs"
     echo 'activate-noawait ldconfig' > "$root/DEBIAN/triggers"
@@ -179,5 +181,5 @@ if .ci/built check programs && .ci/built check library && [ -s crates/cudaplan/o
 else
     echo "no $name-x86_64-linux.tar.gz: crates/*/out lack what these sources make; make build and make lib prove and build it"
 fi
-(cd dist && sha256sum -- *.tar.gz *.deb > SHA256SUMS)
+(cd dist && sha256sum -- *.tar.gz *.deb *.whl > SHA256SUMS)
 ls -l dist

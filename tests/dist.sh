@@ -5,7 +5,7 @@
 set -u
 cd "$(dirname "$0")/.." || exit 1
 . tests/lib.sh
-require 'the packages' cargo cc dpkg-deb readelf
+require 'the packages' cargo cc dpkg-deb readelf python3
 version=$(cat VERSION)
 folder=$PWD/dist
 sources="$scratch/the sources"
@@ -79,6 +79,17 @@ of_package() {
     fi
 }
 
+# of_wheel PROCESSOR FILE: the wheel for Python with the library of a package.
+of_wheel() {
+    local architecture=amd64 at=$scratch/${2##*/}.files
+    [ "$1" = x86_64 ] || architecture=arm64
+    check "unpacking the wheel for $1" python3 -m zipfile -e "$2" "$at"
+    check 'its library is that of the package' cmp "$at/zigrunk/libzigrunk.so.1" "$scratch/zigrunk_${version}_$architecture.deb.root/usr/lib/libzigrunk.so.1"
+    [ "$1" = "$(uname -m)" ] || return 0
+    check 'the version of its library' prints "$version" env -C "$scratch" ZIGRUNK_LIBRARY='' PYTHONPATH="$at" PYTHONDONTWRITEBYTECODE=1 \
+        python3 -c 'import zigrunk; print(zigrunk.version())'
+}
+
 # of_proved: the tarball of the proved programs.
 of_proved() {
     local here="$scratch/un packed" program
@@ -102,6 +113,11 @@ check 'good checksums' env -C "$folder" sha256sum -c SHA256SUMS
 of_sources
 for package in dist/*.deb; do
     of_package "$package"
+done
+check 'a wheel for each package' test "$(find dist -name '*.whl' | wc -l)" = "$(find dist -name '*.deb' | wc -l)"
+for wheel in dist/*.whl; do
+    processor=${wheel##*manylinux_2_??_}
+    of_wheel "${processor%.whl}" "$wheel"
 done
 [ -f "dist/zigrunk_${version}_arm64.deb" ] || skip 'the package for arm64' 'rustc lacks its library, or there is no aarch64-linux-gnu-gcc'
 if [ -f "dist/zigrunk-$version-x86_64-linux.tar.gz" ]; then

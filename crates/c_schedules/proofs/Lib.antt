@@ -1,3 +1,0 @@
-pub mod EventLemmas
-pub mod GraphLemmas
-pub mod ReadyLemmas

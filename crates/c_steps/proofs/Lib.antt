@@ -1,3 +1,0 @@
-pub mod PlaceLemmas
-pub mod StepLemmas
-pub mod StepReading
