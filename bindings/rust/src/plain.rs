@@ -9,8 +9,7 @@ use command_keys::{KeyTool, MOST_ROOTS};
 use rattle_std::alloc::{AllocError, Global};
 
 pub(crate) use c_lines::{LineRecord, OutputRecord as Output};
-pub(crate) use c_plans::{CommandRecord as Command, GroupRecord as Group, PlaceRecord as Place};
-pub(crate) use c_steps::StepRecord as Step;
+pub(crate) use c_plans::{CommandRecord as Command, GroupRecord as Group, PlaceRecord as Place, StepRecord as Step};
 pub(crate) use c_texts::{Range, abi_version};
 
 use crate::call::number_of_limit;
@@ -124,7 +123,7 @@ pub(crate) fn plan_text(call: &PlanCall<'_>, form: Form) -> Result<String, Error
 }
 
 pub(crate) fn plan(call: &PlanCall<'_>) -> Result<Plan, Error> {
-    let stepped = with_plan_call(call, |record| c_steps::call_steps(Global, record))?;
+    let stepped = with_plan_call(call, |record| c_plans::call_steps(Global, record))?;
     Ok(Plan {
         texts: texts_of(&stepped.recorded.outcome),
         groups: stepped.recorded.groups.as_slice().to_vec(),

@@ -108,11 +108,8 @@ pub(crate) struct ToolLine<'a> {
 pub(crate) fn line_in<'a>(alloc: Global, call: &LineCall<'a>) -> Result<ToolLine<'a>, Refused>
     ensures { Answers (spec.found_seen result) (spec.line_in call.now) }
 {
-    let Some(tool) = tool_in(call) else {
-        return Err(Refused::Plain(Status::BadNumber));
-    };
-    let Some(line) = line_of(alloc, &call.cwd, call.words, call.variables)? else {
-        return Err(Refused::Plain(Status::NotUtf8));
-    };
+    let tool = tool_in(call).ok_or(Refused::Plain(Status::BadNumber))?;
+    let line = line_of(alloc, &call.cwd, call.words, call.variables)?;
+    let line = line.ok_or(Refused::Plain(Status::NotUtf8))?;
     Ok(ToolLine { tool, line })
 }

@@ -1,11 +1,11 @@
 //! Lines of tools: their arguments, and the words that they are written back as.
 
-ghost use Rattle.std.specs.Prelude.{◌≡◌, [], IfOk, Ok, map, string_bytes};
+ghost use Rattle.std.specs.Prelude.{◌≡◌, [], IfOk, string_bytes};
 ghost use Rattle.texts.specs.Fault.{UnlessMemory};
 ghost use Rattle.compilers.specs.Compiler.{reading_of};
 ghost use Rattle.c_lines.specs.LineCalls.{line_seen};
 ghost use Rattle.c_texts.specs.Failures.{or_refused};
-ghost use Rattle.c_texts.specs.Outcomes.{GivesList, of_texts};
+ghost use Rattle.c_texts.specs.Outcomes.{GivesList};
 ghost use Rattle.c_texts.specs.Refusals.{Answers};
 ghost use Rattle.c_lines.specs.Lines as spec;
 
@@ -105,25 +105,18 @@ fn arguments_of(
 fn parsed_by(alloc: Global, tool: LineTool, line: &Line<'_>) -> Result<ParsedArguments, Refused>
     ensures { Answers result (spec.parsed_by tool (line_seen line.now)) }
 {
-    match read_by(alloc, tool, line) {
-        Ok(reading) => arguments_of(alloc, reading),
-        Err(_) => Err(Refused::Memory),
-    }
+    arguments_of(alloc, read_by(alloc, tool, line)?)
 }
 
 /// The arguments of a call's line, or why it has none.
 pub(crate) fn parsed_in(alloc: Global, call: &LineCall<'_>) -> Result<ParsedArguments, Refused>
     ensures { Answers result (spec.parsed_in call.now) }
 {
-    match line_in(alloc, call) {
-        Ok(found) => {
-            let parsed = parsed_by(alloc, found.tool, &found.line);
-            // Dropped by a call: see "Explicit drops" in docs/ARCHITECTURE.md.
-            drop(found);
-            parsed
-        }
-        Err(refused) => Err(refused),
-    }
+    let found = line_in(alloc, call)?;
+    let parsed = parsed_by(alloc, found.tool, &found.line);
+    // Dropped by a call: see "Explicit drops" in docs/ARCHITECTURE.md.
+    drop(found);
+    parsed
 }
 
 // The places of a line: its own path of the input, and no directory.
@@ -134,21 +127,6 @@ fn places_of(alloc: Global, parsed: &ParsedArguments) -> Result<Places, AllocErr
         temp_dir: Text::new(String::new(alloc)),
         canonical_input: parsed.input.try_clone(alloc)?,
     })
-}
-
-// A list of words.
-fn listed(alloc: Global, words: &[String]) -> Result<Outcome, Fault>
-    ensures { UnlessMemory result (Ok (of_texts (map string_bytes words.now))) }
-{
-    let mut outcome = Outcome::new(alloc);
-    match outcome.push_all(words) {
-        Ok(()) => Ok(outcome),
-        Err(_) => {
-            // Dropped by a call: see "Explicit drops" in docs/ARCHITECTURE.md.
-            drop(outcome);
-            Err(Fault::Memory)
-        }
-    }
 }
 
 // The words that a compiler writes arguments back as.
@@ -170,14 +148,10 @@ where
     );
     // Dropped by a call: see "Explicit drops" in docs/ARCHITECTURE.md.
     drop(places);
-    match written {
-        Ok(written) => {
-            let words = listed(alloc, written.0.get_arguments());
-            drop(written);
-            words
-        }
-        Err(fault) => Err(fault),
-    }
+    let written = written?;
+    let words = Outcome::of_texts(alloc, written.0.get_arguments());
+    drop(written);
+    Ok(words?)
 }
 
 // The words that a compiler writes arguments back as, given the compiler.
@@ -241,15 +215,11 @@ fn rewritten_by(alloc: Global, tool: LineTool, line: &Line<'_>) -> Result<Outcom
 pub fn call_words(alloc: Global, call: &LineCall<'_>) -> Result<Outcome, Refused>
     ensures { Answers result (spec.call_words call.now) }
 {
-    match line_in(alloc, call) {
-        Ok(found) => {
-            let words = rewritten_by(alloc, found.tool, &found.line);
-            // Dropped by a call: see "Explicit drops" in docs/ARCHITECTURE.md.
-            drop(found);
-            words
-        }
-        Err(refused) => Err(refused),
-    }
+    let found = line_in(alloc, call)?;
+    let words = rewritten_by(alloc, found.tool, &found.line);
+    // Dropped by a call: see "Explicit drops" in docs/ARCHITECTURE.md.
+    drop(found);
+    words
 }
 
 /// Reads a line of a tool and lists the words that it is written back as, as `CCompilerImpl::generate_compile_commands` of that

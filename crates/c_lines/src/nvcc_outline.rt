@@ -69,14 +69,8 @@ fn listed_texts(alloc: Global, texts: &OutlineTexts) -> Result<Outcome, AllocErr
     ensures { IfOk result (λ outcome. outcome ≡ of_texts (spec.list_of texts.now)) }
 {
     let mut outcome = Outcome::new(alloc);
-    match push_texts(&mut outcome, texts) {
-        Ok(()) => Ok(outcome),
-        Err(fault) => {
-            // Dropped by a call: see "Explicit drops" in docs/ARCHITECTURE.md.
-            drop(outcome);
-            Err(fault)
-        }
-    }
+    push_texts(&mut outcome, texts)?;
+    Ok(outcome)
 }
 
 // What an nvcc line says, as a list.
@@ -139,19 +133,13 @@ fn outline_at(alloc: Global, tools: Tools<'_>, line: &Line<'_>) -> Result<Outcom
 fn valid_outline(alloc: Global, call: &NvccLineCall<'_>) -> Result<Outcome, Refused>
     ensures { Answers result (spec.valid_outline call.now) }
 {
-    let Some(tools) = tools_of(&call.tmp, &call.nvcc) else {
-        return Err(Refused::Plain(Status::NotUtf8));
-    };
-    match line_of(alloc, &call.cwd, call.words, call.variables) {
-        Ok(Some(line)) => {
-            let outline = outline_at(alloc, tools, &line);
-            // Dropped by a call: see "Explicit drops" in docs/ARCHITECTURE.md.
-            drop(line);
-            outline
-        }
-        Ok(None) => Err(Refused::Plain(Status::NotUtf8)),
-        Err(_) => Err(Refused::Memory),
-    }
+    let tools = tools_of(&call.tmp, &call.nvcc).ok_or(Refused::Plain(Status::NotUtf8))?;
+    let line = line_of(alloc, &call.cwd, call.words, call.variables)?;
+    let line = line.ok_or(Refused::Plain(Status::NotUtf8))?;
+    let outline = outline_at(alloc, tools, &line);
+    // Dropped by a call: see "Explicit drops" in docs/ARCHITECTURE.md.
+    drop(line);
+    outline
 }
 
 /// What [`nvcc_line`] tells: what the line of a call says.

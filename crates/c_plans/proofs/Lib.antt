@@ -1,3 +1,6 @@
 pub mod LimitLemmas
+pub mod PlaceLemmas
 pub mod RecordLemmas
 pub mod RecordReading
+pub mod StepLemmas
+pub mod StepReading

@@ -4,7 +4,7 @@ use Rattle.plans.specs.declared.plan.NvccGeneratedSubcommand.{NvccGeneratedSubco
 use Rattle.c_texts.proofs.TextLemmas.{texts-then, count-then}
 use Rattle.c_texts.specs.declared.memory.Range.{Range}
 use Rattle.c_texts.specs.Outcomes.{Outcome, with_texts}
-use Rattle.c_steps.specs.Steps.{Extra, Known, Stepped, extras_from, file_texts, files_at, steps_at, with_extra, with_extras}
+use Rattle.c_plans.specs.Steps.{Extra, Known, Stepped, extras_from, file_texts, files_at, steps_at, with_extra, with_extras}
 
 -- a command, and others behind it
 pub extra-then : (s : Stepped) (e : Extra) (extras : List Extra) → with_extras (with_extra s e) extras ≡ with_extras s (e ∷ extras)

@@ -7,8 +7,8 @@ use Rattle.c_texts.proofs.TextLemmas.{ranges-length, texts-then}
 use Rattle.c_texts.specs.Memory.{cut}
 use Rattle.c_texts.specs.Outcomes.{Outcome, of_texts, with_texts}
 use Rattle.c_plans.proofs.RecordReading.{all-read, part-behind, plan-is}
-use Rattle.c_steps.specs.Steps.{Extra, Known, extra_of, extras_from, file_texts, missing_of, step_at, steps_at}
-use Rattle.c_steps.specs.StepLaws.{StepsReadBack, PlansReadBack, extra_in}
+use Rattle.c_plans.specs.Steps.{Extra, Known, extra_of, extras_from, file_texts, missing_of, step_at, steps_at}
+use Rattle.c_plans.specs.StepLaws.{StepsReadBack, PlansReadBack, extra_in}
 
 -- ---- commands are read back
 

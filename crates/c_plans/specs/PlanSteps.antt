@@ -10,10 +10,10 @@ use Rattle.c_plans.specs.declared.refused_at.RefusedAt.{RefusedAt}
 use Rattle.c_plans.specs.Acceptance.{Accepted, accepted}
 use Rattle.c_plans.specs.Places.{unless_misfit}
 use Rattle.c_plans.specs.Planning.{planned}
-use Rattle.c_steps.specs.Causes.{cause_of, placed, status_within}
-use Rattle.c_steps.specs.Fitness.{misfit_of, misfit_of_plan}
-use Rattle.c_steps.specs.Places.{place_of}
-use Rattle.c_steps.specs.Steps.{Stepped, ended, steps_of}
+use Rattle.c_plans.specs.Causes.{cause_of, placed, status_within}
+use Rattle.c_plans.specs.Fitness.{misfit_of, misfit_of_plan}
+use Rattle.c_plans.specs.FaultPlaces.{place_of}
+use Rattle.c_plans.specs.Steps.{Stepped, ended, steps_of}
 
 -- the refusal of a fault of planning: its place, its status and its message
 abbrev pub refused_fault : PlanCall → Accepted → LimitedFault → RefusedAt

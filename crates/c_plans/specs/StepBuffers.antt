@@ -7,9 +7,9 @@ use Rattle.c_texts.specs.Outcomes.{refused}
 use Rattle.c_plans.specs.declared.record.CommandRecord.{CommandRecord}
 use Rattle.c_plans.specs.declared.record.GroupRecord.{GroupRecord}
 use Rattle.c_plans.specs.Places.{nowhere}
-use Rattle.c_steps.specs.declared.step_record.StepRecord.{StepRecord}
-use Rattle.c_steps.specs.declared.step_record.StepsAnswer.{StepsAnswer}
-use Rattle.c_steps.specs.Steps.{Stepped, refused_at}
+use Rattle.c_plans.specs.declared.step_record.StepRecord.{StepRecord}
+use Rattle.c_plans.specs.declared.step_record.StepsAnswer.{StepsAnswer}
+use Rattle.c_plans.specs.Steps.{Stepped, refused_at}
 
 -- a call's memory that is written
 pub record Buffers : Type 0 where

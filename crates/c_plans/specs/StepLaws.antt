@@ -3,8 +3,8 @@ use Rattle.std.specs.Prelude.{◌≡◌, ℕ, List, ◌==◌, map}
 use Rattle.plans.specs.declared.origins.PlanWithOrigins.{PlanWithOrigins}
 use Rattle.c_texts.specs.Memory.{cut}
 use Rattle.c_plans.specs.RecordsRead.{HasOrigins, part, plan_in}
-use Rattle.c_steps.specs.declared.step_record.StepRecord.{StepRecord}
-use Rattle.c_steps.specs.Steps.{Extra, Stepped, extras_of, steps_of}
+use Rattle.c_plans.specs.declared.step_record.StepRecord.{StepRecord}
+use Rattle.c_plans.specs.Steps.{Extra, Stepped, extras_of, steps_of}
 
 -- what a record says, by the texts and the numbers
 abbrev pub extra_in : List (List ℕ) → List ℕ → StepRecord → Extra

@@ -16,10 +16,10 @@ use Rattle.c_plans.specs.declared.record.PlaceRecord.{PlaceRecord}
 use Rattle.c_plans.specs.declared.refused_at.RefusedAt.{RefusedAt}
 use Rattle.c_plans.specs.Places.{nowhere}
 use Rattle.c_plans.specs.Records.{Recorded, records_of, without_records}
-use Rattle.c_steps.specs.declared.step_record.StepRecord.{StepRecord}
-use Rattle.c_steps.specs.declared.stepped.Extra.{Extra as HeldExtra}
-use Rattle.c_steps.specs.declared.steps.Known.{Known as HeldKnown}
-use Rattle.c_steps.specs.Tools.{tool_of}
+use Rattle.c_plans.specs.declared.step_record.StepRecord.{StepRecord}
+use Rattle.c_plans.specs.declared.stepped.Extra.{Extra as HeldExtra}
+use Rattle.c_plans.specs.declared.steps.Known.{Known as HeldKnown}
+use Rattle.c_plans.specs.Tools.{tool_of}
 
 -- what there is to know of a command beside its record: what it needs, its files, its tool, and why these aren't all files
 pub record Extra : Type 0 where

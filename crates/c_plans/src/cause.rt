@@ -1,9 +1,9 @@
 //! Why planning fails: the status and the message.
 
 ghost use Rattle.std.specs.Prelude.{◌≡◌, IfOk, string_bytes};
-ghost use Rattle.c_steps.specs.Causes as spec;
+ghost use Rattle.c_plans.specs.Causes as spec;
 
-use c_plans::PlaceRecord;
+use crate::record::PlaceRecord;
 use c_texts::{Status, status_of};
 use dry_runs::LimitedFault;
 use std::alloc::{AllocError, Global};

@@ -2,9 +2,9 @@
 
 ghost use Rattle.std.specs.Prelude.{◌≡◌, map, vec_items, option_map};
 ghost use Rattle.c_plans.specs.Places.{misfit_seen};
-ghost use Rattle.c_steps.specs.Fitness as spec;
+ghost use Rattle.c_plans.specs.Fitness as spec;
 
-use c_plans::Misfit;
+use crate::refused_at::Misfit;
 use c_texts::Status;
 use dry_runs::is_dry_run;
 use plans::{NvccGeneratedSubcommand, Plan};

@@ -2,6 +2,7 @@
 
 ghost use Rattle.c_plans.specs.LimitLaws as limits;
 ghost use Rattle.c_plans.specs.RecordsRead as read;
+ghost use Rattle.c_plans.specs.StepLaws as steps;
 
 /// A limit of 0 is none: planning and look-ups answer what they do without a limit.
 pub fn no_limit()
@@ -13,4 +14,10 @@ pub fn no_limit()
 pub fn records_determine()
     ensures read_back { read.RecordsReadBack }
     ensures one_to_one { read.RecordsAreOneToOne }
+{}
+
+/// The needs, files and tools of a plan's commands are read back from its records, and so is the plan.
+pub fn steps_read_back()
+    ensures steps { steps.StepsReadBack }
+    ensures plan { steps.PlansReadBack }
 {}

@@ -1,18 +1,24 @@
-//! The calls on plans over memory that a C program owns: the look-ups of programs that a plan needs, the plan of two dry runs as text,
-//! and canonical names. `c_steps` writes a plan with the records that are here.
+//! The calls on plans over memory that a C program owns: the look-ups of programs that a plan needs, the plan of two dry runs as text, and
+//! as records for a program that runs the commands itself, with what each command reads, writes and needs and with the place of a
+//! refusal; and canonical names.
 //!
 //! `c_texts` says what holds of all calls. The crate `zigrunk_c` exports these to C, one function for each.
 #![tactic(auto)]
 
 mod accepted;
 mod asking;
+mod cause;
 mod directory;
 mod field;
+mod fitness;
 pub mod laws;
 mod limits;
+mod missing;
+mod place;
 mod plan_call;
 mod plan_entries;
 mod plan_forms;
+mod planned_steps;
 mod planning;
 mod record;
 mod recorded;
@@ -20,14 +26,18 @@ mod refusal;
 mod refused_at;
 mod renaming;
 mod room;
+mod step_record;
+mod stepped;
+mod steps;
+mod tool;
 
-pub use accepted::{Accepted, accept};
 pub use asking::{asked_lookups, candidates, lookups_within, tried_paths};
-pub use plan_call::{FoundProgram, PlanCall, Tables, Texts};
-pub use plan_entries::records_of;
-pub use planning::{plan, plan_text, planned};
+pub use plan_call::{FoundProgram, PlanCall};
+pub use planned_steps::{call_steps, plan_steps};
+pub use planning::{plan, plan_text};
 pub use record::{CommandRecord, GroupRecord, PlaceRecord};
 pub use recorded::Recorded;
-pub use refused_at::{Misfit, RefusedAt, in_field, nowhere, refuse_misfit};
+pub use refused_at::RefusedAt;
 pub use renaming::{remap, remapped_words};
-pub use room::Room;
+pub use step_record::{StepRecord, StepsAnswer};
+pub use stepped::Stepped;

@@ -2,9 +2,12 @@
 
 ghost use Rattle.std.specs.Prelude.{◌≡◌, IfOk};
 ghost use Rattle.c_plans.specs.Acceptance.{accepted_seen};
-ghost use Rattle.c_steps.specs.Places as spec;
+ghost use Rattle.c_plans.specs.FaultPlaces as spec;
 
-use c_plans::{Accepted, PlaceRecord, PlanCall, in_field, nowhere};
+use crate::accepted::Accepted;
+use crate::plan_call::PlanCall;
+use crate::record::PlaceRecord;
+use crate::refused_at::{in_field, nowhere};
 use dry_runs::{LimitedFault, parse_dry_run};
 use std::alloc::{AllocError, Global};
 use texts::fault::Fault;

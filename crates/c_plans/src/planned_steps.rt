@@ -6,18 +6,20 @@ ghost use Rattle.dry_runs.specs.Limit.{UnlessMemoryWithin};
 ghost use Rattle.plans.specs.declared.origins.PlanWithOrigins.{PlanWithOrigins};
 ghost use Rattle.c_plans.specs.Acceptance.{accepted_seen};
 ghost use Rattle.c_plans.specs.Places.{AnswersAt};
-ghost use Rattle.c_steps.specs.PlanSteps as spec;
-ghost use Rattle.c_steps.specs.StepBuffers.{GivesSteps};
+ghost use Rattle.c_plans.specs.PlanSteps as spec;
+ghost use Rattle.c_plans.specs.StepBuffers.{GivesSteps};
 
+use crate::accepted::{Accepted, accept};
 use crate::cause::{message_at, status_within};
 use crate::fitness::{misfit_of, misfit_of_plan};
 use crate::place::place_of;
+use crate::plan_call::PlanCall;
+use crate::planning::planned;
+use crate::record::{CommandRecord, GroupRecord};
+use crate::refused_at::{RefusedAt, refuse_misfit};
 use crate::step_record::{StepRecord, StepsAnswer};
 use crate::stepped::{Stepped, write_steps};
 use crate::steps::steps_of;
-use c_plans::{
-    Accepted, CommandRecord, GroupRecord, PlanCall, RefusedAt, accept, planned, refuse_misfit,
-};
 use c_texts::{Range, Refused};
 use dry_runs::LimitedFault;
 use plans::PlanWithOrigins;

@@ -1,6 +1,6 @@
 //! The records of a plan's commands for a program that runs them.
 
-use c_plans::PlaceRecord;
+use crate::record::PlaceRecord;
 use c_texts::Range;
 
 /// What a program that runs a command of a group has to know, beside its `CommandRecord`. Paths are elements of the list of texts.

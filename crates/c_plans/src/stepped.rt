@@ -9,12 +9,14 @@ ghost use Rattle.c_plans.specs.declared.record.CommandRecord.{CommandRecord};
 ghost use Rattle.c_plans.specs.declared.record.GroupRecord.{GroupRecord};
 ghost use Rattle.c_plans.specs.declared.refused_at.RefusedAt.{RefusedAt};
 ghost use Rattle.c_plans.specs.Places.{AnswersAt};
-ghost use Rattle.c_steps.specs.declared.step_record.StepRecord.{StepRecord};
-ghost use Rattle.c_steps.specs.Steps as spec;
-ghost use Rattle.c_steps.specs.StepBuffers as buffers;
+ghost use Rattle.c_plans.specs.declared.step_record.StepRecord.{StepRecord};
+ghost use Rattle.c_plans.specs.Steps as spec;
+ghost use Rattle.c_plans.specs.StepBuffers as buffers;
 
+use crate::record::{CommandRecord, GroupRecord};
+use crate::recorded::Recorded;
+use crate::refused_at::{RefusedAt, nowhere};
 use crate::step_record::{StepRecord, StepsAnswer};
-use c_plans::{CommandRecord, GroupRecord, Recorded, RefusedAt, nowhere};
 use c_texts::{Outcome, Range};
 use command_files::CommandFiles;
 use std::alloc::{AllocError, Global};
@@ -33,7 +35,7 @@ pub struct Stepped {
 
 impl Model for Stepped {
     ghost use Rattle.c_plans.specs.Places.{nowhere};
-    ghost use Rattle.c_steps.specs.Steps.{Stepped};
+    ghost use Rattle.c_plans.specs.Steps.{Stepped};
 
     ghost Value = { Stepped };
 

@@ -4,12 +4,13 @@ ghost use Rattle.std.specs.Prelude.{◌≡◌, IfOk, OnOk, fold, length, map, ve
 ghost use Rattle.command_files.specs.Order.{needs_at as needs_of};
 ghost use Rattle.c_plans.specs.Records as records;
 ghost use Rattle.c_plans.specs.Rooms.{no_room};
-ghost use Rattle.c_steps.specs.Steps as spec;
+ghost use Rattle.c_plans.specs.Steps as spec;
 
 use crate::missing::missing_of;
+use crate::plan_entries::records_of;
+use crate::room::Room;
 use crate::stepped::{Extra, Stepped};
 use crate::tool::tool_of;
-use c_plans::{Room, records_of};
 use command_files::{CommandFiles, files_and_needs, files_of, preprocesses};
 use plans::{NvccGeneratedSubcommand, PlanWithOrigins};
 use std::alloc::{AllocError, Global};

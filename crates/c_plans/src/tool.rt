@@ -2,7 +2,7 @@
 
 ghost use Rattle.std.specs.Prelude.{◌≡◌, option_copied};
 ghost use Rattle.texts.specs.Path.{file_stem_of};
-ghost use Rattle.c_steps.specs.Tools as spec;
+ghost use Rattle.c_plans.specs.Tools as spec;
 
 use texts::text::file_stem;
 

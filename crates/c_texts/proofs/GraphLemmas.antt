@@ -5,8 +5,8 @@ use Rattle.std.proofs.lemmas.Option.{slice_get-get_or}
 use Rattle.schedules.specs.Entered.{are_below}
 use Rattle.schedules.specs.Graphs.{first_late}
 use Rattle.schedules.proofs.GraphLemmas.{late_no, late_yes}
-use Rattle.c_schedules.specs.declared.call.ScheduledCommand.{ScheduledCommand}
-use Rattle.c_schedules.specs.Calls.{needs_of}
+use Rattle.c_texts.specs.declared.schedule_call.ScheduledCommand.{ScheduledCommand}
+use Rattle.c_texts.specs.ScheduleCalls.{needs_of}
 
 any_default : (xs : List ScheduledCommand) (i : ℕ) (d e : ScheduledCommand) → i < length xs → get_or xs i d ≡ get_or xs i e
 any_default xs i d e h = ap (λ x. unwrap_or x d) (sym (slice_get-get_or xs i d h) ∙ slice_get-get_or xs i e h)

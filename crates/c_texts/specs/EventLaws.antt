@@ -5,9 +5,9 @@ use Rattle.schedules.specs.declared.command.Outcome.{Outcome}
 use Rattle.schedules.specs.Graphs.{graph_fault, fresh}
 use Rattle.schedules.specs.Scheduled.{start_refusal, end_refusal, with_state}
 use Rattle.schedules.specs.States.{ended_as}
-use Rattle.c_schedules.specs.declared.call.ScheduleCall.{ScheduleCall}
-use Rattle.c_schedules.specs.Calls.{seen, needs_of, priority_of, is_schedule, begun, started, ended}
-use Rattle.c_schedules.specs.Numbers.{after_failure_of, outcome_of}
+use Rattle.c_texts.specs.declared.schedule_call.ScheduleCall.{ScheduleCall}
+use Rattle.c_texts.specs.ScheduleCalls.{seen, needs_of, priority_of, is_schedule, begun, started, ended}
+use Rattle.c_texts.specs.ScheduleNumbers.{after_failure_of, outcome_of}
 
 -- after a schedule is made, it is that of a graph with which nothing is wrong, and no command has started
 abbrev pub Begins : Type 0

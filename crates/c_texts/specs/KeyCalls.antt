@@ -1,7 +1,7 @@
 -- What a caller passes for the key of a command, and what it gets.
 use Rattle.std.specs.Prelude.{ℕ, List, ◌==◌, ◌&&◌, nat_le, if◌then◌else◌, length, map, Option, Some, None, ok_or, Result, codes}
 use Rattle.texts.specs.Results.{and_then}
-use Rattle.c_keys.specs.declared.key_call.KeyCall.{KeyCall}
+use Rattle.c_texts.specs.declared.key_call.KeyCall.{KeyCall}
 use Rattle.c_texts.specs.declared.refusal.Refused.{Refused}
 use Rattle.c_texts.specs.declared.refusal.Refused.TheVariants.{Told}
 use Rattle.c_texts.specs.declared.status.Status.TheVariants.{BadLine, BadNumber}

@@ -1,8 +1,13 @@
+pub mod EventLaws
 pub mod Failures
+pub mod KeyCalls
 pub mod Laws
 pub mod Memory
 pub mod Outcomes
 pub mod Refusals
+pub mod ScheduleAnswers
+pub mod ScheduleCalls
+pub mod ScheduleNumbers
 pub mod Shell
 pub mod Statuses
 pub mod Variables

@@ -5,14 +5,14 @@ use Rattle.schedules.specs.Scheduled.{next, running, is_over}
 use Rattle.schedules.specs.Told.{told}
 use Rattle.c_texts.specs.declared.status.Status.TheVariants.{Success, BadNumber}
 use Rattle.c_texts.specs.Statuses.{number}
-use Rattle.c_schedules.specs.declared.answer.ScheduleAnswer.{ScheduleAnswer}
-use Rattle.c_schedules.specs.declared.answer.ProgressAnswer.{ProgressAnswer}
-use Rattle.c_schedules.specs.declared.answer.ToldAnswer.{ToldAnswer}
-use Rattle.c_schedules.specs.declared.call.ScheduleCall.{ScheduleCall}
-use Rattle.c_schedules.specs.declared.reason.Reason.{Reason}
-use Rattle.c_schedules.specs.declared.reason.Reason.TheVariants as reasons
-use Rattle.c_schedules.specs.Calls.{seen, states_of, is_schedule}
-use Rattle.c_schedules.specs.Numbers.{reason_number, plan_number}
+use Rattle.c_texts.specs.declared.schedule_answer.ScheduleAnswer.{ScheduleAnswer}
+use Rattle.c_texts.specs.declared.schedule_answer.ProgressAnswer.{ProgressAnswer}
+use Rattle.c_texts.specs.declared.schedule_answer.ToldAnswer.{ToldAnswer}
+use Rattle.c_texts.specs.declared.schedule_call.ScheduleCall.{ScheduleCall}
+use Rattle.c_texts.specs.declared.schedule_reason.Reason.{Reason}
+use Rattle.c_texts.specs.declared.schedule_reason.Reason.TheVariants as reasons
+use Rattle.c_texts.specs.ScheduleCalls.{seen, states_of, is_schedule}
+use Rattle.c_texts.specs.ScheduleNumbers.{reason_number, plan_number}
 
 -- the number of a command, which an answer names
 abbrev pub named : ℕ → ScheduleAnswer

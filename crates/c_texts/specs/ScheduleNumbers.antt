@@ -10,8 +10,8 @@ use Rattle.schedules.specs.declared.command.PlanStatus.{PlanStatus}
 use Rattle.schedules.specs.declared.command.PlanStatus.TheVariants as plans
 use Rattle.schedules.specs.declared.command.Refused.{Refused}
 use Rattle.schedules.specs.declared.command.Refused.TheVariants as refusals
-use Rattle.c_schedules.specs.declared.reason.Reason.{Reason}
-use Rattle.c_schedules.specs.declared.reason.Reason.TheVariants as reasons
+use Rattle.c_texts.specs.declared.schedule_reason.Reason.{Reason}
+use Rattle.c_texts.specs.declared.schedule_reason.Reason.TheVariants as reasons
 
 -- the state of a command with this number: memory that is zero is that of commands of which none has started
 abbrev pub state_of : ℕ → CommandState

@@ -1,9 +1,10 @@
 //! What a C program hands over for the key of a command.
 
 ghost use Rattle.std.specs.Prelude.{◌≡◌};
-ghost use Rattle.c_keys.specs.KeyCalls as spec;
+ghost use Rattle.c_texts.specs.KeyCalls as spec;
 
-use c_texts::{InputText, Variable};
+use crate::memory::InputText;
+use crate::variables::Variable;
 use command_keys::{KeyTool, MOST_ROOTS};
 
 /// A call that writes the key of a command.

@@ -6,10 +6,14 @@ ghost use Rattle.c_texts.specs.Outcomes.{GivesText};
 ghost use Rattle.c_texts.specs.Refusals.{Answers};
 ghost use Rattle.c_texts.specs.Variables.{pair_of};
 ghost use Rattle.command_keys.specs.Keys.{shown, shown_variable};
-ghost use Rattle.c_keys.specs.KeyCalls as spec;
+ghost use Rattle.c_texts.specs.KeyCalls as spec;
 
 use crate::key_call::{KeyCall, tool_in};
-use c_texts::{InputText, Refused, Status, TextAnswer, Variable, tell_text};
+use crate::memory::{InputText, TextAnswer};
+use crate::outcome::tell_text;
+use crate::refusal::Refused;
+use crate::status::Status;
+use crate::variables::Variable;
 use command_keys::{KeyTool, tool_variables};
 use std::alloc::{AllocError, Global};
 use texts::bytes::Bytes;

@@ -1,5 +1,6 @@
 //! What holds of all answers.
 
+ghost use Rattle.c_texts.specs.EventLaws as events;
 ghost use Rattle.c_texts.specs.Laws as laws;
 
 /// The ranges of an answer cut its bytes into exactly its texts.
@@ -18,4 +19,12 @@ pub fn whole_answers()
     ensures sizes { laws.SizesAreTheAnswers }
     ensures written { laws.AnswersAreWritten }
     ensures refused { laws.NothingIsWritten }
+{}
+
+/// What calls do that are accepted: making a schedule gives that of a good graph in which nothing has started, and noting a
+/// start or an end is the event of `schedules`. So all laws of `schedules` hold of the events that a caller notes.
+pub fn events()
+    ensures begins { events.Begins }
+    ensures starts { events.Starts }
+    ensures ends { events.Ends }
 {}

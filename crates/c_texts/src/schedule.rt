@@ -2,20 +2,20 @@
 
 ghost use Rattle.std.specs.Prelude.{◌≡◌, ◌<◌, length, replicate, slice_set, Ok, Some, None, true, false, MatchResult};
 ghost use Rattle.std.specs.List.{list_all};
-ghost use Rattle.c_schedules.specs.Answers as answers;
-ghost use Rattle.c_schedules.specs.Calls as spec;
-ghost use Rattle.c_schedules.specs.Numbers as numbers;
+ghost use Rattle.c_texts.specs.ScheduleAnswers as answers;
+ghost use Rattle.c_texts.specs.ScheduleCalls as spec;
+ghost use Rattle.c_texts.specs.ScheduleNumbers as numbers;
 ghost use Rattle.schedules.specs.Scheduled as schedules;
-ghost use Rattle.c_schedules.specs.declared.reason.Reason.TheVariants.{BadOutcome};
+ghost use Rattle.c_texts.specs.declared.schedule_reason.Reason.TheVariants.{BadOutcome};
 
-use crate::answer::{ProgressAnswer, ScheduleAnswer, ToldAnswer, denied, named, noted};
-use crate::call::ScheduleCall;
-use crate::graph::{are_met, first_late};
-use crate::number::{RUNNING, after_failure_of, plan_number};
-use crate::ready::{is_over, next_of};
-use crate::reason::Reason;
-use crate::state::{is_running, is_waiting, limit, running, told as told_of};
-use c_texts::Status;
+use crate::schedule_answer::{ProgressAnswer, ScheduleAnswer, ToldAnswer, denied, named, noted};
+use crate::schedule_call::ScheduleCall;
+use crate::schedule_graph::{are_met, first_late};
+use crate::schedule_number::{RUNNING, after_failure_of, plan_number};
+use crate::schedule_ready::{is_over, next_of};
+use crate::schedule_reason::Reason;
+use crate::schedule_state::{is_running, is_waiting, limit, running, told as told_of};
+use crate::status::Status;
 use schedules::Refused;
 
 // Whether the numbers of a record have a meaning, and there is a state for each command.

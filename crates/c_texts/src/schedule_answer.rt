@@ -1,10 +1,10 @@
 //! What calls on a schedule return.
 
 ghost use Rattle.std.specs.Prelude.{◌≡◌};
-ghost use Rattle.c_schedules.specs.Answers as spec;
+ghost use Rattle.c_texts.specs.ScheduleAnswers as spec;
 
-use crate::reason::Reason;
-use c_texts::Status;
+use crate::schedule_reason::Reason;
+use crate::status::Status;
 
 /// The answer of a call that names a command, or notes what happened to one.
 #[repr(C)]

@@ -6,10 +6,10 @@ ghost use Rattle.schedules.specs.Entered as entered;
 ghost use Rattle.schedules.specs.Graphs as graphs;
 ghost use Rattle.schedules.specs.Scheduled as schedules;
 ghost use Rattle.schedules.specs.States as states;
-ghost use Rattle.c_schedules.specs.Calls as spec;
+ghost use Rattle.c_texts.specs.ScheduleCalls as spec;
 
-use crate::call::ScheduledCommand;
-use crate::state::has_succeeded;
+use crate::schedule_call::ScheduledCommand;
+use crate::schedule_state::has_succeeded;
 
 // Whether all numbers behind those of earlier plans are below a number.
 fn are_below(count: usize, first: usize, needs: &[usize]) -> bool

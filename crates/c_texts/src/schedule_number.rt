@@ -1,7 +1,7 @@
 //! What the numbers of states and settings mean.
 
 ghost use Rattle.std.specs.Prelude.{◌≡◌};
-ghost use Rattle.c_schedules.specs.Numbers as spec;
+ghost use Rattle.c_texts.specs.ScheduleNumbers as spec;
 
 use schedules::{AfterFailure, CommandState, PlanStatus};
 

@@ -4,13 +4,13 @@ ghost use Rattle.std.specs.Prelude.{◌≡◌, ◌<◌, length, map};
 ghost use Rattle.schedules.specs.Scheduled as schedules;
 ghost use Rattle.schedules.specs.States as states;
 ghost use Rattle.schedules.specs.Tournament as tournament;
-ghost use Rattle.c_schedules.specs.Calls as spec;
-ghost use Rattle.c_schedules.specs.Numbers.{after_failure_of};
+ghost use Rattle.c_texts.specs.ScheduleCalls as spec;
+ghost use Rattle.c_texts.specs.ScheduleNumbers.{after_failure_of};
 
-use crate::call::{ScheduleCall, ScheduledCommand};
-use crate::graph::are_met;
-use crate::number::after_failure_of;
-use crate::state::{is_waiting, limit, running};
+use crate::schedule_call::{ScheduleCall, ScheduledCommand};
+use crate::schedule_graph::are_met;
+use crate::schedule_number::after_failure_of;
+use crate::schedule_state::{is_waiting, limit, running};
 
 // Whether the second of two commands has a greater priority than the first, or the same and a lower number.
 fn precedes(commands: &[ScheduledCommand<'_>], first: usize, second: usize) -> bool

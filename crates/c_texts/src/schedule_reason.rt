@@ -1,8 +1,8 @@
 //! Why a call on a schedule is refused.
 
 ghost use Rattle.std.specs.Prelude.{◌≡◌};
-ghost use Rattle.c_schedules.specs.Answers.{at_fault};
-ghost use Rattle.c_schedules.specs.Numbers as spec;
+ghost use Rattle.c_texts.specs.ScheduleAnswers.{at_fault};
+ghost use Rattle.c_texts.specs.ScheduleNumbers as spec;
 
 use schedules::Refused;
 
@@ -21,7 +21,7 @@ pub enum Reason {
 
 impl From<Refused> for Reason {
     ghost use Rattle.std.specs.Prelude.{◌≡◌};
-    ghost use Rattle.c_schedules.specs.declared.reason.Reason.TheVariants as reasons;
+    ghost use Rattle.c_texts.specs.declared.schedule_reason.Reason.TheVariants as reasons;
 
     ghost from_gives = { λ refused reason. reason ≡ reasons.Refused refused };
 

@@ -4,10 +4,10 @@ ghost use Rattle.std.specs.Prelude.{◌≡◌};
 ghost use Rattle.schedules.specs.States as states;
 ghost use Rattle.schedules.specs.Scheduled as schedules;
 ghost use Rattle.schedules.specs.Told as telling;
-ghost use Rattle.c_schedules.specs.Calls.{states_of};
-ghost use Rattle.c_schedules.specs.Numbers.{state_of};
+ghost use Rattle.c_texts.specs.ScheduleCalls.{states_of};
+ghost use Rattle.c_texts.specs.ScheduleNumbers.{state_of};
 
-use crate::number::state_of;
+use crate::schedule_number::state_of;
 use schedules::{AfterFailure, CommandState, PlanStatus, Told};
 
 /// The state of a command. One that isn't there hasn't started.

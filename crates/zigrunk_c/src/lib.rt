@@ -1,31 +1,31 @@
-//! The exports of libzigrunk: for each call of `c_texts`, `c_lines`, `c_plans`, `c_steps`, `c_keys` and `c_schedules`, one C function. The header is `bindings/c/zigrunk.h`.
+//! The exports of libzigrunk: for each call of `c_texts`, `c_lines` and `c_plans`, one C function. The header is `bindings/c/zigrunk.h`.
 #![tactic(auto)]
 
 ghost use Rattle.std.specs.Prelude.{◌≡◌, length, map, replicate, slice_set};
-ghost use Rattle.c_keys.specs.KeyCalls.{key_outcome};
 ghost use Rattle.c_lines.specs.LineRecordCalls.{line_records};
 ghost use Rattle.c_lines.specs.LineRecords.{GivesLine};
 ghost use Rattle.c_lines.specs.Lines as lines;
 ghost use Rattle.c_lines.specs.NvccOutline.{nvcc_outcome};
 ghost use Rattle.c_plans.specs.Asking.{candidates_outcome, limited_lookups_outcome};
+ghost use Rattle.c_plans.specs.PlanSteps.{plan_steps};
 ghost use Rattle.c_plans.specs.Planning.{plan_outcome};
 ghost use Rattle.c_plans.specs.Renaming.{remap_outcome};
-ghost use Rattle.c_schedules.specs.Answers as schedule_answers;
-ghost use Rattle.c_schedules.specs.Calls as schedules;
-ghost use Rattle.c_steps.specs.PlanSteps.{plan_steps};
-ghost use Rattle.c_steps.specs.StepBuffers.{GivesSteps};
+ghost use Rattle.c_plans.specs.StepBuffers.{GivesSteps};
+ghost use Rattle.c_texts.specs.KeyCalls.{key_outcome};
 ghost use Rattle.c_texts.specs.Memory.{bytes_of};
 ghost use Rattle.c_texts.specs.Outcomes.{GivesList, GivesText, TellsText, described, of_text};
+ghost use Rattle.c_texts.specs.ScheduleAnswers as schedule_answers;
+ghost use Rattle.c_texts.specs.ScheduleCalls as schedules;
 ghost use Rattle.c_texts.specs.Shell.{quote_outcome, split_outcome};
 ghost use Rattle.c_texts.specs.Statuses.{with_number};
 ghost use Rattle.c_texts.specs.Version as version;
 
-use c_keys::KeyCall;
 use c_lines::{LineAnswer, LineCall, NvccLineCall, OutputRecord};
-use c_plans::{CommandRecord, GroupRecord, PlanCall};
-use c_schedules::{ProgressAnswer, ScheduleAnswer, ScheduleCall, ToldAnswer};
-use c_steps::{StepRecord, StepsAnswer};
-use c_texts::{InputText, ListAnswer, Range, TextAnswer};
+use c_plans::{CommandRecord, GroupRecord, PlanCall, StepRecord, StepsAnswer};
+use c_texts::{
+    InputText, KeyCall, ListAnswer, ProgressAnswer, Range, ScheduleAnswer, ScheduleCall,
+    TextAnswer, ToldAnswer, schedule,
+};
 use std::alloc::Global;
 
 /// The number of the binary interface.
@@ -137,7 +137,7 @@ pub extern "C" fn zigrunk_plan_steps(
         (record { groups = groups.old; commands = commands.old; steps = steps.old; numbers = numbers.old; ranges = ranges.old; bytes = out.old })
         (record { groups = groups.new; commands = commands.new; steps = steps.new; numbers = numbers.new; ranges = ranges.new; bytes = out.new }) }
 {
-    c_steps::plan_steps(alloc, call, groups, commands, steps, numbers, ranges, out)
+    c_plans::plan_steps(alloc, call, groups, commands, steps, numbers, ranges, out)
 }
 
 /// Lists the words that a line of a tool is written back as.
@@ -191,7 +191,7 @@ pub extern "C" fn zigrunk_command_key(
 ) -> TextAnswer
     ensures { GivesText (key_outcome call.now) result out.old out.new }
 {
-    c_keys::command_key(alloc, call, out)
+    c_texts::command_key(alloc, call, out)
 }
 
 /// Lists words with canonical names of generated files.
@@ -217,7 +217,7 @@ pub extern "C" fn zigrunk_schedule_begin(
     ensures answer { result ≡ schedule_answers.noted (schedules.begun call.now states.old) }
     ensures states { states.new ≡ schedules.if_accepted (schedules.begun call.now states.old) (replicate (length states.old) 0) states.old }
 {
-    c_schedules::begin(call, states)
+    schedule::begin(call, states)
 }
 
 /// Names the command of a schedule that may start next.
@@ -225,7 +225,7 @@ pub extern "C" fn zigrunk_schedule_begin(
 pub extern "C" fn zigrunk_schedule_next(call: &ScheduleCall<'_>, states: &[u8]) -> ScheduleAnswer
     ensures { result ≡ schedule_answers.next_answer call.now states.now }
 {
-    c_schedules::next(call, states)
+    schedule::next(call, states)
 }
 
 /// Notes that a command of a schedule has started.
@@ -238,7 +238,7 @@ pub extern "C" fn zigrunk_schedule_started(
     ensures answer { result ≡ schedule_answers.noted (schedules.started call.now states.old command) }
     ensures states { states.new ≡ schedules.if_accepted (schedules.started call.now states.old command) (slice_set states.old command 1) states.old }
 {
-    c_schedules::started(call, states, command)
+    schedule::started(call, states, command)
 }
 
 /// Notes that a command of a schedule has ended.
@@ -252,7 +252,7 @@ pub extern "C" fn zigrunk_schedule_ended(
     ensures answer { result ≡ schedule_answers.noted (schedules.ended call.now states.old command outcome) }
     ensures states { states.new ≡ schedules.if_accepted (schedules.ended call.now states.old command outcome) (slice_set states.old command outcome) states.old }
 {
-    c_schedules::ended(call, states, command, outcome)
+    schedule::ended(call, states, command, outcome)
 }
 
 /// Says how far a schedule is.
@@ -263,7 +263,7 @@ pub extern "C" fn zigrunk_schedule_progress(
 ) -> ProgressAnswer
     ensures { result ≡ schedule_answers.progress_answer call.now states.now }
 {
-    c_schedules::progress(call, states)
+    schedule::progress(call, states)
 }
 
 /// Says which outputs of a schedule may be printed.
@@ -276,5 +276,5 @@ pub extern "C" fn zigrunk_schedule_told(
 ) -> ToldAnswer
     ensures { result ≡ schedule_answers.told_answer call.now states.now first end }
 {
-    c_schedules::told(call, states, first, end)
+    schedule::told(call, states, first, end)
 }

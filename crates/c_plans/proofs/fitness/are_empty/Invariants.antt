@@ -1,6 +1,6 @@
 use Rattle.std.proofs.Common.{◌≡◌, map, vec_items, drop}
-use Rattle.c_steps.specs.Fitness.{are_empty}
-use Rattle.c_steps.proofs.fitness.are_empty.Given as goal
+use Rattle.c_plans.specs.Fitness.{are_empty}
+use Rattle.c_plans.proofs.fitness.are_empty.Given as goal
 
 -- all groups are empty if those that are left are
 abbrev pub invariant-loop-group : goal.invariant-loop-group

@@ -1,9 +1,9 @@
 use Rattle.std.proofs.Common.{length, sym, ap, ◌∙◌, string_bytes}
 use Rattle.c_texts.proofs.TextLemmas.{mapped-length}
 use Rattle.c_texts.specs.Outcomes.{with_texts}
-use Rattle.c_steps.specs.Steps.{Extra, extra_seen}
-use Rattle.c_steps.proofs.StepLemmas.{file-texts-are, step-record-is}
-use Rattle.c_steps.proofs.stepped.push_files.Goals as goal
+use Rattle.c_plans.specs.Steps.{Extra, extra_seen}
+use Rattle.c_plans.proofs.StepLemmas.{file-texts-are, step-record-is}
+use Rattle.c_plans.proofs.stepped.push_files.Goals as goal
 
 pub returns-clause-texts : goal.returns-clause-texts
 returns-clause-texts c =

@@ -1,9 +1,9 @@
 use Rattle.std.proofs.Common.{subst}
 use Rattle.c_plans.specs.Places.{AnswersAt}
-use Rattle.c_steps.specs.StepBuffers.{Buffers, TellsSteps}
-use Rattle.c_steps.specs.Steps.{ended}
-use Rattle.c_steps.proofs.PlaceLemmas.{told-or-memory}
-use Rattle.c_steps.proofs.stepped.write_steps.Goals as goal
+use Rattle.c_plans.specs.StepBuffers.{Buffers, TellsSteps}
+use Rattle.c_plans.specs.Steps.{ended}
+use Rattle.c_plans.proofs.PlaceLemmas.{told-or-memory}
+use Rattle.c_plans.proofs.stepped.write_steps.Goals as goal
 
 pub returns-in-Err : goal.returns-in-Err
 returns-in-Err c expected answers =

@@ -1,8 +1,8 @@
 use Rattle.std.proofs.Common.{ℕ, ◌+◌, List, ◌∷◌, [], drop, length, sym, ap, ◌∙◌, length-append}
 use Rattle.texts.proofs.PushedLemmas.{next-left}
-use Rattle.c_steps.specs.Steps.{Extra, extra_of, extras_from, known_seen, step_at, with_extra, with_extras}
-use Rattle.c_steps.proofs.StepLemmas.{extra-then}
-use Rattle.c_steps.proofs.steps.push_group.Goals as goal
+use Rattle.c_plans.specs.Steps.{Extra, extra_of, extras_from, known_seen, step_at, with_extra, with_extras}
+use Rattle.c_plans.proofs.StepLemmas.{extra-then}
+use Rattle.c_plans.proofs.steps.push_group.Goals as goal
 
 pub loop-command-preserved : goal.loop-command-preserved
 loop-command-preserved c =

@@ -1,6 +1,6 @@
 use Rattle.std.proofs.Common.{◌≡◌, drop, length}
-use Rattle.c_steps.specs.Steps.{extras_from, known_seen, with_extras}
-use Rattle.c_steps.proofs.steps.push_group.Given as goal
+use Rattle.c_plans.specs.Steps.{extras_from, known_seen, with_extras}
+use Rattle.c_plans.proofs.steps.push_group.Given as goal
 
 -- the commands so far, and behind them those that are left, are all
 abbrev pub invariant-loop-command : goal.invariant-loop-command

@@ -1,6 +1,6 @@
 use Rattle.std.proofs.Common.{◌≡◌, drop, length, map, vec_items}
-use Rattle.c_steps.specs.Steps.{commands_of, extras_from, known_seen, with_extras}
-use Rattle.c_steps.proofs.steps.push_groups.Given as goal
+use Rattle.c_plans.specs.Steps.{commands_of, extras_from, known_seen, with_extras}
+use Rattle.c_plans.proofs.steps.push_groups.Given as goal
 
 -- the commands so far, and behind them those of the groups that are left, are all
 abbrev pub invariant-loop-commands : goal.invariant-loop-commands

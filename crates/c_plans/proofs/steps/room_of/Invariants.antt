@@ -1,7 +1,7 @@
 use Rattle.std.proofs.Common.{◌≡◌, drop, fold}
 use Rattle.c_plans.specs.Rooms.{no_room}
-use Rattle.c_steps.specs.Steps.{with_room_of}
-use Rattle.c_steps.proofs.steps.room_of.Given as goal
+use Rattle.c_plans.specs.Steps.{with_room_of}
+use Rattle.c_plans.proofs.steps.room_of.Given as goal
 
 -- the room so far, with that of the commands that are left, is that of all
 abbrev pub invariant-loop-command : goal.invariant-loop-command

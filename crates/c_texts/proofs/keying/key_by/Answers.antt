@@ -4,7 +4,7 @@ use Rattle.c_texts.specs.Memory.{bytes_of}
 use Rattle.c_texts.specs.Variables.{pair_of}
 use Rattle.command_keys.specs.Keys.{key_of, shown, shown_variable}
 use Rattle.command_keys.specs.ToolVariables.{tool_variables}
-use Rattle.c_keys.proofs.keying.key_by.Goals as goal
+use Rattle.c_texts.proofs.keying.key_by.Goals as goal
 
 pub returns : goal.returns
 returns c =

@@ -3,7 +3,7 @@ use Rattle.std.proofs.Math.ListN.{drop_of_length-le}
 use Rattle.c_texts.specs.declared.memory.InputText.{InputText}
 use Rattle.c_texts.specs.Memory.{bytes_of}
 use Rattle.command_keys.specs.Keys.{shown}
-use Rattle.c_keys.proofs.keying.texts_of.Goals as goal
+use Rattle.c_texts.proofs.keying.texts_of.Goals as goal
 
 -- the bytes of the next text come next
 next-text : (list : List (Bor (List ℕ))) (text : InputText) (texts : List InputText) →

@@ -5,7 +5,7 @@ use Rattle.std.proofs.lemmas.List.Folds.{list_all-map}
 use Rattle.std.proofs.lemmas.Iterator.{YieldsList-from_slice}
 use Rattle.std.proofs.lemmas.Iterator.Search.{all_from_yields_List}
 use Rattle.schedules.specs.Graphs.{moved}
-use Rattle.c_schedules.proofs.graph.are_below.Goals as goal
+use Rattle.c_texts.proofs.schedule_graph.are_below.Goals as goal
 
 pub returns : goal.returns
 returns c =

@@ -1,6 +1,6 @@
 use Rattle.std.proofs.Common.{true, false, sym, ◌∙◌}
-use Rattle.c_schedules.proofs.GraphLemmas.{late_at}
-use Rattle.c_schedules.proofs.graph.first_late.Goals as goal
+use Rattle.c_texts.proofs.GraphLemmas.{late_at}
+use Rattle.c_texts.proofs.schedule_graph.first_late.Goals as goal
 
 pub returns-then-not-are_below : goal.returns-then-not-are_below
 returns-then-not-are_below c =

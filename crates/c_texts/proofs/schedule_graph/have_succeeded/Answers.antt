@@ -5,8 +5,8 @@ use Rattle.std.proofs.lemmas.Iterator.{YieldsList-from_slice}
 use Rattle.std.proofs.lemmas.Iterator.Search.{all_from_yields_List}
 use Rattle.schedules.specs.Graphs.{moved}
 use Rattle.schedules.specs.States.{is_succeeded, state_at}
-use Rattle.c_schedules.specs.Calls.{states_of}
-use Rattle.c_schedules.proofs.graph.have_succeeded.Goals as goal
+use Rattle.c_texts.specs.ScheduleCalls.{states_of}
+use Rattle.c_texts.proofs.schedule_graph.have_succeeded.Goals as goal
 
 pub returns : goal.returns
 returns c =

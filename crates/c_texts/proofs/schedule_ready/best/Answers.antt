@@ -2,9 +2,9 @@ use Rattle.std.proofs.Common.{◌≡◌, ◌<◌, ◌+◌, ◌-◌, ℕ, Bool, t
 use Rattle.std.specs.List.{filter, range_with_len}
 use Rattle.schedules.specs.Scheduled.{best, may_start}
 use Rattle.schedules.specs.Tournament.{better}
-use Rattle.c_schedules.specs.Calls.{seen, priority_of}
-use Rattle.c_schedules.proofs.ReadyLemmas.{best_from}
-use Rattle.c_schedules.proofs.ready.best.Goals as goal
+use Rattle.c_texts.specs.ScheduleCalls.{seen, priority_of}
+use Rattle.c_texts.proofs.ReadyLemmas.{best_from}
+use Rattle.c_texts.proofs.schedule_ready.best.Goals as goal
 
 pub loop-command-preserved-then-may_start : goal.loop-command-preserved-then-may_start
 loop-command-preserved-then-may_start c =

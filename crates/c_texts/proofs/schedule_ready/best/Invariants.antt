@@ -1,8 +1,8 @@
 use Rattle.std.proofs.Common.{◌≡◌, ◌-◌, ◌≤◌, length, map}
 use Rattle.std.specs.List.{filter, range_with_len}
 use Rattle.schedules.specs.Scheduled.{best, may_start}
-use Rattle.c_schedules.specs.Calls.{seen, priority_of}
-use Rattle.c_schedules.proofs.ready.best.Given as goal
+use Rattle.c_texts.specs.ScheduleCalls.{seen, priority_of}
+use Rattle.c_texts.proofs.schedule_ready.best.Given as goal
 
 abbrev pub invariant-loop-command : goal.invariant-loop-command
 invariant-loop-command l =

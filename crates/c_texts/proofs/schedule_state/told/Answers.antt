@@ -2,9 +2,9 @@ use Rattle.std.proofs.Common.{◌<◌, inl, inr, length, sym, subst, ◌∙◌}
 use Rattle.std.proofs.lemmas.List.{length-map}
 use Rattle.schedules.specs.declared.command.CommandState.TheVariants as kinds
 use Rattle.schedules.proofs.ToldLemmas.{told_at}
-use Rattle.c_schedules.specs.Calls.{states_of}
-use Rattle.c_schedules.specs.Numbers.{state_of}
-use Rattle.c_schedules.proofs.state.told.Goals as goal
+use Rattle.c_texts.specs.ScheduleCalls.{states_of}
+use Rattle.c_texts.specs.ScheduleNumbers.{state_of}
+use Rattle.c_texts.proofs.schedule_state.told.Goals as goal
 
 pub loop-next-preserved : goal.loop-next-preserved
 loop-next-preserved c =
