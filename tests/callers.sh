@@ -3,7 +3,8 @@
 # docs/EMBEDDING.md as they are there, misuses, and the examples. tests/rust_crate.sh does so for Rust. nvcc and its tools are stand-ins, but the
 # examples also make what nvcc makes if there is one. The last line is 'N passed, M failed'.
 #
-#   tests/callers.sh [FOLDER]   FOLDER: as `make install` or `make lib` leaves it, with lib and include; otherwise out, or what `make rust` built
+#   tests/callers.sh [FOLDER]         FOLDER: as `make install` or `make lib` leaves it, with lib and include; otherwise out, or what `make rust` built
+#   tests/callers.sh --first FOLDER   the programs of the page alone, also that in Rust, with what `make install` left in FOLDER
 #
 # SEED=N draws other pairs of dry runs than those of seed 1.
 set -u
@@ -11,6 +12,11 @@ cd "$(dirname "$0")/.." || exit 1
 . tests/lib.sh
 . tests/callers/room.sh
 require 'the call layers' cc c++ pkg-config python3
+only_first=
+if [ "${1-}" = --first ]; then
+    only_first=yes
+    shift
+fi
 installed=$(realpath -m "${1:-out}")
 if ! [ -f "$installed/lib/libzigrunk.so.1" ] && [ -f out/rust/target/release/libzigrunk.a ]; then
     installed=$scratch/installed
@@ -24,8 +30,9 @@ export ZIGRUNK_LIBRARY=$installed/lib/libzigrunk.so.1 PYTHONDONTWRITEBYTECODE=1
 strict=(-Wall -Wextra -Wpedantic -Werror -O1 -g)
 room=$scratch/room
 make_room "$room"
-read -ra flags <<< "$(pkg-config --cflags --libs zigrunk)"
-read -ra static_flags <<< "$(pkg-config --static --cflags --libs zigrunk)"
+# (pkg-config puts a backslash before a space)
+flags=() static_flags=()
+eval "flags=($(pkg-config --cflags --libs zigrunk)) static_flags=($(pkg-config --static --cflags --libs zigrunk))"
 
 # block LANGUAGE: the program of this language in the page.
 block() {
@@ -38,7 +45,7 @@ built_cpp() { c++ -std=c++17 "${strict[@]}" "$1" -o "$2" "${@:3}"; }
 
 # built_go FOLDER OUT: the program of a folder, with the installed module.
 built_go() {
-    printf 'module test\n\ngo 1.19\n\nrequire zigrunk v0.0.0\n\nreplace zigrunk => %s\n' "$go" > "$1/go.mod"
+    printf 'module test\n\ngo 1.19\n\nrequire zigrunk v0.0.0\n\nreplace zigrunk => "%s"\n' "$go" > "$1/go.mod"
     (cd "$1" && GOFLAGS=-mod=mod GOPROXY=off GOCACHE=$scratch/go go build -o "$2" .)
 }
 
@@ -47,6 +54,36 @@ plans() {
     diff <(for tool in gcc cudafe++ gcc cicc ptxas fatbinary gcc; do echo "$room/bin/$tool"; done) \
         <(PATH=$room/bin:$PATH NVCC_APPEND_FLAGS='-DX=1 -DY=2' "$@" "$room/w" "$room/t" -c kernel.cu -o kernel.o) &&
         [ "$(grep -c -- '-DX=1 -DY=2' "$room/words")" = 2 ] && rm "$room/words"
+}
+
+# of_rust: the program of the page in a project that adds the installed crate.
+of_rust() {
+    mkdir -p "$scratch/first_rust/src"
+    block rust > "$scratch/first_rust/src/main.rs"
+    printf '[package]\nname = "first"\nedition = "2024"\n[dependencies]\nzigrunk = { path = "%s" }\n' "$installed/share/zigrunk/rust/zigrunk" \
+        > "$scratch/first_rust/Cargo.toml"
+    cargo build --quiet --offline --manifest-path "$scratch/first_rust/Cargo.toml" --target-dir "${TARGET:-$scratch/first_rust/target}" &&
+        plans "${TARGET:-$scratch/first_rust/target}/debug/first"
+}
+
+# first_plans: the programs of the page.
+first_plans() {
+    block c > "$scratch/first.c"
+    block cpp > "$scratch/first.cpp"
+    block python > "$scratch/first.py"
+    check 'C: the program of the page' built_c "$scratch/first.c" "$scratch/first_c" "${flags[@]}"
+    check 'C: its plan' plans "$scratch/first_c"
+    check 'C++: the program of the page' built_cpp "$scratch/first.cpp" "$scratch/first_cpp" "${flags[@]}"
+    check 'C++: its plan' plans "$scratch/first_cpp"
+    check 'Python: its plan' plans python3 "$scratch/first.py"
+    if command -v go > /dev/null; then
+        mkdir -p "$scratch/first_go"
+        block go > "$scratch/first_go/main.go"
+        check 'Go: the program of the page' built_go "$scratch/first_go" "$scratch/first_go/first"
+        check 'Go: its plan' plans "$scratch/first_go/first"
+    else
+        skip 'the module for Go' 'go is not on the path'
+    fi
 }
 
 # has_ten_lines LANGUAGE: whether the program has at most ten.
@@ -135,14 +172,19 @@ in_wheel() {
 # at_most LINES FILE..: whether each file has at most as many lines.
 at_most() { ! wc -l "${@:2}" | awk -v most="$1" '$2 != "total" && $1 > most { print } ' | grep . ; }
 
-block c > "$scratch/first.c"
-block cpp > "$scratch/first.cpp"
-block python > "$scratch/first.py"
 for language in c cpp go python rust; do
     check "the page's program in $language has at most ten lines" has_ten_lines "$language"
 done
-check 'C: the program of the page' built_c "$scratch/first.c" "$scratch/first_c" "${flags[@]}"
-check 'C: its plan' plans "$scratch/first_c"
+first_plans
+if [ -n "$only_first" ]; then
+    if command -v cargo > /dev/null; then
+        check 'Rust: the plan of the page' of_rust
+    else
+        skip 'the crate for Rust' 'cargo is not on the path'
+    fi
+    summary
+    exit
+fi
 check 'C: the program with the archive' built_c "$scratch/first.c" "$scratch/first_static" -static "${static_flags[@]}"
 check 'C: its plan with the archive' plans "$scratch/first_static"
 check 'C: the header, by a compiler of C++' c++ -x c++ -std=c++11 "${strict[@]}" -fsyntax-only tests/callers/misuses.c "${flags[@]}"
@@ -150,12 +192,9 @@ check 'C: misuses, with the checks of the compiler' sanitized tests/callers/misu
 check 'C: what comes of them' misuses "$scratch/misuses_c"
 check 'C: without memory' without_memory
 python3 tests/callers/mutated.py "$room" "${SEED:-1}" 100 > "$scratch/lot"
-check 'C++: the program of the page' built_cpp "$scratch/first.cpp" "$scratch/first_cpp" "${flags[@]}"
-check 'C++: its plan' plans "$scratch/first_cpp"
 check 'C++: misuses' built_cpp tests/callers/misuses.cpp "$scratch/misuses_cpp" "${flags[@]}"
 check 'C++: what comes of them' misuses "$scratch/misuses_cpp"
 check 'C++: 100 pairs of dry runs by lot' alike "$scratch/misuses_cpp"
-check 'Python: its plan' plans python3 "$scratch/first.py"
 check 'Python: misuses' misuses python3 tests/callers/misuses.py
 check 'Python: 100 pairs of dry runs by lot' alike python3 tests/callers/misuses.py
 check 'Python: a wheel' in_wheel
@@ -166,20 +205,15 @@ check 'the lines of the key maker' at_most 60 bindings/rust/examples/keys.rs
 check 'the lines of the cache server' at_most 200 bindings/go/examples/cacheserver/main.go
 check 'C++: the scheduler' built_cpp bindings/cpp/examples/scheduler.cpp "$scratch/scheduler" "${flags[@]}"
 if command -v go > /dev/null; then
-    mkdir -p "$scratch/first_go" "$scratch/misuses_go"
-    block go > "$scratch/first_go/main.go"
+    mkdir -p "$scratch/misuses_go"
     cp tests/callers/go/misuses.go "$scratch/misuses_go"
     check 'Go: the format' prints '' gofmt -l bindings/go tests/callers/go
     mkdir -p "$scratch/server"
     cp bindings/go/examples/cacheserver/main.go "$scratch/server"
     check 'Go: the cache server' built_go "$scratch/server" "$scratch/server/cacheserver"
-    check 'Go: the program of the page' built_go "$scratch/first_go" "$scratch/first_go/first"
-    check 'Go: its plan' plans "$scratch/first_go/first"
     check 'Go: misuses' built_go "$scratch/misuses_go" "$scratch/misuses_go/misuses"
     check 'Go: what comes of them' misuses "$scratch/misuses_go/misuses"
     check 'Go: 100 pairs of dry runs by lot' alike "$scratch/misuses_go/misuses"
-else
-    skip 'the module for Go' 'go is not on the path'
 fi
 if command -v cmake > /dev/null; then
     check 'a project of CMake' by_cmake

@@ -142,6 +142,7 @@ else
     echo 'left out, without nvcc on the path: zigrunk-nvcc'
 fi
 cd "$top" || exit 1
+check 'the programs of the page, with the installation' env TARGET="$scratch/work/uses/target" tests/callers.sh --first "$root/usr"
 check 'make install-library, alone' make -s install-library DESTDIR="$scratch/" PREFIX='a library'
 check 'it installs no program' test ! -e "$scratch/a library/bin"
 check 'make uninstall' make -s uninstall DESTDIR="$root" PREFIX=/usr
