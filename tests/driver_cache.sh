@@ -794,6 +794,33 @@ whole_calls() {
         same 'without a header' "$([ "$status" != 0 ] && grep -q size.h "$room/err" && echo told)" told
         end
     fi
+    if case_of 'whole: host compiles without a preprocessor'; then
+        # how often a host compile was found at once: then its line of the log has no time
+        at_once() { same "compiles found at once $1" "$(tail -1 "$room/calls" | grep -c '"gcc -S[^}]*"begin":\([0-9.]*\),"end":\1,[^}]*"hit":true')" "$2"; }
+        project
+        twice "${usual[@]}"
+        sed -i 's/= 4/= 5/' k.cu
+        whole '' "${usual[@]}"
+        at_once 'after an edit of a kernel' 1
+        whole whole "${usual[@]}"
+        mkdir -p early/crt
+        { printf '%s\n' '#ifndef MORE' '#define MORE' 'int more() { return 7; }' '#endif' && echo "#include \"$(dirname "$(find -L /usr/local/cuda/targets -name host_runtime.h | head -1)")/host_runtime.h\""; } > early/crt/host_runtime.h
+        sed -i 's/= 5/= 6/' k.cu
+        whole '' "${usual[@]}"
+        at_once 'once a header appears' 0
+        sed -i 's/return 7/return 8/' early/crt/host_runtime.h
+        sed -i 's/= 6/= 7/' k.cu
+        whole '' "${usual[@]}"
+        at_once 'once a header changes' 0
+        sed -i 's/= 7/= 8/' k.cu
+        whole '' -Xcompiler -DOTHER "${usual[@]}"
+        at_once 'with other words' 0
+        whole '' "${usual[@]}"
+        sed -i 's/= 8/= 9/' k.cu
+        whole '' "${usual[@]}"
+        at_once 'at last' 1
+        end
+    fi
     if case_of 'whole: files that are read once'; then
         project
         mkdir a b && printf '%s\n' '#pragma once' 'inline int more() { return 5; }' > a/more.h

@@ -146,7 +146,7 @@ class Tool:
     def settings(self) -> dict[str, str]:
         """The variables of a build."""
         own = {name: value for name, value in os.environ.items() if not name.startswith(CACHES)}
-        own |= {"TMPDIR": str(self.room / "tmp"), "XDG_RUNTIME_DIR": str(self.room / "run")}
+        own |= {"TMPDIR": str(self.room / "tmp"), "XDG_RUNTIME_DIR": str(self.room / "run"), "XDG_CACHE_HOME": str(self.room / "users")}
         if "ccache" in self.name.split():
             own |= {"CCACHE_DIR": str(self.cache), "CCACHE_STATSLOG": str(self.log), "CCACHE_BASEDIR": str(self.room)}
         elif "zigrunk" in self.name:

@@ -119,6 +119,9 @@ pub fn sees_lines(text: &[u8]) -> bool {
 
 /// The files of a text's line markers that messages name.
 pub fn shown_files<'a>(text: &'a [u8], messages: &[u8]) -> BTreeSet<&'a [u8]> {
+    if messages.is_empty() {
+        return BTreeSet::new();
+    }
     let names: BTreeSet<&[u8]> = text.split(|&byte| byte == b'\n').filter_map(name_in).collect();
     names.into_iter().filter(|name| contains(messages, name)).collect()
 }

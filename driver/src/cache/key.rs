@@ -106,6 +106,20 @@ pub fn start_of(recipe: &Recipe, tool: &Digest, environment: &[(OsString, OsStri
     Some(start)
 }
 
+/// The key of a compile by the texts that it reads and by its words, those for the preprocessor too. `None` if it may not have one.
+pub fn direct<'a>(mut start: Hasher, recipe: &Recipe, texts: &[Text], words: impl Iterator<Item = &'a String>) -> Option<Digest> {
+    start.add(b"direct");
+    start.add(recipe.job.folder.as_bytes());
+    for word in words {
+        marked::add_to(&mut start, &recipe.unnamed(word.as_bytes())?, recipe.directory.as_bytes());
+    }
+    start.add(b"texts");
+    for text in texts {
+        start.update(&text_identity(&counted(text, recipe)?, recipe.directory.as_bytes()).0);
+    }
+    Some(start.finish())
+}
+
 /// The key of a command, but for the texts that it reads late.
 #[derive(Clone, Debug)]
 pub struct Part(Hasher);
@@ -282,6 +296,24 @@ mod tests {
         for (one, other) in with("int a;\n", "_1").into_iter().zip(with("int b;\n", "_1")) {
             assert!(one.0 != other.0 && one.1 != other.1);
         }
+    }
+
+    #[test]
+    fn a_direct_key_has_all_words_and_texts() {
+        let of = |words: &[&str], stem: &str, text: &str| {
+            let recipe = Recipe { kind: Kind::Host, stem: Some(stem.into()), ..recipe("-m64", "/t") };
+            let words: Vec<String> = words.iter().map(|&word| word.to_owned()).collect();
+            direct(start(&recipe, &[]), &recipe, &texts(&[(Role::Source, text)]), words.iter())
+        };
+        let one = of(&["-DA", "/t/k.80.cudafe1.cpp"], "k.80.cudafe1", "#include \"/t/k.80.cudafe1.stub.c\"\n");
+        assert_eq!(one, of(&["-DA", "/t/k.90.cudafe1.cpp"], "k.90.cudafe1", "#include \"/t/k.90.cudafe1.stub.c\"\n"));
+        let others = [
+            of(&["-DB", "/t/k.80.cudafe1.cpp"], "k.80.cudafe1", "#include \"/t/k.80.cudafe1.stub.c\"\n"),
+            of(&["-DA", "/t/k.80.cudafe1.cpp"], "k.80.cudafe1", "#include \"/t/k.80.cudafe1.stub.c\"\n\n"),
+            of(&["-DA/t/k.80.cudafe1.cpp"], "k.80.cudafe1", "#include \"/t/k.80.cudafe1.stub.c\"\n"),
+        ];
+        assert!(one.is_some() && others.iter().all(|other| other.is_some() && *other != one));
+        assert_eq!(of(&[], "k", "\0"), None);
     }
 
     #[test]

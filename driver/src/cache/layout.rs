@@ -12,7 +12,7 @@ const COMMENTED_LINE: u8 = 0x0b;
 /// What is behind a comment that counts.
 const END_OF_COMMENT: u8 = 0x0c;
 /// Words right before a quote that make a raw string of it.
-const RAW_PREFIXES: [&[u8]; 5] = [b"R", b"LR", b"uR", b"UR", b"u8R"];
+pub const RAW_PREFIXES: [&[u8]; 5] = [b"R", b"LR", b"uR", b"UR", b"u8R"];
 
 /// Whether a byte belongs to identifiers and numbers.
 pub fn is_word(byte: u8) -> bool {
@@ -25,7 +25,7 @@ pub fn words_of(text: &[u8]) -> impl Iterator<Item = &[u8]> {
 }
 
 /// Where a line has the backslash by which it is joined to the next, if it is: only blanks are behind that.
-fn join_of(line: &[u8]) -> Option<usize> {
+pub fn join_of(line: &[u8]) -> Option<usize> {
     let is_blank = |byte: &u8| matches!(byte, b' ' | b'\t' | b'\r' | 0x0b | 0x0c | 0);
     line.iter().rposition(|byte| !is_blank(byte)).filter(|&place| line[place] == b'\\')
 }

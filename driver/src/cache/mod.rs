@@ -2,6 +2,7 @@
 pub mod calls;
 pub mod counts;
 pub mod digest;
+mod direct;
 mod entry;
 mod host_text;
 mod includes;
@@ -28,6 +29,7 @@ use crate::streams::{complain, content_of, write_all};
 use crate::system::Status;
 use calls::Product;
 use digest::{Digest, Hasher};
+use direct::Direct;
 use entry::{Entry, Made};
 use key::{Part, Role, Text};
 use marked::{Marked, contains, has_symbol};
@@ -102,6 +104,8 @@ struct Candidate {
     recipe: Recipe,
     state: State,
     hit: Option<bool>,
+    /// How it's looked up without a preprocessor, if it is a compile.
+    direct: Direct,
 }
 
 /// The cache during a call.
@@ -176,7 +180,7 @@ impl<'a> Session<'a> {
     /// The cache for the tasks of a call's commands, whose files go to `tmp`. Tasks that aren't commands are left out.
     pub fn new(store: &'a Store, tmp: &'a str, commands: &[PlannedCommand], tasks: &[Task]) -> Session<'a> {
         let of_plan = tasks.iter().enumerate().filter_map(|(number, task)| Some((number, &commands[task.command?], &task.job)));
-        let candidate = |(number, recipe)| (number, Candidate { recipe, state: State::Fresh, hit: None });
+        let candidate = |(number, recipe)| (number, Candidate { recipe, state: State::Fresh, hit: None, direct: Direct::default() });
         let candidates = recipe::recipes(of_plan, tmp).into_iter().map(candidate).collect();
         Session {
             store,
@@ -200,12 +204,21 @@ impl<'a> Session<'a> {
             candidate.state = State::Own;
             return Step::Own;
         }
-        if let Some((job, _)) = &recipe.question {
-            candidate.state = State::Asked;
-            return Step::Instead(job.clone());
-        }
         let now = host::now();
+        if recipe.question.is_some() {
+            return self.ask(task, now);
+        }
         self.look_up(task, (now, now))
+    }
+
+    /// Looks a compile up by what it reads, or else has that preprocessed.
+    fn ask(&mut self, task: usize, now: f64) -> Step {
+        if let Some(taken) = self.take_directly(task, (now, now)) {
+            return self.hit(task, taken);
+        }
+        self.set(task, State::Asked, None);
+        let question = self.candidates.get(&task).and_then(|candidate| candidate.recipe.question.as_ref());
+        question.map_or(Step::Own, |(job, _)| Step::Instead(job.clone()))
     }
 
     /// What to do with a task whose process, which was started in place of its own, has ended.
@@ -284,7 +297,7 @@ impl<'a> Session<'a> {
     fn texts(recipe: &Recipe, has_late: bool) -> Option<Vec<Text>> {
         let preprocessed = recipe.question.iter().map(|(_, file)| (file, Role::Preprocessed));
         let own = recipe.reads.iter().map(|file| (file, recipe.role_of(file))).filter(|(_, role)| has_late || *role != Role::Late);
-        let text = |(file, role): (&PathBuf, Role)| Some(Text { role, content: content_of(file).ok()? });
+        let text = |(file, role): (&PathBuf, Role)| Some(Text { role, content: fs::read(file).ok()? });
         let texts: Vec<Text> = preprocessed.chain(own).map(text).collect::<Option<_>>()?;
         let is_known = texts.first().is_some_and(|text| !recipe.reads_more(&text.content));
         is_known.then_some(texts)
@@ -312,7 +325,9 @@ impl<'a> Session<'a> {
         let Some(candidate) = self.candidates.get(&task) else { return Step::Own };
         let recipe = &candidate.recipe;
         let Some(by_texts) = Part::by_texts(start.clone(), recipe, &texts) else { return self.runs_alone(task) };
-        if let Some(taken) = self.entry(&by_texts.key(recipe, &texts)).and_then(|entry| self.take(recipe, &entry, times)) {
+        let key = by_texts.key(recipe, &texts);
+        if let Some(taken) = self.entry(&key).and_then(|entry| self.take(recipe, &entry, times)) {
+            self.found(task, key);
             return self.hit(task, taken);
         }
         let keys = Parts(by_texts, Part::by_tokens(start, recipe, &texts)).keys(recipe, &texts);
@@ -379,6 +394,7 @@ impl<'a> Session<'a> {
             let written = self.keep(keys, &entry);
             self.tell(written);
             self.set(task, State::Kept, None);
+            self.found(task, keys.texts);
         }
         self.products.extend(products);
         Step::Ended(ended)

@@ -5,7 +5,7 @@ use crate::cache::includes::{self, Folders, names_in};
 use crate::cache::manifest::{Form, Manifest, Seen, Stamp, is_older};
 use crate::cache::marked::contains;
 use crate::cache::searches::{MARGIN, Search};
-use crate::cache::{Session, State, names, terminal, words};
+use crate::cache::{Candidate, Session, State, names, terminal, words};
 use crate::machine::Job;
 use crate::planner::{Line, PlannedCommand};
 use crate::programs;
@@ -155,7 +155,10 @@ impl Session<'_> {
         self.gather_files(call, &mut gathered)?;
         self.gather_programs(call, &nvcc, &mut gathered)?;
         let defines = self.defines(call).filter(|_| !gathered.sees_lines);
-        let manifest = Manifest { files: gathered.seen.into_values().collect(), vain: gathered.search.vain()?, defines };
+        let direct: Vec<Manifest> = self.candidates.values().filter_map(|candidate| candidate.direct.found.clone()).collect();
+        let vain = gathered.search.vain()?.into_iter().chain(direct.into_iter().flat_map(|found| found.vain));
+        let manifest = Manifest { files: gathered.seen.into_values().collect(), vain: vain.collect(), defines };
+        self.keep_directly(&call.line.cwd, &manifest.files, &manifest.vain);
         let answer = self.answer(call)?;
         calls::keep(self.store, call.line, &nvcc, self.folder_counts(call), &manifest, &answer);
         Some(())
@@ -183,6 +186,12 @@ impl Session<'_> {
         own.chain(questions.map(|(job, file)| (job, file.clone())))
     }
 
+    /// Whether the text of a compile wasn't needed.
+    fn is_direct(&self, text: &Path) -> bool {
+        let is_own = |candidate: &Candidate| candidate.recipe.question.as_ref().is_some_and(|(_, file)| file == text);
+        self.candidates.values().any(|candidate| candidate.direct.found.is_some() && is_own(candidate))
+    }
+
     /// The folders where the call's preprocessors look. `None` if they differ.
     fn folders(&self, call: &Finished<'_>) -> Option<Folders> {
         let asked = |job: &Job| (job.words.first().cloned(), words::search_words(&job.words), job.folder.clone(), variable(job, "CPATH"));
@@ -202,8 +211,10 @@ impl Session<'_> {
     /// Notes what preprocessors have read, and where they have looked.
     fn gather_files(&self, call: &Finished<'_>, gathered: &mut Gathered<'_>) -> Option<()> {
         let mut files: BTreeSet<PathBuf> = BTreeSet::new();
-        for (job, text) in self.preprocessors(call) {
-            let text = content_of(&text).ok().filter(|text| !tells_time(text))?;
+        let found = self.candidates.values().filter_map(|candidate| candidate.direct.found.as_ref());
+        files.extend(found.flat_map(|found| &found.files).map(|seen| seen.path.clone()));
+        for (job, text) in self.preprocessors(call).filter(|(_, text)| !self.is_direct(text)) {
+            let text = fs::read(&text).ok().filter(|text| !tells_time(text))?;
             gathered.sees_lines |= sees_lines(&text);
             files.extend(files_entered(&text)?.into_iter().map(|name| PathBuf::from(OsStr::from_bytes(name))));
             words::included(&job.words).into_iter().try_for_each(|name| gathered.search.seek_given(name))?;

@@ -1,0 +1,173 @@
+//! Host compiles that are found without a preprocessor: by the texts that they read, if all headers are as they were.
+use crate::cache::digest::Digest;
+use crate::cache::entry::Rest;
+use crate::cache::host_text::{files_entered, sees_lines};
+use crate::cache::key::{self, Role, Text};
+use crate::cache::layout::{RAW_PREFIXES, is_word, join_of};
+use crate::cache::manifest::{Manifest, Seen, Vain};
+use crate::cache::marked::contains;
+use crate::cache::recipe::Recipe;
+use crate::cache::tool::Run;
+use crate::cache::{Session, Taken};
+use crate::streams::content_of;
+use std::collections::BTreeSet;
+use std::ffi::OsStr;
+use std::os::unix::ffi::OsStrExt;
+use std::path::{Path, PathBuf};
+
+/// What is known of a compile without a preprocessor.
+#[derive(Clone, PartialEq, Eq, Debug, Default)]
+pub struct Direct {
+    /// The key of the texts that it reads.
+    key: Option<Digest>,
+    /// That of its entry, by its preprocessed text.
+    entry: Option<Digest>,
+    /// The headers that it would read, if it was found so.
+    pub found: Option<Manifest>,
+}
+
+/// What the store has under the key of texts: the key of an entry, and the headers by which that holds.
+fn of_bytes(bytes: &[u8]) -> Option<(Digest, Manifest)> {
+    let mut rest = Rest(bytes);
+    let entry = rest.digest()?;
+    Some((entry, Manifest::of_bytes(rest.0)?))
+}
+
+/// The generated files that a compile reads: its own, cicc's stub file, which that includes, and the fatbin's, which the stub file includes.
+fn generated(recipe: &Recipe) -> Option<Vec<PathBuf>> {
+    let source = recipe.reads.iter().find_map(|file| file.to_str()?.strip_suffix(".cudafe1.cpp"))?;
+    let stub = PathBuf::from(format!("{source}.cudafe1.stub.c"));
+    let text = String::from_utf8(content_of(&stub).ok()?).ok()?;
+    let mut included = text.lines().filter_map(|line| line.strip_prefix("#include \"")?.strip_suffix(".fatbin.c\""));
+    let fatbin = stub.with_file_name(format!("{}.fatbin.c", included.next()?));
+    Some(recipe.reads.iter().cloned().chain([stub, fatbin]).collect())
+}
+
+/// Whether a raw string, or a comment of several lines, may begin in a text.
+fn may_go_on(text: &[u8]) -> bool {
+    let is_raw = |end: usize| {
+        let begin = text[..end].iter().rposition(|&byte| !is_word(byte)).map_or(0, |place| place + 1);
+        RAW_PREFIXES.contains(&&text[begin..end])
+    };
+    contains(text, b"/*") || contains(text, b"??") || (1..text.len()).any(|place| text[place] == b'"' && text[place - 1] == b'R' && is_raw(place))
+}
+
+/// Whether a part that is left out may not go on behind a line: at a directive that is no line marker, or at a joined line.
+fn may_end(line: &[u8]) -> bool {
+    let begin = line.trim_ascii_start();
+    let is_marker = begin.strip_prefix(b"# ").is_some_and(|rest| rest.first().is_some_and(u8::is_ascii_digit));
+    join_of(line).is_some() || ((begin.starts_with(b"#") || begin.starts_with(b"%:")) && !is_marker)
+}
+
+/// A source of cudafe++ without device code, which that leaves out by `#if 0`. Its lines stay, but empty. The source as it is, if such a part
+/// may end elsewhere.
+fn without_device_code(text: Vec<u8>) -> Vec<u8> {
+    if may_go_on(&text) {
+        return text;
+    }
+    let (mut out, mut is_left_out) = (Vec::with_capacity(text.len()), false);
+    for line in text.split_inclusive(|&byte| byte == b'\n') {
+        match (is_left_out, line) {
+            (true, b"#endif\n") => is_left_out = false,
+            (true, _) if may_end(line.trim_ascii_end()) => return text,
+            (false, _) => is_left_out = line == b"#if 0\n",
+            _ => {}
+        }
+        out.extend(if is_left_out && line != b"#if 0\n" { &b"\n"[..] } else { line });
+    }
+    if is_left_out { text } else { out }
+}
+
+impl Session<'_> {
+    /// The key of a compile by the texts that it reads and all of its words.
+    fn direct_key(&mut self, task: usize) -> Option<Digest> {
+        let recipe = &self.candidates.get(&task)?.recipe;
+        let (question, file) = recipe.question.as_ref()?;
+        let environment = recipe.environment();
+        let (program, folder) = (Path::new(recipe.job.words.first()?), Path::new(&recipe.job.folder));
+        let tool = self.tools.identity(&Run { kind: recipe.kind, program, folder, environment: &environment })?;
+        let text = |file: &PathBuf| Some(Text { role: Role::Source, content: without_device_code(content_of(file).ok()?) });
+        let texts: Vec<Text> = generated(recipe)?.iter().map(text).collect::<Option<_>>()?;
+        let words = question.words.iter().filter(|word| Path::new(word) != file);
+        key::direct(key::start_of(recipe, &tool, &environment)?, recipe, &texts, words)
+    }
+
+    /// Makes what a compile makes, if the store knows that for its texts and for headers as they are.
+    pub(super) fn take_directly(&mut self, task: usize, times: (f64, f64)) -> Option<Taken> {
+        let key = self.direct_key(task)?;
+        self.candidates.get_mut(&task)?.direct.key = Some(key);
+        let (entry, manifest) = of_bytes(&self.store.read(&key)?)?;
+        let candidate = self.candidates.get(&task)?;
+        let now = manifest.again(Path::new(&candidate.recipe.job.folder))?;
+        let entry = self.entry(&entry).filter(|_| now.digest(&key) == manifest.digest(&key))?;
+        let taken = self.take(&candidate.recipe, &entry, times)?;
+        self.candidates.get_mut(&task)?.direct.found = Some(now);
+        Some(taken)
+    }
+
+    /// Hears the key of a compile's entry, by its preprocessed text.
+    pub fn found(&mut self, task: usize, entry: Digest) {
+        if let Some(candidate) = self.candidates.get_mut(&task) {
+            candidate.direct.entry = Some(entry);
+        }
+    }
+
+    /// The files beside its own texts that a compile has read, by its preprocessed text. `None` if it isn't known to read all of them, or if
+    /// it may see its lines.
+    fn read_beside(&self, recipe: &Recipe, files: &[Seen]) -> Option<Vec<Seen>> {
+        let (_, file) = recipe.question.as_ref()?;
+        let text = content_of(file).ok().filter(|text| !sees_lines(text))?;
+        let entered = files_entered(&text)?.into_iter().map(|name| Path::new(OsStr::from_bytes(name)));
+        let (own, others): (BTreeSet<&Path>, BTreeSet<&Path>) = entered.partition(|path| path.starts_with(self.tmp));
+        let read: Vec<Seen> = files.iter().filter(|seen| others.contains(seen.path.as_path())).cloned().collect();
+        let generated = generated(recipe)?;
+        let is_known = own.iter().all(|path| generated.iter().any(|file| file == path));
+        (is_known && read.len() == others.len()).then_some(read)
+    }
+
+    /// Keeps what the call's compiles have read beside their own texts, so that they are found without a preprocessor. These files are among
+    /// those of the whole call, and so are the places where any was sought in vain.
+    pub fn keep_directly(&self, cwd: &str, files: &[Seen], vain: &[Vain]) {
+        for candidate in self.candidates.values().filter(|candidate| candidate.recipe.job.folder == cwd) {
+            let (Some(key), Some(entry)) = (candidate.direct.key, candidate.direct.entry) else { continue };
+            if let Some(files) = self.read_beside(&candidate.recipe, files) {
+                let manifest = Manifest { files, vain: vain.to_vec(), defines: None };
+                let _ = self.store.write(&key, &[&entry.0[..], &manifest.to_bytes()].concat());
+            }
+        }
+    }
+}
+
+#[cfg(test)]
+mod tests {
+    use super::*;
+
+    fn without(text: &str) -> String {
+        String::from_utf8(without_device_code(text.into())).unwrap()
+    }
+
+    #[test]
+    fn device_code_does_not_count() {
+        let text = "int a;\n#if 0\n# 12 \"k.cu\"\n{ a = 5; } \n#endif\nint b; \n#if 0\n#endif\n#if 01\nint c;\n#endif\n";
+        assert_eq!(without(text), "int a;\n#if 0\n\n\n#endif\nint b; \n#if 0\n#endif\n#if 01\nint c;\n#endif\n");
+        assert_eq!((without(""), without("#if 0\n\"ERR\"\n#endif\n")), (String::new(), "#if 0\n\n#endif\n".into()));
+    }
+
+    #[test]
+    fn a_part_that_may_end_elsewhere_counts() {
+        let part = |inside: &str| format!("int a;\n#if 0\n{inside}\n#endif\nint b;\n");
+        for inside in ["#else\nint c;", "#if 1\n#endif", " # endif", "%:endif", "a \\", "/* a", "R\"(", "a = u8R\"(", "??=endif"] {
+            assert_eq!(without(&part(inside)), part(inside), "{inside}");
+        }
+        for text in ["R\"(\n#if 0\na\n#endif\n)\"\n", "/*\n#if 0\n*/ a\n#endif\n", "#if 0\na\n", "#if 0\na\n#endif", "#if 0\na\n#endif \n"] {
+            assert_eq!(without(text), text);
+        }
+    }
+
+    #[test]
+    fn what_is_kept_is_read_back() {
+        let bytes = [&Digest::of(b"a").0[..], &Manifest::default().to_bytes()].concat();
+        assert_eq!(of_bytes(&bytes), Some((Digest::of(b"a"), Manifest::default())));
+        assert!(of_bytes(&bytes[..bytes.len() - 1]).is_none() && of_bytes(&bytes[..20]).is_none());
+    }
+}
