@@ -21,7 +21,7 @@ fn state_of(status: &Metadata) -> State {
     (status.dev(), status.ino(), status.len(), status.mtime(), status.mtime_nsec())
 }
 
-/// A file to send: of which command, and the how manieth of its files.
+/// A file to send: the number of its command, and its place among that command's files.
 struct Outgoing {
     number: u64,
     place: u32,
