@@ -374,11 +374,11 @@ mod tests {
     #[test]
     fn workers_need_files_and_no_runner() {
         for case in 0..16 {
-            let [has_workers, sends_files, shares, has_runner] = [1, 2, 4, 8].map(|bit| case & bit != 0);
-            let shared = shares.then(|| PathBuf::from("/shared"));
+            let [has_workers, sends_files, has_shared, has_runner] = [1, 2, 4, 8].map(|bit| case & bit != 0);
+            let shared = has_shared.then(|| PathBuf::from("/shared"));
             let runner = if has_runner { vec!["step.sh".into()] } else { Vec::new() };
-            let found = check(&Settings { has_workers, shared, runner, ..Settings::default() }, sends_files);
-            let wanted = match (has_workers, sends_files || shares, has_runner) {
+            let found = check(&Settings { runner, has_workers, shared, ..Settings::default() }, sends_files);
+            let wanted = match (has_workers, sends_files || has_shared, has_runner) {
                 (true, false, _) => Some("--workers needs"),
                 (true, true, true) => Some("--workers and ZIGRUNK_RUNNER"),
                 _ => None,
