@@ -24,6 +24,8 @@ use std::time::SystemTime;
 pub const FEWEST_FILES: usize = 27;
 /// Why a call goes to nvcc that may have fewer.
 pub const TOO_FEW_FILES: &str = "it may open too few files";
+/// Why a call goes to nvcc that can have no directory.
+pub const NO_DIRECTORY: &str = "no temporary directory";
 
 /// How many milliseconds a call that waits for nvcc sleeps at most, until it looks again.
 const LOOK: i32 = 1000;
@@ -87,7 +89,7 @@ impl Call<'_> {
         }
         let temporary = absolute(self.settings.plans(), &cwd);
         let taken = CallFolder::take(&temporary, &planner::directory_of(&line)?);
-        let folder = Rc::new(taken.map_err(|_| "no temporary directory".to_owned())?);
+        let folder = Rc::new(taken.map_err(|_| NO_DIRECTORY.to_owned())?);
         self.folder = Some(Rc::clone(&folder));
         let refusals = Refusals::default();
         let at_once = system::processors() + 2;

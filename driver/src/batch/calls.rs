@@ -2,7 +2,7 @@
 use super::products::{Product, outputs};
 use super::records::{Described, Reads, Records};
 use super::turns::Turns;
-use crate::call::TOO_FEW_FILES;
+use crate::call::{NO_DIRECTORY, TOO_FEW_FILES};
 use crate::folder::CallFolder;
 use crate::host;
 use crate::log::{self, LoggedCall};
@@ -217,7 +217,7 @@ impl Making<'_> {
             return Ok(outcome);
         }
         let taken = CallFolder::take(&self.context.temporary, &planner::directory_of(&line)?);
-        let folder = taken.map_err(|_| "no temporary directory".to_owned())?;
+        let folder = taken.map_err(|_| NO_DIRECTORY.to_owned())?;
         self.is_random = !folder.is_named();
         let split = self.split_in(&folder, &line);
         folder.remove();
