@@ -510,4 +510,29 @@ mod tests {
         assert!(put(true, &folder.join("missing/file"), b"five").is_err());
         fs::remove_dir_all(folder).unwrap();
     }
+
+    #[test]
+    fn only_messages_are_for_a_kind_of_terminal() {
+        let store = Store::new(env::temp_dir().join(format!("no-entries-{}", std::process::id())), 1 << 20);
+        let session = Session { terminal: b"xterm".to_vec(), ..Session::new(&store, "/t", &[], &[]) };
+        let recipe = Recipe {
+            kind: Kind::Host,
+            counted: Vec::new(),
+            job: crate::machine::Job::default(),
+            reads: Vec::new(),
+            outputs: Vec::new(),
+            directory: "/t".into(),
+            lines_count: false,
+            question: None,
+            assembles: false,
+            included: None,
+            stem: None,
+        };
+        let terminal_of = |errors: &str| {
+            let status = Status { code: 0, signal: None, dumped: false };
+            let ended = Ended { status, out: Vec::new(), errors: errors.as_bytes().to_vec(), times: (0.0, 1.0) };
+            session.entry_of(&recipe, b"", &ended).unwrap().terminal
+        };
+        assert_eq!([terminal_of(""), terminal_of("warns\n")], [&b""[..], b"xterm"]);
+    }
 }
