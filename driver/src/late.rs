@@ -1,14 +1,15 @@
 //! Begins a call's last host compile before its fatbin is there: gcc makes assembler text beside device commands, and the assembler waits.
-use crate::planner::{PlannedCommand, list_of};
+use crate::planner::{self, PlannedCommand};
 use crate::run::Done;
 use crate::settings::Settings;
 use crate::streams::content_of;
 use crate::tasks::{OWN, program_of};
-use late_fatbins::{Half, assembler_text, late_words, placeholder};
+use late_fatbins::{Places, assembler_text, compiler_needs, placeholder, split_compile};
 use rattle_std::alloc::Global;
 use std::env;
 use std::fs;
 use std::path::{Path, PathBuf};
+use texts::text::Text;
 
 /// The file that an assembler's command includes, to be written from fatbinary's right before it starts.
 #[derive(Clone, PartialEq, Eq, Debug, Default)]
@@ -60,40 +61,14 @@ fn are_known(commands: &[PlannedCommand]) -> bool {
     commands.iter().any(|command| command.words.iter().any(|word| word == "-D__CUDACC_VER_MAJOR__=13"))
 }
 
-/// The words of a half of a compile.
-fn half(half: Half, words: &[String], text_file: &str) -> Option<Vec<String>> {
-    let late = late_words(Global, half, &list_of(words).ok()?, text_file).ok()??;
-    Some(late.as_slice().iter().map(|word| word.as_str().to_owned()).collect())
-}
-
-/// The commands that the compiler's half of the last command waits for: those that write cudafe++'s file and the stub file that this one
-/// includes, which is cicc's. `None` if it isn't clear which they are.
-fn needs_of(commands: &[PlannedCommand], last: &PlannedCommand) -> Option<Vec<usize>> {
-    let source = last.words.iter().find(|word| word.ends_with(".cudafe1.cpp"))?;
-    let source = Path::new(&last.folder).join(source);
-    let stub = PathBuf::from(format!("{}.stub.c", source.to_str()?.strip_suffix(".cpp")?));
-    let writer = |path: &Path| commands.iter().position(|command| command.writes.iter().any(|written| Path::new(written) == path));
-    Some(vec![writer(&source)?, writer(&stub)?])
-}
-
-/// Where fatbinary's file is to go, in place of the one that the compiler reads.
-struct Moved {
-    fatbinary: usize,
-    words: Vec<String>,
-    from: PathBuf,
-    is_linked: bool,
-}
-
-fn moved(commands: &[PlannedCommand], to: &str) -> Option<(Moved, PathBuf)> {
-    const EMBEDDED: &str = "--embedded-fatbin=";
-    let fatbinary = commands.iter().position(|command| command.words.iter().any(|word| word.starts_with(EMBEDDED)))?;
-    let command = &commands[fatbinary];
-    let embedded = command.words.iter().find_map(|word| word.strip_prefix(EMBEDDED))?;
-    let read = Path::new(&command.folder).join(embedded);
-    let new = |word: &String| if word.starts_with(EMBEDDED) { format!("{EMBEDDED}{to}") } else { word.clone() };
-    let words = command.words.iter().map(new).collect();
-    let is_linked = command.words.iter().any(|word| word == "--device-c");
-    Some((Moved { fatbinary, words, from: to.into(), is_linked }, read))
+/// Where the files go that begin a call's last host compile early.
+fn places_in(tmp: &str) -> Option<Places> {
+    let place = |path: String| Some(Text::new(planner::text(&path).ok()?));
+    Some(Places {
+        text_file: place(format!("{tmp}/{OWN}/late.s"))?,
+        fatbin_file: place(format!("{tmp}/{OWN}/fatbin.c"))?,
+        included: place(included(tmp))?,
+    })
 }
 
 /// Whether a command can write its files. A compiler that can't names the source, and an assembler another file.
@@ -109,20 +84,23 @@ pub fn begin_early(commands: &mut Vec<PlannedCommand>, tmp: &str) -> Option<Incl
     if !is_gcc(last) || !are_known(before) || !can_write(last) {
         return None;
     }
-    let [text_file, file] = ["late.s", "fatbin.c"].map(|name| format!("{tmp}/{OWN}/{name}"));
-    let included = included(tmp);
-    let [compiler, assembler] = [Half::Compiler, Half::Assembler].map(|which| half(which, &last.words, &text_file));
-    let (moved, read) = moved(before, &file)?;
-    let needs = needs_of(before, last)?;
-    let mut assemble = PlannedCommand { words: assembler?, reads: vec![text_file.clone(), file], cacheable: false, ..last.clone() };
-    let compile = PlannedCommand { words: compiler?, needs, writes: vec![text_file], cacheable: false, ..last.clone() };
+    let places = places_in(tmp)?;
+    let mut listed: Vec<_> = before.iter().map(planner::listed).collect::<Result<_, _>>().ok()?;
+    let split = split_compile(Global, &places, listed.last()?, &planner::listed(last).ok()?).ok()??;
+    *listed.last_mut()? = split.fatbinary.try_clone(Global).ok()?;
+    let needs = compiler_needs(Global, &split, &listed).ok()??;
+    let [text_file, file, to] = [&places.text_file, &places.fatbin_file, &places.included].map(|path| path.as_str().to_owned());
+    let [fatbinary, compiler, assembler] =
+        [&split.fatbinary, &split.compiler, &split.assembler].map(|command| planner::strings(command.args.as_slice()));
+    let mut assemble = PlannedCommand { words: assembler, reads: vec![text_file.clone(), file.clone()], cacheable: false, ..last.clone() };
+    let compile = PlannedCommand { words: compiler, needs: needs.as_slice().to_vec(), writes: vec![text_file], cacheable: false, ..last.clone() };
     assemble.needs.push(before.len());
-    let text = placeholder(Global, moved.is_linked, &included).ok()??;
-    fs::write(read, text.as_bytes()).ok()?;
+    let text = placeholder(Global, split.is_linked, &to).ok()??;
+    fs::write(split.read.as_str(), text.as_bytes()).ok()?;
     commands.pop();
-    commands[moved.fatbinary].words = moved.words;
+    commands.last_mut()?.words = fatbinary;
     commands.extend([compile, assemble]);
-    Some(Include { from: moved.from, to: included.into(), is_linked: moved.is_linked })
+    Some(Include { from: file.into(), to: to.into(), is_linked: split.is_linked })
 }
 
 /// Whether the last of a call's commands, an assembler's, failed or said something: then it names files that nvcc's doesn't.
@@ -153,15 +131,6 @@ mod tests {
     }
 
     #[test]
-    fn the_compiler_waits_for_its_two_files() {
-        let last = command("gcc -c -x c++ /t/x_0.cudafe1.cpp -o k.o", &[]);
-        let cudafe = command("cudafe++ x", &["/t/x_0.cudafe1.cpp", "/t/k.module_id"]);
-        let [cicc, other] = ["/t/x_0.cudafe1.stub.c", "/t/x_1.cudafe1.stub.c"].map(|stub| command("cicc x", &[stub]));
-        assert_eq!(needs_of(&[cudafe.clone(), other.clone(), cicc], &last), Some(vec![0, 2]));
-        assert_eq!(needs_of(&[cudafe, other], &last), None);
-    }
-
-    #[test]
     fn commands_of_other_versions_stay() {
         let compile = "gcc -c -x c++ /t/x_0.cudafe1.cpp -o k.o";
         let mut commands = vec![command("gcc -E -D__CUDACC_VER_MAJOR__=12 k.cu", &[]), command(compile, &["/w/k.o"])];
@@ -175,9 +144,9 @@ mod tests {
         let [cpp, stub, fatbin, product] = ["k.cudafe1.cpp", "k.cudafe1.stub.c", "k.fatbin.c", "k.o"].map(in_folder);
         let plan = vec![
             command("gcc -E -D__CUDACC_VER_MAJOR__=13 k.cu", &[]),
-            command("cudafe++ x", &[&cpp]),
-            command("cicc x", &[&stub]),
-            command("ptxas x", &[]),
+            command(&format!("cudafe++ --gen_c_file_name {cpp} --stub_file_name {stub} k.ii"), &[&cpp]),
+            command(&format!("cicc --stub_file_name {stub} k.ii -o k.ptx"), &[&stub]),
+            command("ptxas k.ptx -o k.cubin", &[]),
             command(&format!("fatbinary {fatbinary}--create=x --embedded-fatbin={fatbin} y"), &[&fatbin]),
             command(&format!("gcc -c -x c++ {gcc}-m64 {cpp} -o {product}"), &[&product]),
         ];

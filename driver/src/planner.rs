@@ -22,6 +22,9 @@ use std::collections::BTreeMap;
 use std::fs;
 use std::iter;
 use std::path::Path;
+use texts::text::Text as Held;
+use texts::variables::Variables;
+use texts::words::Words as TextList;
 
 /// The limit on the bytes that a dry run's lines are expanded to. It is far above what a line can make: nvcc wrote these dry runs, and
 /// nobody else.
@@ -113,7 +116,7 @@ impl PlannedCommand {
     }
 }
 
-fn text(text: &str) -> Result<Text, AllocError> {
+pub fn text(text: &str) -> Result<Text, AllocError> {
     Text::from_str(Global, text)
 }
 
@@ -129,8 +132,26 @@ fn string(text: &Text) -> String {
     text.as_str().to_owned()
 }
 
-fn strings(words: &[Text]) -> Vec<String> {
+pub fn strings(words: &[Text]) -> Vec<String> {
     words.iter().map(string).collect()
+}
+
+/// A command as the proved crates have it.
+///
+/// # Errors
+///
+/// If memory runs out.
+pub fn listed(command: &PlannedCommand) -> Result<Command, AllocError> {
+    let (mut args, mut env_vars) = (TextList::new(Global), Variables::new(Global));
+    for word in &command.words {
+        args.push(text(word)?)?;
+    }
+    for (name, value) in &command.variables {
+        env_vars.push(text(name)?, text(value)?)?;
+    }
+    let [exe, cwd] = [text(&command.program)?, text(&command.folder)?].map(Held::new);
+    let cacheable = if command.cacheable { Cacheable::Yes } else { Cacheable::No };
+    Ok(Command { exe, args, cwd, env_vars, cacheable })
 }
 
 fn out_of_memory(_: AllocError) -> String {

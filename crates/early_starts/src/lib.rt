@@ -9,4 +9,4 @@ mod module_id;
 mod overlap;
 
 pub use module_id::{late_file, renamed};
-pub use overlap::{may_begin_beside, may_go_ahead};
+pub use overlap::{follows, may_begin_beside, may_go_ahead};

@@ -61,8 +61,8 @@ fn touches_one_of(files: &CommandFiles, paths: &[String]) -> bool
     have_one_of(files.reads.as_slice(), paths) || writes_one_of(files, paths)
 }
 
-// Whether a command has to follow an earlier one by their records.
-fn follows(earlier: &CommandFiles, later: &CommandFiles) -> bool
+/// Whether a command has to follow an earlier one by their records: either writes a file that the other touches.
+pub fn follows(earlier: &CommandFiles, later: &CommandFiles) -> bool
     ensures { result ≡ spec.follows earlier.now later.now }
 {
     touches_one_of(later, earlier.writes.as_slice())

@@ -1,1 +1,4 @@
+pub mod LateNeedLemmas
+pub mod LateOrderLemmas
+pub mod SplitLemmas
 pub mod TextLemmas

@@ -1,2 +1,4 @@
+pub mod LatePlans
 pub mod LateTexts
 pub mod LateWords
+pub mod Splits

@@ -4,8 +4,11 @@
 //! make assembler text beside ptxas and fatbinary if that statement includes a file that is written later, for the assembler.
 #![tactic(auto)]
 
+pub mod laws;
+mod split;
 mod text;
 mod words;
 
+pub use split::{Places, Split, compiler_needs, split_compile};
 pub use text::{assembler_text, placeholder};
 pub use words::{Half, late_words};
