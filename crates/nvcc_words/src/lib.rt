@@ -13,7 +13,7 @@ pub mod laws;
 mod settling;
 mod verdict;
 
+pub use asked::Asked;
 pub use call::Call;
-pub use keeping::keeps_options;
 pub use settling::{extension_of_phase, has_extension};
-pub use verdict::{Verdict, file_names, normalize};
+pub use verdict::{Verdict, file_names, normalize, read_line};
