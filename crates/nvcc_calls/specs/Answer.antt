@@ -1,5 +1,5 @@
 -- What becomes of an nvcc line.
-use Rattle.std.specs.Prelude.{◌≡◌, ℕ, List, [], ◌∷◌, ◌++◌, Option, Some, None, Result, Ok, if◌then◌else◌, codes, refl}
+use Rattle.std.specs.Prelude.{◌≡◌, ℕ, List, [], ◌∷◌, ◌++◌, Option, Some, None, Result, Ok, Err, if◌then◌else◌, codes, refl}
 use Rattle.std.specs.Str.{chars}
 use Rattle.texts.specs.declared.fault.Fault.{Fault}
 use Rattle.texts.specs.Rows.{spaced}
@@ -7,14 +7,17 @@ use Rattle.compilers.specs.Compiler.{Reading, accepted, cannot_cache, not_compil
 use Rattle.compilers.specs.declared.arguments.ParsedArguments.{ParsedArguments}
 use Rattle.cuda_plans.specs.declared.nvcc.command.NvccCompileCommand.{NvccCompileCommand}
 use Rattle.cuda_plans.specs.Nvcc.{nvcc_reading}
+use Rattle.nvcc_words.specs.declared.asked.Asked.{Asked}
 use Rattle.nvcc_words.specs.declared.call.Call.{Call}
 use Rattle.nvcc_options.specs.declared.reason.Reason.{Reason}
 use Rattle.nvcc_options.specs.declared.reason.Reason.TheVariants.{OtherReading, GeneratedName}
 use Rattle.nvcc_words.specs.declared.verdict.Verdict.{Verdict}
 use Rattle.nvcc_words.specs.declared.verdict.Verdict.TheVariants as verdicts
-use Rattle.nvcc_words.specs.Keeping.{keeps, keeps_options}
+use Rattle.nvcc_words.specs.Asked.{asked_of}
+use Rattle.nvcc_words.specs.Keeping.{keeps}
+use Rattle.nvcc_words.specs.NormalForm.{settled}
 use Rattle.nvcc_options.specs.Reasons.{text_of}
-use Rattle.nvcc_words.specs.Verdict.{verdict}
+use Rattle.nvcc_words.specs.Verdict.{judged, line_asked}
 use Rattle.texts.specs.Results.{and_then}
 use Rattle.nvcc_calls.specs.declared.answer.Answer.{Answer}
 use Rattle.nvcc_calls.specs.declared.answer.Answer.TheVariants.{Split, Pass}
@@ -23,43 +26,46 @@ use Rattle.nvcc_calls.specs.Hazards.{hazard_of}
 use Rattle.nvcc_calls.specs.Outline.{command_of, outline_of}
 use Rattle.nvcc_calls.specs.OutlineTexts.{outline_text}
 
--- the answer to arguments that are split, given their command
-abbrev pub split_by : NvccOf → List (List ℕ × List ℕ) → ParsedArguments → NvccCompileCommand → Result Answer Fault
-split_by call variables p command = and_then (outline_of call p variables command) (λ outline. Ok (Split outline))
-
--- the answer to arguments, given their command, which has to keep the options of the line
-abbrev pub answer_by :
-    NvccOf → List (List ℕ × List ℕ) → List (List ℕ × List ℕ) → ParsedArguments → NvccCompileCommand → Result Answer Fault
-answer_by call variables files p command =
-    if keeps_options call.words variables files command.arguments then split_by call variables p command
+-- the answer to arguments, given their command, which has to keep the line's options
+abbrev pub answer_by : NvccOf → List (List ℕ × List ℕ) → Asked → ParsedArguments → NvccCompileCommand → Result Answer Fault
+answer_by call variables asked p command =
+    if keeps asked (asked_of [] command.arguments) then and_then (outline_of call p variables command) (λ outline. Ok (Split outline))
     else Ok (Pass (text_of OtherReading))
 
-abbrev pub answer_to_accepted : NvccOf → List (List ℕ × List ℕ) → List (List ℕ × List ℕ) → ParsedArguments → Result Answer Fault
-answer_to_accepted call variables files p = and_then (command_of call p variables) (answer_by call variables files p)
+abbrev pub answer_to_arguments : NvccOf → List (List ℕ × List ℕ) → Asked → ParsedArguments → Result Answer Fault
+answer_to_arguments call variables asked p = and_then (command_of call p variables) (answer_by call variables asked p)
 
 -- the answer to a normal form, by what sccache's reader made of it. It accepts each normal form
-abbrev pub answer_of : NvccOf → List (List ℕ × List ℕ) → List (List ℕ × List ℕ) → Reading → Result Answer Fault
-answer_of call variables files (accepted p) = answer_to_accepted call variables files p
-answer_of call variables files (cannot_cache text word) = Ok (Pass (text_of OtherReading))
-answer_of call variables files not_compilation = Ok (Pass (text_of OtherReading))
+abbrev pub answer_to_reading : NvccOf → List (List ℕ × List ℕ) → Asked → Reading → Result Answer Fault
+answer_to_reading call variables asked (accepted p) = answer_to_arguments call variables asked p
+answer_to_reading call variables asked (cannot_cache text word) = Ok (Pass (text_of OtherReading))
+answer_to_reading call variables asked not_compilation = Ok (Pass (text_of OtherReading))
 
 -- the answer to a line with a normal form, unless a plan of it would make something else
 abbrev pub unless_hazard : Option Reason → Result Answer Fault → Result Answer Fault
 unless_hazard None answer = answer
 unless_hazard (Some reason) answer = Ok (Pass (text_of reason))
 
-abbrev pub answer_to_normal : NvccOf → List (List ℕ × List ℕ) → List (List ℕ × List ℕ) → Call → Result Answer Fault
-answer_to_normal call variables files normal =
-    unless_hazard (hazard_of call normal) (answer_of call variables files (nvcc_reading normal.words call.cwd []))
+abbrev pub answer_to_normal : NvccOf → List (List ℕ × List ℕ) → Asked → Call → Result Answer Fault
+answer_to_normal call variables asked normal =
+    unless_hazard (hazard_of call normal) (answer_to_reading call variables asked (nvcc_reading normal.words call.cwd []))
 
--- the answer to a line with a verdict. A normal form has the words of both variables and of the options files in it
-abbrev pub answer_to : NvccOf → List (List ℕ × List ℕ) → List (List ℕ × List ℕ) → Verdict → Result Answer Fault
-answer_to call variables files (verdicts.Split normal) = answer_to_normal call variables files normal
-answer_to call variables files (verdicts.Pass reason) = Ok (Pass (text_of reason))
+-- the answer to a line by what it asks for, and by the verdict on that. A normal form has the words of both variables and of the options
+-- files in it
+abbrev pub answer_to_verdict : NvccOf → List (List ℕ × List ℕ) → Asked → Verdict → Result Answer Fault
+answer_to_verdict call variables asked (verdicts.Split normal) = answer_to_normal call variables asked normal
+answer_to_verdict call variables asked (verdicts.Pass reason) = Ok (Pass (text_of reason))
+
+abbrev pub answer_to_line : NvccOf → List (List ℕ × List ℕ) → Asked → Result Answer Fault
+answer_to_line call variables asked = answer_to_verdict call variables asked (judged (settled asked))
+
+abbrev pub answer_to : NvccOf → List (List ℕ × List ℕ) → Result Asked Reason → Result Answer Fault
+answer_to call variables (Ok asked) = answer_to_line call variables asked
+answer_to call variables (Err reason) = Ok (Pass (text_of reason))
 
 -- the answer to a line, given the options files by name and text. Its commands have the words of these in it
 abbrev pub nvcc_answer : NvccOf → List (List ℕ × List ℕ) → List (List ℕ × List ℕ) → Result Answer Fault
-nvcc_answer call variables files = answer_to call variables files (verdict call.words variables files)
+nvcc_answer call variables files = answer_to call variables (line_asked call.words variables files)
 
 -- Worked examples, at the working directory `/w` with the temporary directory `/t`.
 abbrev pub line_at : List (List ℕ) → NvccOf

@@ -13,7 +13,7 @@ use std::alloc::{AllocError, Global};
 use texts::decimal::push_number;
 use texts::variables::first_value;
 
-// Adds a part behind its length.
+// Adds a part after its length.
 fn push_sized(alloc: Global, text: &mut String, part: &str) -> Result<(), AllocError>
     ensures { OnOk result (string_bytes text.new ≡ string_bytes text.old ++ spec.sized part.now) }
 {
@@ -22,7 +22,7 @@ fn push_sized(alloc: Global, text: &mut String, part: &str) -> Result<(), AllocE
     text.push_str(part)
 }
 
-// Adds each word behind its length.
+// Adds each word after its length.
 fn push_words(alloc: Global, text: &mut String, words: &[String]) -> Result<(), AllocError>
     ensures { OnOk result (string_bytes text.new ≡ string_bytes text.old ++ spec.identity (map string_bytes words.now)) }
 {
@@ -32,7 +32,7 @@ fn push_words(alloc: Global, text: &mut String, words: &[String]) -> Result<(), 
     Ok(())
 }
 
-// Adds a variable's value behind its length.
+// Adds a variable's value after its length.
 fn push_value(
     alloc: Global,
     text: &mut String,
@@ -72,7 +72,7 @@ fn hex_digest(alloc: Global, text: &str) -> Result<String, AllocError>
 }
 
 /// The name of the directory of an nvcc call: `zigrunk-` and the SHA-256 of all that the call depends on, in lower-case hex
-/// digits: the working directory, nvcc, both variables of nvcc's flags and the words, each behind its length, so no two calls
+/// digits: the working directory, nvcc, both variables of nvcc's flags and the words, each after its length, so no two calls
 /// share a text.
 pub fn directory_name(
     alloc: Global,

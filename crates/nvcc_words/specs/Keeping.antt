@@ -3,7 +3,6 @@ use Rattle.std.specs.Prelude.{◌≡◌, ℕ, List, [], ◌∷◌, Bool, true, f
 use Rattle.std.specs.List.{All, list_all}
 use Rattle.std.specs.Cmp.Lexicographic.{pointwise}
 use Rattle.texts.specs.Rows.{spaced}
-use Rattle.host_lines.specs.NvccEnvironment.{with_added_words}
 use Rattle.option_items.specs.Table.{Entry}
 use Rattle.nvcc_words.specs.declared.asked.Asked.{Asked}
 use Rattle.nvcc_options.specs.declared.options.Purpose.{Purpose}
@@ -43,27 +42,26 @@ pub record SaysAs (a b : Asked) : Type 0 where
   pub forwarded : b.unknown ≡ a.unknown
   pub values : All (λ (e : Entry Purpose). values_of e.text b.options ≡ values_of e.text a.options) nvcc_entries
 
--- whether words keep the options of a line, of an environment and its options files
-abbrev pub keeps_options : List (List ℕ) → List (List ℕ × List ℕ) → List (List ℕ × List ℕ) → List (List ℕ) → Bool
-keeps_options words variables files written = keeps (asked_of files (with_added_words variables words)) (asked_of [] written)
+-- examples, of two lines
+abbrev keeps_words : List (List ℕ) → List (List ℕ) → Bool
+keeps_words words written = keeps (asked_of [] words) (asked_of [] written)
 
--- examples
-pub other_order : keeps_options (spaced "-DA --threads=2 -O3 -UA -DB -MD -c k.cu") [] [] (spaced "-x cu -o k.o -O3 -DA -DB -UA -c k.cu") ≡ true
+pub other_order : keeps_words (spaced "-DA --threads=2 -O3 -UA -DB -MD -c k.cu") (spaced "-x cu -o k.o -O3 -DA -DB -UA -c k.cu") ≡ true
 unfolding keeps
 other_order = refl
 
-pub defines_change_places : keeps_options (spaced "-DA -DB -c k.cu") [] [] (spaced "-DB -DA -c k.cu") ≡ false
+pub defines_change_places : keeps_words (spaced "-DA -DB -c k.cu") (spaced "-DB -DA -c k.cu") ≡ false
 unfolding keeps
 defines_change_places = refl
 
-pub joined_value : keeps_options (spaced "-O3 -c k.cu -L. -lm") [] [] (spaced "-O=3 -c -L=. k.cu -l=m") ≡ true
+pub joined_value : keeps_words (spaced "-O3 -c k.cu -L. -lm") (spaced "-O=3 -c -L=. k.cu -l=m") ≡ true
 unfolding keeps
 joined_value = refl
 
-pub option_is_lost : keeps_options (spaced "-c k.cu -g -DA") [] [] (spaced "-c k.cu -DA") ≡ false
+pub option_is_lost : keeps_words (spaced "-c k.cu -g -DA") (spaced "-c k.cu -DA") ≡ false
 unfolding keeps
 option_is_lost = refl
 
-pub option_is_new : keeps_options (spaced "-c k.cu -DA") [] [] (spaced "-c k.cu -g -DA") ≡ false
+pub option_is_new : keeps_words (spaced "-c k.cu -DA") (spaced "-c k.cu -g -DA") ≡ false
 unfolding keeps
 option_is_new = refl

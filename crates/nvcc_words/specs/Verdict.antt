@@ -1,5 +1,6 @@
 -- The verdict on a line: its normal form, if sccache's reader reads that as nvcc does, or why the call goes to nvcc.
 use Rattle.std.specs.Prelude.{ℕ, List, [], Bool, true, false, ◌&&◌, if◌then◌else◌, Result, Ok, Err, codes, nat_eq, bytes_eq}
+use Rattle.std.specs.List.{list_all}
 use Rattle.std.specs.Option.{option_map_or}
 use Rattle.std.specs.Cmp.Lexicographic.{pointwise}
 use Rattle.texts.specs.Variables.{first_value}
@@ -12,14 +13,15 @@ use Rattle.compilers.specs.Compiler.{Reading, accepted, cannot_cache, not_compil
 use Rattle.option_items.specs.Table.{longest_of_two}
 use Rattle.host_lines.specs.NvccOptions.{nvcc_options}
 use Rattle.host_lines.specs.NvccEnvironment.{prepended_name, appended_name, with_added_words}
+use Rattle.nvcc_words.specs.declared.asked.Asked.{Asked}
 use Rattle.nvcc_words.specs.declared.call.Call.{Call}
 use Rattle.nvcc_words.specs.declared.verdict.Verdict.{Verdict}
 use Rattle.nvcc_words.specs.declared.verdict.Verdict.TheVariants.{Split, Pass}
 use Rattle.nvcc_options.specs.declared.reason.Reason.{Reason}
-use Rattle.nvcc_options.specs.declared.reason.Reason.TheVariants.{VariableQuotes, OtherReading}
-use Rattle.nvcc_options.specs.Words.{is_cut_at_spaces}
+use Rattle.nvcc_options.specs.declared.reason.Reason.TheVariants.{VariableQuotes, OtherReading, ShellCharacter}
+use Rattle.nvcc_options.specs.Words.{is_cut_at_spaces, is_unexpanded}
 use Rattle.nvcc_words.specs.Asked.{asked_of}
-use Rattle.nvcc_words.specs.NormalForm.{nvcc_call}
+use Rattle.nvcc_words.specs.NormalForm.{nvcc_call, settled}
 
 -- whether two calls are one
 abbrev pub same_call : Call → Call → Bool
@@ -57,11 +59,23 @@ judged (Err reason) = Pass reason
 abbrev pub is_plain : List ℕ → List (List ℕ × List ℕ) → Bool
 is_plain name variables = option_map_or is_cut_at_spaces (first_value name variables) true
 
--- the verdict on the words of a line in an environment, given the options files by name and text
+-- what words ask for, given the options files by name and text, unless nvcc's shell may expand one
+abbrev pub asked_by : List (List ℕ × List ℕ) → List (List ℕ) → Result Asked Reason
+asked_by files words = if list_all is_unexpanded words then Ok (asked_of files words) else Err ShellCharacter
+
+-- what a line asks for in an environment, or why its call goes to nvcc whatever it asks for
+abbrev pub line_asked : List (List ℕ) → List (List ℕ × List ℕ) → List (List ℕ × List ℕ) → Result Asked Reason
+line_asked words variables files =
+    if is_plain prepended_name variables && is_plain appended_name variables then asked_by files (with_added_words variables words)
+    else Err VariableQuotes
+
+-- the verdict on a line, by what it asks for
+abbrev pub verdict_on : Result Asked Reason → Verdict
+verdict_on (Ok asked) = judged (settled asked)
+verdict_on (Err reason) = Pass reason
+
 abbrev pub verdict : List (List ℕ) → List (List ℕ × List ℕ) → List (List ℕ × List ℕ) → Verdict
-verdict words variables files =
-    if is_plain prepended_name variables && is_plain appended_name variables then judged (nvcc_call files (with_added_words variables words))
-    else Pass VariableQuotes
+verdict words variables files = verdict_on (line_asked words variables files)
 
 -- the names of the options files that a line names in an environment, in their order
 abbrev pub file_names : List (List ℕ) → List (List ℕ × List ℕ) → List (List ℕ)

@@ -10,7 +10,6 @@ ghost use Rattle.nvcc_options.specs.declared.options.Purpose.{Purpose};
 ghost use Rattle.nvcc_options.specs.Tables.{rows_of};
 
 use crate::asked::Asked;
-use host_lines::nvcc::whole_line;
 use nvcc_options::{Purpose, table};
 use option_items::table::Table;
 use std::alloc::{AllocError, Global};
@@ -29,7 +28,7 @@ fn values_of(alloc: Global, name: &str, options: &[(String, String)]) -> Result<
     Ok(values)
 }
 
-// Whether an option has the same values twice.
+// Whether an option has the same values on both lines.
 fn has_same_values(
     alloc: Global,
     options: &[(String, String)],
@@ -43,7 +42,7 @@ fn has_same_values(
     Ok(values == other)
 }
 
-// Whether each option of a table has the same values twice.
+// Whether each option of a table has the same values on both lines.
 fn keeps_table(
     alloc: Global,
     options: &[(String, String)],
@@ -60,7 +59,7 @@ fn keeps_table(
     Ok(true)
 }
 
-// Whether each of nvcc's options has the same values twice.
+// Whether each of nvcc's options has the same values on both lines.
 fn keeps_values(
     alloc: Global,
     options: &[(String, String)],
@@ -78,14 +77,14 @@ fn keeps_values(
 }
 
 impl Asked {
-    // Whether a line that asks for `other` isn't left to nvcc, has this phase and has nvcc forward the same words.
+    // Whether a line that asks for `other` isn't left to nvcc, and has the same phase and the same words for nvcc to forward.
     fn begins_as(&self, other: &Asked) -> bool
         ensures { result ≡ spec.begins_as self.now other.now }
     {
         other.refusal.is_none() && self.phase() == other.phase() && self.unknown == other.unknown
     }
 
-    // Whether a line that asks for `other` keeps what a line that asks for this does.
+    // Whether a line that asks for `other` keeps the options of one that asks for this.
     fn is_kept_by(&self, alloc: Global, other: &Asked) -> Result<bool, AllocError>
         ensures { IfOk result (λ b. b ≡ spec.keeps self.now other.now) }
     {
@@ -97,8 +96,10 @@ impl Asked {
         keeps_values(alloc, options, others, &tables.parts)
     }
 
-    // Whether words keep what a line that asks for this does.
-    fn is_kept_in(&self, alloc: Global, written: &[String]) -> Result<bool, AllocError>
+    /// Whether words keep the options of a line that asks for this: nvcc reads the same phase, forwards the same words, and each of its
+    /// options has the same values in the same order. Options that say where to write, in which language the input is, what to keep and
+    /// how many threads to use don't count, nor do those of dependency files.
+    pub fn is_kept_in(&self, alloc: Global, written: &[String]) -> Result<bool, AllocError>
         ensures { IfOk result (λ b. b ≡ spec.keeps self.now (asked_of [] (map string_bytes written.now))) }
     {
         let other = Asked::of(alloc, written, &[])?;
@@ -107,27 +108,4 @@ impl Asked {
         drop(other);
         is_kept
     }
-}
-
-/// Whether words keep the options of an nvcc line in an environment, given the names and texts of options files: nvcc reads the same
-/// phase, forwards the same words, and each of its options has the same values in the same order. Options that say where to write, in
-/// which language the input is, what to keep and how many threads to use don't count, nor do those of dependency files.
-pub fn keeps_options(
-    alloc: Global,
-    words: &[String],
-    variables: &[(String, String)],
-    files: &[(String, String)],
-    written: &[String],
-) -> Result<bool, AllocError>
-    ensures { IfOk result (λ b. b ≡ spec.keeps_options (map string_bytes words.now) (map pair_of variables.now)
-        (map pair_of files.now) (map string_bytes written.now)) }
-{
-    let line = whole_line(alloc, words, variables)?;
-    let asked = Asked::of(alloc, line.as_slice(), files);
-    // Dropped by a call: see "Explicit drops" in docs/ARCHITECTURE.md.
-    drop(line);
-    let asked = asked?;
-    let is_kept = asked.is_kept_in(alloc, written);
-    drop(asked);
-    is_kept
 }

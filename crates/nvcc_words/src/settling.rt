@@ -367,7 +367,7 @@ impl Asked {
         self.refusal.or(self.unknown_reason().or(phase))
     }
 
-    // Adds the options of which only the last value is kept.
+    // Adds the options that keep only their last value.
     fn push_last_values(&self, alloc: Global, words: &mut Words) -> Result<(), AllocError>
         ensures { OnOk result (words.new ≡ spec.with_last_values self.now words.old) }
     {

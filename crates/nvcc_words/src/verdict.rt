@@ -3,7 +3,7 @@
 ghost use Rattle.std.specs.Prelude.{◌≡◌, ◌&&◌, [], map, IfOk, string_bytes};
 ghost use Rattle.texts.specs.Variables.{pair_of};
 ghost use Rattle.compilers.specs.Compiler.{reading_of};
-ghost use Rattle.nvcc_words.specs.NormalForm.{nvcc_call};
+ghost use Rattle.nvcc_words.specs.NormalForm.{nvcc_call, settled};
 ghost use Rattle.nvcc_words.specs.Verdict as spec;
 
 use crate::asked::Asked;
@@ -43,22 +43,34 @@ fn read_by_sccache(
     gcc::parse_arguments(alloc, words, "", tables, false, CCompilerKind::Nvcc)
 }
 
-// nvcc's reading of a line, given the names and texts of options files, or why its call is left to nvcc.
-fn read_by_nvcc(
+// What words ask nvcc for, given the names and texts of options files, unless nvcc's shell may expand one.
+fn asked_by(
     alloc: Global,
     words: &[String],
     files: &[(String, String)],
-) -> Result<Result<Call, Reason>, AllocError>
-    ensures { IfOk result (λ r. r ≡ nvcc_call (map pair_of files.now) (map string_bytes words.now)) }
+) -> Result<Result<Asked, Reason>, AllocError>
+    ensures { IfOk result (λ r. r ≡ spec.asked_by (map pair_of files.now) (map string_bytes words.now)) }
 {
-    if !are_unexpanded(words) {
-        return Ok(Err(Reason::ShellCharacter));
+    if are_unexpanded(words) {
+        Ok(Ok(Asked::of(alloc, words, files)?))
+    } else {
+        Ok(Err(Reason::ShellCharacter))
     }
-    let asked = Asked::of(alloc, words, files)?;
-    let settled = asked.settle(alloc);
-    // Dropped by a call: see "Explicit drops" in docs/ARCHITECTURE.md.
-    drop(asked);
-    settled
+}
+
+// nvcc's reading of words that name no options file, or why their call is left to nvcc.
+fn read_by_nvcc(alloc: Global, words: &[String]) -> Result<Result<Call, Reason>, AllocError>
+    ensures { IfOk result (λ r. r ≡ nvcc_call [] (map string_bytes words.now)) }
+{
+    match asked_by(alloc, words, &[])? {
+        Ok(asked) => {
+            let settled = asked.settle(alloc);
+            // Dropped by a call: see "Explicit drops" in docs/ARCHITECTURE.md.
+            drop(asked);
+            settled
+        }
+        Err(reason) => Ok(Err(reason)),
+    }
 }
 
 // Whether the output of arguments is a file of this path.
@@ -99,13 +111,14 @@ fn is_read_alike(alloc: Global, call: &Call) -> Result<bool, AllocError>
 fn is_read_back(alloc: Global, call: &Call) -> Result<bool, AllocError>
     ensures { IfOk result (λ b. b ≡ spec.is_call (nvcc_call [] call.now.words) call.now) }
 {
-    match read_by_nvcc(alloc, call.words.as_slice(), &[])? {
+    match read_by_nvcc(alloc, call.words.as_slice())? {
         Ok(again) => Ok(again.is_same(call)),
         Err(_) => Ok(false),
     }
 }
 
-// Whether a call's words are a normal form.
+// Whether a call's words are a normal form. Both readers read them once more, since a proof that they agree would need a fact for each of
+// some 300 options.
 fn is_normal(alloc: Global, call: &Call) -> Result<bool, AllocError>
     ensures { IfOk result (λ b. b ≡ spec.is_normal call.now) }
 {
@@ -164,8 +177,8 @@ pub fn file_names(
     names
 }
 
-/// The verdict on the words of an nvcc line, without the compiler's name, in an environment, given the names and texts of options
-/// files.
+/// What the words of an nvcc line, without the compiler's name, ask for in an environment, given the names and texts of options files.
+/// If its call goes to nvcc whatever it asks for, why: the variables' quotes, or else a character that nvcc's shell may expand.
 ///
 /// nvcc reads the words of an options file where the line names it, and so does this. A file whose text isn't given leaves the call
 /// to nvcc, and so does one with a backslash, `#`, `'` or a control character other than a tab or newline, one that names another,
@@ -173,13 +186,41 @@ pub fn file_names(
 ///
 /// nvcc reads the words of `NVCC_PREPEND_FLAGS` before the line's, and those of `NVCC_APPEND_FLAGS` after them, and so does
 /// this. It cuts their values at spaces, and a value in which nvcc may see more than that leaves the call to nvcc.
-///
-/// `Pass` has the first reason that holds, looked for in this order: the variables' quotes; a character that nvcc's shell
-/// may expand; what an option says, in the line's order; a word that nvcc neither knows nor forwards; the phase; the inputs;
-/// the input's language; the output; the dependency file; and at last that sccache's reader reads the normal form otherwise.
-///
-/// Of two values of an option the last counts, as for nvcc, which warns of it. `-o`, `-odir`, `-x`, `-t`, `-keep-dir`, `-MF` and
-/// `-MT` have only that one in the normal form, so nvcc warns no more of these there.
+pub fn read_line(
+    alloc: Global,
+    words: &[String],
+    variables: &[(String, String)],
+    files: &[(String, String)],
+) -> Result<Result<Asked, Reason>, AllocError>
+    ensures { IfOk result (λ r. r ≡ spec.line_asked (map string_bytes words.now) (map pair_of variables.now) (map pair_of files.now)) }
+{
+    if !is_plain(variables, "NVCC_PREPEND_FLAGS") || !is_plain(variables, "NVCC_APPEND_FLAGS") {
+        return Ok(Err(Reason::VariableQuotes));
+    }
+    let line = whole_line(alloc, words, variables)?;
+    let asked = asked_by(alloc, line.as_slice(), files);
+    // Dropped by a call: see "Explicit drops" in docs/ARCHITECTURE.md.
+    drop(line);
+    asked
+}
+
+impl Asked {
+    /// The verdict on a line that asks for this.
+    ///
+    /// `Pass` has the first reason that holds, looked for in this order: what an option says, in the line's order; a word that nvcc
+    /// neither knows nor forwards; the phase; the inputs; the input's language; the output; the dependency file; and at last that
+    /// sccache's reader reads the normal form otherwise.
+    ///
+    /// If an option has two values the last one counts, as for nvcc, which warns of it. For `-o`, `-odir`, `-x`, `-t`, `-keep-dir`,
+    /// `-MF` and `-MT` the normal form has only the last one, so nvcc doesn't warn of these.
+    pub fn verdict(&self, alloc: Global) -> Result<Verdict, AllocError>
+        ensures { IfOk result (λ v. v ≡ spec.judged (settled self.now)) }
+    {
+        judge(alloc, self.settle(alloc)?)
+    }
+}
+
+/// The verdict on an nvcc line, by what [`read_line`] answers to it: why that leaves the call to nvcc, or [`Asked::verdict`].
 pub fn normalize(
     alloc: Global,
     words: &[String],
@@ -188,10 +229,13 @@ pub fn normalize(
 ) -> Result<Verdict, AllocError>
     ensures { IfOk result (λ v. v ≡ spec.verdict (map string_bytes words.now) (map pair_of variables.now) (map pair_of files.now)) }
 {
-    if !is_plain(variables, "NVCC_PREPEND_FLAGS") || !is_plain(variables, "NVCC_APPEND_FLAGS") {
-        return Ok(Verdict::Pass(Reason::VariableQuotes));
+    match read_line(alloc, words, variables, files)? {
+        Ok(asked) => {
+            let verdict = asked.verdict(alloc);
+            // Dropped by a call: see "Explicit drops" in docs/ARCHITECTURE.md.
+            drop(asked);
+            verdict
+        }
+        Err(reason) => Ok(Verdict::Pass(reason)),
     }
-    let line = whole_line(alloc, words, variables)?;
-    let read = read_by_nvcc(alloc, line.as_slice(), files)?;
-    judge(alloc, read)
 }
