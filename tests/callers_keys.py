@@ -20,6 +20,7 @@ import os
 import random
 import re
 import shutil
+import struct
 import subprocess
 import sys
 import tempfile
@@ -48,6 +49,8 @@ SOURCES = {
     "incbin.cu": "asm(\".section .rodata\\n.incbin \\\"data.bin\\\"\\n\");\n" + KERNEL,
     "data.bin": "data",
     "static.cu": "static __global__ void k(int *a) { *a = 1; }\nstatic void f() { k<<<1, 1>>>(0); }\nstruct S { S() { f(); } };\nstatic S s;\n",
+    "cosine.cu": "__global__ void k(double *x) { *x = cos(8.1764856122660277); }\n",
+    "named.cu": "__global__ void k(int *a) { asm volatile(\".loc 1 3 0\\nret;\\n}\\n.file 1 \\\"../w/k.cu\\\"\\n.func more() {\"); }\n",
     "sine.cu": "__global__ void k(float *x) { x[threadIdx.x] = sinf(x[threadIdx.x]); }\n",
     "inc/none.h": "", "inc2/none.h": "",
 }
@@ -124,6 +127,15 @@ def with_library(folder: Path, env: dict[str, str]) -> None:
         library.write_bytes(library.read_bytes()[:-4096])
 
 
+def with_libm(folder: Path, env: dict[str, str]) -> None:
+    """A libm whose cosine is another one: its polynomial has another factor."""
+    system = subprocess.run(["cc", "-print-file-name=libm.so.6"], capture_output=True, text=True, check=True).stdout.strip()
+    library = Path(system).read_bytes().replace(struct.pack("<d", -1.66666666666664880952546298448555e-01), struct.pack("<d", -0.17))
+    folder.mkdir(parents=True)
+    (folder / "libm.so.6").write_bytes(library)
+    env["LD_LIBRARY_PATH"] = str(folder)
+
+
 def with_wrapper(folder: Path, env: dict[str, str]) -> None:
     real = (toolkit(folder, env) / "bin/ptxas").resolve()
     program(folder / "bin/ptxas", f"#!/bin/sh\nexec {real} \"$@\"\n")
@@ -142,7 +154,8 @@ def with_host_function(cwd: Path, _: dict[str, str]) -> None:
 
 
 DO: dict[str, Callable[[Path, dict[str, str]], None]] = {"part": with_part, "touch": touched, "host": with_host_function}
-DO_BESIDE = {"assembler": with_assembler, "toolkit": with_toolkit, "library": with_library, "wrapper": with_wrapper}
+DO_BESIDE = {"assembler": with_assembler, "toolkit": with_toolkit, "library": with_library, "libm": with_libm,
+             "wrapper": with_wrapper}
 
 
 def contents(path: str) -> bytes:

@@ -96,6 +96,20 @@ static void check_variables(void) {
     release(a);
 }
 
+/* The variables of the loader, which count for each tool. */
+static void check_loader(void) {
+    const uint32_t tools[] = {ZIGRUNK_TOOL_CICC, ZIGRUNK_TOOL_PTXAS, ZIGRUNK_TOOL_CUDAFE, ZIGRUNK_TOOL_FATBINARY, ZIGRUNK_TOOL_NVLINK, ZIGRUNK_TOOL_HOST};
+    zigrunk_text word = text_of("g++");
+    zigrunk_variable variables[] = {variable_of("LD_PRELOAD", "/p"), variable_of("LD_LIBRARY_PATH", "/l"), variable_of("GLIBC_TUNABLES", "t")};
+    for (int i = 0; i < 6; i++) {
+        zigrunk_key_call call = key_call_of(tools[i], &word, 1);
+        call.variables = variables, call.variables_count = 3;
+        answer a = ask_text(call_key, &call);
+        CHECK(IS_KEY(&a, "g++\0000GLIBC_TUNABLES\0001t\0002LD_PRELOAD\0001/p\0002"));
+        release(a);
+    }
+}
+
 static void refuses(const zigrunk_key_call *call, int32_t status, const char *message) {
     answer a = ask_text(call_key, call);
     CHECK(a.status == status && is_text(&a, message));
@@ -255,6 +269,7 @@ int main(int count, char **arguments) {
     check_words();
     check_roots();
     check_variables();
+    check_loader();
     check_refusals();
     check_random(count > 1 ? atol(arguments[1]) : 1000);
     check_long();

@@ -28,6 +28,9 @@ fn names_of(tool: KeyTool) -> &'static [&'static str]
 {
     match tool {
         KeyTool::Cicc => &[
+            "GLIBC_TUNABLES",
+            "LD_AUDIT",
+            "LD_PRELOAD",
             "EDG_BASE",
             "EDG_MODULES_PATH",
             "LLVM_OVERRIDE_PRODUCER",
@@ -37,11 +40,33 @@ fn names_of(tool: KeyTool) -> &'static [&'static str]
             "PWD",
             "USR_INCLUDE",
         ],
-        KeyTool::Ptxas => &["CAN_FINALIZE_DEBUG", "DUMP_KNOBS_TO_FILE"],
-        KeyTool::CudaFe => &["EDG_BASE", "EDG_MODULES_PATH", "USR_INCLUDE"],
-        KeyTool::Fatbinary => &[],
-        KeyTool::Nvlink => &["CAN_FINALIZE_DEBUG", "LIBRARY_PATH"],
+        KeyTool::Ptxas => &[
+            "GLIBC_TUNABLES",
+            "LD_AUDIT",
+            "LD_PRELOAD",
+            "CAN_FINALIZE_DEBUG",
+            "DUMP_KNOBS_TO_FILE",
+        ],
+        KeyTool::CudaFe => &[
+            "GLIBC_TUNABLES",
+            "LD_AUDIT",
+            "LD_PRELOAD",
+            "EDG_BASE",
+            "EDG_MODULES_PATH",
+            "USR_INCLUDE",
+        ],
+        KeyTool::Fatbinary => &["GLIBC_TUNABLES", "LD_AUDIT", "LD_PRELOAD"],
+        KeyTool::Nvlink => &[
+            "GLIBC_TUNABLES",
+            "LD_AUDIT",
+            "LD_PRELOAD",
+            "CAN_FINALIZE_DEBUG",
+            "LIBRARY_PATH",
+        ],
         KeyTool::Host => &[
+            "GLIBC_TUNABLES",
+            "LD_AUDIT",
+            "LD_PRELOAD",
             "BINUTILS_ROOT",
             "CCC_OVERRIDE_OPTIONS",
             "COMPILER_PATH",
