@@ -13,7 +13,7 @@ use std::alloc::{AllocError, Global};
 use std::marker::Model;
 use texts::text::Text;
 
-/// The status of success, and texts one behind the other.
+/// The status of success, and texts one after the other.
 #[derive(Drop)]
 pub struct Outcome {
     status: i32,
@@ -65,7 +65,7 @@ impl Outcome {
         self.ranges.as_slice()
     }
 
-    /// The texts, one behind the other.
+    /// The texts, one after the other.
     pub fn text(&self) -> &str
         ensures { result.now ≡ self.now.1.1 }
     {

@@ -154,8 +154,7 @@ fn note_end(
     Ok(())
 }
 
-/// Makes the states those of commands of which none has started. A graph in which a command isn't behind all that it needs is
-/// refused.
+/// Makes the states those of a schedule before its first command. Refuses a graph in which a command isn't after all that it needs.
 pub fn begin(call: &ScheduleCall<'_>, states: &mut [u8]) -> ScheduleAnswer
     ensures answer { result ≡ answers.noted (spec.begun call.now states.old) }
     ensures states { states.new ≡ spec.if_accepted (spec.begun call.now states.old) (replicate (length states.old) 0) states.old }

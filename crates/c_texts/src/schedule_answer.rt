@@ -38,7 +38,7 @@ pub struct ToldAnswer {
     pub status: i32,
     /// The number of how the plan has come out.
     pub plan: u32,
-    /// The number behind that of the last command whose output may be printed.
+    /// One more than the number of the last command whose output may be printed.
     pub end: usize,
 }
 

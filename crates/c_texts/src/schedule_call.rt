@@ -12,11 +12,14 @@ pub struct ScheduledCommand<'a> {
     pub priority: usize,
 }
 
-/// A schedule, beside the states of its commands.
+/// A schedule. The states of its commands are a byte for each, in other memory of the caller.
+///
+/// Nothing is kept between calls: each one checks all that it reads, so no contract needs a premise on what the caller passes. The price is
+/// that [`next`](crate::schedule::next) looks at all commands. `schedules::Schedule`, which owns its memory, has a tournament.
 #[repr(C)]
 #[derive(Clone, Copy, Debug)]
 pub struct ScheduleCall<'a> {
-    /// Its commands, each behind all that it needs.
+    /// Its commands, each after all that it needs.
     pub commands: &'a [ScheduledCommand<'a>],
     /// How many may run at once.
     pub slots: usize,

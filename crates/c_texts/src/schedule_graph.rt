@@ -11,7 +11,7 @@ ghost use Rattle.c_texts.specs.ScheduleCalls as spec;
 use crate::schedule_call::ScheduledCommand;
 use crate::schedule_state::has_succeeded;
 
-// Whether all numbers behind those of earlier plans are below a number.
+// Whether all numbers, counted on from those of earlier plans, are below a number.
 fn are_below(count: usize, first: usize, needs: &[usize]) -> bool
     ensures { result ≡ entered.are_below count (map (graphs.moved first) needs.now) }
 {
@@ -30,7 +30,7 @@ pub(crate) fn first_late(commands: &[ScheduledCommand<'_>]) -> Option<usize>
     None
 }
 
-// Whether all commands with these numbers, behind those of earlier plans, have succeeded.
+// Whether all commands with these numbers, counted on from those of earlier plans, have succeeded.
 fn have_succeeded(bytes: &[u8], first: usize, needs: &[usize]) -> bool
     ensures { result ≡ list_all (λ m. states.is_succeeded (states.state_at (spec.states_of bytes.now) m)) (map (graphs.moved first) needs.now) }
 {

@@ -23,7 +23,7 @@ fn precedes(commands: &[ScheduledCommand<'_>], first: usize, second: usize) -> b
     one < other || one == other && second < first
 }
 
-// The better one of two. A number that isn't a command's stands for nobody.
+// The better one of two commands. A number that no command has means none.
 fn better(commands: &[ScheduledCommand<'_>], first: usize, second: usize) -> usize
     ensures { result ≡ tournament.better (map spec.priority_of commands.now) first second }
 {

@@ -52,21 +52,21 @@ pub struct SplitWords {
     pub assembler: Words,
 }
 
-// What begins the word that names fatbinary's file for a host compiler.
+// The option of fatbinary that names the file for the host compiler, in one word with the name.
 fn embedded_option() -> &'static str
     ensures { result.now ≡ spec.embedded_option }
 {
     "--embedded-fatbin="
 }
 
-// What stands behind that in a word.
+// The file that a word with this option names.
 fn embedded_in(word: &str) -> Option<&str>
     ensures { option_copied result ≡ rest_after spec.embedded_option word.now }
 {
     word.strip_prefix(embedded_option())
 }
 
-// The first such file that words name.
+// The first file that words name so.
 fn embedded(words: &[String]) -> Option<&str>
     ensures { option_copied result ≡ spec.embedded (map string_bytes words.now) }
 {
@@ -78,7 +78,7 @@ fn embedded(words: &[String]) -> Option<&str>
     None
 }
 
-// A word that names another file there.
+// The word with another file's name, if it has this option.
 fn moved_word(alloc: Global, to: &str, word: &str) -> Result<String, AllocError>
     ensures { IfOk result (λ moved. string_bytes moved ≡ spec.moved_word to.now word.now) }
 {

@@ -8,18 +8,18 @@ use std::alloc::{AllocError, Global};
 use texts::bytes::Bytes;
 use texts::text::Text;
 
-/// Where a byte stands in strings of C.
+/// Where the next byte is, in a list of C strings.
 #[derive(Clone, Copy, Debug)]
 pub enum State {
     /// In no string.
     Between,
     /// In a string.
     Inside,
-    /// Behind a backslash in a string.
+    /// After a backslash in a string.
     Escaped,
 }
 
-// What stands in front of the assembler text.
+// The file's text before the assembler text.
 fn head(is_linked: bool) -> &'static str
     ensures { result.now ≡ spec.head is_linked }
 {
@@ -30,7 +30,7 @@ fn head(is_linked: bool) -> &'static str
     }
 }
 
-// What stands in a placeholder in front of the path that it includes, and behind it.
+// The assembler text of a placeholder, before and after the path that it includes.
 fn opening() -> &'static str
     ensures { result.now ≡ spec.opening }
 {
@@ -43,14 +43,14 @@ fn closing() -> &'static str
     "\\\"\\n\"\n"
 }
 
-// What stands between that and the fatbin's count of numbers.
+// The file's text between the assembler text and the fatbin's count of numbers.
 fn middle() -> &'static str
     ensures { result.now ≡ spec.middle }
 {
     ");\n#ifdef __cplusplus\nextern \"C\" {\n#endif\nextern const unsigned long long fatbinData["
 }
 
-// What stands behind the count.
+// The file's text after the count.
 fn tail(is_linked: bool) -> &'static str
     ensures { result.now ≡ spec.tail is_linked }
 {
@@ -96,7 +96,7 @@ fn state_after(state: State, byte: u8) -> Option<State>
     }
 }
 
-// The byte of the assembler text that a byte stands for.
+// Adds the byte of the assembler text that a byte of the strings encodes, if it encodes one.
 fn push_byte(text: &mut Vec<u8>, state: State, byte: u8) -> Result<(), AllocError>
     ensures { OnOk result (text.new.items ≡ text.old.items ++ spec.bytes_of state byte) }
 {
@@ -112,7 +112,7 @@ fn push_byte(text: &mut Vec<u8>, state: State, byte: u8) -> Result<(), AllocErro
     Ok(())
 }
 
-// The rest of a text from behind the strings that it begins with, which is a `)` and what follows it.
+// The rest of a text after the strings that it begins with. It begins with a `)`.
 fn behind_strings(text: &[u8]) -> Option<&[u8]>
     ensures { option_copied result ≡ spec.behind_strings spec.between text.now }
 {
@@ -150,7 +150,7 @@ fn strings_of(alloc: Global, text: &[u8]) -> Result<Bytes, AllocError>
     Ok(Bytes::from_vec(said))
 }
 
-// A text from behind the digits that it begins with.
+// The rest of a text after the digits that it begins with.
 fn behind_digits(text: &[u8]) -> &[u8]
     ensures { result.now ≡ spec.behind_digits text.now }
 {

@@ -71,7 +71,7 @@ fn kept_words() -> &'static [&'static str]
     ]
 }
 
-// The beginnings of such words, which go on behind them.
+// Beginnings of such words, if more follows in the same word.
 fn kept_beginnings() -> &'static [&'static str]
     ensures { map spec.shown result.now ≡ spec.kept_beginnings }
 {
@@ -158,7 +158,7 @@ fn role_alone(word: &str) -> Role
     }
 }
 
-// What a word is for behind another.
+// What a word is for after another.
 fn role_behind(before: &str, word: &str) -> Role
     ensures { result ≡ spec.role_behind before.now word.now }
 {
@@ -182,7 +182,7 @@ fn takes_value(word: &str) -> bool
     word == "-o" || word == "-isystem" || word == "-x"
 }
 
-// What counts as the word before, behind another: a value isn't an option.
+// What counts as the word before the next one. A value doesn't: it isn't an option.
 fn next_before<'a>(before: &str, word: &'a str) -> &'a str
     ensures { result.now ≡ spec.next_before before.now word.now }
 {
@@ -203,7 +203,7 @@ fn place_of(role: Role) -> usize
     }
 }
 
-// The role that comes behind one, of words that don't stay. Behind the product comes none.
+// The next role, of those that a line has in order. After the product there is none.
 fn role_after(role: Role) -> Role
     ensures { result ≡ spec.role_after role }
 {

@@ -10,7 +10,7 @@ use crate::command::BadGraph;
 use crate::graph::graph_fault;
 use std::alloc::Global;
 
-// Notes that a chain of this weight begins behind a command.
+// Notes that a chain of this weight follows a command.
 fn raise_at(chains: &mut [usize], command: usize, weight: usize)
     requires { command < length chains.old }
     ensures { chains.new ≡ spec.raised weight chains.old command }
@@ -20,7 +20,7 @@ fn raise_at(chains: &mut [usize], command: usize, weight: usize)
     }
 }
 
-// Notes that a chain of this weight begins behind each of some commands.
+// Notes that a chain of this weight follows each of some commands.
 fn raise(chains: &mut [usize], commands: &[usize], weight: usize)
     requires { are_below (length chains.old) commands.now ≡ true }
     ensures { chains.new ≡ fold (spec.raised weight) chains.old commands.now }
@@ -30,7 +30,7 @@ fn raise(chains: &mut [usize], commands: &[usize], weight: usize)
     }
 }
 
-// Puts a command in front of the chain behind it.
+// Puts a command before the chain that follows it.
 fn put_in_front(chains: &mut [usize], command: usize, weight: usize, needs: &[usize])
     requires there { command < length chains.old }
     requires within { are_below (length chains.old) needs.now ≡ true }
@@ -41,7 +41,7 @@ fn put_in_front(chains: &mut [usize], command: usize, weight: usize, needs: &[us
     raise(chains, needs, heavier);
 }
 
-// Puts each command in front of the chain behind it, the last one first.
+// Puts each command before the chain that follows it, the last command first.
 fn put_all_in_front(chains: &mut [usize], needs: &[Vec<usize>], weights: &[usize])
     requires as_many { length chains.old ≡ length needs.now }
     requires as_many_weights { length weights.now ≡ length needs.now }

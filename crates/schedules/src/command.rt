@@ -102,7 +102,7 @@ pub enum PlanStatus {
 /// Which outputs may be printed.
 #[derive(Clone, Copy, Debug)]
 pub struct Told {
-    /// The number behind that of the last command whose output may be printed.
+    /// One more than the number of the last command whose output may be printed.
     pub end: usize,
     /// How the plan has come out so far.
     pub status: PlanStatus,

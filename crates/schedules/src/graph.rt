@@ -142,7 +142,7 @@ pub(crate) fn first_tree(
     Ok(tree)
 }
 
-// Puts the needs of a plan last, its numbers behind those of earlier plans.
+// Adds the needs of a plan. Its numbers count on from those of earlier plans.
 fn push_moved(
     alloc: Global,
     joined: &mut Vec<Vec<usize>>,
@@ -157,7 +157,7 @@ fn push_moved(
     Ok(())
 }
 
-// Numbers of commands behind those of earlier plans.
+// Numbers of commands, counted on from those of earlier plans.
 fn moved(alloc: Global, offset: usize, numbers: &[usize]) -> Result<Vec<usize>, AllocError>
     ensures { IfOk result (λ behind. behind.items ≡ map (spec.moved offset) numbers.now) }
 {
@@ -167,7 +167,7 @@ fn moved(alloc: Global, offset: usize, numbers: &[usize]) -> Result<Vec<usize>, 
         .collect(alloc)
 }
 
-/// The needs of several plans in one graph: the numbers of each plan are behind those of the plans before it.
+/// The needs of several plans in one graph: the numbers of each plan count on from those of the plans before it.
 pub fn joined_needs(alloc: Global, plans: &[&[Vec<usize>]]) -> Result<Vec<Vec<usize>>, AllocError>
     ensures { IfOk result (λ joined. map vec_items joined.items ≡ spec.joined_from 0 (map (λ p. map vec_items p.now) plans.now)) }
 {

@@ -19,7 +19,7 @@ use std::marker::Model;
 
 /// Which commands of a graph may start next, and what has become of each.
 ///
-/// Commands are numbered from 0, each behind all that it needs. Several plans are one graph if the numbers of each begin
+/// Commands are numbered from 0, each after all that it needs. Several plans are one graph if the numbers of each begin
 /// where those of the one before it end.
 #[derive(Drop)]
 pub struct Schedule {
@@ -52,7 +52,7 @@ impl Model for Schedule {
 }
 
 impl Schedule {
-    /// A schedule of commands of which none has started.
+    /// A schedule before its first command.
     ///
     /// For each command, `needs` has the numbers of the commands that have to succeed before it starts: only smaller numbers
     /// than its own, else the error is [`BadGraph::NeedsLater`]. `priorities` has one number for each command, of any size

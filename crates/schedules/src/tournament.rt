@@ -1,9 +1,9 @@
 //! A tournament of the commands that may start: the winner is at the root, and each game above an entrant that changed is
 //! played again.
 //!
-//! A tree for a number of commands has twice as many places. That of a command is behind the first half. The place 0 is
+//! A tree for a number of commands has twice as many places. The second half are the commands, in their order. The place 0 is
 //! unused, 1 is the root, and the places below the place n are 2 n and 2 n + 1. At a place is the number of the command that won the
-//! games below it. A number that isn't a command's stands for nobody.
+//! games below it. A number that no command has means that nobody won.
 
 ghost use Rattle.std.specs.Prelude.{◌≡◌, ℕ, ◌+◌, ◌*◌, ◌<◌, ◌==◌, if◌then◌else◌, length, slice_index};
 ghost use Rattle.schedules.specs.Tournament as spec;
