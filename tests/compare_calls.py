@@ -23,6 +23,7 @@ A line of FILE is the words of a call, quoted as for bash; nothing is globbed. W
     @cwd=FOLDER         the folder of the call, below the work folder
     @tmp=FOLDER         TMPDIR, below the work folder; else an empty folder beside it
     @ours=SHELL         run by bash instead of our tool, which is $TOOL; the words are "$@"
+    @both=SHELL         the same for both tools
     @targets=given      its targets and C++ standard stay as they are, though an older nvcc may not know them
     @later=WORDS        words of the call that came with a later nvcc: one whose help lacks the first of them gets the call without them
     @instead=WORDS      what it gets in their place
@@ -107,7 +108,7 @@ SOURCES = {
     "lineerr.cu": '#line 3 "made/by.y"\n__global__ void e(int*p){*p=missing;}\n',
 }
 LAUNCHER = '#!/bin/sh\nprintf "%s\\n" "${1##*/}" >> "$COMPARE_LOG"\nexec "$@"\n'
-FIELDS = {"name", "setup", "after", "cwd", "tmp", "ours", "headers", "targets", "later", "instead", "how", "launched", "differs"}
+FIELDS = {"name", "setup", "after", "cwd", "tmp", "ours", "both", "headers", "targets", "later", "instead", "how", "launched", "differs"}
 OLD = 1_600_000_000
 WRITTEN_FOR = "13.0"  # the version of nvcc whose options the lists have
 TARGET = re.compile(r"(?<=\bsm_)\d+|(?<=\bcompute_)\d+|(?<=\blto_)\d+")
@@ -129,6 +130,7 @@ class Call:
     cwd: str
     tmp: str
     ours: str
+    both: str
     headers: str
     targets: str
     later: str
@@ -218,12 +220,14 @@ def tree(folder: Path) -> dict[str, str]:
 
 
 def normal(text: str, base: Path) -> str:
-    """A text without what differs between two calls of nvcc: names of temporary files, and times."""
+    """A text without what differs between two calls of nvcc: names of temporary files, which gcc underlines by their length, and times."""
     text = text.replace(str(base), "BASE")
+    text = re.sub(r'(\.(?:fatbin|stub)\.c"\n +\| +\^)~+', r"\1~", text)
     text = re.sub(r"(BASE/tmp|/tmp)/(zigrunk[-.]\w+(/zigrunk-\w+)?|tmpxft[^/ ]*?-\d+)[/_]?", "", text)
     text = re.sub(r"(BASE/tmp/|/tmp/)?tmpxft_[0-9a-f]+_[0-9a-f]+-\d+_?", "", text)
     text = re.sub(r"tmpxft_[0-9a-f]+_[0-9a-f]+", "TMPXFT", text)
     text = re.sub(r"-[0-9a-f]{6}\.\.lgenfe\.bc", "-N..lgenfe.bc", text)
+    text = re.sub(r"\b[0-9a-f]+_stdout\b", "N_stdout", text)
     text = re.sub(r"Compile time = [0-9.]+ ms", "Compile time = N ms", text)
     return re.sub(r", [0-9.]+ , ms", ", N , ms", text)
 
@@ -244,8 +248,8 @@ def start(tool: str, call: Call, base: Path, env: dict[str, str]) -> tuple[int |
     """The status of a call, what it printed, and the seconds that it took."""
     words = [word.replace("@WORK@", str(base / "work")) for word in call.words]
     argv = [tool, *words]
-    if call.ours and env.get("TOOL"):
-        argv = ["bash", "-c", call.ours, tool, *words]
+    if (shell := call.both or call.ours) and env.get("TOOL"):
+        argv = ["bash", "-c", shell, tool, *words]
     began = time.time()
     status: int | str
     try:
@@ -281,7 +285,7 @@ def run(tool: str, kind: str, call: Call, base: Path, keep: Path | None) -> Ran:
     (base / "launcher").write_text(LAUNCHER)
     (base / "launcher").chmod(0o755)
     env = environment(call, base, log)
-    if kind == "ours":
+    if kind == "ours" or call.both:
         env["TOOL"] = tool
     if call.setup:
         subprocess.run(["bash", "-c", call.setup], cwd=work, env={**os.environ, "WORK": str(work)}, check=True)

@@ -525,6 +525,8 @@ k.cu:it links
 --keep --keep-dir k.cu -c k.cu -o k.o:the keep directory is missing
 -MD -MF /dev/stderr -c k.cu -o k.o:its dependency file is standard error
 -MD -MF /proc/self/fd/2 -c k.cu -o k.o:its dependency file is standard error
+-x cu -c /dev/stdin -o k.o:it reads a pipe or an open file
+-Xcompiler -include,/dev/fd/0 -c k.cu -o k.o:it reads a pipe or an open file
 ROWS
     if case_of 'no explanation'; then
         call NVCC_STATUS=5 k.cu
@@ -842,8 +844,9 @@ signals() {
         for _ in 1 2; do
             kill -TSTP "$process"
             within 5 eval '[ "$(cut -d " " -f 3 "/proc/$process/stat")" = T ]' || problems+='  it does not stop'$'\n'
-            # D, if it was stopped while its shell waited for a child to begin
-            same 'a command that is stopped' "$(pgrep -f "$CUDA/bin/cudafe" | head -n 1 | xargs -I{} cut -d ' ' -f 3 /proc/{}/stat | tr D T)" T
+            # D, if it was stopped while its shell waited for a child to begin; on a busy machine the signal comes a little later
+            within 5 eval '[ "$(pgrep -f "$CUDA/bin/cudafe" | head -n 1 | xargs -I{} cut -d " " -f 3 /proc/{}/stat | tr D T)" = T ]' ||
+                problems+='  a command does not stop'$'\n'
             same 'slots that are free' "$(for slot in "$room/run"/*/[0-9]*; do flock -n "$slot" true || echo "$slot"; done)" ''
             kill -CONT "$process"
             # Its commands go on last.

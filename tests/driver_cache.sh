@@ -819,6 +819,12 @@ whole_calls() {
         sed -i 's/= 8/= 9/' k.cu
         whole '' "${usual[@]}"
         at_once 'at last' 1
+        # cudafe++ leaves out a part within another, and writes comments at the end
+        echo '__global__ void nested(int* p) { union U { int value; __device__ U() {} }; U u; *p = u.value + 1; }' >> k.cu
+        twice -rdc=true "${usual[@]}"
+        sed -i 's/value + 1/value + 2/' k.cu
+        whole '' -rdc=true "${usual[@]}"
+        at_once 'with parts within others' 1
         end
     fi
     if case_of 'whole: files that are read once'; then
@@ -898,21 +904,25 @@ whole_calls() {
     if case_of 'whole: what is never kept'; then
         project
         echo data > data
-        for line in 'const char* d = __DATE__;' 'const char* t = __TIME__;' 'const char* s = __TIMESTAMP__;' 'asm(".globl m\nm: .incbin \"data\"\n");'; do
-            echo "$line" > k.cu
+        for line in 'const char* d = __DATE__;' 'const char* t = __TIME__;' 'const char* s = __TIMESTAMP__;' 'asm(".globl m\nm: .incbin \"data\"\n");' \
+            '#pragma GCC dependency "data"' '_Pragma("GCC dependency \"data\"")'; do
+            printf '%s\n' 'int one() { return 1; }' "$line" > k.cu
             call "${usual[@]}"
             settle
             call "${usual[@]}"
             same "served with $line" "$status $([ "$(commands true)" = nvcc ] && echo whole)" '0 '
         done
         echo -O2 > words
-        echo 'int a;' > k.cu
+        echo 'int one() { return 1; }' > k.cu
+        twice "${usual[@]}"
         for words in '--options-file words' '-Xcompiler -MD' '-Xcompiler -imacros,k.h' '-Xcompiler -H'; do
             echo > k.h
             # shellcheck disable=SC2086 # several words
             { call "${usual[@]}" $words && settle && call "${usual[@]}" $words; }
             same "served with $words" "$status $([ "$(commands true)" = nvcc ] && echo whole)" '0 '
         done
+        for _ in 1 2; do settle && call NVCC_APPEND_FLAGS='-optf words' "${usual[@]}"; done
+        same 'served with a list that a variable names' "$status $([ "$(commands true)" = nvcc ] && echo whole)" '0 '
         rm -f k.d
         # nvcc takes the targets of the GPUs that it finds
         whole '' -arch=native -c k.cu -o k.o
@@ -939,6 +949,33 @@ whole_calls() {
         printf '#!/bin/sh\nexec %s -DX "$@"\n' "$(command -v nvcc)" > "$room/bin.1/nvcc"
         whole '' PATH="$path" "${usual[@]}"
         whole '' PATH="$path" "${usual[@]}"
+        end
+    fi
+    if case_of 'whole: variables that may count after all'; then
+        project
+        printf '%s\n' '#ifdef MORE' '__device__ int more = MORE;' '#endif' '#if __has_include(<more.h>)' '#include <more.h>' '#endif' >> k.cu
+        # a gcc that is another cache runs any compiler
+        mkdir "$room/bin.3"
+        gcc -x c -o "$room/bin.3/ccache" - <<< $'#include <stdlib.h>\n#include <unistd.h>\nint main(int n, char** words) { return execv(words[0] = getenv("CCACHE_COMPILER"), words); }'
+        ln -s ccache "$room/bin.3/gcc"
+        printf '#!/bin/sh\nexec %s -DMORE=1 "$@"\n' "$(command -v gcc)" > "$room/bin.3/other" && chmod +x "$room/bin.3/other"
+        for compiler in "$(command -v gcc)" "$room/bin.3/other"; do
+            whole '' PATH="$room/bin.3:$PATH" CCACHE_COMPILER="$compiler" "${usual[@]}"
+            whole '' PATH="$room/bin.3:$PATH" CCACHE_COMPILER="$compiler" "${usual[@]/-c/-cubin}"
+        done
+        # a profile of nvcc may use any variable
+        local kit
+        kit=$(dirname "$(dirname "$(nvcc --dryrun -c -x cu /dev/null 2>&1 | sed -n 's,^#\$ _HERE_=\(.*\),\1/nvcc,p')")")
+        mkdir -p "$room/kit/bin" one two
+        for file in "$kit"/* "$kit"/bin/*; do [ -e "$room/kit/${file#"$kit"}" ] || ln -s "$file" "$room/kit/${file#"$kit"}"; done
+        rm "$room"/kit/bin/nvcc{,.profile} && cp "$kit/bin/nvcc" "$room/kit/bin"
+        sed 's,^INCLUDES.*,& "-I$(HOME)",' "$kit/bin/nvcc.profile" > "$room/kit/bin/nvcc.profile"
+        for folder in one two; do echo "const char* here = \"$folder\";" > $folder/more.h; done
+        touch -d '1 minute ago' k.cu {one,two}/more.h "$room"/kit/bin/nvcc{,.profile}
+        for folder in one two; do whole '' PATH="$room/kit/bin:$PATH" HOME="$PWD/$folder" "${usual[@]}"; done
+        cp "$kit/bin/nvcc.profile" "$room/kit/bin/nvcc.profile" && touch -d '1 minute ago' "$room/kit/bin/nvcc.profile"
+        whole '' PATH="$room/kit/bin:$PATH" HOME="$PWD/one" "${usual[@]}"
+        whole whole PATH="$room/kit/bin:$PATH" HOME="$PWD/two" "${usual[@]}"
         end
     fi
     if case_of 'whole: folders'; then

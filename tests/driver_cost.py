@@ -5,8 +5,10 @@
 
 Prints the processor's time of a call of seven commands, of those commands alone, and of what goes straight to nvcc beside nvcc alone; and how many
 processes such a call has. For a batch of N calls for ten targets, 60 unless you say so, it prints the processor's time and the memory of
-zigrunk-batch's own process for each call. Of 100 calls at once whose commands wait, it prints when the first one ends, and the median,
-as parts of the time of all. All have to stay within the limits below. The last line is 'N passed, M failed'.
+zigrunk-batch's own process for each call, and how long it takes to end by an interrupt. Of 100 calls at once whose commands wait, it prints when
+the first one ends, and the median, as parts of the time of all. All have to stay within the limits below. The last line is 'N passed, M failed'.
+
+The processor of a virtual machine may take twice as long for the same from one minute to the next. So it prints first and last how long a loop takes.
 
 With a real nvcc on PATH, it also prints how long after its begin a call starts its first compiler, beside what nvcc's dry run takes: both are
 times of the machine as it is, so neither has a limit.
@@ -16,6 +18,7 @@ import json
 import os
 import resource
 import shutil
+import signal
 import statistics
 import subprocess
 import sys
@@ -32,6 +35,7 @@ MOST_PLAIN_MILLISECONDS = 1.0  # of what goes to nvcc at once, beside nvcc
 TARGETS = 10
 MOST_BATCH_MILLISECONDS = 10.0  # of a call of a batch for that many targets, in the batch's own process
 MOST_BATCH_KILOBYTES = 60.0
+MOST_STOP_MILLISECONDS = 1000.0  # of a batch, from an interrupt to its end
 SLOTS, WAIT = 4, 40  # of many calls at once, and the milliseconds that each of their commands waits
 MOST_FIRST, MOST_MEDIAN = 5.0, 60.0  # percent of the time that all of them take
 
@@ -47,6 +51,17 @@ def cpu(words: list[str], environment: dict[str, str], folder: Path, calls: int)
         after = resource.getrusage(resource.RUSAGE_CHILDREN)
         taken.append(1000 * (after.ru_utime + after.ru_stime - before.ru_utime - before.ru_stime))
     return statistics.median(taken)
+
+
+def print_speed() -> None:
+    """How long the processor takes for what is always the same."""
+    taken = []
+    for _ in range(9):
+        begun, total = time.process_time(), 0
+        for number in range(200_000):
+            total += number
+        taken.append(1000 * (time.process_time() - begun))
+    print(f"{statistics.median(taken):6.1f} ms of the processor for 200,000 additions here")
 
 
 def toolkit(folder: Path) -> Path:
@@ -83,10 +98,14 @@ def ten_targets(line: str) -> str:
     return "".join([line, *others])
 
 
+def write_list(calls: int) -> None:
+    """The list of a batch of so many calls."""
+    Path("list").write_text("".join(f"-c k{number}.cu -o k{number}.o -arch=sm_75\n" for number in range(calls)))
+
+
 def of_batch(driver: list[str], environment: dict[str, str], calls: int) -> tuple[float, int]:
     """The milliseconds of processor's time that a batch of so many calls takes in its own process, and the most KB of its memory."""
-    lines = [f"-c k{number}.cu -o k{number}.o -arch=sm_75\n" for number in range(calls)]
-    Path("list").write_text("".join(lines))
+    write_list(calls)
     process = os.posix_spawn(driver[0], ["zigrunk-batch", "list"], environment, setsigdef=[])
     os.waitid(os.P_PID, process, os.WEXITED | os.WNOWAIT)
     own = Path(f"/proc/{process}/stat").read_text().rpartition(")")[2].split()
@@ -94,6 +113,20 @@ def of_batch(driver: list[str], environment: dict[str, str], calls: int) -> tupl
     if status != 0:
         sys.exit(f"a batch fails, in {Path.cwd()}")
     return 1000 * (int(own[11]) + int(own[12])) / os.sysconf("SC_CLK_TCK"), used.ru_maxrss
+
+
+def milliseconds_to_stop(driver: list[str], environment: dict[str, str], calls: int) -> float:
+    """How long a batch of so many calls goes on after an interrupt, while commands run that would take a minute."""
+    write_list(calls)
+    process = os.posix_spawn(driver[0], ["zigrunk-batch", "list"], {**environment, "PAUSE": "60000"}, setsigdef=[signal.SIGINT])
+    children, tool = Path(f"/proc/{process}/task/{process}/children"), Path(environment["CUDA"]).parent / "tool"
+    while not any(Path(f"/proc/{child}/exe").exists() and Path(f"/proc/{child}/exe").samefile(tool) for child in children.read_text().split()):
+        time.sleep(0.01)
+    begun = time.time()
+    os.kill(process, signal.SIGINT)
+    if os.waitstatus_to_exitcode(os.waitpid(process, 0)[1]) not in (130, -signal.SIGINT):
+        sys.exit(f"a batch that is interrupted ends otherwise, in {Path.cwd()}")
+    return 1000 * (time.time() - begun)
 
 
 def batch_rows(driver: list[str], environment: dict[str, str], folder: Path, calls: int) -> list[tuple[str, float, float]]:
@@ -106,7 +139,8 @@ def batch_rows(driver: list[str], environment: dict[str, str], folder: Path, cal
     few, many = (of_batch(driver, {**environment, "DATA": str(data)}, count) for count in (calls // 6, calls))
     more = calls - calls // 6
     return [(f"ms of a call for {TARGETS} targets in a batch's process", (many[0] - few[0]) / more, MOST_BATCH_MILLISECONDS),
-            ("KB of such a call there", (many[1] - few[1]) / more, MOST_BATCH_KILOBYTES)]
+            ("KB of such a call there", (many[1] - few[1]) / more, MOST_BATCH_KILOBYTES),
+            (f"ms until a batch of {calls} calls ends by an interrupt", milliseconds_to_stop(driver, environment, calls), MOST_STOP_MILLISECONDS)]
 
 
 def many_rows(driver: list[str], environment: dict[str, str], calls: int) -> list[tuple[str, float, float]]:
@@ -169,20 +203,23 @@ def main() -> int:
         environment = {"PATH": f"{cuda}/bin:/usr/bin:/bin", "CUDA": str(cuda), "DATA": str(DRY_RUNS), "TMPDIR": str(folder / "tmp"),
                        "XDG_RUNTIME_DIR": str(folder / "run"), "PAUSE": "0", "ZIGRUNK_LATE": "0"}
         driver = [str(folder / "zigrunk-nvcc")]
+        print_speed()
         call = [*driver, *WORDS]
         count = processes(call, environment)
         tools = [[f"{folder}/tool", "-o", "out"]] * 7
         bare = sum(cpu(tool, environment, folder, args.calls) for tool in tools)
         whole = cpu(call, environment, folder, args.calls)
-        plain, alone = (cpu([*before, "--version"], environment, folder, args.calls) for before in (driver, [f"{cuda}/bin/nvcc"]))
+        plain = [(option, cpu([*driver, option, "k.cu"], environment, folder, args.calls),
+                  cpu([f"{cuda}/bin/nvcc", option, "k.cu"], environment, folder, args.calls)) for option in ("--version", "-E")]
         rows = [("ms of a call beside its commands", whole - bare, MOST_MILLISECONDS),
                 ("processes of a call, its seven commands among them", count, MOST_PROCESSES),
-                ("ms of --version beside nvcc", plain - alone, MOST_PLAIN_MILLISECONDS),
+                *((f"ms of {option} beside nvcc", by_driver - alone, MOST_PLAIN_MILLISECONDS) for option, by_driver, alone in plain),
                 *batch_rows(driver, environment, folder, args.batch), *many_rows(driver, environment, args.many)]
         for what, value, most in rows:
             failed += value > most
             print(f"{value:6.1f} of {most:4.1f}  {what}")
         print_first_compiler(driver, folder, args.calls // 4)
+        print_speed()
     print(f"{len(rows) - failed} passed, {failed} failed")
     return int(failed > 0)
 

@@ -5,9 +5,9 @@
 
 An edit changes one line of code: it negates a condition, drops a call, and so on (RUST, SCRIPT). The seed and its number say which line and which
 operator, so --only makes one edit again, and --first begins at another than the first. One that doesn't compile is drawn again, and so is one of
-tests/mutants_known.txt, or of a time by one. Then tests run until one fails: the unit tests of its module and all others for each edit, and then,
-for those that none of them finds, the parts of the scripts, the likeliest first. A test counts if it fails twice and passes without the edit. One
-that takes too long has failed.
+tests/mutants_known.txt, of a time by one, or of a border of a time. Then tests run until one fails: the unit tests of its module and all others for
+each edit, and then, for those that none of them finds, the parts of the scripts, the likeliest first. A test counts if it fails twice and passes
+without the edit. One that takes too long has failed.
 
 An edited driver may send any signal, remove any file and take all memory. So tests run where they see no other process, can write only below the
 folder of their lane, and have 4 GB each. That takes root, or a kernel that lets users make namespaces.
@@ -116,8 +116,9 @@ SCRIPT: dict[str, list[tuple[str, str]]] = {
     "return early": [(r"^(\s*\w+\(\) \{)$", r"\1 return 0")],
     "swap words": [(r'("\$\w+") ("\$\w+")', r"\2 \1"), (r"(?<=\w)\((\w+), (\w+)\)", r"(\2, \1)")],
 }
-# What no test sees: a time that is longer or shorter by one.
+# What no test sees: a time that is longer or shorter by one, and whether a time may be over to the nanosecond.
 NEAR = re.compile(r"\bDuration::(from_\w+|new)\(")
+BORDER = re.compile(r"\b(?:elapsed|silence)\(\) [<>]=? ")
 NO_CODE = re.compile(r"\s*(//|#\[|#!\[|#|use |pub use |pub\(crate\) use |mod |pub mod |import |from |extern |\"\"\"|[^\w]*$)")
 
 
@@ -376,7 +377,8 @@ class Lot:
     def changes_nothing(self, edit: Edit) -> bool:
         """Whether it is known that no test could see an edit."""
         is_near = edit.operator == "another number" and NEAR.search(edit.old) is not None
-        return is_near or (str(edit.path), edit.old.strip(), edit.new.strip()) in self.known
+        is_exact = BORDER.sub("", edit.old) == BORDER.sub("", edit.new)
+        return is_near or is_exact or (str(edit.path), edit.old.strip(), edit.new.strip()) in self.known
 
     def edit(self, number: int, lane: Lane | None) -> Edit:
         """The edit of a number, built in a lane."""

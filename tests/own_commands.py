@@ -234,7 +234,7 @@ def calls_of(files: list[str], only: str) -> list[Call]:
     values = values_in(said)
     calls = [earlier(Call(suited(line, values), number), said) for line, number in lines if line and not line.startswith("#") and only in line]
     threads = re.compile(r"^(-t\d*|--?threads(=.*)?|--split-compile.*|-split-compile.*)$")
-    return [it for it in calls if not it.ours and not any(threads.match(word) for word in it.words)]
+    return [it for it in calls if not it.ours and not it.both and not any(threads.match(word) for word in it.words)]
 
 
 def main() -> int:

@@ -219,8 +219,9 @@ def is_later_failure(line: str, want: Ran, got: Ran, found: Difference) -> bool:
 
 
 def is_failure_of_threads(line: str, want: Ran, got: Ran, found: Difference) -> bool:
-    """--threads: several commands fail at once, or others speak: nvcc tells of them as they end."""
-    return both_fail(want, got) and want["status"] == 255 and found[0] in ("SAID", "ORDER") and re.search(r"--threads|-t[ =\d]", line) is not None
+    """--threads: several commands fail at once, or others speak: nvcc tells of them as they end, also if it makes our call."""
+    told = want["status"] == 255 or got["reason"] is not None
+    return both_fail(want, got) and told and found[0] in ("SAID", "ORDER") and re.search(r"--threads|-t[ =\d]", line) is not None
 
 
 def is_left_by_nvcc(line: str, want: Ran, got: Ran, found: Difference) -> bool:
@@ -228,8 +229,14 @@ def is_left_by_nvcc(line: str, want: Ran, got: Ran, found: Difference) -> bool:
     return found[0] == "LEFT" and both_fail(want, got) and not got["left"]
 
 
+def is_silent_failure(line: str, want: Ran, got: Ran, found: Difference) -> bool:
+    """A command fails and says nothing, as with --error_output: ours names its status."""
+    said = r"lacks \[\], has \['zigrunk-nvcc: a command failed with status \d+ and without a message'\]"
+    return found[0] == "SAID" and both_fail(want, got) and re.match(said, found[1]) is not None
+
+
 # The rows of docs/DIFFERENCES.md, "From nvcc", that such calls can show.
-KNOWN: list[Callable[[str, Ran, Ran, Difference], bool]] = [is_debug, is_later_failure, is_failure_of_threads, is_left_by_nvcc]
+KNOWN: list[Callable[[str, Ran, Ran, Difference], bool]] = [is_debug, is_later_failure, is_failure_of_threads, is_left_by_nvcc, is_silent_failure]
 
 
 def row_of(line: str, want: Ran, got: Ran, found: Difference) -> str:

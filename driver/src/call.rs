@@ -98,6 +98,7 @@ impl Call<'_> {
         let environment = Environment::own().with("ZIGRUNK_INSIDE", &self.compiler.inside);
         let host = Host::of_process(&self.settings, make, environment, Rc::clone(&folder));
         let mut host = host.map_err(|lacks| format!("no {lacks} for the call"))?;
+        host.give_way();
         let begun = SystemTime::now();
         let outcome = split.run(&mut host, &outline, &mut |is_error, text| drop(say(if is_error { 2 } else { 1 }, text)));
         self.host = Some(host);

@@ -70,6 +70,8 @@ pub struct Host {
     tokens: Option<Tokens>,
     null: File,
     shows_colours: bool,
+    /// Whether calls without a slot come before further slots for this one.
+    gives_way: bool,
     /// Files that the guard closes.
     hidden: Vec<RawFd>,
     environment: Environment,
@@ -178,6 +180,7 @@ impl Host {
             tokens,
             null: File::options().read(true).write(true).open("/dev/null")?,
             shows_colours: io::IsTerminal::is_terminal(&io::stderr()),
+            gives_way: false,
             hidden: Vec::new(),
             environment,
             wants: false,
@@ -207,6 +210,11 @@ impl Host {
     /// Has the guard close a file, whose other end would miss this process's end. It counts until the first event is looked for.
     pub fn hide(&mut self, file: RawFd) {
         self.hidden.push(file);
+    }
+
+    /// Lets calls without a slot go before further slots for this one.
+    pub fn give_way(&mut self) {
+        self.gives_way = true;
     }
 
     /// Says whether commands see a terminal, if it isn't this process that knows.
@@ -266,8 +274,15 @@ impl Host {
         (self.tokens.is_none() || permit.token.is_some()) && (self.slots.is_none() || permit.slot.is_some())
     }
 
+    /// Whether this call's rank among those that wait is that of one which has a slot.
+    fn note_slot(&mut self) {
+        let has_one = self.gives_way && self.running.iter().any(|running| running.permit.is_some());
+        self.slots.iter_mut().for_each(|slots| slots.note_slot(has_one));
+    }
+
     /// Takes what is lacking of a permit, and says whether it is whole.
     fn has_permit(&mut self) -> bool {
+        self.note_slot();
         let mut permit = self.permit.take().unwrap_or_default();
         if let (Some(tokens), None) = (&mut self.tokens, &permit.token) {
             permit.token = tokens.try_take();
@@ -355,14 +370,21 @@ impl Host {
         });
     }
 
-    /// Keeps a permit for the next job in place of what is lacking of one, unless an older call wants the slot.
+    /// Keeps a permit for the next job in place of what is lacking of one, unless a call that comes first wants the slot.
     fn keep_or_give_back(&mut self, permit: Option<Permit>) {
         let Some(permit) = permit else { return };
+        self.note_slot();
         let is_wanted = matches!((&self.slots, &permit.slot), (Some(slots), Some(slot)) if slots.is_wanted(slot));
         let has_one = self.permit.as_ref().is_some_and(|held| self.is_whole(held));
         let is_kept = !is_wanted && !has_one && self.is_whole(&permit);
         let given_back = if is_kept { self.permit.replace(permit) } else { Some(permit) };
         self.give_back(given_back);
+    }
+
+    /// Whether a job could start if there were a slot for it.
+    fn lacks_slot(&self) -> bool {
+        let has_token = self.tokens.is_none() || self.permit.as_ref().is_some_and(|permit| permit.token.is_some());
+        self.wants && self.slots.is_some() && has_token
     }
 
     /// Waits until there is something to look at.
@@ -375,7 +397,8 @@ impl Host {
         let holds = self.permit.is_some() || !self.running.is_empty();
         let longest = if self.running.iter().any(|running| self.listened == Some(running.number)) {
             HEARING
-        } else if waits.is_some() {
+        } else if waits.is_some() || self.lacks_slot() {
+            // Nobody wakes a call that couldn't make its ticket.
             LOOK
         } else if holds {
             BEAT
@@ -487,6 +510,17 @@ impl Machine for Host {
         self.wants = wants;
     }
 
+    fn release(&mut self) {
+        if self.wants {
+            return;
+        }
+        let permit = self.permit.take();
+        self.give_back(permit);
+        if let Some(slots) = &mut self.slots {
+            slots.end_to_wait();
+        }
+    }
+
     fn has_spare_slot(&mut self) -> bool {
         self.has_permit() && self.slots.as_ref().is_none_or(Slots::are_plenty)
     }
@@ -505,13 +539,7 @@ impl Machine for Host {
             if self.wants && self.may_start() {
                 return Event::Slot;
             }
-            if !self.wants {
-                let permit = self.permit.take();
-                self.give_back(permit);
-            }
-            if let (Some(slots), true) = (&mut self.slots, !self.wants) {
-                slots.end_to_wait();
-            }
+            self.release();
             if self.start_guard().is_err() {
                 return Event::Lost("no process for the call".into());
             }
@@ -727,6 +755,22 @@ mod tests {
     }
 
     #[test]
+    fn a_job_that_nothing_ends_is_given_up() {
+        in_own_process(|| {
+            let room = Room::new();
+            let mut host = host(Some(room.slots(1, 1)), |_| None);
+            start(&mut host, 0, &shell("exit 0"));
+            let process = host.running[0].process;
+            wait_until(|| system::end_of(process).is_ok_and(|status| status.is_some()));
+            // Nobody hears of its end any more.
+            let begun = Instant::now();
+            host.end_all(TERM);
+            assert!(begun.elapsed() >= 2 * GRACE && host.running.is_empty());
+            assert!(room.slots(1, 2).try_take().is_some(), "its slot is free");
+        });
+    }
+
+    #[test]
     fn signals_end_a_call() {
         in_own_process(|| {
             let mut host = plain_host();
@@ -770,6 +814,48 @@ mod tests {
             let mut ends = [next_end(&mut host).0, next_end(&mut host).0];
             ends.sort_unstable();
             assert_eq!(ends, [2, 3], "who wants nothing has no ticket");
+        });
+    }
+
+    #[test]
+    fn a_call_without_a_ticket_looks_for_a_slot() {
+        in_own_process(|| {
+            let room = Room::new();
+            let slot = room.slots(1, 1).try_take().unwrap();
+            let mut host = host(Some(room.slots(1, 2)), |_| None);
+            let ticket = format!("zigrunk-slots-{}/wait-{:020}-{}-1", system::user(), 2, system::process());
+            fs::create_dir(room.path(&ticket)).unwrap();
+            host.want(true);
+            let holder = thread::spawn(move || {
+                sleep(Duration::from_millis(50));
+                drop(slot);
+            });
+            assert!(matches!(host.next(), Event::Slot), "something else has its ticket's name");
+            holder.join().unwrap();
+        });
+    }
+
+    #[test]
+    fn a_call_gives_way_with_its_further_slots() {
+        in_own_process(|| {
+            let room = Room::new();
+            let mut host = host(Some(room.slots(2, 1)), |_| None);
+            host.give_way();
+            let go = room.path("go");
+            start(&mut host, 0, &shell(&format!("until [ -e {} ]; do sleep 0.01; done", go.display())));
+            start(&mut host, 1, &shell(":"));
+            let mut younger = room.slots(2, 2);
+            assert!(younger.begin_to_wait());
+            host.want(true);
+            assert!(matches!(host.next(), Event::Ended(1, _)));
+            let slot = younger.try_take().expect("it gives its second slot up");
+            younger.end_to_wait();
+            assert!(!host.may_start() && younger.begin_to_wait());
+            fs::write(go, "").unwrap();
+            assert!(matches!(host.next(), Event::Ended(0, _)));
+            assert!(matches!(host.next(), Event::Slot), "it keeps its only one");
+            assert!(younger.try_take().is_none());
+            drop(slot);
         });
     }
 

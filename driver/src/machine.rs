@@ -61,6 +61,9 @@ pub trait Machine {
         false
     }
 
+    /// Gives back a slot that it only holds for a job to come, if none is wanted: this process works before it waits for what comes next.
+    fn release(&mut self) {}
+
     /// Says whether what follows is part of planning the call.
     fn plans(&mut self, _: bool) {}
 

@@ -92,6 +92,16 @@ impl Watch for RuleMaker<'_, '_> {
         self.voice.tell(done);
     }
 
+    fn has_work(&self, done: &[Done]) -> bool {
+        self.cache.as_ref().is_some_and(|cache| cache.may_look_ahead(done))
+    }
+
+    fn work(&mut self) {
+        if let Some(cache) = &mut self.cache {
+            cache.look_ahead();
+        }
+    }
+
     fn may_begin_early(&mut self, task: usize) -> bool {
         self.cache.as_mut().is_none_or(|cache| cache.may_begin_early(task))
     }

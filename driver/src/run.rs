@@ -111,6 +111,14 @@ pub trait Watch {
     /// Hears what has become of the tasks by now.
     fn tell(&mut self, _: &[Done]) {}
 
+    /// Whether it has work for while nothing can start before something ends, given what has become of the tasks by now.
+    fn has_work(&self, _: &[Done]) -> bool {
+        false
+    }
+
+    /// Does that work.
+    fn work(&mut self) {}
+
     /// Whether a task may begin before all that it needs has ended.
     fn may_begin_early(&mut self, _: usize) -> bool {
         true
@@ -231,6 +239,10 @@ impl<'a, M: Machine, W: Watch> Run<'a, M, W> {
             let is_own = |front: &usize| !self.early.contains_key(front) && !self.is_void[*front] && self.instead[*front].is_none();
             let front = self.watch.front().filter(is_own);
             self.machine.listen(front);
+            if next.is_none() && self.watch.has_work(&self.done) {
+                self.machine.release();
+                self.watch.work();
+            }
             match self.machine.next() {
                 Event::Slot => is_held_back = self.start(next)?,
                 Event::Ended(number, ended) => {
@@ -443,6 +455,8 @@ mod tests {
         read_late: Option<std::path::PathBuf>,
         /// The jobs that were ended before somebody could open that file.
         ended: Vec<usize>,
+        /// How many jobs ran when slots were given back.
+        released: Vec<usize>,
     }
 
     impl Machine for Fake {
@@ -452,6 +466,11 @@ mod tests {
 
         fn want(&mut self, wants: bool) {
             self.wants = wants;
+        }
+
+        fn release(&mut self) {
+            assert!(!self.wants);
+            self.released.push(self.running.len());
         }
 
         fn next(&mut self) -> Event {
@@ -502,6 +521,12 @@ mod tests {
         makes_rule: bool,
         refused: Vec<String>,
         steps: Vec<Vec<Step>>,
+        /// The task after whose end it has work, if it has some.
+        work_after: Option<usize>,
+        /// How often it has worked.
+        worked: usize,
+        /// The task that may not begin early.
+        holds: Option<usize>,
     }
 
     impl Heard {
@@ -524,12 +549,25 @@ mod tests {
             self.refused.iter().any(|other| other == tool)
         }
 
+        fn has_work(&self, done: &[Done]) -> bool {
+            self.work_after.is_some_and(|task| done[task].has_ended())
+        }
+
+        fn work(&mut self) {
+            self.work_after = None;
+            self.worked += 1;
+        }
+
         fn first_step(&mut self, task: usize) -> Step {
             self.step(task, Step::Own)
         }
 
         fn next_step(&mut self, task: usize, ended: Ended) -> Step {
             self.step(task, Step::Ended(ended))
+        }
+
+        fn may_begin_early(&mut self, task: usize) -> bool {
+            self.holds != Some(task)
         }
     }
 
@@ -623,6 +661,19 @@ mod tests {
     }
 
     #[test]
+    fn work_is_done_while_commands_run() {
+        let tasks = [task("a 0", &[]), task("b 0", &[]), task("c 0", &[0, 1])];
+        let worked_by = |at_once: usize, work_after: usize| {
+            let (mut machine, mut heard) = (Fake::default(), Heard { work_after: Some(work_after), ..Heard::default() });
+            run(&mut machine, &mut heard, &tasks, at_once).unwrap();
+            (heard.worked, machine.released)
+        };
+        assert_eq!(worked_by(2, 0), (1, vec![1]), "while the second one runs");
+        assert_eq!(worked_by(2, 2), (0, vec![]), "nothing runs by then");
+        assert_eq!(worked_by(1, 0), (1, vec![1]));
+    }
+
+    #[test]
     fn what_the_cache_refuses_runs_without_it() {
         let refused = |name: &str, status: &str| Task {
             without_launcher: Some(job(&format!("{name}-bare {status}"))),
@@ -711,6 +762,18 @@ mod tests {
         let mut machine = Fake { is_idle: true, ..Fake::default() };
         assert_eq!(run_all(&mut machine, &all, 3).1, vec![Some(0); 4]);
         assert_eq!((machine.started.concat(), machine.most_at_once), ("longfirstearlythird".into(), 3));
+        read_late_of(&tasks);
+    }
+
+    #[test]
+    fn another_task_may_begin_early_if_one_may_not() {
+        let tasks = with_head_start("held", 0, true);
+        let [first, second] = tasks.clone();
+        let third = Task { job: job("third 0"), ..second.clone() };
+        let mut machine = Fake { is_idle: true, ..Fake::default() };
+        let done = run(&mut machine, &mut Heard { holds: Some(1), ..Heard::default() }, &[first, second, third], 2).unwrap();
+        assert!(done.iter().all(|done| done.has_ended() && !done.failed()));
+        assert_eq!(machine.started, ["first", "early", "second"], "the third begins before the second, beside the first");
         read_late_of(&tasks);
     }
 

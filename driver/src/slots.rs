@@ -1,8 +1,9 @@
 //! Slots: how many commands of all the user's calls on this machine run at once.
 //!
 //! A slot is a file that a call locks, so the kernel frees it if the call dies. A call that waits has a ticket, a named pipe beside the
-//! slots with the call's age in its name. Older calls come first: a call takes a slot only if no older one waits for it. Who gives a
-//! slot back wakes the oldest call that waits for it, by a byte in its ticket. Holders and waiters touch their files each second. What
+//! slots with the call's rank in its name. Calls without a slot come first, and then those that want a further one, the older ones first
+//! among either: a call takes a slot only if none of a lower rank waits for it. So calls end one after the other, and the last ones side
+//! by side. Who gives a slot back wakes the first call that waits for it, by a byte in its ticket. Holders and waiters touch their files each second. What
 //! wasn't touched for some seconds belongs to a call that is stopped or frozen, and doesn't count.
 use crate::folder::Folder;
 use crate::system::{self, Opening};
@@ -42,23 +43,31 @@ enum Taken {
     Stale,
 }
 
-/// A call that waits: its age, how many slots it shares, and its process.
+/// What the rank of a call that has a slot has more than its age.
+const FURTHER: u64 = 1 << 63;
+
+/// A call that waits: its rank, which is its age unless it has a slot, its process, and how many slots it shares.
 #[derive(Clone, Copy, PartialEq, Eq, PartialOrd, Ord, Debug)]
 struct Waiter {
-    age: u64,
+    rank: u64,
     process: i32,
     count: usize,
 }
 
 impl Waiter {
     fn name(self) -> String {
-        format!("wait-{:020}-{}-{}", self.age, self.process, self.count)
+        format!("wait-{:020}-{}-{}", self.rank, self.process, self.count)
     }
 
     fn named(name: &str) -> Option<Waiter> {
         let mut parts = name.strip_prefix("wait-")?.split('-');
-        let (age, process, count) = (parts.next()?.parse().ok()?, parts.next()?.parse().ok()?, parts.next()?.parse().ok()?);
-        parts.next().is_none().then_some(Waiter { age, process, count })
+        let (rank, process, count) = (parts.next()?.parse().ok()?, parts.next()?.parse().ok()?, parts.next()?.parse().ok()?);
+        parts.next().is_none().then_some(Waiter { rank, process, count })
+    }
+
+    /// Whether it's the same call, whatever its rank.
+    fn is(self, other: Waiter) -> bool {
+        (self.rank % FURTHER, self.process) == (other.rank % FURTHER, other.process)
     }
 }
 
@@ -90,7 +99,7 @@ fn is_fresh(file: &File) -> bool {
 impl Slots {
     /// So many slots, for a call of this age, in the first of these folders that takes locks. `None` if none does.
     pub fn open(count: usize, age: u64, places: &[PathBuf]) -> Option<Slots> {
-        let own = Waiter { age, process: system::process(), count };
+        let own = Waiter { rank: age % FURTHER, process: system::process(), count };
         places.iter().find_map(|place| Slots::open_in(place, own).ok())
     }
 
@@ -101,7 +110,12 @@ impl Slots {
         Ok(Slots { folder, own, ticket: None, is_without_locks: Cell::new(false), known: RefCell::new(None) })
     }
 
-    /// The calls that wait, oldest first.
+    /// Says whether this call has a slot, so that calls without one come first.
+    pub fn note_slot(&mut self, has_one: bool) {
+        self.own.rank = self.own.rank % FURTHER + if has_one { FURTHER } else { 0 };
+    }
+
+    /// The calls that wait, the first ones first.
     fn waiters(&self) -> Vec<Waiter> {
         let changed = self.folder.changed();
         if let Some((_, waiters)) = self.known.borrow().as_ref().filter(|(time, _)| Some(*time) == changed) {
@@ -125,20 +139,20 @@ impl Slots {
         is_fresh(&file)
     }
 
-    /// The greatest number of a slot that an older call waits for.
-    fn taken_by_older(&self) -> usize {
+    /// The greatest number of a slot that a call waits for which comes before this one.
+    fn taken_by_others(&self) -> usize {
         let mut most = 0;
         for waiter in self.waiters().into_iter().take_while(|&waiter| waiter < self.own) {
-            if waiter.count > most && self.is_alive(waiter) {
+            if waiter.count > most && !waiter.is(self.own) && self.is_alive(waiter) {
                 most = waiter.count;
             }
         }
         most
     }
 
-    /// A free slot, if there is one that no older call waits for. Calls with more slots leave the first ones to others.
+    /// A free slot, if there is one that no call waits for which comes before this one. Calls with more slots leave the first ones to others.
     pub fn try_take(&self) -> Option<Slot> {
-        let left_to_others = self.taken_by_older();
+        let left_to_others = self.taken_by_others();
         let mut stale = 0;
         for number in (left_to_others + 1..=self.own.count).rev() {
             match self.lock(number) {
@@ -175,24 +189,24 @@ impl Slots {
         }
     }
 
-    /// Whether an older call waits for a slot that this call has.
+    /// Whether a call waits for a slot that this call has, and comes before it.
     pub fn is_wanted(&self, slot: &Slot) -> bool {
-        slot.number > self.own.count || self.taken_by_older() >= slot.number
+        slot.number > self.own.count || self.taken_by_others() >= slot.number
     }
 
     /// Whether a slot is free and no other call waits for one.
     pub fn are_plenty(&self) -> bool {
-        let is_wanted = self.waiters().into_iter().any(|waiter| waiter != self.own && self.is_alive(waiter));
+        let is_wanted = self.waiters().into_iter().any(|waiter| !waiter.is(self.own) && self.is_alive(waiter));
         let free = if is_wanted { None } else { self.try_take() };
         free.map(|slot| self.give_back(slot)).is_some()
     }
 
-    /// Gives a slot back, and wakes the oldest call that waits for it.
+    /// Gives a slot back, and wakes the first call that waits for it.
     pub fn give_back(&self, slot: Slot) {
         let number = slot.number;
         drop(slot);
         for waiter in self.waiters() {
-            let is_other = waiter != self.own && waiter.count >= number;
+            let is_other = !waiter.is(self.own) && waiter.count >= number;
             if is_other && self.is_alive(waiter) && self.wake(waiter) {
                 return;
             }
@@ -204,12 +218,13 @@ impl Slots {
         pipe.is_ok_and(|pipe| system::write_byte(pipe.as_fd(), b'+'))
     }
 
-    /// Begins to wait, if this call doesn't yet. Says whether it has just begun: then a slot may be free by now.
+    /// Begins to wait, if this call doesn't yet at its rank. Says whether it has just begun: then a slot may be free by now.
     pub fn begin_to_wait(&mut self) -> bool {
-        if self.ticket.is_some() {
+        let name = self.own.name();
+        if self.ticket.as_ref().is_some_and(|ticket| ticket.name == name) {
             return false;
         }
-        let name = self.own.name();
+        self.end_to_wait();
         for _ in 0..3 {
             let made = system::make_pipe(self.folder.as_fd(), &name);
             let opened = system::open_below(self.folder.as_fd(), &name, Opening::Pipe).map(File::from);
@@ -287,12 +302,12 @@ mod tests {
 
     #[test]
     fn names_say_who_waits() {
-        let waiter = Waiter { age: 12, process: 34, count: 5 };
+        let waiter = Waiter { rank: 12, process: 34, count: 5 };
         assert_eq!(Waiter::named(&waiter.name()), Some(waiter));
         for name in ["wait-1-2", "wait-1-2-3-4", "wait-a-2-3", "1", "wait-"] {
             assert_eq!(Waiter::named(name), None, "{name}");
         }
-        assert!(Waiter { age: 9, process: 9, count: 1 }.name() < Waiter { age: 10, process: 1, count: 1 }.name());
+        assert!(Waiter { rank: 9, process: 9, count: 1 }.name() < Waiter { rank: 10, process: 1, count: 1 }.name());
     }
 
     #[test]
@@ -347,6 +362,33 @@ mod tests {
     }
 
     #[test]
+    fn calls_without_a_slot_come_before_those_that_want_another() {
+        let room = Room::new();
+        let [mut old, mut young] = [room.slots(2, 1), room.slots(2, 2)];
+        let [first, second] = [old.try_take().unwrap(), old.try_take().unwrap()];
+        assert!(young.begin_to_wait());
+        assert!(!old.is_wanted(&first), "it has no other");
+        old.note_slot(true);
+        assert!(old.is_wanted(&first) && old.is_wanted(&second), "it has another");
+        assert!(old.begin_to_wait() && !old.begin_to_wait());
+        old.give_back(first);
+        assert_eq!([is_awake(&old), is_awake(&young)], [false, true]);
+        assert!(old.try_take().is_none(), "a call without a slot waits");
+        let third = young.try_take().unwrap();
+        young.end_to_wait();
+        old.awake();
+        old.note_slot(false);
+        old.give_back(second);
+        assert_eq!(old.try_take().map(|slot| slot.number), Some(1), "its ticket of the other rank is its own");
+        young.note_slot(true);
+        assert!(old.begin_to_wait(), "at its new rank");
+        assert_eq!(old.waiters(), [old.own]);
+        assert!(young.is_wanted(&third));
+        young.note_slot(false);
+        assert!(young.is_wanted(&third), "the other one is older, and has none");
+    }
+
+    #[test]
     fn a_call_with_fewer_slots_holds_up_no_others() {
         let room = Room::new();
         let (mut few, many) = (room.slots(1, 1), room.slots(2, 2));
@@ -397,7 +439,7 @@ mod tests {
         let (mut one, mut two, mut last) = (room.slots(1, 1), room.slots(2, 2), room.slots(4, 9));
         let young = room.slots(4, 3);
         assert!(one.begin_to_wait() && two.begin_to_wait() && last.begin_to_wait());
-        assert_eq!([one.taken_by_older(), two.taken_by_older(), young.taken_by_older(), last.taken_by_older()], [0, 1, 2, 2]);
+        assert_eq!([one.taken_by_others(), two.taken_by_others(), young.taken_by_others(), last.taken_by_others()], [0, 1, 2, 2]);
         let taken: Vec<Slot> = std::iter::from_fn(|| young.try_take()).collect();
         assert_eq!(taken.iter().map(|slot| slot.number).collect::<Vec<_>>(), [4, 3]);
         let of_number = |number| Slot { number, file: File::open("/").unwrap() };
@@ -442,7 +484,7 @@ mod tests {
     fn a_call_that_ends_to_wait_has_no_ticket() {
         let room = Room::new();
         let (mut slots, mut next) = (room.slots(1, 1), room.slots(1, 2));
-        let names = |slots: &Slots| slots.waiters().iter().map(|waiter| waiter.age).collect::<Vec<_>>();
+        let names = |slots: &Slots| slots.waiters().iter().map(|waiter| waiter.rank).collect::<Vec<_>>();
         assert!(next.begin_to_wait() && slots.begin_to_wait());
         assert_eq!(names(&slots), [1, 2], "oldest first");
         slots.end_to_wait();
@@ -514,7 +556,7 @@ mod tests {
     fn the_ticket_of_a_dead_call_goes() {
         let room = Room::new();
         let slots = room.slots(1, 2);
-        let dead = Waiter { age: 1, process: 1, count: 1 };
+        let dead = Waiter { rank: 1, process: 1, count: 1 };
         system::make_pipe(slots.folder.as_fd(), &dead.name()).unwrap();
         assert_eq!(slots.waiters(), [dead]);
         assert!(slots.try_take().is_some());

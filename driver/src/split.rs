@@ -9,7 +9,7 @@ use crate::late;
 use crate::log;
 use crate::machine::Machine;
 use crate::places::absolute;
-use crate::planner::{self, Line, Outline, PlannedCommand, ToPlan};
+use crate::planner::{self, Line, Outline, PlannedCommand, ToPlan, Words};
 use crate::products;
 use crate::rule::{Refusals, RuleMaker};
 use crate::run::{self, Done, Stopped, Task};
@@ -19,6 +19,7 @@ use crate::voice::{End, Habits, Say, Voice};
 use dry_run_pairs::runs_devices_first;
 use std::env;
 use std::fs;
+use std::os::unix::fs::FileTypeExt;
 use std::path::Path;
 use std::time::SystemTime;
 
@@ -256,7 +257,23 @@ fn check(outline: &Outline) -> Result<(), Stop> {
     if words.any(|pair| pair[0] == "-MF" && is_error(&pair[1])) {
         return by_nvcc("its dependency file is standard error");
     }
+    let Words { folder, words } = &outline.first_dry_run;
+    let is_output = |place: usize| place > 0 && words[place - 1] == "-o";
+    let reads = |(place, word): (usize, &String)| names_open_file(word) || (!is_output(place) && names_pipe(word, Path::new(folder)));
+    if words.iter().enumerate().any(reads) {
+        return by_nvcc("it reads a pipe or an open file");
+    }
     Ok(())
+}
+
+/// Whether a word names a file that is open, as standard input is. nvcc's commands get it from nvcc.
+fn names_open_file(word: &str) -> bool {
+    ["/dev/stdin", "/dev/fd/", "/proc/self/fd/"].iter().any(|name| word.contains(name))
+}
+
+/// Whether a word names a pipe. Of the commands that read one, the first takes all.
+fn names_pipe(word: &str, folder: &Path) -> bool {
+    !word.starts_with('-') && fs::metadata(folder.join(word)).is_ok_and(|file| file.file_type().is_fifo())
 }
 
 /// Whether the end of the commands is the call's, whose directory is there or not, or nvcc has to make it.
@@ -294,7 +311,6 @@ fn name_stubs(tmp: &str, folder: &str) {
 mod tests {
     use super::*;
     use crate::machine::Ended;
-    use crate::planner::Words;
     use crate::system::Status;
 
     fn words(line: &str) -> Words {
@@ -314,16 +330,19 @@ mod tests {
         by_nvcc(reason)
     }
 
-    #[test]
-    fn some_outlines_go_to_nvcc() {
-        let outline = |dependencies: Option<&str>, keep_dir: Option<&str>| Outline {
+    fn outline(dependencies: Option<&str>, keep_dir: Option<&str>) -> Outline {
+        Outline {
             dependencies: dependencies.map(words),
             first_dry_run: words("nvcc"),
             second_dry_run: words("nvcc"),
             flag: "-c".into(),
             jobs: None,
             keep_dir: keep_dir.map(String::from),
-        };
+        }
+    }
+
+    #[test]
+    fn some_outlines_go_to_nvcc() {
         let error = "its dependency file is standard error";
         let cases = [
             (outline(None, None), Ok(())),
@@ -338,6 +357,28 @@ mod tests {
         for (outline, wanted) in cases {
             assert_eq!(check(&outline), wanted, "{outline:?}");
         }
+        for line in ["nvcc -c /dev/stdin", "nvcc -include /proc/self/fd/0 k.cu", "nvcc -Xcompiler -include,/dev/fd/3 k.cu"] {
+            let outline = Outline { first_dry_run: words(line), ..outline(None, None) };
+            assert_eq!(check(&outline), to_nvcc("it reads a pipe or an open file"), "{line}");
+        }
+    }
+
+    #[test]
+    fn a_pipe_is_read_only_where_it_is_an_input() {
+        let folder = env::temp_dir().join(format!("streams-{}", std::process::id()));
+        fs::create_dir(&folder).unwrap();
+        fs::write(folder.join("file"), "").unwrap();
+        assert!(std::process::Command::new("mkfifo").arg(folder.join("pipe")).status().unwrap().success());
+        assert!(["pipe", "./pipe"].iter().all(|word| names_pipe(word, &folder)));
+        assert!(!["file", "missing", "-o", "/dev/null", "/dev/stdout"].iter().any(|word| names_pipe(word, &folder) || names_open_file(word)));
+        assert!(names_pipe(folder.join("pipe").to_str().unwrap(), Path::new("/")));
+        let call = |line: &str| {
+            let first_dry_run = Words { folder: folder.to_string_lossy().into_owned(), ..words(line) };
+            check(&Outline { first_dry_run, ..outline(None, None) })
+        };
+        assert_eq!(call("nvcc -c pipe -o k.o"), to_nvcc("it reads a pipe or an open file"));
+        assert_eq!(call("nvcc -c file -o pipe"), Ok(()));
+        fs::remove_dir_all(folder).unwrap();
     }
 
     #[test]

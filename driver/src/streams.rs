@@ -9,6 +9,8 @@ use std::path::Path;
 
 /// How often a call that is interrupted is made again.
 const MOST_TRIES: usize = 1000;
+/// How much memory is taken at once because a file says that it has so many bytes.
+const MOST_EXPECTED: usize = 1 << 26;
 /// How many milliseconds to wait for the reader of a stream that takes no more just now.
 const PATIENCE: i32 = 1000;
 
@@ -18,7 +20,9 @@ const PATIENCE: i32 = 1000;
 ///
 /// Those of reading.
 pub fn content(file: &File) -> io::Result<Vec<u8>> {
-    let (mut text, mut size, mut tries) = (vec![0; 1 << 12], 0, 0);
+    // (one byte more than a plain file has, to see its end; other files say nothing of what they hold)
+    let expected = file.metadata().ok().and_then(|status| usize::try_from(status.len()).ok()).unwrap_or_default();
+    let (mut text, mut size, mut tries) = (vec![0; expected.clamp(1 << 12, MOST_EXPECTED) + 1], 0, 0);
     loop {
         match file.read_at(&mut text[size..], size as u64) {
             Ok(0) => break,

@@ -9,13 +9,17 @@ from tools import CCACHE, CCACHE_THREADS, NVCC, NVCC_THREADS, OURS, OURS_CACHE
 
 @dataclass
 class Figure:
-    """A build: seconds, seconds of processor, which commands ran, their sum, and the longest chain of them."""
+    """A build: seconds, seconds of processor, which commands ran, their sum by processors, and the longest chain of them."""
 
     seconds: float
     processor: float
     ran: str
-    total: float
+    share: float
     chain: float
+
+    def floor(self) -> float:
+        """What no order of the commands that ran goes below."""
+        return max(self.share, self.chain)
 
 
 Figures = dict[tuple[str, str], list[Figure]]
@@ -79,17 +83,23 @@ def print_tables(figures: Figures) -> None:
     print_table("what ran", figures, lambda tool, edit: figures[tool, edit][0].ran)
 
 
-def print_goals(parts: dict[str, Figures], processors: int) -> None:
-    """How far each goal is reached. A floor is what no order of the commands that ran goes below: their longest chain, and their sum over all
-    processors."""
+def said_of(ratio: float, most: float, floor: float) -> str:
+    """Whether a goal is reached, and if not whether the commands that ran can reach it."""
+    if ratio <= most:
+        return "reached"
+    return "missed" if floor <= most else "missed, as is its floor"
+
+
+def print_goals(parts: dict[str, Figures]) -> None:
+    """How far each goal is reached, and the floor of the build."""
     print("| goal | build | of | most | here | floor: chain; sum by processors |\n|---|---|---|---|---|---|")
     for goal in GOALS:
         own, other = (parts.get(goal.part, {}).get((tool, goal.edit)) for tool in (goal.tool, goal.other))
         if not own or not other:
             continue
-        ratio = seconds(own) / seconds(other)
-        floors = [statistics.median(values) / seconds(other) for values in
-                  ([figure.chain for figure in own], [figure.total / processors for figure in own])]
-        said = "reached" if ratio <= goal.most else "not reached"
-        print(f"| {said} | {goal.edit}, {goal.tool} | {goal.other} | {goal.most} | {ratio:.2f} | {floors[0]:.2f}; {floors[1]:.2f} |")
+        here = seconds(own) / seconds(other)
+        floor, chain, share = (statistics.median(values) / seconds(other) for values in
+                               ([figure.floor() for figure in own], [figure.chain for figure in own], [figure.share for figure in own]))
+        print(f"| {said_of(here, goal.most, floor)} | {goal.edit}, {goal.tool} | {goal.other} | {goal.most} | {here:.2f} | "
+              f"{floor:.2f}: {chain:.2f}; {share:.2f} |")
     print()

@@ -27,10 +27,12 @@ from dataclasses import dataclass, field
 from pathlib import Path
 
 from figures import Figure, Figures, print_goals, print_tables, seconds
+from floors import wrong_examples
 from project import COLD, CONSTANT, EDITS, Call, Edit, Project
 from tools import CACHES, NVCC, NVCC_THREADS, OURS, OURS_CACHE, SCCACHE, TOOLS, UNCACHED, Programs, Tool
 
 RELEASE = Path(__file__).resolve().parent.parent.parent / "out/rust/target/release"
+PROCESSORS = os.cpu_count() or 1
 PAUSE = 3  # seconds between an edit and a build: caches don't trust a file that has only just been changed
 SIX = ("75", "80", "86", "89", "90", "100")
 LIBRARY_EDITS = [COLD, "unchanged", "line of a comment", "host function", "kernel", CONSTANT, "comment line in a header"]
@@ -79,7 +81,8 @@ class Bench:
         passed, processor = time.monotonic() - begun, children() - used + tool.processor() - served
         self.cases.count(f"{tool.name}, build", "" if made.returncode == 0 else made.stderr[-2000:])
         work = tool.work(len(self.project.sources))
-        figure = Figure(passed, processor, work.text(), work.total(), work.chain())
+        figure = Figure(passed, processor, work.text(), work.total() / PROCESSORS, work.chain())
+        self.cases.count(f"{tool.name}, floor", "" if figure.floor() <= passed else f"{passed} s are less than {figure.floor()}")
         return figure, {path.name: self.digest(path) for path in sorted(folder.glob("*.o*"))}
 
     def digest(self, path: Path) -> str:
@@ -229,7 +232,7 @@ def versions(programs: Programs) -> str:
     """What was compared, on which machine."""
     asked = [programs.ccache] + ([programs.sccache] if Path(programs.sccache).is_file() else [])
     said = [subprocess.run([program, "--version"], capture_output=True, text=True, check=True).stdout.splitlines()[0] for program in asked]
-    return f"{os.cpu_count()} processors, load {os.getloadavg()[0]:.1f}, {', '.join(said)}"
+    return f"{PROCESSORS} processors, load {os.getloadavg()[0]:.1f}, {', '.join(said)}"
 
 
 def main() -> int:
@@ -241,6 +244,7 @@ def main() -> int:
         del os.environ[name]
     print(versions(programs), flush=True)
     cases, all_figures = Cases(), dict[str, Figures]()
+    cases.count("floors", "; ".join(wrong_examples()))
     for part in options.parts:
         begun = time.monotonic()
         with tempfile.TemporaryDirectory() as folder:
@@ -250,7 +254,7 @@ def main() -> int:
             all_figures[part] = measure(part, options, programs, room, cases)
         print(f"{part}: {(time.monotonic() - begun) / 60:.1f} minutes, load {os.getloadavg()[0]:.1f}\n")
         print_tables(all_figures[part])
-    print_goals(all_figures, options.jobs)
+    print_goals(all_figures)
     if options.out:
         rows = [(part, *key, seconds(made)) for part, figures in all_figures.items() for key, made in figures.items()]
         options.out.write_text(json.dumps(rows, indent=0), encoding="utf-8")

@@ -8,7 +8,8 @@ import time
 from collections import Counter
 from dataclasses import dataclass, field
 from pathlib import Path
-from typing import Any
+
+from floors import Seconds, Work, from_log
 
 NVCC, NVCC_THREADS = "nvcc", "nvcc -t4"
 CCACHE, CCACHE_THREADS, SCCACHE = "ccache nvcc", "ccache nvcc -t4", "sccache nvcc"
@@ -16,70 +17,6 @@ CCACHE_OURS, OURS, OURS_CACHE = "ccache zigrunk-nvcc", "zigrunk-nvcc", "zigrunk-
 TOOLS = [NVCC, NVCC_THREADS, CCACHE, CCACHE_THREADS, SCCACHE, CCACHE_OURS, OURS, OURS_CACHE]
 UNCACHED = [NVCC, NVCC_THREADS, OURS]
 CACHES = ("CCACHE_", "SCCACHE_", "ZIGRUNK_", "NVCC_", "CUDA", "CMAKE_", "MAKE", "MFLAGS")
-Seconds = float
-NO_TIME = 0.0005  # of a process
-
-
-@dataclass
-class Ran:
-    """A command that ran, in seconds, and those of its call that it waited for."""
-
-    kind: str
-    seconds: Seconds
-    needs: list[int]
-
-
-@dataclass
-class Work:
-    """What a build ran: commands by their names, and for zigrunk-nvcc each call's."""
-
-    counts: Counter[str] = field(default_factory=Counter)
-    calls: list[list[Ran]] = field(default_factory=list)
-
-    def text(self) -> str:
-        """The names with their counts."""
-        return ", ".join(f"{count} {name}" for name, count in sorted(self.counts.items())) or "nothing"
-
-    def total(self) -> Seconds:
-        """The sum of all commands."""
-        return sum(command.seconds for call in self.calls for command in call)
-
-    def chain(self) -> Seconds:
-        """The longest chain of commands of one call that wait for each other."""
-        longest = 0.0
-        for call in self.calls:
-            ends: list[Seconds] = []
-            for command in call:
-                ends.append(max((ends[need] for need in command.needs), default=0.0) + command.seconds)
-            longest = max([longest, *ends])
-        return longest
-
-
-def short(kind: str) -> str:
-    """The name of a command of zigrunk-nvcc's log."""
-    words = kind.split()
-    is_host = words[0] not in ("cudafe++", "cicc", "ptxas", "fatbinary", "nvcc")
-    return " ".join(words[:2]) if is_host and len(words) > 1 else words[0]
-
-
-def ran(command: dict[str, Any]) -> Ran:
-    """A command of zigrunk-nvcc's log. Of a hit at most a preprocessor ran, by which it was looked up, and of a whole call nothing."""
-    kind, is_hit = short(command["kind"]), command.get("hit", False)
-    seconds = 0.0 if is_hit and kind == "nvcc" else command["end"] - command["begin"]
-    return Ran("gcc -E" if is_hit else kind, seconds, command["needs"])
-
-
-def from_log(log: Path) -> Work:
-    """What zigrunk-nvcc's log says."""
-    work = Work()
-    for line in log.read_text(encoding="utf-8").splitlines() if log.exists() else []:
-        call = json.loads(line)
-        if "reason" in call:
-            work.counts[f"nvcc ({call['reason']})"] += 1
-        commands = [ran(command) for command in call.get("commands", [])]
-        work.counts.update(command.kind for command in commands if command.seconds > NO_TIME)
-        work.calls.append(commands)
-    return work
 
 
 def from_ccache(log: Path, compiler: str) -> Work:

@@ -260,3 +260,237 @@ impl Making<'_> {
         }
     }
 }
+
+#[cfg(test)]
+mod tests {
+    use super::*;
+    use crate::batch::turns::{Maker, Step};
+    use crate::forked::in_own_process;
+    use crate::machine::Event;
+    use crate::system::{Status, TERM};
+    use std::collections::VecDeque;
+    use std::fs;
+    use std::io;
+    use std::os::unix::fs::PermissionsExt;
+    use std::sync::Arc;
+
+    /// A folder of a test, which goes with it.
+    struct Room(CallFolder);
+
+    impl Room {
+        fn new() -> Room {
+            Room(CallFolder::take(&env::temp_dir(), "calls-of-a-test").unwrap())
+        }
+
+        fn path(&self, name: &str) -> String {
+            self.0.path().join(name).to_string_lossy().into_owned()
+        }
+
+        fn call(&self, asked: Asked) -> BatchCall {
+            BatchCall { number: 1, name: "call".into(), folder: self.path(""), asked }
+        }
+
+        /// What calls share whose nvcc is a file of this room.
+        fn context(&self) -> Context {
+            let nvcc = self.path("nvcc");
+            fs::write(&nvcc, "").unwrap();
+            fs::set_permissions(&nvcc, PermissionsExt::from_mode(0o755)).unwrap();
+            let settings = Settings { nvcc: nvcc.into(), temporary: self.0.path().to_owned(), ..Settings::default() };
+            let temporary = self.0.path().to_owned();
+            Context { settings, temporary, scratch: None, at_once: 1, records: None, refusals: Refusals::default(), has_few_files: false }
+        }
+    }
+
+    impl Drop for Room {
+        fn drop(&mut self) {
+            self.0.remove();
+        }
+    }
+
+    fn words(line: &str) -> Vec<String> {
+        line.split(' ').map(String::from).collect()
+    }
+
+    fn ended(code: i32, out: &str, errors: &str) -> Ended {
+        let status = Status { code, signal: (code > 128).then_some(code - 128), dumped: false };
+        Ended { status, out: out.into(), errors: errors.into(), times: (1.0, 2.0) }
+    }
+
+    /// Makes a call whose jobs end so, or by a signal that ends the batch. Says what became of it, and its jobs.
+    fn made(call: BatchCall, context: Context, end: impl Fn(&Job) -> Option<Ended>) -> (Made, Vec<Job>) {
+        let context = Arc::new(context);
+        let mut maker = Maker::begin(move |turns| make(&call, &context, turns)).unwrap();
+        let (mut jobs, mut running) = (Vec::new(), VecDeque::new());
+        loop {
+            match maker.step() {
+                Step::Start(number, job) => {
+                    running.push_back((number, job.clone()));
+                    jobs.push(job);
+                    maker.tell_started(Ok(()));
+                }
+                Step::Wait(wish) if wish.wants => maker.tell(Event::Slot),
+                Step::Wait(_) => {
+                    let ended = running.pop_front().and_then(|(number, job)| Some(Event::Ended(number, end(&job)?)));
+                    maker.tell(ended.unwrap_or(Event::Signal(TERM)));
+                }
+                Step::End(made) => return (made.unwrap(), jobs),
+            }
+        }
+    }
+
+    /// What was said, each text behind `!` if it's for standard error.
+    fn said(made: &Made) -> String {
+        let texts = made.said.iter().filter(|(_, text)| !text.is_empty());
+        texts.map(|(is_error, text)| if *is_error { "!" } else { "" }.to_owned() + &String::from_utf8_lossy(text)).collect()
+    }
+
+    #[test]
+    fn other_programs_run_as_they_are() {
+        let room = Room::new();
+        let mut context = room.context();
+        (context.settings.runner, context.scratch) = (words("step -n"), Some("/scratch".into()));
+        let (made, jobs) = self::made(room.call(Asked::Program(words("make all"))), context, |_| Some(ended(139, "out\n", "err\n")));
+        assert_eq!((made.status, said(&made), made.cancelled), (139, "out\n!err\n!Segmentation fault\n".into(), false));
+        let variable = |name: &str, value: &str| (name.to_owned(), Some(value.to_owned()));
+        let wanted = Job {
+            words: words("step -n make all"),
+            folder: room.path(""),
+            variables: vec![variable("TMPDIR", "/scratch"), variable("PWD", &room.path(""))],
+            ..Job::default()
+        };
+        assert_eq!(jobs, [wanted]);
+        let (made, jobs) = self::made(room.call(Asked::Shell("a | b".into())), room.context(), |_| Some(ended(0, "", "")));
+        assert_eq!((made.status, said(&made)), (0, String::new()));
+        assert_eq!((jobs[0].words.join(" "), &jobs[0].variables), ("sh -c a | b".into(), &vec![variable("PWD", &room.path(""))]));
+    }
+
+    #[test]
+    fn a_call_needs_its_folder() {
+        let room = Room::new();
+        let call = BatchCall { folder: "/missing".into(), ..room.call(Asked::Program(words("make"))) };
+        let (made, jobs) = self::made(call, room.context(), |_| None);
+        assert_eq!((made.status, said(&made), jobs.len()), (2, "!zigrunk-batch: no folder /missing\n".into(), 0));
+    }
+
+    #[test]
+    fn a_signal_cancels_a_call() {
+        let room = Room::new();
+        for asked in [Asked::Program(words("make")), Asked::Nvcc(words("-c k.cu -o k.o")), Asked::Nvcc(words("--version"))] {
+            let (made, _) = self::made(room.call(asked), room.context(), |_| None);
+            assert_eq!((made.cancelled, said(&made)), (true, String::new()));
+        }
+    }
+
+    #[test]
+    fn a_call_without_a_process_fails() {
+        let room = Room::new();
+        let (call, context) = (room.call(Asked::Program(words("make"))), room.context());
+        let mut maker = Maker::begin(move |turns| make(&call, &context, turns)).unwrap();
+        let made = loop {
+            match maker.step() {
+                Step::Start(..) => maker.tell_started(Err(io::ErrorKind::OutOfMemory.into())),
+                Step::Wait(_) => maker.tell(Event::Slot),
+                Step::End(made) => break made.unwrap(),
+            }
+        };
+        assert_eq!((made.status, said(&made)), (1, "!zigrunk-batch: no process for a command: out of memory\n".into()));
+    }
+
+    #[test]
+    fn a_call_that_succeeds_has_made_its_products() {
+        let room = Room::new();
+        let compiler = || room.call(Asked::Compiler(words("g++ -c a.cc -o a.o")));
+        let writes = |_: &Job| {
+            fs::write(room.path("a.o"), "object").unwrap();
+            Some(ended(0, "", ""))
+        };
+        let (made, _) = self::made(compiler(), room.context(), writes);
+        assert_eq!((made.status, said(&made)), (0, String::new()));
+        let missing = format!("!zigrunk-batch: no new {}, though the call ended with 0\n", room.path("a.o"));
+        let (made, jobs) = self::made(compiler(), room.context(), |_| Some(ended(0, "", "")));
+        assert_eq!((made.status, said(&made), jobs.len()), (1, missing.clone(), 1), "the old one doesn't count");
+        assert_eq!(self::made(compiler(), room.context(), |_| Some(ended(3, "", ""))).0.status, 3);
+        // Another machine's may come later.
+        let elsewhere = || {
+            let mut context = room.context();
+            context.settings.has_workers = true;
+            context
+        };
+        let (made, jobs) = self::made(compiler(), elsewhere(), |_| Some(ended(0, "", "")));
+        let lines: Vec<String> = jobs.iter().map(|job| job.words.join(" ")).collect();
+        assert_eq!((made.status, said(&made), lines), (1, missing, vec!["g++ -c a.cc -o a.o".into(), "sleep 1".into(), "sleep 2".into()]));
+        fs::remove_file(room.path("a.o")).unwrap();
+        let (made, jobs) = self::made(compiler(), elsewhere(), |job| if job.words[0] == "sleep" { writes(job) } else { Some(ended(0, "", "")) });
+        assert_eq!((made.status, said(&made), jobs.len()), (0, String::new(), 2));
+        let (made, _) = self::made(compiler(), elsewhere(), |job| (job.words[0] != "sleep").then(|| ended(0, "", "")));
+        assert!(made.cancelled);
+    }
+
+    #[test]
+    fn a_call_whose_dry_run_fails_is_nvccs() {
+        let room = Room::new();
+        let own = Path::new(&room.path("")).join(format!("zigrunk-{}", crate::system::user()));
+        let folders = || fs::read_dir(&own).into_iter().flatten().count();
+        let end = |job: &Job| {
+            let is_dry = job.words.iter().any(|word| word == "--dryrun");
+            assert_eq!(folders() > 0, is_dry, "its directory is there as long as it is used");
+            Some(if is_dry { ended(1, "", "no\n") } else { ended(4, "", "nvcc: no\n") })
+        };
+        let call = || room.call(Asked::Nvcc(words("-c k.cu -o k.o")));
+        let (made, jobs) = self::made(call(), room.context(), end);
+        assert_eq!((made.status, said(&made)), (4, "!nvcc: no\n".into()));
+        let last = jobs.last().unwrap();
+        assert_eq!(last.words, words(&format!("{} -c k.cu -o k.o", room.path("nvcc"))));
+        assert!(last.variables.contains(&("ZIGRUNK_INSIDE".into(), Some(format!(":{}:", room.path("nvcc"))))), "{:?}", last.variables);
+        let (log, mut context) = (room.path("log"), room.context());
+        (context.settings.explains, context.settings.log) = (true, Some(log.clone().into()));
+        let (made, _) = self::made(call(), context, end);
+        let text = said(&made);
+        let reason = text.strip_prefix("!zigrunk-nvcc: nvcc itself: ").and_then(|rest| rest.strip_suffix("\n!nvcc: no\n"));
+        let log = fs::read_to_string(log).unwrap();
+        assert!(reason.is_some_and(|reason| log.contains(reason)) && log.lines().count() == 1 && log.contains("\"status\":4"), "{text}{log}");
+    }
+
+    #[test]
+    fn some_calls_of_nvcc_are_never_split() {
+        let room = Room::new();
+        let call = || room.call(Asked::Nvcc(words("nvcc-13.0 -c k.cu -o k.o")));
+        let lines = |context: Context| {
+            let (made, jobs) = self::made(call(), context, |_| Some(ended(5, "", "")));
+            (said(&made), jobs.iter().map(|job| job.words.join(" ")).collect::<Vec<_>>())
+        };
+        let mut few = room.context();
+        (few.has_few_files, few.settings.explains) = (true, true);
+        let reason = format!("!zigrunk-nvcc: nvcc itself: {TOO_FEW_FILES}\n");
+        assert_eq!(lines(few), (reason, vec!["nvcc-13.0 -c k.cu -o k.o".into()]));
+        let mut inside = room.context();
+        (inside.settings.inside, inside.settings.explains) = (":/other:".into(), true);
+        assert_eq!(lines(inside), (String::new(), vec!["nvcc-13.0 -c k.cu -o k.o".into()]), "who is called by an nvcc says nothing");
+        let mut lacking = room.context();
+        lacking.temporary = "/missing".into();
+        lacking.settings.explains = true;
+        assert_eq!(lines(lacking).0, format!("!zigrunk-nvcc: nvcc itself: {NO_DIRECTORY}\n"));
+    }
+
+    #[test]
+    fn a_call_without_an_nvcc_fails() {
+        in_own_process(|| {
+            let room = Room::new();
+            let mut context = room.context();
+            context.settings.nvcc = env::current_exe().unwrap().into();
+            // SAFETY: this process has no other thread.
+            unsafe { env::set_var("PATH", "/missing") };
+            let (made, jobs) = self::made(room.call(Asked::Nvcc(words("-c k.cu"))), context, |_| None);
+            assert!(made.status == 127 && said(&made).ends_with(" is zigrunk-nvcc itself, and PATH has no other nvcc\n") && jobs.is_empty());
+        });
+    }
+
+    #[test]
+    fn calls_have_the_products_that_their_words_name() {
+        let room = Room::new();
+        let paths = |asked: Asked| products_of(&room.call(asked)).into_iter().map(|product| product.path).collect::<Vec<_>>();
+        assert_eq!(paths(Asked::Nvcc(words("-c k.cu -o sub/k.o"))), [PathBuf::from(room.path("sub/k.o"))]);
+        assert_eq!(paths(Asked::Compiler(words("g++ -c a.cc -o /a.o"))), [PathBuf::from("/a.o")]);
+        assert!(paths(Asked::Program(words("g++ -c a.cc -o a.o"))).is_empty() && paths(Asked::Shell("g++ -o a.o".into())).is_empty());
+    }
+}

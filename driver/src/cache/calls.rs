@@ -4,7 +4,9 @@
 //! call made.
 use crate::cache::digest::{Digest, Hasher};
 use crate::cache::entry::{Rest, put_number, put_text};
+use crate::cache::layout::words_of;
 use crate::cache::manifest::Manifest;
+use crate::cache::processor::instructions;
 use crate::cache::store::Store;
 use crate::cache::{put, terminal};
 use crate::planner::Line;
@@ -15,7 +17,7 @@ use std::io;
 use std::os::unix::ffi::OsStrExt;
 use std::path::{Path, PathBuf};
 
-/// Variables that nothing of what a call makes depends on. All others count, since a profile of nvcc may use any.
+/// Variables that nothing of what a call makes depends on, unless a profile of nvcc names one. All others count, since a profile may use any.
 const FREE_VARIABLES: [&str; 39] = [
     "COLUMNS",
     "DISPLAY",
@@ -63,6 +65,11 @@ const FREE_BEGINNINGS: [&str; 9] = ["CCACHE_", "CMAKE_", "DBUS_", "GITHUB_", "SL
 fn is_free(name: &OsStr) -> bool {
     let name = name.as_bytes();
     FREE_VARIABLES.iter().any(|free| name == free.as_bytes()) || FREE_BEGINNINGS.iter().any(|begin| name.starts_with(begin.as_bytes()))
+}
+
+/// Whether a text has the name of such a variable: a profile of nvcc may use any.
+pub fn names_free_variable(text: &[u8]) -> bool {
+    words_of(text).any(|word| is_free(OsStr::from_bytes(word)))
 }
 
 /// A file that a call has made.
@@ -129,10 +136,11 @@ fn keys(line: &Line, nvcc: &Path) -> [Digest; 2] {
     [None, Some(line.cwd.as_str())].map(|folder| key(line, nvcc, folder, env::vars_os()))
 }
 
-/// The key of a call: its nvcc, its words and its variables, and its folder if that counts.
+/// The key of a call: the processor, its nvcc, its words and its variables, and its folder if that counts.
 fn key(line: &Line, nvcc: &Path, folder: Option<&str>, variables: impl Iterator<Item = (OsString, OsString)>) -> Digest {
     let mut hasher = Hasher::default();
-    hasher.add(b"zigrunk call 2");
+    hasher.add(b"zigrunk call 3");
+    hasher.add(instructions().as_bytes());
     hasher.add(folder.unwrap_or_default().as_bytes());
     hasher.add(nvcc.as_os_str().as_bytes());
     hasher.update(&(line.words.len() as u64).to_le_bytes());
@@ -223,6 +231,15 @@ mod tests {
             key_of("-c k.cu", None, "/b/nvcc", &[("A", "1"), ("PATH", "/bin"), ("INCLUDES", "-I/x")]),
         ];
         assert!(others.iter().all(|other| *other != usual));
+    }
+
+    #[test]
+    fn a_profile_may_name_a_variable_that_is_free() {
+        for text in ["INCLUDES += \"-I$(HOME)/inc\"", "$(CMAKE_PREFIX_PATH)", "$(ZIGRUNK_LOG)", "%:getenv(USER /inc)"] {
+            assert!(names_free_variable(text.as_bytes()), "{text}");
+        }
+        let usual = "TOP = $(_HERE_)/..\nPATH += $(CICC_PATH):$(_HERE_):\nINCLUDES += \"-I$(TOP)/$(_TARGET_DIR_)/include\" $(_SPACE_)\n";
+        assert!(!names_free_variable(usual.as_bytes()));
     }
 
     fn answer() -> Answer {

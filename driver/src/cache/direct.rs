@@ -1,7 +1,6 @@
 //! Host compiles that are found without a preprocessor: by the texts that they read, if all headers are as they were.
 use crate::cache::digest::Digest;
 use crate::cache::entry::Rest;
-use crate::cache::host_text::{files_entered, sees_lines};
 use crate::cache::key::{self, Role, Text};
 use crate::cache::layout::{RAW_PREFIXES, is_word, join_of};
 use crate::cache::manifest::{Manifest, Seen, Vain};
@@ -11,8 +10,6 @@ use crate::cache::tool::Run;
 use crate::cache::{Session, Taken};
 use crate::streams::content_of;
 use std::collections::BTreeSet;
-use std::ffi::OsStr;
-use std::os::unix::ffi::OsStrExt;
 use std::path::{Path, PathBuf};
 
 /// What is known of a compile without a preprocessor.
@@ -43,13 +40,22 @@ fn generated(recipe: &Recipe) -> Option<Vec<PathBuf>> {
     Some(recipe.reads.iter().cloned().chain([stub, fatbin]).collect())
 }
 
-/// Whether a raw string, or a comment of several lines, may begin in a text.
+/// Whether a line is joined to the next, or a comment may be open behind it that begins there.
+fn goes_on(line: &[u8]) -> bool {
+    let last = |sought: &[u8]| line.windows(2).rposition(|pair| pair == sought);
+    let is_open = || last(b"/*").is_some_and(|open| last(b"*/").is_none_or(|close| close < open + 2));
+    join_of(line).is_some() || (line.contains(&b'*') && is_open())
+}
+
+/// Whether a raw string, or a comment of several lines, may begin in a text, or lines are joined.
 fn may_go_on(text: &[u8]) -> bool {
     let is_raw = |end: usize| {
         let begin = text[..end].iter().rposition(|&byte| !is_word(byte)).map_or(0, |place| place + 1);
         RAW_PREFIXES.contains(&&text[begin..end])
     };
-    contains(text, b"/*") || contains(text, b"??") || (1..text.len()).any(|place| text[place] == b'"' && text[place - 1] == b'R' && is_raw(place))
+    text.split(|&byte| byte == b'\n').any(goes_on)
+        || contains(text, b"??")
+        || (1..text.len()).any(|place| text[place] == b'"' && text[place - 1] == b'R' && is_raw(place))
 }
 
 /// Whether a part that is left out may not go on behind a line: at a directive that is no line marker, or at a joined line.
@@ -65,17 +71,18 @@ fn without_device_code(text: Vec<u8>) -> Vec<u8> {
     if may_go_on(&text) {
         return text;
     }
-    let (mut out, mut is_left_out) = (Vec::with_capacity(text.len()), false);
+    let (mut out, mut depth) = (Vec::with_capacity(text.len()), 0_usize);
     for line in text.split_inclusive(|&byte| byte == b'\n') {
-        match (is_left_out, line) {
-            (true, b"#endif\n") => is_left_out = false,
-            (true, _) if may_end(line.trim_ascii_end()) => return text,
-            (false, _) => is_left_out = line == b"#if 0\n",
+        let is_inside = depth > 0;
+        match line {
+            b"#if 0\n" => depth += 1,
+            b"#endif\n" if is_inside => depth -= 1,
+            _ if is_inside && may_end(line.trim_ascii_end()) => return text,
             _ => {}
         }
-        out.extend(if is_left_out && line != b"#if 0\n" { &b"\n"[..] } else { line });
+        out.extend(if is_inside && depth > 0 { &b"\n"[..] } else { line });
     }
-    if is_left_out { text } else { out }
+    if depth > 0 { text } else { out }
 }
 
 impl Session<'_> {
@@ -116,8 +123,8 @@ impl Session<'_> {
     /// it may see its lines.
     fn read_beside(&self, recipe: &Recipe, files: &[Seen]) -> Option<Vec<Seen>> {
         let (_, file) = recipe.question.as_ref()?;
-        let text = content_of(file).ok().filter(|text| !sees_lines(text))?;
-        let entered = files_entered(&text)?.into_iter().map(|name| Path::new(OsStr::from_bytes(name)));
+        let written = self.known.found(file).filter(|written| !written.sees_lines)?;
+        let entered = written.entered.as_ref()?.iter().map(PathBuf::as_path);
         let (own, others): (BTreeSet<&Path>, BTreeSet<&Path>) = entered.partition(|path| path.starts_with(self.tmp));
         let read: Vec<Seen> = files.iter().filter(|seen| others.contains(seen.path.as_path())).cloned().collect();
         let generated = generated(recipe)?;
@@ -150,6 +157,8 @@ mod tests {
     fn device_code_does_not_count() {
         let text = "int a;\n#if 0\n# 12 \"k.cu\"\n{ a = 5; } \n#endif\nint b; \n#if 0\n#endif\n#if 01\nint c;\n#endif\n";
         assert_eq!(without(text), "int a;\n#if 0\n\n\n#endif\nint b; \n#if 0\n#endif\n#if 01\nint c;\n#endif\n");
+        let nested = "#if 0\na\n#if 0\nb\n#endif\n# 3\nc\n#endif\nint d;\n#endif\n";
+        assert_eq!(without(nested), "#if 0\n\n\n\n\n\n\n#endif\nint d;\n#endif\n");
         assert_eq!((without(""), without("#if 0\n\"ERR\"\n#endif\n")), (String::new(), "#if 0\n\n#endif\n".into()));
     }
 
@@ -159,7 +168,17 @@ mod tests {
         for inside in ["#else\nint c;", "#if 1\n#endif", " # endif", "%:endif", "a \\", "/* a", "R\"(", "a = u8R\"(", "??=endif"] {
             assert_eq!(without(&part(inside)), part(inside), "{inside}");
         }
-        for text in ["R\"(\n#if 0\na\n#endif\n)\"\n", "/*\n#if 0\n*/ a\n#endif\n", "#if 0\na\n", "#if 0\na\n#endif", "#if 0\na\n#endif \n"] {
+        let comments = ["/* x */\n", "a /* x */ b /**/\n", "// /* x */\n"].map(|line| format!("{line}#if 0\na\n#endif\n"));
+        assert!(comments.iter().all(|text| without(text) == text.replacen("a\n#endif", "\n#endif", 1) && without(text) != *text));
+        for text in [
+            "R\"(\n#if 0\na\n#endif\n)\"\n",
+            "/*\n#if 0\n*/ a\n#endif\n",
+            "/* */ /*/\n#if 0\na\n#endif\n",
+            "a\\\n#if 0\na\n#endif\n",
+            "#if 0\na\n",
+            "#if 0\na\n#endif",
+            "#if 0\na\n#endif \n",
+        ] {
             assert_eq!(without(text), text);
         }
     }

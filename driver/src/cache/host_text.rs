@@ -9,8 +9,8 @@ const HIDING: [&[u8]; 4] = [b".macro", b".irp", b".mri", b"/*"];
 /// Where strings that reach the assembler stand: statements, and names of sections.
 const ASSEMBLED: [&[u8]; 2] = [b"asm", b"section"];
 
-/// How many bytes the words have at most by which a text sees its lines.
-const LONGEST_LINE_WORD: usize = 16;
+/// The words by which a text sees its lines.
+const LINE_WORDS: [&[u8]; 5] = [b"__LINE__", b"__builtin_LINE", b"__builtin_FILE", b"__builtin_COLUMN", b"source_location"];
 
 /// Whether a string of C has a byte by its number, which may hide a directive.
 fn has_numbers(text: &[u8]) -> bool {
@@ -102,19 +102,10 @@ pub fn tells_time(text: &[u8]) -> bool {
     text.iter().enumerate().any(tells)
 }
 
-/// Whether a text sees its lines, as its definition says: it's only asked where one of the words may begin for which it looks.
+/// Whether a text sees its lines, as its definition says, which is only asked where one of the words is for which it looks.
 pub fn sees_lines(text: &[u8]) -> bool {
-    let sees = |begin: &[u8]| {
-        let mut rest = text;
-        let mut windows = std::iter::from_fn(|| {
-            rest = &rest[find(rest, begin)?..];
-            let window = &rest[..rest.len().min(LONGEST_LINE_WORD)];
-            rest = &rest[1..];
-            Some(window)
-        });
-        windows.any(token_texts::sees_lines)
-    };
-    [&b"__LINE__"[..], b"__builtin_", b"source_location"].into_iter().any(sees)
+    let sees = |word: &&[u8]| find(text, word).is_some_and(|begin| token_texts::sees_lines(&text[begin..begin + word.len()]));
+    LINE_WORDS.iter().any(sees)
 }
 
 /// The files of a text's line markers that messages name.
@@ -249,7 +240,7 @@ mod tests {
                 assert_eq!(sees_lines(text.as_bytes()), token_texts::sees_lines(text.as_bytes()), "{text}");
             }
         }
-        assert!(words.iter().all(|word| word.len() <= LONGEST_LINE_WORD));
+        assert!(LINE_WORDS.iter().all(|word| token_texts::sees_lines(word)));
     }
 
     #[test]

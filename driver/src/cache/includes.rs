@@ -5,10 +5,10 @@ use std::path::PathBuf;
 
 /// Names that a text may ask a preprocessor to find. Those in comments and in parts that are left out are among them.
 #[derive(Clone, PartialEq, Eq, Debug, Default)]
-pub struct Names<'a> {
+pub struct Names {
     /// Those in quotes are sought beside the text first.
-    pub quoted: BTreeSet<&'a [u8]>,
-    pub bracketed: BTreeSet<&'a [u8]>,
+    pub quoted: BTreeSet<Vec<u8>>,
+    pub bracketed: BTreeSet<Vec<u8>>,
     /// Whether it includes what a macro names.
     pub has_macros: bool,
     /// Whether it goes on behind the place where it was found.
@@ -77,9 +77,23 @@ fn asks_by_macro(line: &[u8]) -> bool {
     false
 }
 
+/// Whether a text may have a preprocessor compare the times of files, by `#pragma GCC dependency`, which it doesn't write.
+fn compares_times(text: &[u8]) -> bool {
+    let is_between = |byte: &u8| byte.is_ascii_whitespace() || *byte == b'\\';
+    let mut from = 0;
+    while let Some(place) = find(&text[from..], b"dependency") {
+        let end = text[..from + place].iter().rposition(|byte| !is_between(byte)).map_or(0, |last| last + 1);
+        if text[..end].ends_with(b"GCC") || text[..end].ends_with(b"*/") {
+            return true;
+        }
+        from += place + 1;
+    }
+    false
+}
+
 /// The names that a text may ask for.
-pub fn names_in(text: &[u8]) -> Names<'_> {
-    let mut names = Names::default();
+pub fn names_in(text: &[u8]) -> Names {
+    let mut names = Names { is_odd: compares_times(text), ..Names::default() };
     for line in directives(text) {
         let line = line.trim_ascii_start();
         let word = &line[..line.iter().position(|byte| !byte.is_ascii_alphabetic() && *byte != b'_').unwrap_or(line.len())];
@@ -88,8 +102,8 @@ pub fn names_in(text: &[u8]) -> Names<'_> {
         names.has_macros |= is_include && !matches!(operand, Some(b'<' | b'"'));
         names.goes_on |= word == b"include_next" || contains(line, b"__has_include_next");
         names.is_odd |= word == b"embed" || asks_by_macro(line);
-        names.quoted.extend(names_between(line, b'"', b'"', is_include));
-        names.bracketed.extend(names_between(line, b'<', b'>', is_include));
+        names.quoted.extend(names_between(line, b'"', b'"', is_include).map(<[u8]>::to_vec));
+        names.bracketed.extend(names_between(line, b'<', b'>', is_include).map(<[u8]>::to_vec));
     }
     names
 }
@@ -136,7 +150,7 @@ mod tests {
     /// The names of a text: those in quotes, a bar, and the others; then what else is said of it.
     fn shown(text: &str) -> (String, [bool; 3]) {
         let names = names_in(text.as_bytes());
-        let list = |names: &BTreeSet<&[u8]>| names.iter().map(|name| String::from_utf8_lossy(name)).collect::<Vec<_>>().join(" ");
+        let list = |names: &BTreeSet<Vec<u8>>| names.iter().map(|name| String::from_utf8_lossy(name)).collect::<Vec<_>>().join(" ");
         (format!("{}|{}", list(&names.quoted), list(&names.bracketed)), [names.has_macros, names.goes_on, names.is_odd])
     }
 
@@ -169,6 +183,10 @@ mod tests {
             ("#if defined(A) && __has_include(<a>) && defined __has_include\n", [false; 3]),
             ("#define HAS(x) __has_include(x)\n", [false; 3]),
             ("# embed \"data\"\n", [false, false, true]),
+            ("#pragma GCC dependency \"data\"\n", [false, false, true]),
+            ("_Pragma(\"GCC \\\n dependency \\\"data\\\"\")\n", [false, false, true]),
+            ("#pragma GCC /* x */dependency \"data\"\n", [false, false, true]),
+            ("// a dependency of GCC\n", [false; 3]),
             ("#if __has_embed(NAME)\n", [false, false, true]),
         ];
         for (text, wanted) in cases {

@@ -2,6 +2,7 @@
 use crate::cache::digest::{Digest, Hasher};
 use crate::cache::host_text::{files_of_ptx, sees_lines};
 use crate::cache::marked;
+use crate::cache::processor::instructions;
 use crate::cache::recipe::Recipe;
 use crate::cache::tool::Kind;
 use command_keys::{KeyTool, command_key, tool_variables};
@@ -69,9 +70,8 @@ fn key_tool(kind: Kind) -> KeyTool {
 fn words_key(recipe: &Recipe, environment: &[(OsString, OsString)]) -> Option<Vec<u8>> {
     let variables: Vec<(&[u8], &[u8])> = environment.iter().map(|(name, value)| (name.as_bytes(), value.as_bytes())).collect();
     let chosen = tool_variables(Global, key_tool(recipe.kind), &variables).ok()?;
-    let preloaded = variables.iter().filter(|variable| variable.0 == b"LD_PRELOAD");
     let names_count = recipe.directory.is_empty();
-    let counted: Vec<_> = chosen.as_slice().iter().filter(|variable| names_count || variable.0 != b"PWD").chain(preloaded).copied().collect();
+    let counted: Vec<_> = chosen.as_slice().iter().filter(|variable| names_count || variable.0 != b"PWD").copied().collect();
     let words: Vec<&[u8]> = recipe.counted.iter().map(String::as_bytes).collect();
     let stem = recipe.stem.as_deref().unwrap_or_default();
     let key = command_key(Global, &words, &counted, &[recipe.directory.as_bytes(), stem.as_bytes()]).ok()??;
@@ -96,11 +96,12 @@ fn add_named(hasher: &mut Hasher, ptx: &[u8], folder: &Path) -> Option<()> {
     Some(())
 }
 
-/// What counts of a command beside the texts that it reads: the identity of its tool, its words and its environment.
+/// What counts of a command beside the texts that it reads: the processor, the identity of its tool, its words and its environment.
 pub fn start_of(recipe: &Recipe, tool: &Digest, environment: &[(OsString, OsString)]) -> Option<Hasher> {
     let mut start = Hasher::default();
     start.add(FORM);
     start.add(format!("{:?}", recipe.kind).as_bytes());
+    start.add(instructions().as_bytes());
     start.update(&tool.0);
     start.add(&words_key(recipe, environment)?);
     Some(start)
@@ -228,6 +229,7 @@ mod tests {
             key(&cicc, &[], "texts"),
             key(&cicc, &[("EDG_BASE", "/e")], "text"),
             key(&cicc, &[("LD_PRELOAD", "/l.so")], "text"),
+            key(&cicc, &[("GLIBC_TUNABLES", "glibc.cpu.hwcaps=-FMA")], "text"),
             key(&recipe("-G", "/t"), &[], "text"),
             key(&Recipe { kind: Kind::Ptxas, ..cicc.clone() }, &[], "text"),
         ];

@@ -63,8 +63,15 @@ pub fn has_symbol(text: &[u8], name: &[u8]) -> bool {
 
 /// Whether a preprocessed text has a name elsewhere than in line markers.
 pub fn shows(text: &[u8], name: &[u8]) -> bool {
-    let lines = text.split(|&byte| byte == b'\n').filter(|line| !line.starts_with(b"# "));
-    contains(text, name) && lines.into_iter().any(|line| contains(line, name))
+    let mut from = 0;
+    while let Some(place) = find(&text[from..], name) {
+        let line = text[..from + place].iter().rposition(|&byte| byte == b'\n').map_or(0, |end| end + 1);
+        if !text[line..].starts_with(b"# ") {
+            return true;
+        }
+        from += place + 1;
+    }
+    false
 }
 
 /// Takes a text into a digest, with marks for a directory.
@@ -110,7 +117,14 @@ mod tests {
         assert_eq!((named(b"", b"k"), named(b"\0", b"k")), (vec![], b"k".to_vec()));
         let symbols = [("_I_k_a.b.cpp", "k-a.b", true), ("_I_k-a.b", "k-a.b", false), ("_I_k.b", "k.b", false)];
         assert!(symbols.iter().all(|(text, name, wanted)| has_symbol(text.as_bytes(), name.as_bytes()) == *wanted));
-        let cases = [("# 1 \"k.a.cpp\"\nint a;\n", false), ("int a;\n", false), ("# 1 \"k.a\"\nk.a", true), (" # 1 \"k.a\"", true)];
+        let cases = [
+            ("# 1 \"k.a.cpp\"\nint a;\n", false),
+            ("int a;\n", false),
+            ("# 1 \"k.a\"\nk.a", true),
+            (" # 1 \"k.a\"", true),
+            ("# 1 \"k.a\" \"k.a\"\n# k.a", false),
+            ("k.a\n# 1 \"k.a\"\n", true),
+        ];
         assert_eq!(cases.map(|(text, _)| shows(text.as_bytes(), b"k.a")), cases.map(|(_, wanted)| wanted));
     }
 

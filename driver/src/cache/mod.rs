@@ -1,4 +1,5 @@
 //! The cache of commands: what a command of the same tool, words and inputs has made and said before is made and said again.
+mod ahead;
 pub mod calls;
 pub mod counts;
 pub mod digest;
@@ -12,6 +13,7 @@ mod lines;
 mod manifest;
 mod marked;
 mod place;
+mod processor;
 pub mod program;
 mod recipe;
 mod searches;
@@ -21,12 +23,13 @@ pub mod whole;
 mod words;
 
 use crate::host;
-use crate::machine::Ended;
+use crate::machine::{Ended, Job};
 use crate::planner::PlannedCommand;
 use crate::run::{Done, Step, Task};
 use crate::settings::Settings;
 use crate::streams::{complain, content_of, write_all};
 use crate::system::Status;
+use ahead::Known;
 use calls::Product;
 use digest::{Digest, Hasher};
 use direct::Direct;
@@ -39,6 +42,7 @@ use std::env;
 use std::ffi::OsStr;
 use std::fs::{self, File};
 use std::io::{self, ErrorKind, IsTerminal};
+use std::mem;
 use std::os::unix::ffi::OsStrExt;
 use std::os::unix::fs::MetadataExt;
 use std::path::{Path, PathBuf};
@@ -123,6 +127,9 @@ pub struct Session<'a> {
     products: Vec<Product>,
     /// Whether what a command made may have the lines of an earlier source, as what cudafe++ and cicc write for the host compiler has.
     has_other_lines: bool,
+    /// The call's own preprocessors, each with its text, until more of that is known.
+    preprocessors: Vec<(usize, Job, PathBuf)>,
+    known: Known,
 }
 
 /// What of a terminal shows in messages; nothing if they don't go to one.
@@ -182,6 +189,10 @@ impl<'a> Session<'a> {
         let of_plan = tasks.iter().enumerate().filter_map(|(number, task)| Some((number, &commands[task.command?], &task.job)));
         let candidate = |(number, recipe)| (number, Candidate { recipe, state: State::Fresh, hit: None, direct: Direct::default() });
         let candidates = recipe::recipes(of_plan, tmp).into_iter().map(candidate).collect();
+        let preprocessor = |(number, task): (usize, &Task)| {
+            let text = commands.get(task.command?).filter(|command| command.preprocesses)?.writes.first()?;
+            Some((number, task.job.clone(), PathBuf::from(text)))
+        };
         Session {
             store,
             tools: Tools::new(store),
@@ -192,6 +203,8 @@ impl<'a> Session<'a> {
             has_complained: false,
             products: Vec::new(),
             has_other_lines: false,
+            preprocessors: tasks.iter().enumerate().filter_map(preprocessor).collect(),
+            known: Known::default(),
         }
     }
 
@@ -223,8 +236,8 @@ impl<'a> Session<'a> {
 
     /// What to do with a task whose process, which was started in place of its own, has ended.
     pub fn next(&mut self, task: usize, ended: Ended) -> Step {
-        let Some(candidate) = self.candidates.get(&task) else { return Step::Ended(ended) };
-        match candidate.state.clone() {
+        let Some(candidate) = self.candidates.get_mut(&task) else { return Step::Ended(ended) };
+        match mem::replace(&mut candidate.state, State::Own) {
             State::Asked if ended.status.succeeded() && ended.out.is_empty() && ended.errors.is_empty() => self.look_up(task, ended.times),
             State::Missed(keys, text) => self.ran(task, &keys, &text, ended),
             _ => self.runs_alone(task),
@@ -250,12 +263,13 @@ impl<'a> Session<'a> {
 
     /// Hears that all is there that a task reads which has begun early. Says whether it wants to hear how its process ends.
     pub fn caught_up(&mut self, task: usize) -> bool {
-        let Some(candidate) = self.candidates.get(&task) else { return false };
-        let State::Begun(parts, text) = &candidate.state else { return false };
+        let begun = |candidate: &&mut Candidate| matches!(candidate.state, State::Begun(..));
+        let Some(candidate) = self.candidates.get_mut(&task).filter(begun) else { return false };
+        let State::Begun(parts, text) = mem::replace(&mut candidate.state, State::Own) else { return false };
         let recipe = &candidate.recipe;
         let late = recipe.reads.iter().filter(|file| recipe.role_of(file) == Role::Late);
         let late: Option<Vec<Text>> = late.map(|file| Some(Text { role: Role::Late, content: content_of(file).ok()? })).collect();
-        let state = late.map_or(State::Own, |late| State::Missed(parts.keys(recipe, &late), text.clone()));
+        let state = late.map_or(State::Own, |late| State::Missed(parts.keys(recipe, &late), text));
         self.set(task, state, None);
         true
     }
@@ -518,7 +532,7 @@ mod tests {
         let recipe = Recipe {
             kind: Kind::Host,
             counted: Vec::new(),
-            job: crate::machine::Job::default(),
+            job: Job::default(),
             reads: Vec::new(),
             outputs: Vec::new(),
             directory: "/t".into(),

@@ -82,7 +82,7 @@ impl<'a> Search<'a> {
     }
 
     /// Notes where the names of a text are sought. If macros name some, that may be any of these.
-    pub fn seek_all(&mut self, text: &Path, names: &Names<'_>, any: &BTreeSet<Vec<u8>>) -> Option<()> {
+    pub fn seek_all(&mut self, text: &Path, names: &Names, any: &BTreeSet<Vec<u8>>) -> Option<()> {
         let beside = text.parent().unwrap_or(Path::new(""));
         for name in &names.quoted {
             self.seek(Some(beside), name, names.goes_on)?;

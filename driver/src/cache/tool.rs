@@ -31,6 +31,11 @@ const TURN: &str = "turn";
 const PATIENCE: Duration = Duration::from_secs(10);
 const PAUSE: Duration = Duration::from_millis(2);
 
+/// Where systems have the C library.
+const SYSTEM: [&str; 4] = ["/lib/x86_64-linux-gnu", "/lib/aarch64-linux-gnu", "/lib64", "/lib"];
+/// Where the loader looks for libm in a folder, by what the processor can do.
+const LIBM: [&str; 4] = ["glibc-hwcaps/x86-64-v4/libm.so.6", "glibc-hwcaps/x86-64-v3/libm.so.6", "glibc-hwcaps/x86-64-v2/libm.so.6", "libm.so.6"];
+
 /// A kind of tools.
 #[derive(Clone, Copy, PartialEq, Eq, Debug)]
 pub enum Kind {
@@ -79,6 +84,21 @@ fn is_settled(status: &Metadata) -> bool {
     times.into_iter().all(|time| time.is_some_and(|time| time.elapsed().is_ok_and(|age| age > FRESH)))
 }
 
+/// What the file of a compiler has in its name.
+const COMPILERS: [&str; 4] = ["gcc", "g++", "clang", "nvc"];
+
+/// Whether a compiler's name leads to another program, as to another cache, which runs any compiler.
+pub fn is_disguised(program: &Path) -> bool {
+    !is_called(program, &COMPILERS)
+}
+
+/// Whether the file to which a path leads has one of these in its name.
+pub fn is_called(program: &Path, names: &[&str]) -> bool {
+    let real = fs::canonicalize(program).ok();
+    let name = real.as_deref().and_then(Path::file_name).and_then(OsStr::to_str);
+    name.is_some_and(|name| names.iter().any(|part| name.contains(part)))
+}
+
 fn is_program(file: &mut File) -> bool {
     let mut begin = [0; PROGRAM.len()];
     file.read_exact(&mut begin).is_ok() && begin == PROGRAM && file.rewind().is_ok()
@@ -119,7 +139,16 @@ impl Run<'_> {
         programs::find(OsStr::from_bytes(line), self.variable("PATH").unwrap_or_default(), self.folder)
     }
 
-    /// The files of a library for device code that cicc may read.
+    /// The libm that the loader may give a tool: cicc has it compute constants.
+    fn libms(&self) -> impl Iterator<Item = PathBuf> {
+        let value = self.variable("LD_LIBRARY_PATH").unwrap_or_default().as_bytes();
+        let named = value.split(|byte| matches!(byte, b':' | b';')).filter(|_| !value.is_empty());
+        let folders = named.map(OsStr::from_bytes).chain(SYSTEM.map(OsStr::new));
+        let files: Vec<PathBuf> = folders.flat_map(|folder| LIBM.map(|name| self.folder.join(folder).join(name))).collect();
+        files.into_iter().filter(|file| file.is_file())
+    }
+
+    /// The files of libraries that cicc may read: those for device code, and libm.
     fn libraries(&self) -> Option<Vec<PathBuf>> {
         let beside = self.program.parent()?.parent()?.join("libdevice");
         let named = self.variable("NVVMIR_LIBRARY_DIR").map(PathBuf::from);
@@ -130,6 +159,7 @@ impl Run<'_> {
             }
         }
         files.sort();
+        files.extend(self.libms());
         Some(files)
     }
 }
@@ -212,8 +242,11 @@ impl Tools {
     }
 
     /// The digest of all that a tool consists of: the program; for gcc also cc1plus and the assembler that it runs, for cicc the files of
-    /// its library. `None` if that isn't known.
+    /// its libraries. `None` if that isn't known.
     pub fn identity(&mut self, run: &Run<'_>) -> Option<Digest> {
+        if run.kind == Kind::Host && is_disguised(run.program) {
+            return None;
+        }
         let mut hasher = Hasher::default();
         hasher.update(&self.known(run.program, true)?.0);
         let parts = if run.kind == Kind::Host { self.parts(run)? } else { Vec::new() };
@@ -233,7 +266,7 @@ impl Tools {
 mod tests {
     use super::*;
     use std::env;
-    use std::os::unix::fs::PermissionsExt;
+    use std::os::unix::fs::{PermissionsExt, symlink};
 
     #[test]
     fn tools_are_known_by_their_names() {
@@ -277,7 +310,8 @@ mod tests {
         fn identity(&self) -> Option<Digest> {
             let store = Store::new(self.0.join("store"), 1 << 20);
             let program = self.0.join("bin/cicc");
-            let environment = [("NVVMIR_LIBRARY_DIR".into(), self.0.join("named").into_os_string())];
+            let named = |name: &str, folder: &str| (name.into(), self.0.join(folder).into_os_string());
+            let environment = [named("NVVMIR_LIBRARY_DIR", "named"), named("LD_LIBRARY_PATH", "loaded")];
             Tools::in_stores(vec![store]).identity(&Run { kind: Kind::Cicc, program: &program, folder: Path::new("/"), environment: &environment })
         }
     }
@@ -303,8 +337,10 @@ mod tests {
         let third = scratch.identity().unwrap();
         scratch.put("named/10.bc", "b");
         let fourth = scratch.identity().unwrap();
+        scratch.put("loaded/libm.so.6", "c");
+        let fifth = scratch.identity().unwrap();
         scratch.put("bin/cicc", "\x7fELF one");
-        assert!(third != second && fourth != third && scratch.identity().unwrap() != fourth, "its libraries");
+        assert!(third != second && fourth != third && fifth != fourth && scratch.identity().unwrap() != fifth, "its libraries");
     }
 
     #[test]
@@ -334,6 +370,20 @@ mod tests {
         assert_eq!(scratch.identity(), None);
         fs::remove_file(scratch.0.join("bin/cicc")).unwrap();
         assert_eq!(scratch.identity(), None);
+    }
+
+    #[test]
+    fn another_cache_with_gccs_name_is_no_compiler() {
+        let scratch = Scratch::new("masquerade");
+        let [real, cache] = ["bin/x86_64-linux-gnu-g++-12", "bin/ccache"].map(|name| scratch.put(name, "\x7fELF one"));
+        let [gcc, other] = ["gcc", "g++"].map(|name| scratch.0.join(name));
+        symlink(&real, &gcc).unwrap();
+        symlink(&cache, &other).unwrap();
+        let missing = scratch.0.join("missing-gcc");
+        assert_eq!([&real, &cache, &gcc, &other, &missing].map(|path| is_disguised(path)), [false, true, false, true, true]);
+        let store = Store::new(scratch.0.join("store"), 1 << 20);
+        let run = Run { kind: Kind::Host, program: &other, folder: Path::new("/"), environment: &[] };
+        assert_eq!(Tools::in_stores(vec![store]).identity(&run), None);
     }
 
     #[test]

@@ -1,15 +1,15 @@
 //! Keeps a whole call: finds out what was read for it, and where something was sought in vain.
+use crate::cache::ahead::Asked;
 use crate::cache::calls::{self, Answer, Product};
-use crate::cache::host_text::{files_entered, sees_lines, tells_time};
-use crate::cache::includes::{self, Folders, names_in};
+use crate::cache::includes::{self, Folders};
 use crate::cache::manifest::{Form, Manifest, Seen, Stamp, is_older};
-use crate::cache::marked::contains;
 use crate::cache::searches::{MARGIN, Search};
+use crate::cache::tool::{is_called, is_disguised};
 use crate::cache::{Candidate, Session, State, names, terminal, words};
 use crate::machine::Job;
 use crate::planner::{Line, PlannedCommand};
 use crate::programs;
-use crate::run::Task;
+use crate::run::{Done, Task};
 use crate::split::Said;
 use crate::streams::content_of;
 use std::collections::{BTreeMap, BTreeSet, HashMap};
@@ -21,9 +21,6 @@ use std::os::unix::fs::MetadataExt;
 use std::path::{Path, PathBuf};
 use std::process::{Command, Stdio};
 use std::time::SystemTime;
-
-/// Where programs bring their headers: these don't change by an edit, so each of their bytes may count.
-const INSTALLED: &str = "/usr";
 
 /// A call that has come to its end, and has succeeded.
 pub struct Finished<'a> {
@@ -70,6 +67,11 @@ fn folders_of(job: &Job) -> Option<Folders> {
     includes::folders(std::str::from_utf8(&said.stderr).ok()?)
 }
 
+/// By what the folders differ where preprocessors look.
+fn asked(job: &Job) -> Asked {
+    (job.words.first().cloned(), words::search_words(&job.words), job.folder.clone(), variable(job, "CPATH"))
+}
+
 /// The program that a script of one line runs with the script's own words.
 fn run_by(script: &[u8]) -> Option<&Path> {
     let line = script.strip_prefix(b"#!/bin/sh\nexec ")?.strip_suffix(b" \"$@\"\n")?;
@@ -86,6 +88,9 @@ fn parts_of_nvcc(nvcc: &Path) -> Option<(Vec<PathBuf>, BTreeSet<PathBuf>)> {
         let is_short = fs::metadata(part).is_ok_and(|status| status.len() < 4096);
         let script = if is_short { content_of(part).ok()? } else { Vec::new() };
         if script.is_empty() {
+            if !is_called(&real, &["nvcc"]) {
+                return None;
+            }
             let profiles = [part.as_path(), &real].into_iter().filter_map(|part| Some(part.parent()?.join("nvcc.profile"))).collect();
             return Some((parts, profiles));
         }
@@ -102,6 +107,14 @@ struct Gathered<'a> {
     seen: BTreeMap<PathBuf, Seen>,
     /// Whether the text of a preprocessor may see its lines.
     sees_lines: bool,
+}
+
+/// Whether a line has nvcc read further words from a file.
+fn has_lists(line: &Line) -> bool {
+    let more = line.variables.iter().flat_map(|(_, value)| value.split_ascii_whitespace());
+    let names_list = |option: &str| option.starts_with("optf") || option.starts_with("options-file");
+    let is_list = |word: &str| word.starts_with('@') || (word.starts_with('-') && names_list(word.trim_start_matches('-')));
+    line.words.iter().map(String::as_str).chain(more).any(is_list)
 }
 
 /// Whether a line asks for the targets of the machine's own GPUs, which nvcc looks for at each call.
@@ -172,10 +185,9 @@ impl Session<'_> {
             None if command.preprocesses => stays(command) && task.job.folder == call.line.cwd && words::is_preprocess(&command.words),
             None => command.program.ends_with("/fatbinary") && command.complete && stays(command),
         };
-        let has_lists = call.line.words.iter().any(|word| word.starts_with('@') || word.starts_with("-optf") || word.starts_with("--options-file"));
         let made = self.candidates.values().flat_map(|candidate| &candidate.recipe.outputs).filter(|output| output.path != output.written_to).count();
         let has_rule = call.rule.is_some() == call.tasks.iter().any(|task| task.is_rule);
-        !has_lists && !asks_for_native(call.line) && has_rule && made == self.products.len() && call.of_plan().all(is_known)
+        !has_lists(call.line) && !asks_for_native(call.line) && has_rule && made == self.products.len() && call.of_plan().all(is_known)
     }
 
     /// The processes of a call that preprocess, each with the file that has its text.
@@ -193,11 +205,29 @@ impl Session<'_> {
     }
 
     /// The folders where the call's preprocessors look. `None` if they differ.
-    fn folders(&self, call: &Finished<'_>) -> Option<Folders> {
-        let asked = |job: &Job| (job.words.first().cloned(), words::search_words(&job.words), job.folder.clone(), variable(job, "CPATH"));
-        let mut jobs = self.preprocessors(call).map(|(job, _)| job);
-        let first = jobs.next()?;
-        jobs.all(|job| asked(job) == asked(first)).then(|| folders_of(first))?
+    fn folders(&mut self, call: &Finished<'_>) -> Option<Folders> {
+        let jobs: Vec<Job> = self.preprocessors(call).map(|(job, _)| job.clone()).collect();
+        let first = jobs.first()?;
+        let are_alike = jobs.iter().all(|job| asked(job) == asked(first));
+        are_alike.then(|| self.known.folders(asked(first), || folders_of(first)))?
+    }
+
+    /// Whether what is needed to keep the call may be found out: its preprocessors have ended, and a command runs that takes far longer.
+    pub fn may_look_ahead(&self, done: &[Done]) -> bool {
+        let has_ended = |task: usize| done[task].ended.as_ref().is_some_and(|ended| ended.status.succeeded());
+        let runs = || self.candidates.values().any(|candidate| matches!(candidate.state, State::Missed(..) | State::Begun(..)));
+        !self.preprocessors.is_empty() && calls::is_on() && self.preprocessors.iter().all(|(task, ..)| has_ended(*task)) && runs()
+    }
+
+    /// Finds that out.
+    pub fn look_ahead(&mut self) {
+        for (_, job, text) in std::mem::take(&mut self.preprocessors) {
+            self.known.folders(asked(&job), || folders_of(&job));
+            let entered = self.known.written(&text).and_then(|written| written.entered.clone()).unwrap_or_default();
+            for file in entered.iter().filter(|file| !file.starts_with(self.tmp)) {
+                self.known.scanned(file, Path::new(&job.folder));
+            }
+        }
     }
 
     /// What the command lines of the call's preprocessors define. `None` if lines and comments may count: for debuggers, or in messages.
@@ -209,14 +239,17 @@ impl Session<'_> {
     }
 
     /// Notes what preprocessors have read, and where they have looked.
-    fn gather_files(&self, call: &Finished<'_>, gathered: &mut Gathered<'_>) -> Option<()> {
+    fn gather_files(&mut self, call: &Finished<'_>, gathered: &mut Gathered<'_>) -> Option<()> {
         let mut files: BTreeSet<PathBuf> = BTreeSet::new();
         let found = self.candidates.values().filter_map(|candidate| candidate.direct.found.as_ref());
         files.extend(found.flat_map(|found| &found.files).map(|seen| seen.path.clone()));
-        for (job, text) in self.preprocessors(call).filter(|(_, text)| !self.is_direct(text)) {
-            let text = fs::read(&text).ok().filter(|text| !tells_time(text))?;
-            gathered.sees_lines |= sees_lines(&text);
-            files.extend(files_entered(&text)?.into_iter().map(|name| PathBuf::from(OsStr::from_bytes(name))));
+        let texts: Vec<PathBuf> = self.preprocessors(call).map(|(_, text)| text).filter(|text| !self.is_direct(text)).collect();
+        for text in &texts {
+            let written = self.known.written(text).filter(|written| !written.tells_time)?;
+            gathered.sees_lines |= written.sees_lines;
+            files.extend(written.entered.clone()?);
+        }
+        for (job, _) in self.preprocessors(call).filter(|(_, text)| texts.contains(text)) {
             words::included(&job.words).into_iter().try_for_each(|name| gathered.search.seek_given(name))?;
         }
         files.extend(call.commands.iter().filter(|command| command.preprocesses).flat_map(|command| &command.reads).map(PathBuf::from));
@@ -224,16 +257,11 @@ impl Session<'_> {
         let (mut once, mut has_import) = (BTreeSet::new(), false);
         let any: BTreeSet<Vec<u8>> = files.iter().flat_map(|file| gathered.search.names_of(file)).collect();
         for file in &files {
-            let (seen, text) = Seen::with_text(file, call.cwd())?;
-            let form = if file.starts_with(INSTALLED) { Form::Text } else { Form::of_source(&text) };
-            gathered.add(Seen { form, ..seen }, call.cwd())?;
-            let names = names_in(&text);
-            if names.is_odd {
-                return None;
-            }
-            gathered.search.seek_all(file, &names, &any)?;
-            has_import |= contains(&text, b"import");
-            once.extend(contains(&text, b"once").then(|| file.clone()));
+            let scanned = self.known.scanned(file, call.cwd()).filter(|scanned| !scanned.names.is_odd)?;
+            gathered.add(scanned.seen.clone(), call.cwd())?;
+            gathered.search.seek_all(file, &scanned.names, &any)?;
+            has_import |= scanned.has_import;
+            once.extend(scanned.has_once.then(|| file.clone()));
         }
         gathered.search.seek_anywhere(&any)?;
         gathered.add_copies(if has_import { &files } else { &once }, call.cwd())
@@ -245,8 +273,11 @@ impl Session<'_> {
         for (place, part) in parts.iter().enumerate() {
             self.tools.known(part, place + 1 == parts.len())?;
         }
-        profiles.into_iter().try_for_each(|profile| self.gather_if_there(profile, gathered))?;
+        profiles.into_iter().try_for_each(|profile| self.gather_text_if_there(profile, gathered))?;
         for (_, task, command) in call.of_plan() {
+            if command.preprocesses && is_disguised(Path::new(&command.program)) {
+                return None;
+            }
             self.tools.known(Path::new(&command.program), true)?;
             gathered.search.seek_program(Path::new(&command.program), &variable(&task.job, "PATH"))?;
         }
@@ -268,6 +299,12 @@ impl Session<'_> {
         }
     }
 
+    /// The same for a text by which a tool may use any variable. `None` if it names one that doesn't count otherwise.
+    fn gather_text_if_there(&mut self, path: PathBuf, gathered: &mut Gathered<'_>) -> Option<()> {
+        let text = content_of(&path).unwrap_or_default();
+        (!calls::names_free_variable(&text)).then(|| self.gather_if_there(path, gathered))?
+    }
+
     /// Notes where gcc looks for its assembler and its specs before it finds them.
     fn gather_parts(&mut self, call: &Finished<'_>, gathered: &mut Gathered<'_>) -> Option<()> {
         let path = call.of_plan().find(|(_, _, command)| command.preprocesses).map(|(_, task, _)| variable(&task.job, "PATH"))?;
@@ -276,8 +313,8 @@ impl Session<'_> {
             match part.file_name().and_then(OsStr::to_str) {
                 Some("as") => gathered.search.seek_program(part, &path)?,
                 Some("cc1plus") => {
-                    let places = ["as", "specs"].map(|name| part.with_file_name(name));
-                    places.into_iter().try_for_each(|place| self.gather_if_there(place, gathered))?;
+                    self.gather_if_there(part.with_file_name("as"), gathered)?;
+                    self.gather_text_if_there(part.with_file_name("specs"), gathered)?;
                 }
                 _ => {}
             }
@@ -311,7 +348,27 @@ impl Session<'_> {
 #[cfg(test)]
 mod tests {
     use super::*;
+    use crate::cache::ahead::Known;
     use std::os::unix::fs::symlink;
+    use std::thread;
+
+    #[test]
+    fn a_file_that_has_changed_since_it_was_known_is_not_kept() {
+        let room = env::temp_dir().join(format!("known-{}", std::process::id()));
+        let _ = fs::remove_dir_all(&room);
+        fs::create_dir(&room).unwrap();
+        fs::write(room.join("a.h"), "one").unwrap();
+        thread::sleep(2 * MARGIN);
+        let (begun, folders) = (SystemTime::now(), Folders::default());
+        let seen = Known::default().scanned(Path::new("a.h"), &room).unwrap().seen.clone();
+        let mut gathered = Gathered { search: Search::new(&room, &folders, begun), begun, seen: BTreeMap::new(), sees_lines: false };
+        assert_eq!(gathered.add(seen.clone(), &room), Some(()));
+        fs::write(room.join("a.h"), "two").unwrap();
+        assert_eq!(gathered.add(seen.clone(), &room), None);
+        fs::remove_file(room.join("a.h")).unwrap();
+        assert_eq!(gathered.add(seen, &room), None);
+        fs::remove_dir_all(room).unwrap();
+    }
 
     #[test]
     fn a_line_asks_for_native_by_a_word_or_a_variable() {
@@ -322,6 +379,18 @@ mod tests {
         };
         assert!(asks(&["-arch=native", "-c", "k.cu"], "") && asks(&["-arch", "native"], "") && asks(&["-c"], "-O2 -arch=native"));
         assert!(!asks(&["-c", "native/k.cu", "-o", "native.o"], "-DNATIVE"));
+    }
+
+    #[test]
+    fn words_or_variables_may_name_lists_of_words() {
+        let has = |words: &[&str], flags: &str| {
+            let words = words.iter().map(|word| (*word).into()).collect();
+            has_lists(&Line { cwd: "/w".into(), nvcc: "nvcc".into(), words, variables: vec![("NVCC_APPEND_FLAGS".into(), flags.into())] })
+        };
+        for words in [["-optf", "words"], ["-c", "-optf=words"], ["--options-file", "words"], ["-c", "--options-file=words"], ["-c", "@words"]] {
+            assert!(has(&words, "-O2") && has(&["-c", "k.cu"], &format!("-O2 {}", words.join(" "))), "{words:?}");
+        }
+        assert!(!has(&["-c", "optf.cu", "-o", "options-file"], "-O2 -DX=@"));
     }
 
     #[test]
@@ -355,9 +424,11 @@ mod tests {
         fs::write(path("bin/nvcc"), script("bin/link")).unwrap();
         fs::write(path("bin/circle"), script("bin/circle")).unwrap();
         fs::write(path("bin/other"), "#!/bin/sh\n").unwrap();
+        fs::write(path("real/cache"), [0; 5000]).unwrap();
+        symlink(path("real/cache"), path("bin/cached")).unwrap();
         let profiles = ["bin/nvcc.profile", "real/nvcc.profile"].map(path);
         assert_eq!(parts_of_nvcc(&path("bin/nvcc")), Some((vec![path("bin/nvcc"), path("bin/link")], profiles.into())));
-        assert_eq!(["bin/circle", "bin/other", "bin/missing"].map(|name| parts_of_nvcc(&path(name))), [None, None, None]);
+        assert_eq!(["bin/circle", "bin/other", "bin/cached", "bin/missing"].map(|name| parts_of_nvcc(&path(name))), [None, None, None, None]);
         fs::remove_dir_all(room).unwrap();
     }
 

@@ -41,18 +41,31 @@ pub struct Wanted {
     pub shared: Option<Vec<u8>>,
 }
 
+impl Wanted {
+    /// Whether a worker that lacks tools gets them, as all other files.
+    fn sends_tools(&self) -> bool {
+        self.shared.is_none()
+    }
+
+    /// Why a worker doesn't get work that lacks the tool at this place, or has another.
+    fn lack(&self, place: usize, found: Option<[u8; 32]>) -> String {
+        let path = self.tools[place].0.display();
+        if found.is_some() { format!("its {path} has other contents") } else { format!("it has no {path}") }
+    }
+}
+
 /// When the evidence was asked for and came, in nanoseconds.
 pub struct Times {
     pub asked: u64,
     pub came: u64,
 }
 
-/// Whether a worker gets work.
+/// Whether a worker that gets work has the tools. If not, it gets them first.
 ///
 /// # Errors
 ///
 /// Why it doesn't.
-pub fn judge(evidence: &Evidence, wanted: &Wanted, times: &Times) -> Result<(), String> {
+pub fn judge(evidence: &Evidence, wanted: &Wanted, times: &Times) -> Result<bool, String> {
     let shared = wanted.directory.display();
     match (&evidence.shared, &wanted.shared) {
         (_, None) => {}
@@ -63,12 +76,9 @@ pub fn judge(evidence: &Evidence, wanted: &Wanted, times: &Times) -> Result<(), 
     if evidence.tools.len() != wanted.tools.len() {
         return Err("it says nothing of some tools".into());
     }
-    for ((path, digest), found) in wanted.tools.iter().zip(&evidence.tools) {
-        match found {
-            Some(found) if found == digest => {}
-            Some(_) => return Err(format!("its {} has other contents", path.display())),
-            None => return Err(format!("it has no {}", path.display())),
-        }
+    let lacks = (0..wanted.tools.len()).find(|&place| evidence.tools[place] != Some(wanted.tools[place].1));
+    if let Some(place) = lacks.filter(|_| !wanted.sends_tools()) {
+        return Err(wanted.lack(place, evidence.tools[place]));
     }
     if !evidence.lack_of_room.is_empty() {
         return Err(evidence.lack_of_room.trim_start_matches([':', ' ']).to_owned());
@@ -79,7 +89,7 @@ pub fn judge(evidence: &Evidence, wanted: &Wanted, times: &Times) -> Result<(), 
         let (apart, way) = if ahead > 0 { (ahead, "ahead") } else { (behind, "behind") };
         return Err(format!("its clock is {} seconds {way}", apart / 1_000_000_000));
     }
-    Ok(())
+    Ok(lacks.is_none())
 }
 
 #[cfg(test)]
@@ -125,6 +135,12 @@ mod tests {
         }
         wanted_of_batch.shared = None;
         assert_eq!(judged(&wanted_of_batch, |it| it.shared = None), "", "nothing is shared");
+        let without = Evidence { tools: vec![Some([1; 32]), Some([3; 32])], shared: None, ..good.clone() };
+        let has_tools = |evidence: &Evidence| judge(evidence, &wanted_of_batch, &Times { asked: 99 * SECOND, came: 103 * SECOND });
+        assert_eq!(has_tools(&good), Ok(true));
+        assert_eq!(has_tools(&without), Ok(false), "one has other contents");
+        assert_eq!(has_tools(&Evidence { tools: vec![None, None], ..without.clone() }), Ok(false));
+        assert_eq!(has_tools(&Evidence { tools: vec![None], ..without }), Err("it says nothing of some tools".into()));
     }
 
     #[test]

@@ -16,9 +16,9 @@ pub struct Here {
     /// How many run at once.
     slots: usize,
     /// The numbers of those that run, and of those among them that have a slot.
-    running: BTreeSet<usize>,
-    with_slots: BTreeSet<usize>,
-    waiting: VecDeque<(usize, Job)>,
+    pub(super) running: BTreeSet<usize>,
+    pub(super) with_slots: BTreeSet<usize>,
+    pub(super) waiting: VecDeque<(usize, Job)>,
 }
 
 impl Here {

@@ -2,12 +2,13 @@
 use super::attempts::Attempt;
 use super::connections::Connection;
 use super::evidence::{self, Times, Wanted};
-use super::messages::{Answer, Introduction, Message, Order, Terms, VERSION};
+use super::messages::{Answer, Introduction, Message, Order, TOOLKIT, Terms, VERSION};
 use super::secrets::{self, Once, Secret, Side};
 use super::transfers::Departures;
 use crate::host::nanoseconds;
 use std::io;
 use std::net::TcpStream;
+use std::path::PathBuf;
 use std::time::{Duration, Instant};
 
 /// How long somebody who connects may take to show that he knows the secret.
@@ -39,6 +40,8 @@ pub struct Member {
     pub ahead: usize,
     /// The files that it gets.
     pub departures: Departures,
+    /// Whether it gets the tools, and runs these.
+    gets_tools: bool,
     stage: Stage,
     since: Instant,
     once: Once,
@@ -50,7 +53,8 @@ pub enum Heard {
     Nothing,
     /// It knows the secret, and says who it is.
     Introduced,
-    Ready,
+    /// It may get work, and whether it has the tools.
+    Ready(bool),
     Said(u64, bool, Vec<u8>),
     Part(u64, u32, Vec<u8>),
     Whole(u64, u32, [u8; 32]),
@@ -75,6 +79,7 @@ impl Member {
             taken: 0,
             ahead: 0,
             departures: Departures::default(),
+            gets_tools: false,
             stage: Stage::Stranger,
             since: Instant::now(),
             once: secrets::random()?,
@@ -102,8 +107,19 @@ impl Member {
         self.connection.send(&Message::Terms(terms.clone()));
     }
 
+    /// Sends it the tools, before the files of commands.
+    ///
+    /// # Errors
+    ///
+    /// If one isn't there.
+    pub fn equip(&mut self, tools: &[(PathBuf, [u8; 32])]) -> io::Result<()> {
+        self.gets_tools = true;
+        tools.iter().enumerate().try_for_each(|(place, (path, _))| self.departures.add(TOOLKIT, place, path))
+    }
+
     /// Sends a command, whose files follow. `None` if one isn't there.
-    pub fn order(&mut self, number: u64, order: Order, attempt: &Attempt) -> Option<()> {
+    pub fn order(&mut self, number: u64, mut order: Order, attempt: &Attempt) -> Option<()> {
+        order.program = order.program.filter(|_| self.gets_tools);
         let added = attempt.sources.iter().enumerate().try_for_each(|(place, path)| self.departures.add(number, place, path));
         if added.is_err() {
             self.departures.forget(number);
@@ -145,14 +161,13 @@ impl Member {
                 self.connection.trust();
                 Heard::Introduced
             }
-            (Stage::Shows(asked), Message::Evidence(evidence)) => {
-                let times = Times { asked, came: nanoseconds() };
-                if let Err(reason) = evidence::judge(&evidence, wanted, &times) {
-                    return Heard::Unfit(reason);
+            (Stage::Shows(asked), Message::Evidence(evidence)) => match evidence::judge(&evidence, wanted, &Times { asked, came: nanoseconds() }) {
+                Ok(has_tools) => {
+                    self.stage = Stage::Ready;
+                    Heard::Ready(has_tools)
                 }
-                self.stage = Stage::Ready;
-                Heard::Ready
-            }
+                Err(reason) => Heard::Unfit(reason),
+            },
             (Stage::Ready, Message::Said(number, is_error, part)) => Heard::Said(number, is_error, part.0),
             (Stage::Ready, Message::Part(number, place, part)) => Heard::Part(number, place, part.0),
             (Stage::Ready, Message::Whole(number, place, digest)) => Heard::Whole(number, place, digest),
@@ -182,6 +197,7 @@ mod tests {
     use super::*;
     use crate::farm::fields::Bytes;
     use crate::farm::messages::Evidence;
+    use crate::farm::packed::Part;
     use std::net::TcpListener;
 
     /// A member, and the other end of its connection.
@@ -234,12 +250,12 @@ mod tests {
         room.member.admit(&Terms { shared: Some("/s/shared".into()), ..Terms::default() });
         assert!(room.member.waits().is_none());
         assert_eq!(room.hear(Message::Beat), Heard::Nothing);
-        assert_eq!((room.hear(evidence("word")), room.member.free()), (Heard::Ready, 2));
+        assert_eq!((room.hear(evidence("word")), room.member.free()), (Heard::Ready(true), 2));
         (room.member.taken, room.member.ahead) = (3, 0);
         assert_eq!(room.member.free(), 0);
         room.member.ahead = 2;
         assert_eq!(room.member.free(), 1);
-        assert_eq!(room.hear(Message::Part(4, 1, Bytes(vec![5]))), Heard::Part(4, 1, vec![5]));
+        assert_eq!(room.hear(Message::Part(4, 1, Part(vec![5]))), Heard::Part(4, 1, vec![5]));
         assert_eq!(room.hear(Message::Whole(4, 1, [6; 32])), Heard::Whole(4, 1, [6; 32]));
         assert_eq!(room.hear(Message::Began(4)), Heard::Began(4));
         assert_eq!(room.hear(Message::Ended(4, Answer::default())), Heard::Ended(4, Answer::default()));
@@ -256,7 +272,7 @@ mod tests {
             room.hear(hello);
             room.member.worker.slots = slots;
             room.member.admit(&Terms::default());
-            assert_eq!((room.hear(evidence("none")), room.member.free()), (Heard::Ready, free));
+            assert_eq!((room.hear(evidence("none")), room.member.free()), (Heard::Ready(true), free));
         }
     }
 

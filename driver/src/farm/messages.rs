@@ -2,10 +2,13 @@
 //!
 //! The worker connects. Both show that they know the secret before either says more, and neither sends it: see `secrets`.
 use super::fields::{Bytes, Field};
+use super::packed::Part;
 use std::path::PathBuf;
 
 /// The version of the messages. A batch refuses workers of others.
-pub const VERSION: u32 = 3;
+pub const VERSION: u32 = 4;
+/// The number by which tools come that a worker's machine lacks. No command has it.
+pub const TOOLKIT: u64 = u64::MAX;
 /// How many bytes a message has at most.
 pub const LONGEST: usize = 1 << 26;
 /// How many bytes a message has at most that comes from somebody who hasn't shown that he knows the secret.
@@ -33,7 +36,8 @@ pub struct Terms {
     pub temporary: PathBuf,
     /// Whether commands get one that goes with the worker in place of it. A cache may start a server, whose folder has to stay.
     pub has_own_temporary: bool,
-    /// Files whose contents have to be those that they have where the batch runs.
+    /// Files whose contents have to be those that they have where the batch runs. Without a shared disk, a worker gets them
+    /// that has others.
     pub tools: Vec<PathBuf>,
     /// A file with a random text, in the directory that all machines share, if they share one.
     pub shared: Option<PathBuf>,
@@ -71,6 +75,8 @@ pub struct Order {
     pub words: Vec<String>,
     pub folder: String,
     pub variables: Vec<(String, Option<String>)>,
+    /// The place among the terms' tools of the one that it runs, if that has come from the batch.
+    pub program: Option<u32>,
     /// A tool that it runs, and the digest of its contents, if it isn't one of the terms'.
     pub tool: Option<(PathBuf, [u8; 32])>,
     /// Folders that have to be there.
@@ -127,8 +133,8 @@ pub enum Message {
     /// What a command has printed: whether to standard error, and a part of it.
     Said(u64, bool, Bytes),
     Ended(u64, Answer),
-    /// A part of a file of a command, by its place among the inputs or, from the worker, among the products.
-    Part(u64, u32, Bytes),
+    /// A part of a file of a command, by its place among the inputs or, from the worker, among the products; or of a tool, by its place in the terms.
+    Part(u64, u32, Part),
     /// The digest of such a file, of which all has come.
     Whole(u64, u32, [u8; 32]),
     /// A command whose files have come begins.
@@ -164,7 +170,7 @@ records! {
     Terms { environment, has_terminal, temporary, has_own_temporary, tools, shared, patience, mask }
     Evidence { tools, shared, lack_of_room, time }
     Witness { path, size, changed }
-    Order { words, folder, variables, tool, folders, witnesses, products, inputs }
+    Order { words, folder, variables, program, tool, folders, witnesses, products, inputs }
     Answer { code, signal, dumped, took, products, fault }
 }
 
@@ -319,6 +325,7 @@ mod tests {
                     words: vec!["cicc".into(), String::new()],
                     folder: "/w".into(),
                     variables,
+                    program: Some(3),
                     tool: Some(("/b/clang".into(), [6; 32])),
                     folders: vec!["/w/.zigrunk.1".into()],
                     witnesses: vec![witness],
@@ -334,7 +341,8 @@ mod tests {
             ),
             Message::Beat,
             Message::Bye,
-            Message::Part(9, 1, Bytes(vec![1, 2])),
+            Message::Part(9, 1, Part(vec![1, 2])),
+            Message::Part(9, 2, Part(vec![3; 100])),
             Message::Whole(9, 1, [7; 32]),
             Message::Began(9),
         ]

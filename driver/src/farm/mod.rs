@@ -14,9 +14,13 @@ mod here;
 mod invitations;
 mod members;
 mod messages;
+mod packed;
 mod parcels;
+mod received;
 mod secrets;
 mod session;
+#[cfg(test)]
+mod tests;
 mod toolkits;
 mod transfers;
 pub mod worker;
@@ -134,6 +138,18 @@ fn write_shared(folder: &Path) -> io::Result<(PathBuf, Vec<u8>)> {
     Ok((path, text.into_bytes()))
 }
 
+/// The tool that a job runs, where this machine finds it.
+fn program_of(job: &Job) -> Option<PathBuf> {
+    let at = match Tool::of(&job.words) {
+        Some((_, at)) => at,
+        None if programs::is_nvcc(job.words.first()?.as_bytes()) => 0,
+        None => return None,
+    };
+    let given = job.variables.iter().find(|(name, _)| name == "PATH").and_then(|(_, value)| value.clone());
+    let path = given.map_or_else(|| std::env::var_os("PATH").unwrap_or_default(), Into::into);
+    programs::find(OsStr::new(&job.words[at]), &path, Path::new(&job.folder))
+}
+
 /// A pipe whose reader gets a text, and its other end.
 fn with_text(text: &str) -> io::Result<(OwnedFd, OwnedFd)> {
     let (read, write) = system::pipe()?;
@@ -154,7 +170,8 @@ impl Farm {
         listener.set_nonblocking(true).map_err(lacks("port"))?;
         let shared = (!conditions.sends_files).then(|| write_shared(folder.path())).transpose().map_err(lacks("file"))?;
         let (shared, text) = shared.unzip();
-        let tools = toolkits::tools(settings);
+        let mut tools = toolkits::tools(settings);
+        tools.retain(|(path, _)| !conditions.sends_files || toolkits::is_of_devices(path));
         let cwd = crate::places::working_directory().unwrap_or_default();
         let terms = Terms {
             environment: environment.variables().map(|variable| Bytes(variable.to_vec())).collect(),
@@ -213,6 +230,8 @@ impl Farm {
         let invitation = Invitation { hosts: own_hosts(), port, secret: self.secret.clone() }.text();
         for (number, command) in self.conditions.commands.clone().into_iter().enumerate() {
             let (read, write) = with_text(&format!("{invitation}\n"))?;
+            // While the guard has it, what starts workers doesn't see the end of its standard input.
+            self.host.hide(write.as_raw_fd());
             let variables = vec![(VARIABLE.to_owned(), Some(invitation.clone()))];
             let job = Job { words: vec!["sh".into(), "-c".into(), command], variables, ..Job::default() };
             self.host.start_with(number, &job, read.as_raw_fd())?;
@@ -286,7 +305,8 @@ impl Farm {
             (job, attempt.drafts) = (attempt.job.clone(), Drafts::default());
         }
         Order {
-            tool: self.tool(&job),
+            program: None,
+            tool: program_of(&job).and_then(|program| self.tool(program)),
             folders: attempt.drafts.folders.clone(),
             witnesses: self.witnesses(&attempt.job),
             products: attempt.drafts.files.iter().map(|draft| draft.made.clone()).collect(),
@@ -305,20 +325,15 @@ impl Farm {
         attempt.arrivals = Arrivals::new(attempt.drafts.files.iter().map(|draft| &draft.made));
         let (inputs, sources) = inputs.into_iter().unzip();
         attempt.sources = sources;
-        let (tool, variables) = (self.tool(&attempt.job), attempt.job.variables.clone());
-        Some(Order { words, folder: String::new(), variables, tool, folders, witnesses: Vec::new(), products, inputs: Some(inputs) })
+        let variables = attempt.job.variables.clone();
+        let found = program_of(&attempt.job);
+        let program = self.wanted.tools.iter().position(|(path, _)| Some(path) == found.as_ref()).and_then(|place| u32::try_from(place).ok());
+        let tool = found.and_then(|found| self.tool(found));
+        Some(Order { words, folder: String::new(), variables, program, tool, folders, witnesses: Vec::new(), products, inputs: Some(inputs) })
     }
 
-    /// The tool that a job runs, and its digest, if it isn't one of those that each worker has shown.
-    fn tool(&mut self, job: &Job) -> Option<(PathBuf, [u8; 32])> {
-        let at = match Tool::of(&job.words) {
-            Some((_, at)) => at,
-            None if programs::is_nvcc(job.words.first()?.as_bytes()) => 0,
-            None => return None,
-        };
-        let given = job.variables.iter().find(|(name, _)| name == "PATH").and_then(|(_, value)| value.clone());
-        let path = given.map_or_else(|| std::env::var_os("PATH").unwrap_or_default(), Into::into);
-        let found = programs::find(OsStr::new(&job.words[at]), &path, Path::new(&job.folder))?;
+    /// A tool and its digest, if it isn't one of those that each worker has shown.
+    fn tool(&mut self, found: PathBuf) -> Option<(PathBuf, [u8; 32])> {
         if self.wanted.tools.iter().any(|(path, _)| *path == found) {
             return None;
         }
@@ -389,7 +404,7 @@ impl Farm {
         match heard {
             Heard::Nothing => {}
             Heard::Introduced => self.introduced(at),
-            Heard::Ready => self.members[at].connection.beat(Duration::ZERO),
+            Heard::Ready(has_tools) => self.welcome(at, has_tools),
             Heard::Said(number, is_error, part) => {
                 if let Some(attempt) = self.attempts.get_mut(&number) {
                     attempt.said[usize::from(is_error)].extend(part);
@@ -454,6 +469,16 @@ impl Farm {
         } else if self.members[at].waits().is_some_and(|waited| waited > 2 * self.conditions.patience) {
             self.members[at].connection.send(&Message::Refusal("there is another worker of this name".into()));
             self.members.remove(at);
+        }
+    }
+
+    /// A worker gets work, and before that the tools unless it has them.
+    fn welcome(&mut self, at: usize, has_tools: bool) {
+        let member = &mut self.members[at];
+        let equipped = if has_tools { Ok(()) } else { member.equip(&self.wanted.tools) };
+        match equipped {
+            Ok(()) => member.connection.beat(Duration::ZERO),
+            Err(error) => self.leave_out(at, format!("it lacks a tool that can't be sent: {error}")),
         }
     }
 

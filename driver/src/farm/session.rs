@@ -2,7 +2,8 @@
 use super::connections::Connection;
 use super::evidence;
 use super::fields::Bytes;
-use super::messages::{Answer, Message, Order, Terms, Witness};
+use super::messages::{Answer, Message, Order, TOOLKIT, Terms, Witness};
+use super::received::Received;
 use super::toolkits;
 use super::transfers::{Arrivals, Departures};
 use super::worker::End;
@@ -12,6 +13,7 @@ use crate::host::Host;
 use crate::jobserver::{Make, MakeFlags};
 use crate::machine::{Ended, Event, Job, Machine};
 use crate::settings::Settings;
+use crate::streams::complain;
 use crate::system::{self, KILL, TERM};
 use std::collections::BTreeMap;
 use std::env;
@@ -69,6 +71,8 @@ pub struct Session {
     /// The files that go to the batch, and the folders of commands that have ended, whose files these are.
     departures: Departures,
     ended: BTreeMap<u64, PathBuf>,
+    /// The terms' tools that come, since this machine lacks them.
+    received: Received,
     /// Digests of tools that aren't the terms'.
     digests: BTreeMap<PathBuf, Option<[u8; 32]>>,
 }
@@ -107,6 +111,7 @@ impl Session {
         let mut host = host.map_err(|lacks| io::Error::other(format!("no {lacks}")))?;
         host.set_terminal(terms.has_terminal);
         Ok(Session {
+            received: Received::new(&terms.tools, &folder.path().join("tools")),
             connection,
             terms,
             host,
@@ -166,6 +171,8 @@ impl Session {
         loop {
             match self.connection.next() {
                 Ok(Some(Message::Start(number, order))) => self.take_order(number, order),
+                Ok(Some(Message::Part(TOOLKIT, place, part))) => self.take_tool(|received| received.take(place, &part.0)),
+                Ok(Some(Message::Whole(TOOLKIT, place, digest))) => self.take_tool(|received| received.end(place, &digest)),
                 Ok(Some(Message::Part(number, place, part))) => self.take_file(number, |arrivals| arrivals.take(place, &part.0)),
                 Ok(Some(Message::Whole(number, place, digest))) => self.take_file(number, |arrivals| arrivals.end(place, &digest)),
                 Ok(Some(Message::End(number, signal))) => self.end(number, signal),
@@ -188,6 +195,13 @@ impl Session {
         let paths: Vec<PathBuf> = own.iter().flat_map(|own| order.inputs.iter().flatten().map(|input| own.join(input))).collect();
         let arrivals = Arrivals::new(paths.iter());
         self.pending.push(Pending { number, order, since: Instant::now(), arrivals, own, fault });
+    }
+
+    /// Takes a part of a tool. Unless it comes whole, no command begins that runs it.
+    fn take_tool(&mut self, take: impl FnOnce(&mut Received) -> io::Result<()>) {
+        if let Err(error) = take(&mut self.received) {
+            complain(&format!("zigrunk-worker: cannot take a tool: {error}"));
+        }
     }
 
     /// Takes a part of a file of a command that waits.
@@ -229,7 +243,7 @@ impl Session {
         let folder = pending.own.as_ref().map_or_else(|| order.folder.clone(), |own| own.to_string_lossy().into_owned());
         let variables =
             order.variables.iter().map(|(name, value)| (name.clone(), self.value(name, value.as_ref(), pending.own.as_deref()))).collect();
-        let job = Job { words: order.words.clone(), folder, variables, ..Job::default() };
+        let job = Job { words: self.words(order), folder, variables, ..Job::default() };
         self.host.start(place, &job).map_err(|error| format!("it has no process for a command: {error}"))?;
         let products = order.products.iter().map(|product| pending.own.as_ref().map_or_else(|| product.clone(), |own| own.join(product))).collect();
         self.running.insert(place, Running { number: pending.number, products, own: pending.own.clone(), ends: None });
@@ -237,6 +251,15 @@ impl Session {
             self.connection.send(&Message::Began(pending.number));
         }
         Ok(())
+    }
+
+    /// The words of a command, whose tool may have come.
+    fn words(&self, order: &Order) -> Vec<String> {
+        let mut words = order.words.clone();
+        if let (Some(path), Some(first)) = (order.program.and_then(|place| self.received.path(place)), words.first_mut()) {
+            *first = path.to_string_lossy().into_owned();
+        }
+        words
     }
 
     /// The value of a variable for a command, which may have a folder of its own.
@@ -279,6 +302,9 @@ impl Session {
             if found.len() != *size || found.mtime() != *changed {
                 return Err(format!("its {} isn't the batch's", path.display()));
             }
+        }
+        if order.program.is_some_and(|place| self.received.path(place).is_none()) {
+            return Err("a tool hasn't come whole".into());
         }
         if let Some((path, digest)) = &order.tool {
             let found = self.digests.entry(path.clone()).or_insert_with(|| toolkits::digest_of(path));
@@ -344,5 +370,362 @@ impl Session {
                 self.host.signal(*place, KILL);
             }
         }
+    }
+}
+
+#[cfg(test)]
+mod tests {
+    use super::*;
+    use crate::cache::digest::Digest;
+    use crate::farm::packed::Part;
+    use crate::forked::in_own_process;
+    use std::net::{TcpListener, TcpStream};
+    use std::os::unix::fs::PermissionsExt;
+
+    /// How many milliseconds a worker of a test waits for the batch, if nobody is to give the other up.
+    const LONG: u64 = 100_000;
+
+    /// A folder of a test, which goes with it.
+    struct Room(CallFolder);
+
+    impl Room {
+        fn new() -> Room {
+            Room(CallFolder::take(&env::temp_dir(), "session-of-a-test").unwrap())
+        }
+
+        fn path(&self, name: &str) -> PathBuf {
+            self.0.path().join(name)
+        }
+    }
+
+    impl Drop for Room {
+        fn drop(&mut self) {
+            self.0.remove();
+        }
+    }
+
+    /// A worker's time with a batch, and the batch's end of the connection.
+    fn begun(room: &Room, patience: u64, slots: u32) -> (Session, Connection) {
+        let listener = TcpListener::bind("127.0.0.1:0").unwrap();
+        let one = TcpStream::connect(listener.local_addr().unwrap()).unwrap();
+        let [mut batch, mut worker] = [one, listener.accept().unwrap().0].map(|stream| Connection::new(stream).unwrap());
+        batch.trust();
+        worker.trust();
+        let environment = vec![Bytes(b"PATH=/usr/bin:/bin".to_vec()), Bytes(b"NAME=value".to_vec())];
+        let temporary = room.0.path().to_owned();
+        let terms = Terms { environment, temporary, has_own_temporary: true, patience, mask: 0o22, ..Terms::default() };
+        let mut session = Session::new(worker, terms, slots).unwrap();
+        assert!(matches!(next(&mut batch), Message::Evidence(_)));
+        session.host.hide(batch.file());
+        (session, batch)
+    }
+
+    /// The next message but beats, once it is there.
+    fn next(connection: &mut Connection) -> Message {
+        loop {
+            connection.flush();
+            let read = connection.read();
+            match connection.next().unwrap() {
+                Some(Message::Beat) => {}
+                Some(message) => return message,
+                None => {
+                    read.unwrap();
+                    thread::sleep(Duration::from_millis(1));
+                }
+            }
+        }
+    }
+
+    /// What a worker says of a command up to its end: its texts, and the answer without its time.
+    fn answer_of(batch: &mut Connection, wanted: u64) -> ([String; 2], Answer) {
+        let mut said = [String::new(), String::new()];
+        loop {
+            match next(batch) {
+                Message::Said(number, is_error, part) if number == wanted => said[usize::from(is_error)] += std::str::from_utf8(&part.0).unwrap(),
+                Message::Ended(number, answer) if number == wanted => return (said, Answer { took: 0, ..answer }),
+                Message::Began(number) if number == wanted => {}
+                other => panic!("{other:?}"),
+            }
+        }
+    }
+
+    /// What this says to a worker as its batch, and how the worker's time ends. Both are in a process of their own.
+    fn work(patience: u64, slots: u32, wanted: &End, batch: impl FnOnce(&mut Connection, &Room) + Send) {
+        in_own_process(|| {
+            let room = Room::new();
+            let (mut session, mut connection) = begun(&room, patience, slots);
+            let own = session.folder.path().to_owned();
+            let end = thread::scope(|scope| {
+                let room = &room;
+                // The connection is there until the worker's time has ended.
+                let says = scope.spawn(move || {
+                    batch(&mut connection, room);
+                    connection
+                });
+                let end = session.run();
+                says.join().unwrap();
+                end
+            });
+            assert_eq!(end, *wanted);
+            assert!(own.is_dir());
+            session.leave();
+            assert!(!own.exists(), "nothing is left");
+        });
+    }
+
+    fn shell(script: &str) -> Order {
+        Order { words: ["sh", "-c", script].map(String::from).to_vec(), ..Order::default() }
+    }
+
+    #[test]
+    fn a_command_runs_and_says_how_it_ended() {
+        work(LONG, 2, &End::Bye, |batch, room| {
+            let (folder, made) = (room.0.path().to_string_lossy().into_owned(), room.path("made"));
+            let script = "pwd; echo $NAME$A >&2; umask; echo text > made; exit 3";
+            let products = vec![made, room.path("missing")];
+            batch.send(&Message::Start(
+                7,
+                Order { folder: folder.clone(), products, variables: vec![("A".into(), Some("b".into()))], ..shell(script) },
+            ));
+            let (said, answer) = answer_of(batch, 7);
+            assert_eq!(said, [format!("{folder}\n0022\n"), "valueb\n".into()]);
+            assert_eq!(answer, Answer { code: 3, products: vec![Some(5), None], ..Answer::default() });
+            batch.send(&Message::Start(8, shell("kill -ABRT $$")));
+            let (_, answer) = answer_of(batch, 8);
+            assert_eq!((answer.code, answer.signal), (134, Some(6)));
+            batch.send(&Message::Bye);
+        });
+    }
+
+    #[test]
+    fn a_command_with_files_of_its_own_runs_in_a_folder_of_its_own() {
+        work(LONG, 2, &End::Bye, |batch, room| {
+            let files = |reads: &str, writes: &str| Order {
+                folders: vec!["a".into(), "b".into()],
+                products: vec![writes.into()],
+                inputs: Some(vec![reads.into()]),
+                ..shell("pwd; cat a/in > b/out; echo $TMPDIR; echo $PWD")
+            };
+            batch.send(&Message::Start(9, Order { variables: vec![("TMPDIR".into(), None)], ..files("a/in", "b/out") }));
+            batch.send(&Message::Part(9, 0, Part(b"te".to_vec())));
+            batch.send(&Message::Part(9, 0, Part(b"xt".to_vec())));
+            batch.send(&Message::Whole(9, 0, Digest::of(b"text").0));
+            assert_eq!(next(batch), Message::Began(9));
+            let Message::Said(9, false, said) = next(batch) else { panic!("it says its folder") };
+            let said = String::from_utf8(said.0).unwrap();
+            let [folder, temporary, of_shell] = said.lines().collect::<Vec<_>>()[..] else { panic!("{said}") };
+            assert!(folder.ends_with("/9") && Path::new(folder).starts_with(temporary) && of_shell == folder, "{said}");
+            assert!(Path::new(temporary).starts_with(room.0.path()), "{said}");
+            assert_eq!(next(batch), Message::Part(9, 0, Part(b"text".to_vec())));
+            assert_eq!(next(batch), Message::Whole(9, 0, Digest::of(b"text").0));
+            assert!(matches!(next(batch), Message::Ended(9, Answer { code: 0, products, fault, .. }) if products == [Some(4)] && fault.is_empty()));
+            while Path::new(folder).exists() {
+                thread::sleep(Duration::from_millis(5));
+            }
+            // What is missing isn't sent, nor is what a command has made that fails.
+            batch
+                .send(&Message::Start(10, Order { inputs: Some(Vec::new()), products: vec!["a".into(), "b".into()], ..shell("echo x > a; exit 4") }));
+            assert_eq!(next(batch), Message::Began(10));
+            assert!(matches!(next(batch), Message::Ended(10, Answer { code: 4, products, .. }) if products == [Some(2), None]));
+            batch.send(&Message::Bye);
+        });
+    }
+
+    #[test]
+    fn commands_with_files_wait_for_a_slot() {
+        work(LONG, 1, &End::Bye, |batch, room| {
+            let go = room.path("go");
+            let waits = shell(&format!("until [ -e {} ]; do sleep 0.01; done", go.display()));
+            for number in [1, 2] {
+                batch.send(&Message::Start(number, Order { inputs: Some(Vec::new()), ..waits.clone() }));
+            }
+            batch.send(&Message::Start(3, shell("echo beside")));
+            assert_eq!(next(batch), Message::Began(1));
+            assert_eq!(answer_of(batch, 3).0[0], "beside\n", "a command on the shared disk has its slot from the batch");
+            fs::write(go, "").unwrap();
+            let mut further = [(); 3].map(|()| match next(batch) {
+                Message::Began(number) => (number, "begins"),
+                Message::Ended(number, Answer { code: 0, .. }) => (number, "ends"),
+                other => panic!("{other:?}"),
+            });
+            further.sort_unstable();
+            assert_eq!(further, [(1, "ends"), (2, "begins"), (2, "ends")]);
+            batch.send(&Message::Bye);
+        });
+    }
+
+    #[test]
+    fn files_that_cannot_be_taken_are_a_fault() {
+        work(LONG, 1, &End::Bye, |batch, _| {
+            let with_file =
+                |folder: &str| Order { folders: vec![folder.into()], inputs: Some(vec![format!("{folder}/in").into()]), ..shell("echo on") };
+            batch.send(&Message::Start(1, with_file("a")));
+            batch.send(&Message::Part(1, 0, Part(b"text".to_vec())));
+            batch.send(&Message::Whole(1, 0, Digest::of(b"other").0));
+            assert_eq!(answer_of(batch, 1).1.fault, "it can't take files: it came otherwise than it was sent");
+            batch.send(&Message::Start(2, with_file("a/b/c")));
+            assert!(answer_of(batch, 2).1.fault.starts_with("it has no room for files: "));
+            // Parts of a command that is over change nothing.
+            batch.send(&Message::Part(2, 0, Part(b"text".to_vec())));
+            batch.send(&Message::Start(3, shell("echo on")));
+            assert_eq!(answer_of(batch, 3).0[0], "on\n");
+            batch.send(&Message::Bye);
+        });
+    }
+
+    #[test]
+    fn a_command_waits_for_its_folder() {
+        work(LONG, 1, &End::Bye, |batch, room| {
+            let late = room.path("late");
+            batch.send(&Message::Start(1, Order { folder: late.to_string_lossy().into_owned(), ..shell("pwd") }));
+            batch.send(&Message::Start(2, shell("echo meanwhile")));
+            assert_eq!(answer_of(batch, 2).0[0], "meanwhile\n");
+            fs::create_dir(&late).unwrap();
+            assert_eq!(answer_of(batch, 1).0[0], format!("{}\n", late.display()));
+            batch.send(&Message::Bye);
+        });
+    }
+
+    #[test]
+    fn a_command_ends_when_the_batch_says_so() {
+        work(LONG, 1, &End::Bye, |batch, room| {
+            let killed = |code: i32, signal: i32| Answer { code, signal: Some(signal), ..Answer::default() };
+            batch.send(&Message::Start(1, shell("sleep 300")));
+            batch.send(&Message::Start(2, Order { inputs: Some(vec!["in".into()]), ..shell("sleep 300") }));
+            batch.send(&Message::End(2, TERM));
+            assert_eq!(answer_of(batch, 2).1, killed(143, TERM), "it hasn't begun");
+            batch.send(&Message::End(1, TERM));
+            assert_eq!(answer_of(batch, 1).1, killed(143, TERM));
+            let ready = room.path("ready");
+            batch.send(&Message::Start(3, shell(&format!("trap '' TERM; touch {}; while :; do sleep 0.05; done", ready.display()))));
+            while !ready.exists() {
+                thread::sleep(Duration::from_millis(5));
+            }
+            let begun = Instant::now();
+            batch.send(&Message::End(3, TERM));
+            assert_eq!(answer_of(batch, 3).1, killed(137, KILL));
+            assert!(begun.elapsed() >= GRACE);
+            batch.send(&Message::Bye);
+        });
+    }
+
+    #[test]
+    fn a_machine_has_to_be_as_an_order_needs_it() {
+        in_own_process(|| {
+            let room = Room::new();
+            let (mut session, _batch) = begun(&room, LONG, 1);
+            let (file, missing) = (room.path("file"), room.path("missing"));
+            fs::write(&file, "text").unwrap();
+            let changed = fs::metadata(&file).unwrap().mtime();
+            let mut fault = |order: Order| session.check(&order).err().unwrap_or_default();
+            let of_folder = |folder: &Path| Order { folder: folder.to_string_lossy().into_owned(), ..Order::default() };
+            let of_folders = |inputs| Order { folders: vec![missing.clone()], inputs, ..Order::default() };
+            let witness =
+                |path: &PathBuf, size, changed| Order { witnesses: vec![Witness { path: path.clone(), size, changed }], ..Order::default() };
+            let tool = |path: &PathBuf, text: &str| Order { tool: Some((path.clone(), Digest::of(text.as_bytes()).0)), ..Order::default() };
+            let (has_no, other) = (format!("it has no {}", missing.display()), format!("its {} isn't the batch's", file.display()));
+            let contents = |path: &PathBuf| format!("its {} has other contents", path.display());
+            let cases = [
+                (Order::default(), String::new()),
+                (of_folder(room.0.path()), String::new()),
+                (of_folder(&missing), has_no.clone()),
+                (of_folder(&file), format!("it has no {}", file.display())),
+                (of_folders(None), has_no.clone()),
+                (of_folders(Some(Vec::new())), String::new()),
+                (witness(&file, 4, changed), String::new()),
+                (witness(&file, 5, changed), other.clone()),
+                (witness(&file, 4, changed + 1), other),
+                (witness(&missing, 4, changed), has_no),
+                (tool(&file, "text"), String::new()),
+                (tool(&missing, "text"), contents(&missing)),
+                (tool(&file, "other"), contents(&file)),
+            ];
+            for (order, wanted) in cases {
+                assert_eq!(fault(order.clone()), wanted, "{order:?}");
+            }
+            session.leave();
+        });
+    }
+
+    #[test]
+    fn a_command_has_its_temporary_files_where_its_worker_has_them() {
+        in_own_process(|| {
+            let room = Room::new();
+            let (mut session, _batch) = begun(&room, LONG, 1);
+            let [of_batch, of_worker] = [room.0.path(), session.folder.path()].map(|path| path.to_string_lossy().into_owned());
+            let value = |session: &Session, name: &str, value: &str, own: Option<&str>| session.value(name, Some(&value.into()), own.map(Path::new));
+            let cases = [
+                ("TMPDIR", of_batch.as_str(), None, of_worker.as_str()),
+                ("TMPDIR", "/other", None, "/other"),
+                ("TMPDIR", "/other", Some("/own"), &of_worker),
+                ("PWD", "/other", None, "/other"),
+                ("PWD", "/other", Some("/own"), "/own"),
+                ("NAME", &of_batch, Some("/own"), &of_batch),
+            ];
+            for (name, given, own, wanted) in cases {
+                assert_eq!(value(&session, name, given, own).as_deref(), Some(wanted), "{name} {given}");
+            }
+            assert_eq!([session.value("TMPDIR", None, None), session.value("NAME", None, None)], [None, None]);
+            session.terms.has_own_temporary = false;
+            assert_eq!(value(&session, "TMPDIR", &of_batch, None), Some(of_batch));
+            session.leave();
+        });
+    }
+
+    #[test]
+    fn it_ends_if_the_batch_says_so_or_is_gone() {
+        work(LONG, 1, &End::Refused("no".into()), |batch, _| batch.send(&Message::Refusal("no".into())));
+        work(LONG, 1, &End::Signal(TERM), |batch, _| {
+            batch.send(&Message::Start(1, shell("sleep 300")));
+            system::signal_process(system::process(), TERM);
+            while next(batch) != Message::Bye {}
+        });
+        work(LONG, 1, &End::Lost, |batch, _| {
+            let listener = TcpListener::bind("127.0.0.1:0").unwrap();
+            let other = TcpStream::connect(listener.local_addr().unwrap()).unwrap();
+            *batch = Connection::new(other).unwrap();
+        });
+        // It says that it is there, and gives up a batch that doesn't.
+        work(1500, 1, &End::Lost, |batch, _| {
+            let mut beats = 0;
+            while batch.read().is_ok() && beats < 1 {
+                beats += usize::from(batch.next().unwrap() == Some(Message::Beat));
+                thread::sleep(Duration::from_millis(1));
+            }
+            assert_eq!(beats, 1);
+        });
+    }
+
+    #[test]
+    fn it_sleeps_while_nothing_comes() {
+        in_own_process(|| {
+            let room = Room::new();
+            let (mut session, mut batch) = begun(&room, LONG, 1);
+            let slept = |session: &Session| {
+                let begun = Instant::now();
+                session.wait();
+                begun.elapsed()
+            };
+            let longest = Duration::from_millis(LOOK.unsigned_abs().into());
+            assert!(slept(&session) >= longest * 9 / 10);
+            batch.send(&Message::Bye);
+            // Of ten sleeps with a message that nobody takes, the machine is busy in one at least.
+            assert!((0..10).any(|_| slept(&session) < longest / 2), "it hears of a message");
+            session.leave();
+        });
+    }
+
+    #[test]
+    fn a_worker_without_the_batchs_folder_has_one_of_its_own() {
+        let room = Room::new();
+        let shared = room.path("shared");
+        fs::create_dir(&shared).unwrap();
+        fs::set_permissions(&shared, PermissionsExt::from_mode(0o700)).unwrap();
+        let own = own_folder(&shared).unwrap();
+        assert!(own.path().starts_with(&shared));
+        own.remove();
+        let own = own_folder(&room.path("missing")).unwrap();
+        assert!(own.path().starts_with(env::temp_dir()) && !own.path().starts_with(room.0.path()));
+        own.remove();
     }
 }

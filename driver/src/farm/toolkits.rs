@@ -113,6 +113,11 @@ fn of_nvcc(nvcc: &Path) -> Vec<PathBuf> {
     [nvcc.to_owned(), Path::new(said.cicc).join("cicc")].into_iter().chain(beside).chain(libraries).chain(parts).collect()
 }
 
+/// Whether a file of a toolkit is a tool that compiles device code, or one that such a tool reads.
+pub fn is_of_devices(file: &Path) -> bool {
+    file.ends_with("cicc") || file.ends_with("ptxas") || file.extension() == Some(OsStr::new("bc"))
+}
+
 /// The files that a batch's tools consist of, and their digests: those of the nvcc that calls without another mean, if there is one.
 pub fn tools(settings: &Settings) -> Vec<(PathBuf, [u8; 32])> {
     let path = env::var_os("PATH").unwrap_or_default();

@@ -1,7 +1,7 @@
 //! Files on their way between a batch and a worker: in parts behind messages, as the other side takes them, and into new files.
 use super::connections::Connection;
-use super::fields::Bytes;
 use super::messages::Message;
+use super::packed::{LONGEST_PART, Part};
 use crate::cache::digest::Hasher;
 use std::collections::VecDeque;
 use std::fs::{self, File, Metadata};
@@ -9,8 +9,6 @@ use std::io::{self, Read, Write};
 use std::os::unix::fs::MetadataExt;
 use std::path::{Path, PathBuf};
 
-/// How many bytes of a file go into a message.
-const PART: usize = 1 << 16;
 /// How many bytes may wait for the other side before more are read.
 const AHEAD: usize = 1 << 18;
 
@@ -127,10 +125,10 @@ impl Outgoing {
             begun @ None => begun.insert((File::open(&self.path)?, Hasher::default())),
         };
         let mut part = Vec::new();
-        Read::by_ref(file).take(PART as u64).read_to_end(&mut part)?;
+        Read::by_ref(file).take(LONGEST_PART as u64).read_to_end(&mut part)?;
         if !part.is_empty() {
             hasher.update(&part);
-            return Ok(Message::Part(self.number, self.place, Bytes(part)));
+            return Ok(Message::Part(self.number, self.place, Part(part)));
         }
         let is_same = state_of(&file.metadata()?) == self.state && state_of(&fs::metadata(&self.path)?) == self.state;
         let digest = hasher.clone().finish().0;
@@ -196,6 +194,11 @@ impl Arrivals {
         Ok(())
     }
 
+    /// Whether the one at this place has come.
+    pub fn has(&self, place: u32) -> bool {
+        self.files.get(place as usize).is_some_and(|arrival| arrival.size.is_some())
+    }
+
     /// Whether all have come.
     pub fn are_whole(&self) -> bool {
         self.files.iter().all(|arrival| arrival.size.is_some())
@@ -222,6 +225,7 @@ impl Arrival {
 #[cfg(test)]
 mod tests {
     use super::*;
+    use crate::cache::digest::Digest;
     use std::net::{TcpListener, TcpStream};
     use std::thread;
     use std::time::Duration;
@@ -284,7 +288,7 @@ mod tests {
     #[test]
     fn files_come_as_they_went() {
         let scratch = Scratch::new("come");
-        let contents = [vec![], b"short".to_vec(), (0..3 * PART + 7).map(|at| at.to_le_bytes()[0] ^ at.to_le_bytes()[1]).collect()];
+        let contents = [vec![], b"short".to_vec(), (0..3 * LONGEST_PART + 7).map(|at| at.to_le_bytes()[0] ^ at.to_le_bytes()[1]).collect()];
         let mut departures = Departures::default();
         for (place, content) in contents.iter().enumerate() {
             departures.add(4, place, &scratch.file(&format!("from{place}"), content)).unwrap();
@@ -304,8 +308,8 @@ mod tests {
     fn a_file_that_changes_meanwhile_is_not_sent_to_its_end() {
         let scratch = Scratch::new("changes");
         let changes: [Change; 4] = [
-            |path| fs::write(path, vec![2; 3 * PART]).unwrap(),
-            |path| fs::write(path, vec![1; 2 * PART]).unwrap(),
+            |path| fs::write(path, vec![2; 3 * LONGEST_PART]).unwrap(),
+            |path| fs::write(path, vec![1; 2 * LONGEST_PART]).unwrap(),
             |path| fs::remove_file(path).unwrap(),
             |path| {
                 fs::copy(path, path.with_extension("new")).unwrap();
@@ -313,7 +317,7 @@ mod tests {
             },
         ];
         for (number, change) in changes.into_iter().enumerate() {
-            let path = scratch.file(&format!("from{number}"), &vec![1; 3 * PART]);
+            let path = scratch.file(&format!("from{number}"), &vec![1; 3 * LONGEST_PART]);
             fs::File::options().write(true).open(&path).unwrap().set_modified(std::time::UNIX_EPOCH).unwrap();
             let mut first = Outgoing { number: 7, place: 0, path: path.clone(), state: state_of(&fs::metadata(&path).unwrap()), begun: None };
             assert!(matches!(first.next(), Ok(Message::Part(7, 0, _))));
@@ -335,12 +339,13 @@ mod tests {
     #[test]
     fn no_more_is_read_than_the_other_side_takes() {
         let scratch = Scratch::new("ahead");
-        let path = scratch.file("long", &vec![3; 40 * AHEAD]);
+        let part: Vec<u8> = (0..LONGEST_PART / 32).flat_map(|at| Digest::of(&at.to_le_bytes()).0).collect();
+        let path = scratch.file("long", &part.repeat(40 * AHEAD / LONGEST_PART));
         let [mut one, _other] = pair();
         let mut departures = Departures::default();
         departures.add(1, 0, &path).unwrap();
         departures.pump(&mut one);
-        assert!(one.backlog() >= AHEAD && one.backlog() < AHEAD + 2 * PART && departures.has(1), "{}", one.backlog());
+        assert!(one.backlog() >= AHEAD && one.backlog() < AHEAD + 2 * LONGEST_PART && departures.has(1), "{}", one.backlog());
     }
 
     #[test]
@@ -348,7 +353,7 @@ mod tests {
         let scratch = Scratch::new("cut");
         let paths = ["one", "two"].map(|name| scratch.0.join(name));
         let mut arrivals = Arrivals::new(paths.iter());
-        let digest_of = |text: &[u8]| crate::cache::digest::Digest::of(text).0;
+        let digest_of = |text: &[u8]| Digest::of(text).0;
         arrivals.take(0, b"who").unwrap();
         assert!(!arrivals.have(&[Some(3), None]), "its end hasn't come");
         assert!(arrivals.end(0, &digest_of(b"whole")).is_err() && !arrivals.have(&[Some(3), None]) && !arrivals.have(&[None, None]));

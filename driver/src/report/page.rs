@@ -261,6 +261,19 @@ mod tests {
     }
 
     #[test]
+    fn a_source_has_what_its_commands_took_or_else_its_calls() {
+        let log = small();
+        let rows: Vec<Vec<String>> = sources(&log)
+            .split("<tr>")
+            .skip(2)
+            .map(|row| row.split("<td").skip(1).map(|cell| cell.split('>').nth(1).unwrap().split('<').next().unwrap().to_owned()).collect())
+            .collect();
+        let [counts, work, longest] = [2, 3, 4].map(|at| rows.iter().map(|row| row[at].trim_end_matches("&nbsp;s")).collect::<Vec<_>>().join(" "));
+        assert_eq!(sources(&log).matches("<code>").count(), 4);
+        assert_eq!((counts.as_str(), work.as_str(), longest.as_str()), ("1 1 1 1", "3.00 3.00 1.00 0.50", "4.00 3.00 1.00 0.50"));
+    }
+
+    #[test]
     fn texts_of_a_log_are_no_code_of_the_page() {
         let mut log = Log::default();
         log.add(SMALL.replace("a.cu", "<b>&amp;\\u0022.cu").replace("it links", "<script>").as_bytes());

@@ -1,0 +1,679 @@
+//! Tests of the batch's side of a farm, with workers that say what a test wants, and of what runs where the batch does.
+use super::*;
+use crate::cache::digest::Digest;
+use crate::forked::in_own_process;
+use crate::machine::Record;
+use connections::Connection;
+use messages::{Evidence, Introduction, VERSION};
+use packed::Part;
+use secrets::Side;
+use std::env;
+use std::net::TcpStream;
+use std::thread::sleep;
+
+/// How long a test waits for what is to come.
+const LONG: Duration = Duration::from_secs(1000);
+
+/// A folder of a test, which goes with it.
+struct Room(Rc<CallFolder>);
+
+impl Room {
+    fn new() -> Room {
+        Room(Rc::new(CallFolder::take(&env::temp_dir(), "farm-of-a-test").unwrap()))
+    }
+
+    fn path(&self, name: &str) -> String {
+        self.0.path().join(name).to_string_lossy().into_owned()
+    }
+
+    /// A batch whose workers a command starts.
+    fn farm(&self, command: &str, change: impl FnOnce(&mut Conditions)) -> Farm {
+        let settings = Settings { nvcc: "/missing".into(), temporary: self.0.path().into(), slots: Some(1), ..Settings::default() };
+        let commands = vec![command.into()];
+        let mut conditions = Conditions { commands, patience: LONG, wait: LONG, limit: None, sends_files: false };
+        change(&mut conditions);
+        let path = Environment::own().with("PATH", "/usr/bin:/bin".as_ref());
+        Farm::new(conditions, &settings, path, &self.0).unwrap()
+    }
+}
+
+impl Drop for Room {
+    fn drop(&mut self) {
+        self.0.remove();
+    }
+}
+
+/// A worker that does what a test wants.
+struct Worker(Connection);
+
+impl Worker {
+    /// Connects, and says who it is. The batch has taken that once this has an answer.
+    fn introduced(farm: &mut Farm, name: &str, process: u8) -> Worker {
+        let stream = TcpStream::connect(("127.0.0.1", farm.listener.local_addr().unwrap().port())).unwrap();
+        let mut worker = Worker(Connection::new(stream).unwrap());
+        worker.0.trust();
+        worker.say(&Message::Greeting { version: VERSION, once: [7; 32] });
+        let Message::Challenge { once, .. } = worker.hear(farm) else { panic!("no challenge") };
+        let proof = farm.secret.proof(Side::Worker, &[7; 32], &once);
+        worker.say(&Message::Hello { proof, worker: Introduction { name: name.into(), process: [process; 32], slots: 1 } });
+        worker
+    }
+
+    /// One that gets work.
+    fn ready(farm: &mut Farm, name: &str, process: u8) -> Worker {
+        let mut worker = Worker::introduced(farm, name, process);
+        assert!(matches!(worker.hear(farm), Message::Terms(_)));
+        worker.show(farm);
+        worker
+    }
+
+    /// Shows what the batch wants to see, and waits until it gets work.
+    fn show(&mut self, farm: &mut Farm) {
+        let shared = farm.wanted.shared.clone().map(Bytes);
+        self.say(&Message::Evidence(Evidence { shared, time: host::nanoseconds(), ..Evidence::default() }));
+        let ready = farm.members.iter().filter(|member| member.is_ready()).count();
+        while farm.members.iter().filter(|member| member.is_ready()).count() == ready {
+            farm.wait(5);
+        }
+    }
+
+    fn say(&mut self, message: &Message) {
+        self.0.send(message);
+    }
+
+    /// What has come, but for beats, once the batch has had some time.
+    fn heard_by_now(&mut self, farm: &mut Farm) -> Option<Message> {
+        farm.wait(2);
+        farm.look_at_times();
+        let is_gone = self.0.read().is_err();
+        match self.0.next().unwrap() {
+            None if is_gone => Some(Message::Bye),
+            found => found.filter(|message| *message != Message::Beat),
+        }
+    }
+
+    /// The next message but beats. The end of the connection is `Bye`.
+    fn hear(&mut self, farm: &mut Farm) -> Message {
+        loop {
+            if let Some(message) = self.heard_by_now(farm) {
+                return message;
+            }
+        }
+    }
+
+    /// The next command: its number and what it is.
+    fn order(&mut self, farm: &mut Farm) -> (u64, Order) {
+        match self.hear(farm) {
+            Message::Start(number, order) => (number, order),
+            other => panic!("{other:?}"),
+        }
+    }
+
+    /// Gets a command, and says how it ended.
+    fn answer(&mut self, farm: &mut Farm, answer: Answer) {
+        let (number, order) = self.order(farm);
+        let products = order.products.iter().map(|_| None).collect();
+        self.say(&Message::Ended(number, Answer { products, ..answer }));
+    }
+}
+
+fn with_code(code: i32) -> Answer {
+    Answer { code, ..Answer::default() }
+}
+
+fn with_fault(fault: &str) -> Answer {
+    Answer { fault: fault.into(), ..Answer::default() }
+}
+
+fn job(line: &str) -> Job {
+    Job { words: line.split(' ').map(String::from).collect(), ..Job::default() }
+}
+
+fn shell(script: &str) -> Job {
+    Job { words: ["sh", "-c", script].map(String::from).to_vec(), ..Job::default() }
+}
+
+/// The next end: which job's, its status, its output and its messages.
+fn next_end(farm: &mut Farm) -> (usize, i32, String, String) {
+    farm.want(false);
+    match farm.next() {
+        Event::Ended(number, ended) => {
+            let [out, errors] = [ended.out, ended.errors].map(|text| String::from_utf8(text).unwrap());
+            (number, ended.status.code, out, errors)
+        }
+        other => panic!("{other:?}"),
+    }
+}
+
+/// The names of machines that get no work, and why.
+fn left_out(farm: &Farm) -> String {
+    farm.left_out.iter().map(|(name, why)| [name, ": ", why, "\n"].concat()).collect()
+}
+
+/// Makes a test of a batch, in a process of its own. What starts its workers waits for the batch's end.
+fn with_farm(change: impl FnOnce(&mut Conditions), test: impl FnOnce(&mut Farm, &Room)) {
+    in_own_process(|| {
+        let room = Room::new();
+        let mut farm = room.farm("cat > /dev/null", change);
+        test(&mut farm, &room);
+        farm.leave();
+        assert_eq!(farm.starters.running, 0, "what starts workers ends with its standard input");
+    });
+}
+
+#[test]
+fn a_command_goes_to_a_worker() {
+    with_farm(
+        |_| (),
+        |farm, room| {
+            let mut worker = Worker::ready(farm, "n1", 1);
+            fs::write(room.path("k.c"), "text").unwrap();
+            // Files of plans aren't looked at: they are the batch's own. Here all are below the folder for temporary files.
+            farm.plans = "/missing".into();
+            let variables = vec![("A".into(), Some("1".into())), ("B".into(), None)];
+            let given = Job { folder: room.path(""), variables: variables.clone(), ..job("make k.c -k.c missing.c k") };
+            farm.want(true);
+            assert!(matches!(farm.next(), Event::Slot));
+            farm.start(4, &given).unwrap();
+            assert!(!farm.may_take(), "its slot is taken");
+            let (number, order) = worker.order(farm);
+            assert_eq!((&order.words, &order.folder, &order.variables), (&given.words, &given.folder, &variables));
+            let [Witness { path, size: 4, .. }] = &order.witnesses[..] else { panic!("{order:?}") };
+            assert_eq!(path, &Path::new(&given.folder).join("k.c"));
+            assert!(order.tool.is_none() && order.inputs.is_none() && order.products.is_empty());
+            for (is_error, text) in [(false, "o"), (true, "err"), (false, "ut")] {
+                worker.say(&Message::Said(number, is_error, Bytes(text.into())));
+            }
+            let took = 2_000_000;
+            worker.say(&Message::Ended(number, Answer { code: 3, signal: Some(9), dumped: true, took, ..Answer::default() }));
+            farm.want(false);
+            let Event::Ended(4, ended) = farm.next() else { panic!("it hasn't ended") };
+            assert_eq!(ended.status, Status { code: 3, signal: Some(9), dumped: true });
+            assert_eq!((ended.out, ended.errors), (b"out".to_vec(), b"err".to_vec()));
+            assert!((ended.times.1 - ended.times.0 - 2.0).abs() < 0.01, "{:?}", ended.times);
+            assert!(farm.may_take() && farm.attempts.is_empty());
+            farm.plans = room.0.path().into();
+            assert!(farm.witnesses(&given).is_empty());
+        },
+    );
+}
+
+#[test]
+fn a_worker_shows_a_tool_that_is_not_of_the_toolkit() {
+    with_farm(
+        |_| (),
+        |farm, room| {
+            let tool = PathBuf::from(room.path("g++"));
+            fs::write(&tool, "tool").unwrap();
+            fs::set_permissions(&tool, std::os::unix::fs::PermissionsExt::from_mode(0o755)).unwrap();
+            let path = |value: &str| vec![("PATH".into(), Some(value.into()))];
+            let (here, digest) = (path(&room.path("")), Digest::of(b"tool").0);
+            let with = |line: &str, variables: &[(String, Option<String>)]| Job { variables: variables.to_vec(), ..job(line) };
+            let tool_of = |farm: &mut Farm, job: &Job| program_of(job).and_then(|found| farm.tool(found));
+            assert_eq!(tool_of(farm, &with("g++ -c k.c", &here)), Some((tool.clone(), digest)));
+            assert_eq!(tool_of(farm, &with("cache g++ -c k.c", &here)), Some((tool.clone(), digest)), "the launcher isn't it");
+            assert_eq!(tool_of(farm, &with("g++ -c k.c", &path("/missing"))), None);
+            assert_eq!(tool_of(farm, &with("echo g", &here)), None);
+            fs::rename(&tool, room.path("nvcc")).unwrap();
+            let nvcc = PathBuf::from(room.path("nvcc"));
+            assert_eq!(tool_of(farm, &with("nvcc -c k.cu", &here)), Some((nvcc.clone(), digest)));
+            farm.wanted.tools.push((nvcc, digest));
+            assert_eq!(tool_of(farm, &with("nvcc -c k.cu", &here)), None, "each worker has shown it");
+        },
+    );
+}
+
+#[test]
+fn products_have_their_names_once_they_are_whole() {
+    with_farm(
+        |_| (),
+        |farm, room| {
+            let mut worker = Worker::ready(farm, "n1", 1);
+            let ptxas = Job { folder: room.path(""), ..job("ptxas -o k.cubin k.ptx") };
+            farm.start(0, &ptxas).unwrap();
+            let (number, order) = worker.order(farm);
+            let made = order.products[0].clone();
+            assert!(made.parent().unwrap().is_dir() && order.folders == [made.parent().unwrap()] && order.words[2].ends_with("/k.cubin"));
+            fs::write(&made, "cubin").unwrap();
+            assert!(!Path::new(&room.path("k.cubin")).exists());
+            worker.say(&Message::Ended(number, Answer { products: vec![Some(5)], ..Answer::default() }));
+            assert_eq!(next_end(farm), (0, 0, String::new(), String::new()));
+            assert_eq!(fs::read_to_string(room.path("k.cubin")).unwrap(), "cubin");
+            assert!(!made.parent().unwrap().exists());
+            // One that is as the worker sees it a little later counts too.
+            farm.start(1, &ptxas).unwrap();
+            let (number, order) = worker.order(farm);
+            worker.say(&Message::Ended(number, Answer { products: vec![Some(3)], ..Answer::default() }));
+            while farm.late.is_empty() {
+                farm.wait(5);
+            }
+            farm.look_at_times();
+            assert_eq!((farm.late.len(), farm.events.len()), (1, 0));
+            fs::write(&order.products[0], "new").unwrap();
+            assert_eq!(next_end(farm).1, 0);
+            assert_eq!(fs::read_to_string(room.path("k.cubin")).unwrap(), "new");
+            // One that the worker doesn't see either fails.
+            farm.start(2, &ptxas).unwrap();
+            worker.answer(farm, with_code(0));
+            assert_eq!(next_end(farm), (2, 1, String::new(), "zigrunk-batch: ptxas ended with 0, and what it makes is missing\n".into()));
+            // A draft that can't be renamed fails too.
+            farm.start(3, &ptxas).unwrap();
+            let (number, order) = worker.order(farm);
+            fs::write(&order.products[0], "cubin").unwrap();
+            fs::remove_file(room.path("k.cubin")).unwrap();
+            fs::create_dir(room.path("k.cubin")).unwrap();
+            worker.say(&Message::Ended(number, Answer { products: vec![Some(5)], ..Answer::default() }));
+            let (_, code, _, errors) = next_end(farm);
+            assert!(code == 1 && errors.starts_with("zigrunk-batch: cannot rename what ptxas made: "), "{errors}");
+        },
+    );
+}
+
+#[test]
+fn a_command_of_a_worker_that_is_gone_runs_elsewhere() {
+    with_farm(
+        |_| (),
+        |farm, _| {
+            let gone = Worker::ready(farm, "n1", 1);
+            farm.start(6, &job("make a")).unwrap();
+            let mut waits = Worker::ready(farm, "n2", 2);
+            farm.start(7, &job("make b")).unwrap();
+            farm.start(8, &job("make c")).unwrap();
+            assert_eq!(waits.order(farm).1.words[1], "b");
+            assert_eq!(farm.waiting.len(), 1, "no worker is free for the third");
+            drop(gone);
+            while farm.members.len() == 2 {
+                farm.wait(5);
+            }
+            assert_eq!(farm.waiting.iter().map(|attempt| attempt.number).collect::<Vec<_>>(), [6, 8], "what was lost comes first");
+            waits.say(&Message::Ended(1, with_code(0)));
+            assert_eq!(next_end(farm).0, 7);
+            for (number, word) in [(6, "a"), (8, "c")] {
+                let begun = Instant::now();
+                while farm.attempts.is_empty() && begun.elapsed() < LONG {
+                    farm.send_waiting();
+                    farm.wait(5);
+                }
+                let (sent, order) = waits.order(farm);
+                assert_eq!(order.words[1], word);
+                waits.say(&Message::Ended(sent, with_code(0)));
+                assert_eq!(next_end(farm).0, number);
+            }
+        },
+    );
+}
+
+#[test]
+fn a_command_that_loses_workers_fails_in_the_end() {
+    with_farm(
+        |_| (),
+        |farm, _| {
+            let mut number = 0;
+            farm.start(9, &job("/b/make a")).unwrap();
+            while farm.events.is_empty() {
+                let mut worker = Worker::ready(farm, "n1", number);
+                number += 1;
+                farm.send_waiting();
+                worker.order(farm);
+                drop(worker);
+                while !farm.members.is_empty() {
+                    farm.wait(5);
+                }
+            }
+            assert_eq!(usize::from(number), MOST_LOST);
+            assert_eq!(next_end(farm), (9, 1, String::new(), format!("zigrunk-batch: make has lost {MOST_LOST} workers\n")));
+        },
+    );
+}
+
+#[test]
+fn a_machine_at_fault_gets_no_work() {
+    with_farm(
+        |_| (),
+        |farm, _| {
+            let mut only = Worker::ready(farm, "n1", 1);
+            farm.start(1, &job("make a")).unwrap();
+            only.answer(farm, with_fault("its /w/k.cu isn't the batch's"));
+            while farm.waiting.is_empty() {
+                farm.wait(5);
+            }
+            assert_eq!(left_out(farm), "", "the file may have changed, and there is no other machine");
+            farm.send_waiting();
+            let mut other = Worker::ready(farm, "n2", 2);
+            only.answer(farm, with_fault("its /w/k.cu isn't the batch's"));
+            while farm.left_out.is_empty() {
+                farm.wait(5);
+            }
+            assert_eq!(left_out(farm), "n1: its /w/k.cu isn't the batch's\n");
+            assert_eq!(only.hear(farm), Message::Refusal("its /w/k.cu isn't the batch's".into()));
+            farm.send_waiting();
+            other.answer(farm, with_code(0));
+            assert_eq!(next_end(farm).1, 0);
+            // Without another machine it's left out for any other fault.
+            farm.start(2, &job("make a")).unwrap();
+            other.answer(farm, with_fault("it has no process for a command"));
+            while farm.left_out.len() == 1 {
+                farm.wait(5);
+            }
+            assert!(left_out(farm).ends_with("n2: it has no process for a command\n") && farm.members.is_empty());
+        },
+    );
+    with_farm(
+        |_| (),
+        |farm, _| {
+            let mut only = Worker::ready(farm, "n1", 1);
+            farm.start(1, &job("make a")).unwrap();
+            for _ in 0..MOST_LOST {
+                farm.send_waiting();
+                only.answer(farm, with_fault("its /w/k.cu isn't the batch's"));
+                while !farm.attempts.is_empty() {
+                    farm.wait(5);
+                }
+            }
+            let text = format!("zigrunk-batch: {MOST_LOST} workers couldn't run make: its /w/k.cu isn't the batch's\n");
+            assert_eq!(next_end(farm), (1, 1, String::new(), text));
+            assert!(farm.waiting.is_empty() && left_out(farm).is_empty());
+        },
+    );
+}
+
+#[test]
+fn what_may_be_a_machines_fault_is_tried_on_another() {
+    with_farm(
+        |_| (),
+        |farm, _| {
+            let (mut one, mut other) = (Worker::ready(farm, "n1", 1), Worker::ready(farm, "n2", 2));
+            // The last of those with as many free slots comes first.
+            farm.start(1, &job("make a")).unwrap();
+            other.answer(farm, with_code(137));
+            while farm.waiting.is_empty() {
+                farm.wait(5);
+            }
+            farm.send_waiting();
+            one.answer(farm, with_code(137));
+            assert_eq!(next_end(farm).1, 137, "there is no third machine");
+            assert_eq!(left_out(farm), "", "both say the same");
+            farm.start(2, &job("make a")).unwrap();
+            let (number, _) = other.order(farm);
+            other.say(&Message::Said(number, true, Bytes(b"as: No space left on device\n".to_vec())));
+            other.say(&Message::Ended(number, with_code(1)));
+            while farm.waiting.is_empty() {
+                farm.wait(5);
+            }
+            farm.send_waiting();
+            one.answer(farm, with_code(2));
+            assert_eq!(next_end(farm), (2, 2, String::new(), String::new()), "the machine's own failure isn't told");
+            assert_eq!(left_out(farm), "n2: make ended with status 1 there, and otherwise on another machine\n");
+            assert!(farm.members.len() == 1 && matches!(other.hear(farm), Message::Refusal(_)));
+            farm.start(3, &job("make a")).unwrap();
+            one.answer(farm, with_code(1));
+            assert_eq!(next_end(farm).1, 1, "a plain failure is tried once");
+        },
+    );
+}
+
+#[test]
+fn a_failure_that_no_machine_is_left_for_counts() {
+    with_farm(
+        |_| (),
+        |farm, _| {
+            let (one, mut other) = (Worker::ready(farm, "n1", 1), Worker::ready(farm, "n2", 2));
+            farm.start(1, &job("make a")).unwrap();
+            farm.start(5, &job("make b")).unwrap();
+            other.answer(farm, with_code(137));
+            while farm.waiting.is_empty() {
+                farm.wait(5);
+            }
+            farm.send_waiting();
+            assert_eq!((farm.waiting.len(), farm.events.len()), (1, 0), "it waits for the other machine");
+            drop(one);
+            while farm.members.len() == 2 {
+                farm.wait(5);
+            }
+            farm.send_waiting();
+            assert_eq!(next_end(farm), (1, 137, String::new(), String::new()));
+            assert_eq!(farm.attempts.len(), 1, "the lost one is on the machine that is left");
+        },
+    );
+}
+
+#[test]
+fn a_command_may_take_so_long() {
+    with_farm(
+        |conditions| conditions.limit = Some(Duration::ZERO),
+        |farm, _| {
+            let mut worker = Worker::ready(farm, "n1", 1);
+            farm.start(1, &job("make a")).unwrap();
+            let (number, _) = worker.order(farm);
+            worker.say(&Message::Said(number, true, Bytes(b"begun\n".to_vec())));
+            assert_eq!(worker.hear(farm), Message::End(number, TERM));
+            worker.say(&Message::Ended(number, with_code(143)));
+            assert_eq!(next_end(farm), (1, 124, String::new(), "begun\nzigrunk-batch: make took longer than 0 seconds\n".into()));
+        },
+    );
+    with_farm(
+        |conditions| conditions.limit = Some(LONG),
+        |farm, _| {
+            let mut worker = Worker::ready(farm, "n1", 1);
+            farm.start(1, &job("make a")).unwrap();
+            worker.order(farm);
+            for _ in 0..3 {
+                farm.looked -= LATE;
+                farm.look_at_times();
+                assert_eq!(worker.heard_by_now(farm), None);
+            }
+            let long_ago = Instant::now().checked_sub(LONG + GRACE * 2);
+            if let Some(long_ago) = long_ago {
+                farm.attempts.values_mut().for_each(|attempt| (attempt.started, attempt.is_ended) = (Some(long_ago), true));
+                farm.end_long_ones();
+                assert!(farm.members.is_empty() && farm.waiting.len() == 1, "a worker that can't end it is given up");
+            }
+        },
+    );
+}
+
+#[test]
+fn without_workers_the_batch_ends() {
+    with_farm(
+        |conditions| conditions.wait = Duration::ZERO,
+        |farm, _| {
+            let Event::Lost(why) = farm.next() else { panic!("it waits") };
+            assert_eq!(why, "there has been no worker for 0 seconds");
+            farm.alone = Instant::now() + LONG;
+            let _worker = Worker::ready(farm, "n1", 1);
+            farm.alone = Instant::now();
+            sleep(Duration::from_millis(2));
+            farm.look_for_workers();
+            assert!(farm.events.is_empty(), "there is one");
+        },
+    );
+    in_own_process(|| {
+        let room = Room::new();
+        let mut farm = room.farm("echo said; exit 3", |_| ());
+        let begun = Instant::now();
+        let Event::Lost(why) = farm.next() else { panic!("it waits") };
+        assert_eq!((why.as_str(), farm.starters.failed.as_deref()), ("there is no worker", Some("echo said; exit 3")));
+        assert!(begun.elapsed() > Duration::from_secs(1), "one may still come");
+        farm.leave();
+    });
+}
+
+#[test]
+fn a_machine_has_one_worker() {
+    with_farm(
+        |_| (),
+        |farm, _| {
+            let mut one = Worker::ready(farm, "n1", 1);
+            farm.start(1, &job("make a")).unwrap();
+            let (number, _) = one.order(farm);
+            let mut second = Worker::introduced(farm, "n1", 2);
+            while farm.members.iter().filter(|member| member.waits().is_some()).count() == 0 {
+                farm.wait(5);
+            }
+            assert_eq!(second.heard_by_now(farm), None, "it waits for the first one's end");
+            let mut again = Worker::introduced(farm, "n1", 1);
+            // The first one of the name is the same process, so that has come again.
+            assert!(matches!(again.hear(farm), Message::Terms(_)));
+            assert_eq!((farm.attempts.len(), farm.waiting.len()), (0, 1));
+            one.say(&Message::Ended(number, with_code(0)));
+            again.show(farm);
+            farm.send_waiting();
+            again.answer(farm, with_code(4));
+            assert_eq!(next_end(farm), (1, 4, String::new(), String::new()), "what the first one says doesn't count");
+            drop(again);
+            assert!(matches!(second.hear(farm), Message::Terms(_)), "now it is the only one");
+            farm.left_out.insert("n2".into(), "it's bad".into());
+            assert_eq!(Worker::introduced(farm, "n2", 3).hear(farm), Message::Refusal("it's bad".into()));
+            farm.conditions.patience = Duration::ZERO;
+            assert_eq!(Worker::introduced(farm, "n1", 4).hear(farm), Message::Refusal("there is another worker of this name".into()));
+        },
+    );
+}
+
+#[test]
+fn who_is_no_worker_goes() {
+    with_farm(
+        |_| (),
+        |farm, _| {
+            let mut stranger = Connection::new(TcpStream::connect(("127.0.0.1", farm.listener.local_addr().unwrap().port())).unwrap()).unwrap();
+            stranger.send(&Message::Bye);
+            while stranger.read().is_ok() {
+                farm.wait(5);
+            }
+            assert!(farm.members.is_empty());
+            // A known one that says what a worker doesn't say gets no work any more.
+            let mut worker = Worker::ready(farm, "n1", 1);
+            worker.say(&Message::Challenge { once: [0; 32], proof: [0; 32] });
+            assert_eq!(worker.hear(farm), Message::Refusal("it says what a worker doesn't say".into()));
+            assert_eq!((left_out(farm), farm.members.len()), ("n1: it says what a worker doesn't say\n".into(), 0));
+        },
+    );
+    with_farm(
+        |conditions| conditions.patience = Duration::from_millis(1500),
+        |farm, _| {
+            let mut worker = Worker::ready(farm, "n1", 1);
+            let begun = Instant::now();
+            assert_eq!(worker.hear(farm), Message::Bye, "it is silent");
+            assert!(begun.elapsed() > Duration::from_millis(1400) && farm.members.is_empty());
+        },
+    );
+}
+
+#[test]
+fn what_runs_ends_by_a_signal() {
+    with_farm(
+        |_| (),
+        |farm, _| {
+            let mut worker = Worker::ready(farm, "n1", 1);
+            farm.start(1, &job("make a")).unwrap();
+            farm.start(2, &job("make b")).unwrap();
+            let (number, _) = worker.order(farm);
+            worker.say(&Message::Ended(number, with_code(143)));
+            farm.end_all(TERM);
+            assert_eq!(worker.hear(farm), Message::End(number, TERM));
+            assert!(farm.attempts.is_empty() && farm.waiting.is_empty() && farm.events.is_empty() && !farm.is_ending);
+            farm.start(3, &job("make c")).unwrap();
+            worker.order(farm);
+            let begun = Instant::now();
+            farm.end_all(TERM);
+            assert!(begun.elapsed() >= LAST_GRACE && farm.attempts.is_empty(), "it waits so long for a worker that says nothing");
+            farm.leave();
+            assert_eq!([worker.hear(farm), worker.hear(farm)], [Message::End(number + 1, TERM), Message::Bye]);
+        },
+    );
+}
+
+#[test]
+fn a_job_that_shares_a_slot_goes_where_the_last_one_went() {
+    with_farm(
+        |_| (),
+        |farm, _| {
+            let (mut one, mut other) = (Worker::ready(farm, "n1", 1), Worker::ready(farm, "n2", 2));
+            farm.start(1, &job("make a")).unwrap();
+            farm.start(2, &Job { shares_slot: true, ..job("make b") }).unwrap();
+            assert_eq!([other.order(farm).1.words[1].clone(), other.order(farm).1.words[1].clone()], ["a", "b"]);
+            farm.start(3, &job("make c")).unwrap();
+            assert_eq!(one.order(farm).1.words[1], "c");
+            assert!(!farm.may_take());
+        },
+    );
+}
+
+#[test]
+fn commands_without_a_worker_run_here() {
+    with_farm(
+        |conditions| conditions.sends_files = true,
+        |farm, room| {
+            let waits = |name: &str| shell(&format!("until [ -e {} ]; do sleep 0.01; done; echo {name}", room.path(name)));
+            assert!(farm.may_take());
+            farm.start(0, &waits("a")).unwrap();
+            farm.start(1, &waits("b")).unwrap();
+            assert_eq!((farm.here.running.len(), farm.here.waiting.len(), farm.may_take()), (1, 1, false), "it has one slot");
+            farm.start(2, &Job { shares_slot: true, ..shell("echo beside; exit 5") }).unwrap();
+            assert_eq!(farm.here.waiting.len(), 2, "in their order");
+            fs::write(room.path("a"), "").unwrap();
+            assert_eq!(next_end(farm), (0, 0, "a\n".into(), String::new()));
+            farm.begin_here();
+            assert_eq!((farm.here.running.len(), farm.here.with_slots.len()), (2, 1));
+            assert_eq!(next_end(farm), (2, 5, "beside\n".into(), String::new()));
+            assert!(farm.here.runs() && !farm.may_take());
+            fs::write(room.path("b"), "").unwrap();
+            assert_eq!(next_end(farm).2, "b\n");
+            assert!(!farm.here.runs() && farm.may_take());
+            farm.start(3, &shell("sleep 300")).unwrap();
+            let ready = room.path("ready");
+            farm.start(4, &Job { shares_slot: true, ..shell(&format!("trap '' TERM; touch {ready}; while :; do sleep 0.05; done")) }).unwrap();
+            farm.start(5, &shell("echo never")).unwrap();
+            while !Path::new(&ready).exists() {
+                sleep(Duration::from_millis(5));
+            }
+            let begun = Instant::now();
+            farm.end_all(TERM);
+            assert!(begun.elapsed() >= Duration::from_millis(700) && !farm.here.runs() && farm.here.waiting.is_empty());
+        },
+    );
+}
+
+#[test]
+fn as_many_commands_wait_as_run_at_once() {
+    with_farm(
+        |conditions| conditions.sends_files = true,
+        |farm, room| {
+            let mut worker = Worker::ready(farm, "n1", 1);
+            let waits = shell(&format!("until [ -e {} ]; do sleep 0.01; done", room.path("go")));
+            farm.start(0, &waits).unwrap();
+            assert!(farm.may_take(), "the worker is free");
+            let record =
+                |name: &str| Some(Record { reads: vec![room.path(&format!("{name}.ptx"))], writes: vec![room.path(&format!("{name}.cubin"))] });
+            let ptxas = |name: &str| Job { folder: room.path(""), record: record(name), ..job(&format!("ptxas -o {name}.cubin {name}.ptx")) };
+            for name in ["a", "b", "c"] {
+                fs::write(room.path(&format!("{name}.ptx")), name).unwrap();
+            }
+            farm.start(1, &ptxas("a")).unwrap();
+            let (first, order) = worker.order(farm);
+            assert_eq!((order.folder.as_str(), order.inputs.as_ref().map(Vec::len), order.products.len()), ("", Some(1), 1));
+            assert_eq!(worker.hear(farm), Message::Part(first, 0, Part(b"a".to_vec())));
+            assert_eq!(worker.hear(farm), Message::Whole(first, 0, Digest::of(b"a").0));
+            assert!(farm.attempts[&first].started.is_none(), "it hasn't begun");
+            worker.say(&Message::Began(first));
+            farm.start(2, &ptxas("b")).unwrap();
+            let (second, _) = worker.order(farm);
+            assert!(farm.attempts[&first].started.is_some() && !farm.may_take(), "one more comes ahead");
+            worker.say(&Message::Part(first, 0, Part(b"cubin".to_vec())));
+            worker.say(&Message::Whole(first, 0, Digest::of(b"cubin").0));
+            worker.say(&Message::Ended(first, Answer { products: vec![Some(5)], ..Answer::default() }));
+            assert_eq!(next_end(farm), (1, 0, String::new(), String::new()));
+            assert_eq!(fs::read_to_string(room.path("a.cubin")).unwrap(), "cubin");
+            // What comes cut short is the machine's fault.
+            worker.say(&Message::Part(second, 0, Part(b"cu".to_vec())));
+            worker.say(&Message::Ended(second, Answer { products: vec![Some(5)], ..Answer::default() }));
+            while farm.left_out.is_empty() {
+                farm.wait(5);
+            }
+            assert_eq!(left_out(farm), "n1: what ptxas made there came cut short\n");
+            assert!(!Path::new(&room.path("b.cubin")).exists());
+            fs::write(room.path("go"), "").unwrap();
+            assert_eq!(next_end(farm).0, 0);
+        },
+    );
+}
