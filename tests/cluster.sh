@@ -278,6 +278,8 @@ side_by_side() {
     [ -z "$with_makeflow" ] || beside makeflow 47 $(chosen makeflow_deaths makeflow_transfer makeflow_errors)
     beside controller 50 $(chosen controller)
     join_lanes
+    # Slurm still ends a job whose node has just come back
+    for _ in $(seq 600); do [ -n "$(squeue -h)" ] || break; sleep 0.1; done
     same 'jobs left' "$(squeue -h)" ''
     same 'processes and directories left' "$(left)" ''
 }

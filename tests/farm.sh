@@ -570,13 +570,15 @@ files_case() {
 }
 
 # alone NAME [WORD..]: as `worker`, on a machine that sees neither the batch's working directory nor its temporary files, if a process may have
-# a file system of its own. The first word may be `-o SIZE`, how much room there is for the machine's own temporary files.
+# a file system of its own. The first word may be `-o SIZE`, how much room there is for the machine's own temporary files. Nor does it see the folder
+# HIDDEN, if that is set.
 alone() {
     local room_for='' name=$1
     shift
     [ "${1-}" != -o ] || { room_for="-o size=$2" && shift 2; }
     if unshare -m true 2> /dev/null; then
-        echo "exec unshare -m sh -c 'mount -t tmpfs none $room/work && mount -t tmpfs $room_for none $room/tmp && cd / && $(worker "$name" "$@")'"
+        echo "exec unshare -m sh -c 'mount -t tmpfs none $room/work && mount -t tmpfs $room_for none $room/tmp && ${HIDDEN:+mount -t tmpfs none $HIDDEN &&}" \
+            "cd / && $(worker "$name" "$@")'"
     else
         worker "$name" "$@"
     fi
@@ -622,7 +624,10 @@ files() {
         PATH=$scratch/bin:$real_path zigrunk-batch list > "$room/wanted" 2> "$room/wanted_err"
         same 'status without workers' "$?" 255
         rm k[0-9].o k.d
+        # the toolkit: workers get cicc and ptxas
+        HIDDEN=$(realpath "$(PATH=$real_path nvcc --dryrun -c k.cu 2>&1 | sed -n 's/^#\$ TOP=//p')")
         PATH=$scratch/bin:$real_path ZIGRUNK_EXPLAIN=1 farm --send-files --workers "$(alone n1)" --workers "$(alone n2)" list
+        unset HIDDEN
         same status "$status" 255
         same 'output and messages' "$(diff "$room/wanted" "$room/out"; diff "$room/wanted_err" "$room/err")" ''
         for form in "${!forms[@]}"; do
@@ -696,11 +701,27 @@ END
         said "^zigrunk-batch: n1 gets no work: it can't take files: No space left on device" || problems+="  messages: $(cat "$room/err")"$'\n'
         end
     fi
-    if unshare -m true 2> /dev/null && files_case 'a machine with another ptxas'; then
+    while IFS='|' read -r what change; do
+        if unshare -m true 2> /dev/null && files_case "a machine $what"; then
+            sources 3
+            sed 's/injected/INJECTED/g; s/END/DNE/g' "$CUDA/bin/ptxas" > "$room/other" && chmod +x "$room/other"
+            mkdir "$room/empty"
+            change=${change//ROOM/$room}
+            farm --send-files --workers "$(elsewhere n1 "${change//CUDA/$CUDA}")" list
+            same 'status and messages' "$status$(cat "$room/err")" 0
+            products
+            end
+        fi
+    done << 'END'
+with another ptxas of the same size|mount --bind ROOM/other CUDA/bin/ptxas
+with another device library|mount --bind list CUDA/nvvm/libdevice/libdevice.10.bc
+without a toolkit|mount --bind ROOM/empty CUDA/bin && mount --bind ROOM/empty CUDA/nvvm
+END
+    if unshare -m true 2> /dev/null && case_of 'a machine with another ptxas that comes again'; then
         sources 3
         sed 's/injected/INJECTED/g; s/END/DNE/g' "$CUDA/bin/ptxas" > "$room/other" && chmod +x "$room/other"
         again="mount --bind $room/other $CUDA/bin/ptxas; for _ in 1 2; do $scratch/bin/zigrunk-worker --name n1; done"
-        farm --send-files --workers "unshare -m sh -c '$again'" --workers "$(after_left_out); sleep 1; $(worker n2)" list
+        farm --workers "unshare -m sh -c '$again'" --workers "$(after_left_out); sleep 1; $(worker n2)" list
         same status "$status" 0
         products
         same 'messages' "$(grep '^zigrunk-batch: [a-z0-9]* gets no work' "$room/err")" "zigrunk-batch: n1 gets no work: its $CUDA/bin/ptxas has other contents"

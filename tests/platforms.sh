@@ -63,8 +63,15 @@ library_sources() {
     sed -i '/^dlmalloc = /d' "$work/rustc/library/std/Cargo.toml"
     printf '%s\n' '[source.crates-io]' 'replace-with = "rustc"' '[source.rustc]' 'directory = "/root/zigrunk/rustc/vendor"' > "$root/root/cargo/config.toml"
     ln -sfn ../../../../root/zigrunk/rustc "$root/usr/lib/rustlib/src/rust"
-    # what Rust's library for musl calls so is gcc's
-    ln -sf "$(inside gcc -print-file-name=libgcc_eh.a)" "$work/unwind/libunwind.a"
+    make_unwinder
+}
+
+# make_unwinder: what Rust's library for musl calls libunwind, which is gcc's. That one asks glibc in which file an address is. It hears here
+# that it is in none, so nothing is unwound: all programs abort.
+make_unwinder() {
+    echo 'int _dl_find_object(void *address, void *found) { return (void)address, (void)found, -1; }' > "$work/unwind/find.c"
+    # shellcheck disable=SC2016 # for sh
+    inside env -C /root/zigrunk/unwind sh -c 'musl-gcc -c find.c && rm -f libunwind.a && cp "$(gcc -print-file-name=libgcc_eh.a)" libunwind.a && ar r libunwind.a find.o'
 }
 
 # copy_sources: the workspace with its test drivers, and what the tests in C need.
@@ -87,11 +94,15 @@ make_library() {
     ! has_library "$1" || return 0
     # shellcheck disable=SC2016 # for sh
     folder=$(inside sh -c 'rustc --print target-libdir --target "$1"' _ "$1") || return 1
-    mkdir -p "$work/empty/src"
+    rm -rf "$work/empty" && mkdir -p "$work/empty/src"
     : > "$work/empty/src/lib.rs"
     printf '%s\n' '[package]' 'name = "empty"' 'version = "0.1.0"' 'edition = "2021"' > "$work/empty/Cargo.toml"
-    inside env RUSTC_BOOTSTRAP=1 cargo build -Zbuild-std=std,panic_abort,panic_unwind --offline --quiet --jobs "$jobs" --release \
-        --manifest-path empty/Cargo.toml --target "$1" || return 1
+    # As in Rust's own build, this crate alone is for programs that abort.
+    # shellcheck disable=SC2016 # for sh
+    printf '%s\n' '#!/bin/sh' 'case " $* " in *" --crate-name panic_abort "*) set -- "$@" -C panic=abort ;; esac' 'exec "$@"' > "$work/wrapper"
+    chmod +x "$work/wrapper"
+    inside env RUSTC_BOOTSTRAP=1 RUSTC_WRAPPER=/root/zigrunk/wrapper cargo build -Zbuild-std=std,panic_abort,panic_unwind --offline --quiet \
+        --jobs "$jobs" --release --manifest-path empty/Cargo.toml --target "$1" || return 1
     rm -f "$work/empty/target/$1"/release/deps/libempty-*
     mkdir -p "$root$folder.new" && cp "$work/empty/target/$1"/release/deps/*.rlib "$root$folder.new" && mv "$root$folder.new" "$root$folder"
 }

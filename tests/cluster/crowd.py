@@ -19,7 +19,7 @@ import sys
 import time
 from pathlib import Path
 
-VERSION = 3
+VERSION = 4
 MADE = b"made\n"
 NAMES = re.compile(r"/opt/cuda|/w/kernel\.cu|kernel\.o|/t/")
 
@@ -66,6 +66,8 @@ def order(fields: Fields) -> tuple[list[bytes], list[bytes], bool]:
         fields.text()
         if fields.number("B"):
             fields.text()
+    if fields.number("B"):
+        fields.number("I")
     if fields.number("B"):
         fields.text()
         fields.part(32)
@@ -139,7 +141,7 @@ class Worker:
 
     def give(self, number: int, place: int) -> None:
         """Sends a file that a command makes, or not all of it."""
-        self.send(12, struct.pack("<QI", number, place) + text(MADE[:3] if os.environ.get("LIES") else MADE))
+        self.send(12, struct.pack("<QI?", number, place, False) + text(MADE[:3] if os.environ.get("LIES") else MADE))
         self.send(13, struct.pack("<QI", number, place) + hashlib.blake2b(MADE, digest_size=32).digest())
 
     def answer(self, number: int, words: list[bytes], products: list[bytes], with_files: bool) -> None:

@@ -29,6 +29,14 @@ KNOWN = ("nothing", "file symbol", "names in debug information")
 # Names of temporary files, in what calls print and in debug information.
 TEMPORARY = re.compile(rb"(?:/[\w./-]*/)?(?:tmpxft_[0-9a-f]{8}_[0-9a-f]{8}-\d+_[\w.-]*?|x_\d+)(?=\.(?:cpp|cudafe|fatbin|ii|module_id|ptx|reg))")
 
+# The same if they are the source's, as zigrunk-nvcc gives them: only suffixes that no source has.
+GENERATED = re.compile(rb"(?:/[^\s\"']*/)?[^/\s\"']+(?=\.(?:cudafe1\.|fatbin\.c))")
+
+
+def without_names(text: bytes) -> bytes:
+    """A text with one name for all temporary files."""
+    return GENERATED.sub(b"NAME", TEMPORARY.sub(b"NAME", text))
+
 
 def read_calls(path: str) -> list[Call]:
     """Returns the calls of a file, or none if there is no file, since nobody made a call."""
@@ -84,8 +92,7 @@ def debug_information(data: bytes) -> list[bytes]:
     text = re.sub(rb"(?<=_file)( *: )(\d+)", lambda found: bytes(found[1] + names.get(found[2], found[2])), text)
     text = re.sub(rb"<[0-9a-f]+>|<0x[0-9a-f]+>|offset: 0x[0-9a-f]+|Abbrev Number: \d+|\(DW_OP_[^)]*\)|file format.*", b"", text)
     text = re.sub(rb"(DW_AT_(?:stmt_list|low_pc|high_pc|ranges|GNU_locviews|location) *:).*|(?:Length|Abbrev Offset): .*", rb"\1", text)
-    text = re.sub(rb"[^/\s]+(?=\.fatbin\.c)", b"NAME", TEMPORARY.sub(b"NAME", text))
-    return text.split(b"\n")
+    return without_names(text).split(b"\n")
 
 
 def kind_of_difference(ours: bytes | None, theirs: bytes | None) -> str:
@@ -120,7 +127,7 @@ def again(place: str, other: str, call: Call, path: str, nvcc: str) -> str:
 
 def said(call: Call) -> tuple[int, str, str]:
     """Returns the status of a call and what it printed, with one name for all temporary files."""
-    out, err = (TEMPORARY.sub(b"NAME", call[name].encode()).decode() for name in ("out", "err"))
+    out, err = (without_names(call[name].encode()).decode() for name in ("out", "err"))
     return int(call["status"]), out, err
 
 
