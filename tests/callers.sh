@@ -6,7 +6,7 @@
 #   tests/callers.sh [FOLDER]         FOLDER: as `make install` or `make lib` leaves it, with lib and include; otherwise out, or what `make rust` built
 #   tests/callers.sh --first FOLDER   the programs of the page alone, also that in Rust, with what `make install` left in FOLDER
 #
-# SEED=N draws other pairs of dry runs than those of seed 1.
+# SEED=N draws other pairs of dry runs than those of seed 1, PAIRS=N so many in place of 100.
 set -u
 cd "$(dirname "$0")/.." || exit 1
 . tests/lib.sh
@@ -94,12 +94,15 @@ misuses() {
     diff <(misuse_rows | awk '{print $1, $5, $6, $7}') <(misuse_rows | "$@" "$room")
 }
 
-# alike PROGRAM..: whether the programs say the same of pairs of dry runs by lot as that for C, which has the checks of the compiler. Some of both
-# kinds are among them: those that are planned, and those that aren't.
-alike() {
+# told_of_lot: what the program for C, which has the checks of the compiler, says of pairs of dry runs by lot. Some of both kinds are among them: those
+# that are planned, and those that aren't.
+told_of_lot() {
     "$scratch/misuses_c" "$room" < "$scratch/lot" > "$scratch/said_of_lot" && grep -q ' 0 0 0$' "$scratch/said_of_lot" &&
-        [ "$(grep -vc ' 0 0 0$' "$scratch/said_of_lot")" -ge 50 ] && diff "$scratch/said_of_lot" <("$@" "$room" < "$scratch/lot")
+        [ "$(grep -vc ' 0 0 0$' "$scratch/said_of_lot")" -ge $((pairs / 2)) ] && [ "$(grep -c '' "$scratch/said_of_lot")" = "$pairs" ]
 }
+
+# alike PROGRAM..: whether another program says the same of them.
+alike() { diff "$scratch/said_of_lot" <("$@" "$room" < "$scratch/lot"); }
 
 # sanitized FILE OUT: with the checks of the compiler.
 sanitized() { cc -std=c99 -D_POSIX_C_SOURCE=200809L -fsanitize=address,undefined -fno-sanitize-recover "${strict[@]}" "$1" -o "$2" "${flags[@]}"; }
@@ -191,12 +194,14 @@ check 'C: the header, by a compiler of C++' c++ -x c++ -std=c++11 "${strict[@]}"
 check 'C: misuses, with the checks of the compiler' sanitized tests/callers/misuses.c "$scratch/misuses_c"
 check 'C: what comes of them' misuses "$scratch/misuses_c"
 check 'C: without memory' without_memory
-python3 tests/callers/mutated.py "$room" "${SEED:-1}" 100 > "$scratch/lot"
+pairs=${PAIRS:-100}
+python3 tests/callers/mutated.py "$room" "${SEED:-1}" "$pairs" > "$scratch/lot"
+check "C: $pairs pairs of dry runs by lot" told_of_lot
 check 'C++: misuses' built_cpp tests/callers/misuses.cpp "$scratch/misuses_cpp" "${flags[@]}"
 check 'C++: what comes of them' misuses "$scratch/misuses_cpp"
-check 'C++: 100 pairs of dry runs by lot' alike "$scratch/misuses_cpp"
+check "C++: $pairs pairs of dry runs by lot" alike "$scratch/misuses_cpp"
 check 'Python: misuses' misuses python3 tests/callers/misuses.py
-check 'Python: 100 pairs of dry runs by lot' alike python3 tests/callers/misuses.py
+check "Python: $pairs pairs of dry runs by lot" alike python3 tests/callers/misuses.py
 check 'Python: a wheel' in_wheel
 check 'Python: the auditor' audits
 check 'the lines of the scheduler' at_most 150 bindings/cpp/examples/scheduler.cpp
@@ -213,7 +218,7 @@ if command -v go > /dev/null; then
     check 'Go: the cache server' built_go "$scratch/server" "$scratch/server/cacheserver"
     check 'Go: misuses' built_go "$scratch/misuses_go" "$scratch/misuses_go/misuses"
     check 'Go: what comes of them' misuses "$scratch/misuses_go/misuses"
-    check 'Go: 100 pairs of dry runs by lot' alike "$scratch/misuses_go/misuses"
+    check "Go: $pairs pairs of dry runs by lot" alike "$scratch/misuses_go/misuses"
 fi
 if command -v cmake > /dev/null; then
     check 'a project of CMake' by_cmake

@@ -98,15 +98,17 @@ static int32_t zigrunk_call_plan(zigrunk_call *call);
 static int32_t zigrunk_call_plan_of(zigrunk_call *call, zigrunk_text dry1, zigrunk_text dry2, size_t limit);
 
 /* The key of a command of a call's plan. A cache hashes it together with the contents of the tool's files and of what the command reads. Two
- * commands for which all that is equal make files of equal contents, in whatever directories they run. One exception: if a source defines no
- * external name, cudafe++ makes up another module id each time.
+ * commands for which all that is equal make files of equal contents, in whatever directories they run. Two exceptions: if a source defines no
+ * external name, cudafe++ makes up another module id each time; and cicc has libm compute constants such as cos(8.2), whose last bit can depend on
+ * the C library and on the processor. So if machines that differ in these share a cache, hash what tells them apart, too.
  *
  * The length is 0 if a cache may not serve the command, and then the status is ZIGRUNK_BAD_LINE and the message says why: it isn't one of cudafe++,
  * cicc and ptxas, whose words name all that it touches; a word of it isn't known, asks for debugging information, or names a further file; its
- * program is a script; LD_PRELOAD is set. */
+ * program is a script; LD_PRELOAD or LD_AUDIT is set; the PTX that ptxas reads has a `.file`. So ask when the commands that it needs have ended. */
 static zigrunk_text zigrunk_call_key(zigrunk_call *call, const zigrunk_planned *command);
 
-/* The files that tell one version of a command's tool from another: its program, and for cicc the library of device code. NULL if no memory is left. */
+/* The files that tell one version of a command's tool from another: its program, a libm that LD_LIBRARY_PATH has it load, and for cicc the library
+ * of device code. NULL if no memory is left. */
 static char **zigrunk_call_tool_files(zigrunk_call *call, const zigrunk_planned *command);
 
 /* Frees a call and all that it gave. */
@@ -505,8 +507,8 @@ static zigrunk_text zigrunk_own_next_line(zigrunk_text *rest, size_t *number) {
         rest->bytes += used;
         rest->length -= used;
         ++*number;
-        if (line.length > 3 && memcmp(line.bytes, "#$ ", 3) == 0 && !(line.length > 6 && memcmp(line.bytes, "#$ rm ", 6) == 0)) {
-            while (line.length > 3 && strchr(" \t\r", line.bytes[line.length - 1])) {
+        if (line.length >= 3 && memcmp(line.bytes, "#$ ", 3) == 0 && !(line.length >= 6 && memcmp(line.bytes, "#$ rm ", 6) == 0)) {
+            while (line.length > 3 && memchr(" \t\f\r", line.bytes[line.length - 1], 4)) {
                 line.length--;
             }
             return line;
@@ -997,16 +999,43 @@ static int zigrunk_own_is_binary(const char *program) {
     return got == sizeof begin && memcmp(begin, "\177ELF", 4) == 0;
 }
 
+/* Whether the loader runs code in a tool that isn't its own. */
+static int zigrunk_own_has_other_code(char *const *environment) {
+    const char *preloaded = zigrunk_own_value(environment, "LD_PRELOAD"), *audits = zigrunk_own_value(environment, "LD_AUDIT");
+    return (preloaded && *preloaded) || (audits && *audits);
+}
+
+/* Whether PTX names files: of each, ptxas writes the size, and when it was changed. A text that can't be read may name some. */
+static int zigrunk_own_names_files(const char *path) {
+    static const char mark[] = ".file";
+    size_t found = 0;
+    FILE *file = fopen(path, "rb");
+    for (int byte; file && found < sizeof mark - 1 && (byte = getc(file)) != EOF;) {
+        found = byte == mark[found] ? found + 1 : byte == mark[0];
+    }
+    if (file) {
+        fclose(file);
+    }
+    return !file || found == sizeof mark - 1;
+}
+
 /* Why a cache may not serve a command, or NULL. */
 static const char *zigrunk_own_unserved(const zigrunk_planned *command) {
-    const char *preloaded = zigrunk_own_value(command->run.environment, "LD_PRELOAD");
     if (command->reason != ZIGRUNK_IN_GROUP || !command->cacheable || command->missing != ZIGRUNK_NONE_MISSING) {
         return "a cache may not serve this command, or its words don't name all that it touches";
     }
-    if (preloaded && *preloaded) {
-        return "a cache may not serve a command with LD_PRELOAD";
+    if (zigrunk_own_has_other_code(command->run.environment)) {
+        return "a cache may not serve a command with LD_PRELOAD or LD_AUDIT";
     }
-    return zigrunk_own_is_binary(command->run.words[0]) ? NULL : "a cache may not serve a command whose program is a script";
+    if (!zigrunk_own_is_binary(command->run.words[0])) {
+        return "a cache may not serve a command whose program is a script";
+    }
+    for (char **path = command->reads; command->tool == ZIGRUNK_TOOL_PTXAS && *path; path++) {
+        if (zigrunk_own_names_files(*path)) {
+            return "a cache may not serve a command whose PTX names a file, or isn't there yet";
+        }
+    }
+    return NULL;
 }
 
 ZIGRUNK_CALL_UNUSED static zigrunk_text zigrunk_call_key(zigrunk_call *call, const zigrunk_planned *command) {
@@ -1043,20 +1072,48 @@ static int zigrunk_own_compare(const void *one, const void *other) {
     return strcmp(*(char *const *)one, *(char *const *)other);
 }
 
+/* A list with a file added, whose path is a folder's with a name behind it. */
+static char **zigrunk_own_with_file(zigrunk_call *call, char **files, const char *folder, const char *name) {
+    size_t count = zigrunk_own_count(files);
+    char **longer = (char **)zigrunk_own_room(call, count + 2, sizeof *files);
+    if (longer) {
+        memcpy(longer, files, count * sizeof *files);
+        longer[count] = (char *)zigrunk_own_joined(call, folder, name);
+    }
+    return longer ? longer : files;
+}
+
 /* A list with the files of a folder added. A folder that isn't there has none. */
 static char **zigrunk_own_with_files(zigrunk_call *call, char **files, const char *folder) {
     DIR *opened = folder ? opendir(folder) : NULL;
-    size_t count = zigrunk_own_count(files);
-    for (struct dirent *entry; opened && files && (entry = readdir(opened)) != NULL;) {
-        char **longer = entry->d_name[0] == '.' ? NULL : (char **)zigrunk_own_room(call, count + 2, sizeof *files);
-        if (longer) {
-            memcpy(longer, files, count * sizeof *files);
-            longer[count++] = (char *)zigrunk_own_joined(call, folder, entry->d_name);
-            files = longer;
+    for (struct dirent *entry; opened && (entry = readdir(opened)) != NULL;) {
+        if (entry->d_name[0] != '.') {
+            files = zigrunk_own_with_file(call, files, folder, entry->d_name);
         }
     }
     if (opened) {
         closedir(opened);
+    }
+    return files;
+}
+
+/* A list with the libraries added that the loader may take in place of the system's libm. cicc has libm compute constants. */
+static char **zigrunk_own_with_libms(zigrunk_call *call, char **files, const zigrunk_run *run) {
+    static const char *const names[] = {
+        "glibc-hwcaps/x86-64-v4/libm.so.6", "glibc-hwcaps/x86-64-v3/libm.so.6", "glibc-hwcaps/x86-64-v2/libm.so.6", "libm.so.6", NULL};
+    const char *folders = zigrunk_own_value(run->environment, "LD_LIBRARY_PATH");
+    struct stat found;
+    for (const char *folder = folders && *folders ? folders : NULL; folder;) {
+        size_t length = strcspn(folder, ":;");
+        char *begin = (char *)zigrunk_own_room(call, length + 1, 1);
+        for (const char *const *name = names; begin && *name; name++) {
+            memcpy(begin, folder, length);
+            const char *within = length > 0 ? zigrunk_own_joined(call, run->cwd, begin) : run->cwd;
+            if (stat(zigrunk_own_joined(call, within, *name), &found) == 0 && S_ISREG(found.st_mode)) {
+                files = zigrunk_own_with_file(call, files, within, *name);
+            }
+        }
+        folder = folder[length] ? folder + length + 1 : NULL;
     }
     return files;
 }
@@ -1068,14 +1125,16 @@ ZIGRUNK_CALL_UNUSED static char **zigrunk_call_tool_files(zigrunk_call *call, co
         return NULL;
     }
     files[0] = command->run.words[0];
+    files = zigrunk_own_with_libms(call, files, &command->run);
     if (command->tool == ZIGRUNK_TOOL_CICC) {
+        size_t before = zigrunk_own_count(files);
         strcpy(beside, command->run.words[0]);
         for (int up = 0; up < 2 && strrchr(beside, '/'); up++) {
             *strrchr(beside, '/') = '\0';
         }
         files = zigrunk_own_with_files(call, files, strcat(beside, "/libdevice"));
         files = zigrunk_own_with_files(call, files, zigrunk_own_value(command->run.environment, "NVVMIR_LIBRARY_DIR"));
-        qsort(files + 1, zigrunk_own_count(files) - 1, sizeof *files, zigrunk_own_compare);
+        qsort(files + before, zigrunk_own_count(files) - before, sizeof *files, zigrunk_own_compare);
     }
     return call->status == ZIGRUNK_OUT_OF_MEMORY ? NULL : files;
 }

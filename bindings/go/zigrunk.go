@@ -238,10 +238,13 @@ func (c *Call) numbered(number int) (*C.zigrunk_planned, error) {
 }
 
 // Key is what a cache hashes of a command of the call's last plan, by its number, together with the contents of ToolFiles and of what the command
-// reads. Two commands for which all that is equal make files of equal contents, in whatever directories they run. One exception: if a source
-// defines no external name, cudafe++ makes up another module id each time. It's an error (BadLine) if a cache may not serve the
-// command: it isn't one of cudafe++, cicc and ptxas, whose words name all that it touches; a word of it isn't known, asks for debugging
-// information, or names a further file; its program is a script; LD_PRELOAD is set.
+// reads. Two commands for which all that is equal make files of equal contents, in whatever directories they run. Two exceptions: if a source
+// defines no external name, cudafe++ makes up another module id each time; and cicc has libm compute constants such as cos(8.2), whose last bit can
+// depend on the C library and on the processor. So if machines that differ in these share a cache, hash what tells them apart, too.
+//
+// It's an error (BadLine) if a cache may not serve the command: it isn't one of cudafe++, cicc and ptxas, whose words name all that it touches; a
+// word of it isn't known, asks for debugging information, or names a further file; its program is a script; LD_PRELOAD or LD_AUDIT is set; the PTX
+// that ptxas reads has a .file. So ask when the commands that it needs have ended.
 func (c *Call) Key(number int) ([]byte, error) {
 	defer runtime.KeepAlive(c)
 	of, err := c.numbered(number)
@@ -255,7 +258,8 @@ func (c *Call) Key(number int) ([]byte, error) {
 	return C.GoBytes(unsafe.Pointer(key.bytes), C.int(key.length)), nil
 }
 
-// ToolFiles are the files that tell one version of a command's tool from another: its program, and for cicc the library of device code.
+// ToolFiles are the files that tell one version of a command's tool from another: its program, a libm that LD_LIBRARY_PATH has it load, and for cicc
+// the library of device code.
 func (c *Call) ToolFiles(number int) ([]string, error) {
 	defer runtime.KeepAlive(c)
 	of, err := c.numbered(number)

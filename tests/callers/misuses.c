@@ -18,6 +18,16 @@ static zigrunk_text text_of(const char *room, const char *name) {
     return text;
 }
 
+/* Whether a libm is among the files of a command's tool if it's in the directory of the command, to which LD_LIBRARY_PATH leads here. */
+static int has_libm(zigrunk_call *call, const zigrunk_planned *command) {
+    char path[4096];
+    snprintf(path, sizeof path, "%s/libm.so.6", command->run.cwd);
+    FILE *file = fopen(path, "wb");
+    char **files = file && fclose(file) == 0 ? zigrunk_call_tool_files(call, command) : NULL;
+    remove(path);
+    return files && files[1] && strcmp(files[1], path) == 0 && !files[2];
+}
+
 /* Whether keys are for cudafe++ alone, which is no script here, and a refusal leaves the call as it was. */
 static int has_keys(zigrunk_call *call) {
     int has = zigrunk_call_key(call, &call->commands[1]).length > 0 && call->status == ZIGRUNK_OK;
@@ -25,7 +35,7 @@ static int has_keys(zigrunk_call *call) {
     has = has && zigrunk_call_key(call, &call->commands[3]).length == 0 && call->status == ZIGRUNK_BAD_LINE;
     has = has && zigrunk_call_key(call, &call->commands[1]).length > 0 && call->status == ZIGRUNK_OK;
     char **files = zigrunk_call_tool_files(call, &call->commands[1]);
-    return has && files && strcmp(files[0], call->commands[1].run.words[0]) == 0 && !files[1];
+    return has && files && strcmp(files[0], call->commands[1].run.words[0]) == 0 && !files[1] && has_libm(call, &call->commands[1]);
 }
 
 /* Whether a call says why it can't be planned in a directory that isn't there. */

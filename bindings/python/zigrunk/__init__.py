@@ -979,7 +979,7 @@ def _is_text(text: str) -> bool:
 
 def _marked_lines(dry_run: bytes) -> List[Tuple[int, bytes]]:
     """The lines of a dry run that say something, each with its number. Which files nvcc removes says nothing."""
-    return [(number, line.rstrip()) for number, line in enumerate(dry_run.split(b"\n"), 1)
+    return [(number, line.rstrip(b" \t\f\r")) for number, line in enumerate(dry_run.split(b"\n"), 1)
             if line.startswith(b"#$ ") and not line.startswith(b"#$ rm ")]
 
 

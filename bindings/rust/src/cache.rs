@@ -80,6 +80,10 @@ const PTXAS: &[&str] = &[
     "-v",
 ];
 
+/// Where the loader looks for libm in a folder, by what the processor can do.
+const LIBMS: [&str; 4] =
+    ["glibc-hwcaps/x86-64-v4/libm.so.6", "glibc-hwcaps/x86-64-v3/libm.so.6", "glibc-hwcaps/x86-64-v2/libm.so.6", "libm.so.6"];
+
 /// What a cache hashes of a command: this text, then the contents of the tool's files, and of what the command [reads](Command::reads).
 #[derive(Debug, Clone, PartialEq, Eq)]
 pub struct CacheKey {
@@ -124,6 +128,16 @@ fn counted(command: Command<'_>, lists: &[&[&str]]) -> Option<Vec<String>> {
     Some(counted)
 }
 
+/// The value of a variable of a command, or an empty text. Of a name that occurs twice, the last value counts.
+fn value_of<'a>(command: Command<'a>, name: &str) -> &'a str {
+    command.variables().filter(|variable| variable.0 == name).last().map_or("", |variable| variable.1)
+}
+
+/// Whether the loader runs code in a tool that isn't its own.
+fn has_other_code(command: Command<'_>) -> bool {
+    ["LD_AUDIT", "LD_PRELOAD"].iter().any(|name| !value_of(command, name).is_empty())
+}
+
 /// Whether the kernel runs a program itself. A script may run anything.
 fn is_binary(program: &Path) -> io::Result<bool> {
     let mut begin = Vec::new();
@@ -131,11 +145,28 @@ fn is_binary(program: &Path) -> io::Result<bool> {
     Ok(begin == b"\x7fELF")
 }
 
+/// Whether the PTX that a command reads names files. Of each, ptxas writes the size, and when it was changed.
+fn names_files(command: Command<'_>) -> io::Result<bool> {
+    for path in command.reads() {
+        if fs::read(path)?.windows(5).any(|text| text == b".file") {
+            return Ok(true);
+        }
+    }
+    Ok(false)
+}
+
+/// The libraries that the loader may take in place of the system's libm. cicc has libm compute constants.
+fn libms(command: Command<'_>) -> Vec<PathBuf> {
+    let folders = value_of(command, "LD_LIBRARY_PATH");
+    let within = |folder: &str| LIBMS.map(|name| Path::new(command.cwd()).join(folder).join(name));
+    let paths = folders.split([':', ';']).filter(|_| !folders.is_empty()).flat_map(within);
+    paths.filter(|path| path.is_file()).collect()
+}
+
 /// The files of the library for device code that cicc reads: those beside it, and those that a variable names.
 fn libraries(command: Command<'_>) -> io::Result<Vec<PathBuf>> {
     let beside = Path::new(command.program()).ancestors().nth(2).map(|toolkit| toolkit.join("libdevice"));
-    let named =
-        command.variables().filter(|(name, _)| *name == "NVVMIR_LIBRARY_DIR").last().map(|(_, folder)| PathBuf::from(folder));
+    let named = Some(value_of(command, "NVVMIR_LIBRARY_DIR")).filter(|folder| !folder.is_empty()).map(PathBuf::from);
     let mut files = Vec::new();
     for folder in [beside, named].into_iter().flatten().filter(|folder| folder.is_dir()) {
         for file in fs::read_dir(folder)? {
@@ -148,20 +179,22 @@ fn libraries(command: Command<'_>) -> io::Result<Vec<PathBuf>> {
 
 impl Command<'_> {
     /// What a cache hashes of this command. Two commands with equal keys, whose tools' files and inputs have equal contents, make files of equal
-    /// contents, in whatever directories they run. One exception: if a source defines no external name, cudafe++ makes up another
-    /// module id each time.
+    /// contents, in whatever directories they run. Two exceptions: if a source defines no external name, cudafe++ makes up another
+    /// module id each time; and cicc has libm compute constants such as `cos(8.2)`, whose last bit can depend on the C library and on the
+    /// processor. So if machines that differ in these share a cache, hash what tells them apart, too.
     ///
     /// `None` if a cache may not serve the command: it isn't one of cudafe++, cicc or ptxas, whose words name all that it touches; a word of it
-    /// isn't known, asks for debugging information, or names a further file; its program is a script; `LD_PRELOAD` is set.
+    /// isn't known, asks for debugging information, or names a further file; its program is a script; `LD_PRELOAD` or `LD_AUDIT` is set;
+    /// the PTX that ptxas reads has a `.file`. So ask when the commands that it needs have ended.
     ///
     /// # Errors
     ///
-    /// If the program or its library can't be read, or no memory is left.
+    /// If the program, its library or its PTX can't be read, or no memory is left.
     pub fn cache_key(&self) -> io::Result<Option<CacheKey>> {
         let Some(tool) = self.tool().filter(|_| self.is_cacheable() && self.missing().is_none()) else { return Ok(None) };
         let Some(words) = counted(*self, known(tool)) else { return Ok(None) };
         let program = Path::new(self.program());
-        if self.variables().any(|(name, value)| name == "LD_PRELOAD" && !value.is_empty()) || !is_binary(program)? {
+        if has_other_code(*self) || !is_binary(program)? || (tool == CommandTool::Ptxas && names_files(*self)?) {
             return Ok(None);
         }
         let variables: Vec<_> =
@@ -169,6 +202,7 @@ impl Command<'_> {
         let text = command_key(&KeyCall { tool, words: &words, variables: &variables, roots: &[] })
             .map_err(|error: Error| io::Error::other(error))?;
         let mut files = vec![program.to_owned()];
+        files.extend(libms(*self));
         files.extend(if tool == CommandTool::Cicc { libraries(*self)? } else { Vec::new() });
         Ok(Some(CacheKey { text, tool: files }))
     }
