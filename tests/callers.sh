@@ -43,10 +43,12 @@ block() {
 built_c() { cc -std=c99 -D_POSIX_C_SOURCE=200809L "${strict[@]}" "$1" -o "$2" "${@:3}"; }
 built_cpp() { c++ -std=c++17 "${strict[@]}" "$1" -o "$2" "${@:3}"; }
 
-# built_go FOLDER OUT: the program of a folder, with the installed module.
+# built_go FOLDER OUT: the program of a folder, with the installed module. Go 1.19 splits what pkg-config says of libraries at each blank, also at one
+# behind a backslash, so the library has a name without blanks.
 built_go() {
+    ln -sfn "$installed" "$scratch/without_blanks"
     printf 'module test\n\ngo 1.19\n\nrequire zigrunk v0.0.0\n\nreplace zigrunk => "%s"\n' "$go" > "$1/go.mod"
-    (cd "$1" && GOFLAGS=-mod=mod GOPROXY=off GOCACHE=$scratch/go go build -o "$2" .)
+    (cd "$1" && PKG_CONFIG_PATH=$scratch/without_blanks/lib/pkgconfig GOFLAGS=-mod=mod GOPROXY=off GOCACHE=$scratch/go go build -o "$2" .)
 }
 
 # plans COMMAND..: whether a program prints the program of each command.
