@@ -747,6 +747,7 @@ whole_calls() {
         whole whole -MD -MF k.d "${usual[@]}"
         edit_entries 'del data[len(data) // 2:]'
         twice -MD -MF k.d "${usual[@]}"
+        twice -MMD -MP -MF k.d "${usual[@]}"
         rm k.d
         twice -DNAME='"a name"' -UOTHER -forward-unknown-to-host-compiler -std=c++17 -x cu -rdc=true -isystem inc "${usual[@]}"
         end

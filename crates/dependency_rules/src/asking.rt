@@ -1,8 +1,18 @@
 //! Which rule the words of a command ask for.
 
-ghost use Rattle.std.specs.Prelude.{◌≡◌, map, string_bytes, option_copied, option_map, slice_get};
-ghost use Rattle.std.specs.List.{list_all, list_any};
+ghost use Rattle.std.specs.Prelude.{◌≡◌, ◌≤◌, length, map, string_bytes, option_copied, option_map, slice_get};
+ghost use Rattle.std.specs.List.{list_all};
+ghost use Rattle.texts.specs.Lists.{last_of};
 ghost use Rattle.dependency_rules.specs.Asking as spec;
+
+/// What a rule lists beside the source.
+#[derive(Clone, Copy, Debug, Drop)]
+pub struct Listing {
+    /// Whether it lists headers of the system too: `-M`, not `-MM`.
+    pub of_system: bool,
+    /// Whether each file that it lists is a target of its own, without files: `-MP`.
+    pub targets: bool,
+}
 
 /// A rule of a dependency file.
 #[derive(Clone, Copy, Debug, Drop)]
@@ -13,6 +23,8 @@ pub struct Rule<'a> {
     pub file: &'a str,
     /// The target's name.
     pub target: &'a str,
+    /// What it lists.
+    pub listing: Listing,
 }
 
 // Whether every nvcc writes a byte of a name as it is.
@@ -43,14 +55,20 @@ fn is_device(file: &str) -> bool
 }
 
 // The rule of these names, if every nvcc writes them as they are.
-fn rule_for<'a>(source: &'a str, file: &'a str, target: &'a str) -> Option<Rule<'a>>
-    ensures { option_map spec.rule_of result ≡ spec.rule_for source.now file.now target.now }
+fn rule_for<'a>(
+    listing: Listing,
+    source: &'a str,
+    file: &'a str,
+    target: &'a str,
+) -> Option<Rule<'a>>
+    ensures { option_map spec.rule_of result ≡ spec.rule_for listing source.now file.now target.now }
 {
     if is_plain(source) && is_plain(file) && is_plain(target) && !is_device(file) {
         Some(Rule {
             source,
             file,
             target,
+            listing,
         })
     } else {
         None
@@ -59,38 +77,62 @@ fn rule_for<'a>(source: &'a str, file: &'a str, target: &'a str) -> Option<Rule<
 
 // The rule that two options with their values ask for.
 fn rule_by<'a>(
+    listing: Listing,
     source: &'a str,
     one: &str,
     first: &'a str,
     other: &str,
     second: &'a str,
 ) -> Option<Rule<'a>>
-    ensures { option_map spec.rule_of result ≡ spec.rule_by source.now one.now first.now other.now second.now }
+    ensures { option_map spec.rule_of result ≡ spec.rule_by listing source.now one.now first.now other.now second.now }
 {
     if one == "-MF" && other == "-MT" {
-        rule_for(source, first, second)
+        rule_for(listing, source, first, second)
     } else if one == "-MT" && other == "-MF" {
-        rule_for(source, second, first)
+        rule_for(listing, source, second, first)
     } else {
         None
     }
 }
 
-// The same, if the word in front of the options is `-M`.
-fn rule_by_list<'a>(
-    source: &'a str,
-    list: &str,
-    one: &str,
-    first: &'a str,
-    other: &str,
-    second: &'a str,
-) -> Option<Rule<'a>>
-    ensures { option_map spec.rule_of result ≡ spec.rule_by_list source.now list.now one.now first.now other.now second.now }
+// What a flag lists.
+fn listing_of(flag: &str, targets: bool) -> Option<Listing>
+    ensures { result ≡ spec.listing_of flag.now targets }
 {
-    if list == "-M" {
-        rule_by(source, one, first, other, second)
+    match flag {
+        "-M" => Some(Listing {
+            of_system: true,
+            targets,
+        }),
+        "-MM" => Some(Listing {
+            of_system: false,
+            targets,
+        }),
+        _ => None,
+    }
+}
+
+// What two flags list, of which one asks for targets.
+fn listing_of_two(one: &str, other: &str) -> Option<Listing>
+    ensures { result ≡ spec.listing_of_two one.now other.now }
+{
+    if one == "-MP" {
+        listing_of(other, true)
+    } else if other == "-MP" {
+        listing_of(one, true)
     } else {
         None
+    }
+}
+
+// What flags list.
+fn listing_by(flags: &[String]) -> Option<Listing>
+    ensures { result ≡ spec.listing_by (map string_bytes flags.now) }
+{
+    match flags {
+        [flag] => listing_of(flag.as_str(), false),
+        [one, other] => listing_of_two(one.as_str(), other.as_str()),
+        _ => None,
     }
 }
 
@@ -101,17 +143,15 @@ fn word_at(words: &[String], index: usize) -> Option<&str>
     Some(words.get(index)?.as_str())
 }
 
-// The rule that the last six words of a command ask for.
-fn rule_at_end(words: &[String]) -> Option<Rule<'_>>
-    ensures { option_map spec.rule_of result ≡ spec.rule_at_end (map string_bytes words.now) }
+// The rule that the last four words of a command ask for.
+fn rule_at_end<'a>(listing: Listing, source: &'a str, words: &'a [String]) -> Option<Rule<'a>>
+    ensures { option_map spec.rule_of result ≡ spec.rule_at_end listing source.now (map string_bytes words.now) }
 {
-    let source = word_at(words, 0)?;
-    let list = word_at(words, 1)?;
-    let one = word_at(words, 2)?;
-    let first = word_at(words, 3)?;
-    let other = word_at(words, 4)?;
-    let second = word_at(words, 5)?;
-    rule_by_list(source, list, one, first, other, second)
+    let one = word_at(words, 0)?;
+    let first = word_at(words, 1)?;
+    let other = word_at(words, 2)?;
+    let second = word_at(words, 3)?;
+    rule_by(listing, source, one, first, other, second)
 }
 
 // Whether a word asks for dependencies.
@@ -121,28 +161,36 @@ fn asks_rule(word: &str) -> bool
     word.as_bytes().starts_with(b"-M")
 }
 
-// Whether one of these words does.
-fn one_asks_rule(words: &[String]) -> bool
-    ensures { result ≡ list_any spec.asks_rule (map string_bytes words.now) }
+// How many words are in front of the first that does.
+fn before_flags(words: &[String]) -> usize
+    ensures value { result ≡ spec.before_flags (map string_bytes words.now) }
+    ensures within { result ≤ length words.now }
 {
-    for word in words {
+    for (place, word) in words.iter().enumerate() {
         if asks_rule(word.as_str()) {
-            return true;
+            return place;
         }
     }
-    false
+    words.len()
 }
 
-/// The rule that a command's words ask for, which are `.. SOURCE -M -MF FILE -MT TARGET`, with the last two options in either order.
+// The last word of a list.
+fn last_word(words: &[String]) -> Option<&str>
+    ensures { option_copied result ≡ last_of (map string_bytes words.now) }
+{
+    Some(words.last()?.as_str())
+}
+
+/// The rule that a command's words ask for, which are `.. SOURCE -M -MF FILE -MT TARGET`, with the last two options in either order. `-MM` may stand for
+/// `-M`, and `-MP` before or after it.
 ///
 /// `None` if nvcc has to make it: for another form, for further options that begin with `-M`, for a file below `/dev` or `/proc`, and for a name with
 /// other bytes than letters, digits and `_./+-`.
 pub fn rule_asked<'a>(words: &'a [String]) -> Option<Rule<'a>>
     ensures { option_map spec.rule_of result ≡ spec.asked (map string_bytes words.now) }
 {
-    let (before, end) = words.split_at(words.len().saturating_sub(6));
-    if one_asks_rule(before) {
-        return None;
-    }
-    rule_at_end(end)
+    let (front, options) = words.split_at(words.len().saturating_sub(4));
+    let (before, flags) = front.split_at(before_flags(front));
+    let listing = listing_by(flags)?;
+    rule_at_end(listing, last_word(before)?, options)
 }

@@ -21,14 +21,6 @@ fn quote(text: &[u8]) -> Option<usize>
     text.iter().position(|byte| *byte == b'"')
 }
 
-// What is in front of the first quote in a text.
-fn before_quote(text: &[u8]) -> Option<&[u8]>
-    ensures { option_copied result ≡ spec.before_quote text.now }
-{
-    let place = quote(text)?;
-    Some(&text[..place])
-}
-
 // Whether a name is none of a file.
 fn is_no_file(name: &[u8]) -> bool
     ensures { result ≡ spec.is_no_file name.now }
@@ -36,12 +28,57 @@ fn is_no_file(name: &[u8]) -> bool
     name.starts_with(b"<") || name.ends_with(b"/")
 }
 
-// The file of which a line marker begins the first line.
-pub fn file_begun(line: &[u8]) -> Option<&[u8]>
-    ensures { option_copied result ≡ spec.file_begun line.now }
+// Whether a text is a mark and no more.
+fn is_mark(mark: &[u8], text: &[u8]) -> bool
+    ensures { result ≡ spec.is_mark mark.now text.now }
 {
-    let name = before_quote(behind(line, b"# 1 \"")?)?;
-    if is_no_file(name) { None } else { Some(name) }
+    match behind(text, mark) {
+        None => false,
+        Some(rest) => matches!(rest, []),
+    }
+}
+
+// Whether gcc writes this behind the name of a file of the program, from the quote on.
+fn is_of_program(flags: &[u8]) -> bool
+    ensures { result ≡ spec.is_of_program flags.now }
+{
+    is_mark(b"\"", flags) || is_mark(b"\" 1", flags) || is_mark(b"\" 2", flags)
+}
+
+// Whether it writes that behind the name of a file of the system.
+fn is_of_system(flags: &[u8]) -> bool
+    ensures { result ≡ spec.is_of_system flags.now }
+{
+    is_mark(b"\" 3", flags)
+        || is_mark(b"\" 1 3", flags)
+        || is_mark(b"\" 2 3", flags)
+        || is_mark(b"\" 3 4", flags)
+        || is_mark(b"\" 1 3 4", flags)
+        || is_mark(b"\" 2 3 4", flags)
+}
+
+// The name that a rule lists by a name and what is behind it.
+fn listed<'a>(of_system: bool, name: &'a [u8], flags: &'a [u8]) -> Option<&'a [u8]>
+    ensures { option_copied result ≡ spec.listed of_system name.now flags.now }
+{
+    if is_no_file(name) {
+        None
+    } else if of_system || is_of_program(flags) {
+        Some(name)
+    } else if is_of_system(flags) {
+        None
+    } else {
+        Some(flags)
+    }
+}
+
+// The file that a rule lists by a line.
+pub fn file_listed(of_system: bool, line: &[u8]) -> Option<&[u8]>
+    ensures { option_copied result ≡ spec.file_listed of_system line.now }
+{
+    let text = behind(line, b"# 1 \"")?;
+    let place = quote(text)?;
+    listed(of_system, &text[..place], &text[place..])
 }
 
 // What follows the beginning of a line marker, as gcc numbers a text's first line.

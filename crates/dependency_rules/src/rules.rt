@@ -83,6 +83,31 @@ fn text_of(alloc: Global, target: &str, files: &[Vec<u8>]) -> Result<Vec<u8>, Al
     Ok(text)
 }
 
+// Adds further files as targets without files.
+fn push_targets(text: &mut Vec<u8>, files: &[Vec<u8>]) -> Result<(), AllocError>
+    ensures { OnOk result (text.new.items ≡ text.old.items ++ flat_map spec.target_alone (map vec_items files.now)) }
+{
+    for file in files {
+        text.push(b'\n')?;
+        push_name(text, file.as_slice())?;
+        text.extend_from_slice(b":\n")?;
+    }
+    Ok(())
+}
+
+// The text of a rule with what it lists.
+fn listing_text(alloc: Global, rule: &Rule<'_>, files: &[Vec<u8>]) -> Result<Vec<u8>, AllocError>
+    ensures { IfOk result (λ text. text.items ≡ spec.listing_text (rule_of rule.now) (map vec_items files.now)) }
+{
+    let mut text = text_of(alloc, rule.target, files)?;
+    if rule.listing.targets
+        && let [_, further @ ..] = files
+    {
+        push_targets(&mut text, further)?;
+    }
+    Ok(text)
+}
+
 // Whether all texts begin with the source.
 fn all_begin_with_source(source: &[u8], texts: &[Bytes]) -> bool
     ensures { result ≡ list_all (markers.begins_with_source source.now) texts.now }
@@ -98,8 +123,8 @@ fn all_begin_with_source(source: &[u8], texts: &[Bytes]) -> bool
 /// The text of the file that gets a rule, from what the preprocessors have written, in nvcc's order (`order_of`). The rule names the source first, and
 /// then each file of which a text has the first line, once.
 ///
-/// `None` if nvcc has to make it: if a text doesn't begin with the source, if there is no other file, or if a file's name has other bytes than letters,
-/// digits, blanks and `_./+-`.
+/// `None` if nvcc has to make it: if a text doesn't begin with the source, if there is no other file, if a file's name has other bytes than letters,
+/// digits, blanks and `_./+-`, or if a line marker isn't as gcc writes them.
 pub fn rule_text(
     alloc: Global,
     rule: &Rule<'_>,
@@ -111,9 +136,9 @@ pub fn rule_text(
     if !all_begin_with_source(source, texts) {
         return Ok(None);
     }
-    let files = files_of(alloc, source, texts)?;
+    let files = files_of(alloc, rule.listing.of_system, source, texts)?;
     if !is_certain(files.as_slice()) {
         return Ok(None);
     }
-    Ok(Some(text_of(alloc, rule.target, files.as_slice())?))
+    Ok(Some(listing_text(alloc, rule, files.as_slice())?))
 }

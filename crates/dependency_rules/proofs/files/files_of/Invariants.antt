@@ -3,4 +3,4 @@ use Rattle.dependency_rules.specs.Markers as spec
 use Rattle.dependency_rules.proofs.files.files_of.Given as goal
 
 abbrev pub invariant-loop-text : goal.invariant-loop-text
-invariant-loop-text l = fold spec.noted_all (map vec_items l.names.keys) (drop l.text-index l.texts) ≡ spec.files_of l.source l.texts
+invariant-loop-text l = fold (spec.noted_all l.of_system) (map vec_items l.names.keys) (drop l.text-index l.texts) ≡ spec.files_of l.of_system l.source l.texts
