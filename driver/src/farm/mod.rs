@@ -66,6 +66,10 @@ const LAST_GRACE: Duration = Duration::from_millis(2500);
 const LEAVING: Duration = Duration::from_secs(5);
 /// How many may be connected at once that haven't shown that they know the secret.
 const MOST_STRANGERS: usize = 256;
+/// How long after a machine has come or gone another one may be on its way.
+const MOVING: Duration = Duration::from_secs(10);
+/// How long an attempt that has failed waits for a machine that gets no work yet.
+const COMING: Duration = Duration::from_secs(30);
 /// The status of a command whose time is up.
 const TIME_IS_UP: i32 = 124;
 
@@ -128,6 +132,8 @@ pub struct Farm {
     latest: usize,
     /// Since when no worker is ready.
     alone: Instant,
+    /// When a machine has last come or gone.
+    moved: Instant,
     looked: Instant,
 }
 
@@ -218,6 +224,7 @@ impl Farm {
             next_member: 0,
             latest: usize::MAX,
             alone: Instant::now(),
+            moved: Instant::now(),
             looked: Instant::now(),
         };
         farm.start_workers().map_err(|error| format!("cannot start workers: {error}"))?;
@@ -356,12 +363,25 @@ impl Farm {
                 self.send(attempt, at);
                 continue;
             }
-            let may_wait = attempt.avoided.is_empty() || self.members.iter().any(|it| it.is_ready() && !attempt.avoided.contains(&it.worker.name));
+            let may_wait = attempt.avoided.is_empty() || self.has_other(&attempt.avoided, attempt.since);
             match attempt.failed.take_if(|_| !may_wait) {
                 Some(ended) => self.events.push_back(Event::Ended(attempt.number, ended)),
                 None => self.waiting.push_back(attempt),
             }
         }
+    }
+
+    /// Whether there is another machine than these for an attempt that has waited since this time: one that gets work, or one that soon may. If it
+    /// has failed on two, it waits for none that nothing is known of.
+    fn has_other(&self, avoided: &[String], since: Instant) -> bool {
+        let mut others = self.members.iter().filter(|member| member.is_known() && !avoided.contains(&member.worker.name));
+        let may_come = avoided.len() == 1 && self.moved.elapsed() < MOVING && !self.none_starts();
+        if since.elapsed() < COMING { may_come || others.next().is_some() } else { others.any(Member::is_ready) }
+    }
+
+    /// Whether nothing starts workers any more, as far as the batch knows.
+    fn none_starts(&self) -> bool {
+        self.starters.running == 0 && self.starters.failed.is_some()
     }
 
     /// Takes all who connect.
@@ -462,14 +482,20 @@ impl Farm {
         } else if let Some(old) = other.filter(|&old| self.members[old].worker.process == worker.process) {
             self.lose(old, "has come again");
             if let Some(at) = self.place(number) {
-                self.members[at].admit(&self.terms);
+                self.admit(at);
             }
         } else if other.is_none() {
-            self.members[at].admit(&self.terms);
+            self.admit(at);
         } else if self.members[at].waits().is_some_and(|waited| waited > 2 * self.conditions.patience) {
             self.members[at].connection.send(&Message::Refusal("there is another worker of this name".into()));
             self.members.remove(at);
         }
+    }
+
+    /// A worker shows what its machine has.
+    fn admit(&mut self, at: usize) {
+        self.members[at].admit(&self.terms);
+        self.moved = Instant::now();
     }
 
     /// A worker gets work, and before that the tools unless it has them.
@@ -504,8 +530,8 @@ impl Farm {
 
     /// Removes a member. Its attempts wait for another. Says how many there are.
     fn remove(&mut self, at: usize) -> usize {
-        let member = self.members.remove(at).number;
-        let numbers: Vec<u64> = self.attempts.iter().filter(|(_, attempt)| attempt.member == member).map(|(&number, _)| number).collect();
+        let member = self.members.remove(at);
+        let numbers: Vec<u64> = self.attempts.iter().filter(|(_, attempt)| attempt.member == member.number).map(|(&number, _)| number).collect();
         for number in numbers.iter().rev() {
             let Some(mut attempt) = self.attempts.remove(number) else { continue };
             attempt.clear();
@@ -517,7 +543,12 @@ impl Farm {
                 self.fail(&attempt, 1, text.into_bytes());
             }
         }
-        if !self.members.iter().any(Member::is_ready) {
+        if member.is_known() {
+            self.moved = Instant::now();
+        }
+        // One that comes and goes again and again without ever getting work doesn't count.
+        let counts = member.is_ready() || self.left_out.contains_key(&member.worker.name);
+        if counts && !self.members.iter().any(Member::is_ready) {
             self.alone = Instant::now();
         }
         numbers.len()
@@ -586,13 +617,11 @@ impl Farm {
     /// An attempt has ended in a way that may be the machine's fault: another machine tries, if there is one.
     fn suspect(&mut self, mut attempt: Attempt, at: usize, ended: Ended) {
         attempt.avoided.push(self.members[at].worker.name.clone());
-        let is_other = |member: &Member| member.is_ready() && !attempt.avoided.contains(&member.worker.name);
-        if attempt.avoided.len() < MOST_MACHINES && self.members.iter().any(is_other) {
-            attempt.clear();
+        attempt.clear();
+        if attempt.avoided.len() < MOST_MACHINES && self.has_other(&attempt.avoided, attempt.since) {
             attempt.failed.get_or_insert(ended);
             self.waiting.push_front(attempt);
         } else {
-            attempt.drafts.remove();
             let ended = attempt.failed.take().unwrap_or(ended);
             self.events.push_back(Event::Ended(attempt.number, ended));
         }
@@ -695,7 +724,7 @@ impl Farm {
             return;
         }
         let seconds = self.conditions.wait.as_secs();
-        let no_more = self.starters.running == 0 && self.starters.failed.is_some() && self.alone.elapsed() > Duration::from_secs(1);
+        let no_more = self.none_starts() && self.alone.elapsed() > Duration::from_secs(1);
         if self.alone.elapsed() > self.conditions.wait || no_more {
             let why = if no_more { "there is no worker".to_owned() } else { format!("there has been no worker for {seconds} seconds") };
             self.events.push_back(Event::Lost(why));
