@@ -642,8 +642,8 @@ fn without_workers_the_batch_ends() {
     );
     in_own_process(|| {
         let room = Room::new();
-        let mut farm = room.farm("echo said; exit 3", |_| ());
         let begun = Instant::now();
+        let mut farm = room.farm("echo said; exit 3", |_| ());
         let Event::Lost(why) = farm.next() else { panic!("it waits") };
         assert_eq!((why.as_str(), farm.starters.failed.as_deref()), ("there is no worker", Some("echo said; exit 3")));
         assert!(begun.elapsed() > Duration::from_secs(1), "one may still come");
