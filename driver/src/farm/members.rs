@@ -130,7 +130,12 @@ impl Member {
         Some(())
     }
 
-    /// Sends as much of commands' files as it takes by now. Says of which commands one has changed.
+    /// Whether it takes more of commands' files by now.
+    pub fn takes_files(&self) -> bool {
+        self.departures.can_go(&self.connection)
+    }
+
+    /// Sends some of commands' files. Says of which commands one has changed.
     pub fn send_files(&mut self) -> Vec<u64> {
         self.departures.pump(&mut self.connection)
     }

@@ -453,7 +453,7 @@ impl Farm {
         }
     }
 
-    /// Sends files as workers take them. A command of which one has changed meanwhile begins anew.
+    /// Sends some files to workers that take them. A command of which one has changed meanwhile begins anew.
     fn send_files(&mut self) {
         for at in 0..self.members.len() {
             for number in self.members[at].send_files() {
@@ -737,6 +737,7 @@ impl Farm {
         let mut files: Vec<(i32, bool)> = vec![(self.listener.as_raw_fd(), false)];
         files.extend(self.members.iter().map(|member| (member.connection.file(), member.connection.is_behind())));
         files.extend(self.host.files().into_iter().map(|file| (file, false)));
+        let milliseconds = if self.members.iter().any(Member::takes_files) { 0 } else { milliseconds };
         let ready = system::wait_for_streams(&files, milliseconds);
         let members: Vec<(usize, [bool; 2])> = self.members.iter().map(|member| member.number).zip(ready[1..].iter().copied()).collect();
         if ready[0][0] {
