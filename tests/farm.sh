@@ -401,6 +401,16 @@ deaths() {
         said '^zigrunk-batch: n1 gets no work: sh ended with status 127 there, and otherwise on another machine$' || problems+="  messages: $(cat "$room/err")"$'\n'
         end
     fi
+    # n4 runs a command while the others fail on the other machines.
+    if case_of 'three workers on which commands fail, of four'; then
+        for number in 1 2 3 4; do
+            echo "if $here; then touch long; until [ \"\$(wc -l < began)\" -ge 3 ]; do sleep 0.05; done 2> /dev/null; sleep 2; echo made > k$number.o; else echo >> began; exit 127; fi"
+        done > list
+        later='until [ -e long ]; do sleep 0.05; done; ulimit -f 128;'
+        farm --workers "$(worker n4) -j1" --workers "$later $(worker n1)" --workers "$later $(worker n2)" --workers "$later $(worker n3)" list
+        same 'status and products' "$status $(cat k?.o)" $'0 made\nmade\nmade\nmade'
+        end
+    fi
     if case_of 'a command that fails as a bad machine would let it, and no other comes'; then
         echo 'echo >> ran; echo "k.h: No such file or directory" >&2; exit 3' > list
         begun=$SECONDS
@@ -602,10 +612,11 @@ alone() {
     fi
 }
 
-# two_alone [WORD..]: as `two_nodes`, without a shared disk.
+# two_alone [WORD..]: as `two_nodes`, without a shared disk. n2 starts once n1 has.
 two_alone() {
     sources 6
-    PAUSE=300 start --send-files --give-up 3 --wait 5 --workers "$(alone n1 "$@")" --workers "$(worker n2)" list
+    PAUSE=300 start --send-files --give-up 3 --wait 5 --workers "$(alone n1 "$@")" \
+        --workers "until pgrep -f '^$scratch/bin/zigrunk-worker --name n1 ' > /dev/null; do sleep 0.02; done; $(worker n2)" list
 }
 
 files() {

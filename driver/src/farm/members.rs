@@ -38,6 +38,8 @@ pub struct Member {
     pub taken: usize,
     /// How many more it gets, whose files come while others run.
     pub ahead: usize,
+    /// Whether a command has succeeded there, and none has failed since as a bad machine would let it.
+    pub is_sound: bool,
     /// The files that it gets.
     pub departures: Departures,
     /// Whether it gets the tools, and runs these.
@@ -78,6 +80,7 @@ impl Member {
             worker: Introduction::default(),
             taken: 0,
             ahead: 0,
+            is_sound: false,
             departures: Departures::default(),
             gets_tools: false,
             stage: Stage::Stranger,

@@ -274,10 +274,13 @@ impl Farm {
         self.members.iter().position(|other| other.number == member)
     }
 
-    /// The member with the most free slots that isn't one of these machines.
+    /// The member with the most free slots that isn't one of these machines. The last try of an attempt that has failed on others is on a sound one,
+    /// if one is or may be: those on which commands fail at once are free more often.
     fn free_member(&self, avoided: &[String]) -> Option<usize> {
-        let may = |member: &&Member| member.free() > 0 && !avoided.contains(&member.worker.name);
-        self.members.iter().filter(may).max_by_key(|member| member.free()).and_then(|member| self.place(member.number))
+        let others = || self.members.iter().filter(|member| member.is_ready() && !avoided.contains(&member.worker.name));
+        let wants_sound = avoided.len() + 1 == MOST_MACHINES && others().any(|member| member.is_sound || member.taken > 0);
+        let may = |member: &&Member| member.free() > 0 && (member.is_sound || !wants_sound);
+        others().filter(may).max_by_key(|member| member.free()).and_then(|member| self.place(member.number))
     }
 
     /// Sends an attempt to the member at this place. One whose files can't be sent runs here.
@@ -616,6 +619,7 @@ impl Farm {
 
     /// An attempt has ended in a way that may be the machine's fault: another machine tries, if there is one.
     fn suspect(&mut self, mut attempt: Attempt, at: usize, ended: Ended) {
+        self.members[at].is_sound = false;
         attempt.avoided.push(self.members[at].worker.name.clone());
         attempt.clear();
         if attempt.avoided.len() < MOST_MACHINES && self.has_other(&attempt.avoided, attempt.since) {
@@ -634,7 +638,10 @@ impl Farm {
             Seen::Whole => {
                 let ended = ended_of(&attempt, &answer);
                 match attempt.drafts.publish() {
-                    Ok(()) => self.conclude(&attempt, ended),
+                    Ok(()) => {
+                        self.members.iter_mut().filter(|member| member.number == attempt.member).for_each(|member| member.is_sound = true);
+                        self.conclude(&attempt, ended);
+                    }
                     Err(error) => {
                         let text = format!("zigrunk-batch: cannot rename what {} made: {error}\n", attempt.name());
                         attempt.drafts.remove();

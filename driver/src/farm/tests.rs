@@ -442,8 +442,9 @@ fn a_failure_that_no_machine_is_left_for_counts() {
 
 /// Has a worker fail a command as a bad machine would let it, and waits until the batch has taken that.
 fn fails(farm: &mut Farm, worker: &mut Worker) {
+    let running = farm.attempts.len();
     worker.answer(farm, with_code(137));
-    while !farm.attempts.is_empty() {
+    while farm.attempts.len() == running {
         farm.wait(5);
     }
 }
@@ -561,6 +562,37 @@ fn a_failure_waits_for_a_machine_that_may_still_come() {
         assert_eq!(farm.events.len(), 1, "what starts workers has failed, so none will come");
         farm.leave();
     });
+}
+
+#[test]
+fn the_last_try_is_on_a_machine_on_which_commands_succeed() {
+    with_farm(
+        |_| (),
+        |farm, _| {
+            let mut good = Worker::ready(farm, "n1", 1);
+            farm.start(0, &job("make a")).unwrap();
+            let (number, _) = good.order(farm);
+            let _bad = Worker::ready(farm, "n2", 2);
+            let (mut one, mut other) = (Worker::ready(farm, "n3", 3), Worker::ready(farm, "n4", 4));
+            let mut fail_twice = |farm: &mut Farm, number: usize| {
+                farm.start(number, &job("make b")).unwrap();
+                fails(farm, &mut other);
+                farm.send_waiting();
+                fails(farm, &mut one);
+                farm.send_waiting();
+            };
+            fail_twice(farm, 1);
+            assert_eq!((farm.waiting.len(), farm.attempts.len()), (1, 1), "n1 may be sound, and nothing is known of n2");
+            good.say(&Message::Ended(number, with_code(0)));
+            assert_eq!(next_end(farm).0, 0);
+            farm.send_waiting();
+            let (number, _) = good.order(farm);
+            good.say(&Message::Ended(number, with_code(137)));
+            assert_eq!(next_end(farm).1, 137, "n1 is sound, so it's the command");
+            fail_twice(farm, 2);
+            assert_eq!((farm.waiting.len(), farm.attempts.len()), (0, 1), "no machine is sound, and none may be soon");
+        },
+    );
 }
 
 #[test]
