@@ -392,6 +392,34 @@ deaths() {
         said '^zigrunk-batch: n1 gets no work: sh ended with status 153 there, and otherwise on another machine$' || problems+="  messages: $(cat "$room/err")"$'\n'
         end
     fi
+    # n2 comes once both commands have failed on n1, and shows what it has a second later.
+    if case_of 'a worker on which commands fail before another one comes'; then
+        for number in 1 2; do echo "if $here; then echo made > k$number.o; else echo >> began; exit 127; fi"; done > list
+        farm --workers "ulimit -f 128; $(worker n1)" \
+            --workers "until [ \"\$(wc -l < began)\" = 2 ]; do sleep 0.05; done 2> /dev/null; sleep 1; $(worker n2)" list
+        same 'status and products' "$status $(cat k1.o k2.o)" $'0 made\nmade'
+        said '^zigrunk-batch: n1 gets no work: sh ended with status 127 there, and otherwise on another machine$' || problems+="  messages: $(cat "$room/err")"$'\n'
+        end
+    fi
+    # n4 runs a command while the others fail on the other machines.
+    if case_of 'three workers on which commands fail, of four'; then
+        for number in 1 2 3 4; do
+            echo "if $here; then touch long; until [ \"\$(wc -l < began)\" -ge 3 ]; do sleep 0.05; done 2> /dev/null; sleep 2; echo made > k$number.o; else echo >> began; exit 127; fi"
+        done > list
+        later='until [ -e long ]; do sleep 0.05; done; ulimit -f 128;'
+        farm --workers "$(worker n4) -j1" --workers "$later $(worker n1)" --workers "$later $(worker n2)" --workers "$later $(worker n3)" list
+        same 'status and products' "$status $(cat k?.o)" $'0 made\nmade\nmade\nmade'
+        end
+    fi
+    if case_of 'a command that fails as a bad machine would let it, and no other comes'; then
+        echo 'echo >> ran; echo "k.h: No such file or directory" >&2; exit 3' > list
+        begun=$SECONDS
+        farm --workers "$(worker n1)" --workers 'sleep 300' list
+        same 'status, tries and messages' "$status $(wc -l < ran) $(cat "$room/err")" \
+            $'3 1 k.h: No such file or directory\nzigrunk-batch: line 1: exit status 3: echo >> ran; echo "k.h: No such file or directory" >&2; exit 3'
+        same 'a batch that waits for long' "$((SECONDS - begun >= 40))" 0
+        end
+    fi
     if case_of 'a command that fails everywhere as a bad machine would let it'; then
         printf '%s\n' 'echo >> ran; echo "k.h: No such file or directory" >&2; exit 3' 'missing-program' > list
         farm --workers "$(worker n1)" --workers "$(worker n2)" list
@@ -584,10 +612,11 @@ alone() {
     fi
 }
 
-# two_alone [WORD..]: as `two_nodes`, without a shared disk.
+# two_alone [WORD..]: as `two_nodes`, without a shared disk. n2 starts once n1 has.
 two_alone() {
     sources 6
-    PAUSE=300 start --send-files --give-up 3 --wait 5 --workers "$(alone n1 "$@")" --workers "$(worker n2)" list
+    PAUSE=300 start --send-files --give-up 3 --wait 5 --workers "$(alone n1 "$@")" \
+        --workers "until pgrep -f '^$scratch/bin/zigrunk-worker --name n1 ' > /dev/null; do sleep 0.02; done; $(worker n2)" list
 }
 
 files() {

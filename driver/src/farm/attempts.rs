@@ -65,6 +65,8 @@ pub struct Attempt {
     /// How it ended before where that may have been the machine's fault, and the machines.
     pub failed: Option<Ended>,
     pub avoided: Vec<String>,
+    /// Since when it is to begin, or to begin again.
+    pub since: Instant,
 }
 
 impl Attempt {
@@ -83,6 +85,7 @@ impl Attempt {
             lost: 0,
             failed: None,
             avoided: Vec::new(),
+            since: Instant::now(),
         }
     }
 
@@ -104,7 +107,7 @@ impl Attempt {
         self.drafts.remove();
         self.drafts = Drafts::default();
         self.said = Default::default();
-        (self.started, self.is_ended) = (None, false);
+        (self.started, self.is_ended, self.since) = (None, false, Instant::now());
     }
 }
 

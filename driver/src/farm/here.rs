@@ -77,15 +77,14 @@ impl Farm {
     /// Whether the batch may start a further job, wherever that runs. As many wait as run at once, so that all machines stay busy, and those of
     /// earlier calls come first.
     pub(super) fn may_take(&self) -> bool {
-        // Attempts that wait can't use the slots that workers have.
+        // Attempts that wait can't use the slots that workers have: they have failed there.
         let has_worker = self.free_member(&[]).is_some();
+        let slots = self.members.iter().filter(|member| member.is_ready()).map(|member| member.worker.slots as usize).sum::<usize>();
         if !self.conditions.sends_files {
-            return has_worker;
+            return has_worker && self.waiting.len() < slots;
         }
-        let slots =
-            self.here.slots + self.members.iter().filter(|member| member.is_ready()).map(|member| member.worker.slots as usize).sum::<usize>();
         let waits = self.here.waiting.len() + self.waiting.len();
-        waits < slots && (has_worker || self.here.has_room())
+        waits < self.here.slots + slots && (has_worker || self.here.has_room())
     }
 
     /// Begins to end what runs here.

@@ -38,6 +38,8 @@ pub struct Member {
     pub taken: usize,
     /// How many more it gets, whose files come while others run.
     pub ahead: usize,
+    /// Whether a command has succeeded there, and none has failed since as a bad machine would let it.
+    pub is_sound: bool,
     /// The files that it gets.
     pub departures: Departures,
     /// Whether it gets the tools, and runs these.
@@ -78,6 +80,7 @@ impl Member {
             worker: Introduction::default(),
             taken: 0,
             ahead: 0,
+            is_sound: false,
             departures: Departures::default(),
             gets_tools: false,
             stage: Stage::Stranger,
@@ -130,7 +133,12 @@ impl Member {
         Some(())
     }
 
-    /// Sends as much of commands' files as it takes by now. Says of which commands one has changed.
+    /// Whether it takes more of commands' files by now.
+    pub fn takes_files(&self) -> bool {
+        self.departures.can_go(&self.connection)
+    }
+
+    /// Sends some of commands' files. Says of which commands one has changed.
     pub fn send_files(&mut self) -> Vec<u64> {
         self.departures.pump(&mut self.connection)
     }

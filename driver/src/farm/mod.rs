@@ -66,6 +66,10 @@ const LAST_GRACE: Duration = Duration::from_millis(2500);
 const LEAVING: Duration = Duration::from_secs(5);
 /// How many may be connected at once that haven't shown that they know the secret.
 const MOST_STRANGERS: usize = 256;
+/// How long after a machine has come or gone another one may be on its way.
+const MOVING: Duration = Duration::from_secs(10);
+/// How long an attempt that has failed waits for a machine that gets no work yet.
+const COMING: Duration = Duration::from_secs(30);
 /// The status of a command whose time is up.
 const TIME_IS_UP: i32 = 124;
 
@@ -128,6 +132,8 @@ pub struct Farm {
     latest: usize,
     /// Since when no worker is ready.
     alone: Instant,
+    /// When a machine has last come or gone.
+    moved: Instant,
     looked: Instant,
 }
 
@@ -218,6 +224,7 @@ impl Farm {
             next_member: 0,
             latest: usize::MAX,
             alone: Instant::now(),
+            moved: Instant::now(),
             looked: Instant::now(),
         };
         farm.start_workers().map_err(|error| format!("cannot start workers: {error}"))?;
@@ -267,10 +274,13 @@ impl Farm {
         self.members.iter().position(|other| other.number == member)
     }
 
-    /// The member with the most free slots that isn't one of these machines.
+    /// The member with the most free slots that isn't one of these machines. The last try of an attempt that has failed on others is on a sound one,
+    /// if one is or may be: those on which commands fail at once are free more often.
     fn free_member(&self, avoided: &[String]) -> Option<usize> {
-        let may = |member: &&Member| member.free() > 0 && !avoided.contains(&member.worker.name);
-        self.members.iter().filter(may).max_by_key(|member| member.free()).and_then(|member| self.place(member.number))
+        let others = || self.members.iter().filter(|member| member.is_ready() && !avoided.contains(&member.worker.name));
+        let wants_sound = avoided.len() + 1 == MOST_MACHINES && others().any(|member| member.is_sound || member.taken > 0);
+        let may = |member: &&Member| member.free() > 0 && (member.is_sound || !wants_sound);
+        others().filter(may).max_by_key(|member| member.free()).and_then(|member| self.place(member.number))
     }
 
     /// Sends an attempt to the member at this place. One whose files can't be sent runs here.
@@ -356,12 +366,25 @@ impl Farm {
                 self.send(attempt, at);
                 continue;
             }
-            let may_wait = attempt.avoided.is_empty() || self.members.iter().any(|it| it.is_ready() && !attempt.avoided.contains(&it.worker.name));
+            let may_wait = attempt.avoided.is_empty() || self.has_other(&attempt.avoided, attempt.since);
             match attempt.failed.take_if(|_| !may_wait) {
                 Some(ended) => self.events.push_back(Event::Ended(attempt.number, ended)),
                 None => self.waiting.push_back(attempt),
             }
         }
+    }
+
+    /// Whether there is another machine than these for an attempt that has waited since this time: one that gets work, or one that soon may. If it
+    /// has failed on two, it waits for none that nothing is known of.
+    fn has_other(&self, avoided: &[String], since: Instant) -> bool {
+        let mut others = self.members.iter().filter(|member| member.is_known() && !avoided.contains(&member.worker.name));
+        let may_come = avoided.len() == 1 && self.moved.elapsed() < MOVING && !self.none_starts();
+        if since.elapsed() < COMING { may_come || others.next().is_some() } else { others.any(Member::is_ready) }
+    }
+
+    /// Whether nothing starts workers any more, as far as the batch knows.
+    fn none_starts(&self) -> bool {
+        self.starters.running == 0 && self.starters.failed.is_some()
     }
 
     /// Takes all who connect.
@@ -433,7 +456,7 @@ impl Farm {
         }
     }
 
-    /// Sends files as workers take them. A command of which one has changed meanwhile begins anew.
+    /// Sends some files to workers that take them. A command of which one has changed meanwhile begins anew.
     fn send_files(&mut self) {
         for at in 0..self.members.len() {
             for number in self.members[at].send_files() {
@@ -462,14 +485,20 @@ impl Farm {
         } else if let Some(old) = other.filter(|&old| self.members[old].worker.process == worker.process) {
             self.lose(old, "has come again");
             if let Some(at) = self.place(number) {
-                self.members[at].admit(&self.terms);
+                self.admit(at);
             }
         } else if other.is_none() {
-            self.members[at].admit(&self.terms);
+            self.admit(at);
         } else if self.members[at].waits().is_some_and(|waited| waited > 2 * self.conditions.patience) {
             self.members[at].connection.send(&Message::Refusal("there is another worker of this name".into()));
             self.members.remove(at);
         }
+    }
+
+    /// A worker shows what its machine has.
+    fn admit(&mut self, at: usize) {
+        self.members[at].admit(&self.terms);
+        self.moved = Instant::now();
     }
 
     /// A worker gets work, and before that the tools unless it has them.
@@ -504,8 +533,8 @@ impl Farm {
 
     /// Removes a member. Its attempts wait for another. Says how many there are.
     fn remove(&mut self, at: usize) -> usize {
-        let member = self.members.remove(at).number;
-        let numbers: Vec<u64> = self.attempts.iter().filter(|(_, attempt)| attempt.member == member).map(|(&number, _)| number).collect();
+        let member = self.members.remove(at);
+        let numbers: Vec<u64> = self.attempts.iter().filter(|(_, attempt)| attempt.member == member.number).map(|(&number, _)| number).collect();
         for number in numbers.iter().rev() {
             let Some(mut attempt) = self.attempts.remove(number) else { continue };
             attempt.clear();
@@ -517,7 +546,12 @@ impl Farm {
                 self.fail(&attempt, 1, text.into_bytes());
             }
         }
-        if !self.members.iter().any(Member::is_ready) {
+        if member.is_known() {
+            self.moved = Instant::now();
+        }
+        // One that comes and goes again and again without ever getting work doesn't count.
+        let counts = member.is_ready() || self.left_out.contains_key(&member.worker.name);
+        if counts && !self.members.iter().any(Member::is_ready) {
             self.alone = Instant::now();
         }
         numbers.len()
@@ -585,14 +619,13 @@ impl Farm {
 
     /// An attempt has ended in a way that may be the machine's fault: another machine tries, if there is one.
     fn suspect(&mut self, mut attempt: Attempt, at: usize, ended: Ended) {
+        self.members[at].is_sound = false;
         attempt.avoided.push(self.members[at].worker.name.clone());
-        let is_other = |member: &Member| member.is_ready() && !attempt.avoided.contains(&member.worker.name);
-        if attempt.avoided.len() < MOST_MACHINES && self.members.iter().any(is_other) {
-            attempt.clear();
+        attempt.clear();
+        if attempt.avoided.len() < MOST_MACHINES && self.has_other(&attempt.avoided, attempt.since) {
             attempt.failed.get_or_insert(ended);
             self.waiting.push_front(attempt);
         } else {
-            attempt.drafts.remove();
             let ended = attempt.failed.take().unwrap_or(ended);
             self.events.push_back(Event::Ended(attempt.number, ended));
         }
@@ -605,7 +638,10 @@ impl Farm {
             Seen::Whole => {
                 let ended = ended_of(&attempt, &answer);
                 match attempt.drafts.publish() {
-                    Ok(()) => self.conclude(&attempt, ended),
+                    Ok(()) => {
+                        self.members.iter_mut().filter(|member| member.number == attempt.member).for_each(|member| member.is_sound = true);
+                        self.conclude(&attempt, ended);
+                    }
                     Err(error) => {
                         let text = format!("zigrunk-batch: cannot rename what {} made: {error}\n", attempt.name());
                         attempt.drafts.remove();
@@ -695,7 +731,7 @@ impl Farm {
             return;
         }
         let seconds = self.conditions.wait.as_secs();
-        let no_more = self.starters.running == 0 && self.starters.failed.is_some() && self.alone.elapsed() > Duration::from_secs(1);
+        let no_more = self.none_starts() && self.alone.elapsed() > Duration::from_secs(1);
         if self.alone.elapsed() > self.conditions.wait || no_more {
             let why = if no_more { "there is no worker".to_owned() } else { format!("there has been no worker for {seconds} seconds") };
             self.events.push_back(Event::Lost(why));
@@ -708,6 +744,7 @@ impl Farm {
         let mut files: Vec<(i32, bool)> = vec![(self.listener.as_raw_fd(), false)];
         files.extend(self.members.iter().map(|member| (member.connection.file(), member.connection.is_behind())));
         files.extend(self.host.files().into_iter().map(|file| (file, false)));
+        let milliseconds = if self.members.iter().any(Member::takes_files) { 0 } else { milliseconds };
         let ready = system::wait_for_streams(&files, milliseconds);
         let members: Vec<(usize, [bool; 2])> = self.members.iter().map(|member| member.number).zip(ready[1..].iter().copied()).collect();
         if ready[0][0] {

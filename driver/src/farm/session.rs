@@ -161,7 +161,8 @@ impl Session {
     fn wait(&self) {
         let mut files: Vec<(i32, bool)> = self.host.files().into_iter().map(|file| (file, false)).collect();
         files.push((self.connection.file(), self.connection.is_behind()));
-        system::wait_for_streams(&files, if self.pending.is_empty() { LOOK } else { SOON });
+        let longest = if self.pending.is_empty() { LOOK } else { SOON };
+        system::wait_for_streams(&files, if self.departures.can_go(&self.connection) { 0 } else { longest });
     }
 
     /// Takes what the batch says.

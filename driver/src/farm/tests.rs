@@ -389,9 +389,11 @@ fn what_may_be_a_machines_fault_is_tried_on_another() {
             while farm.waiting.is_empty() {
                 farm.wait(5);
             }
+            farm.moved += LONG;
             farm.send_waiting();
-            one.answer(farm, with_code(137));
-            assert_eq!(next_end(farm).1, 137, "there is no third machine");
+            fails(farm, &mut one);
+            assert_eq!(farm.events.len(), 1, "there is no third machine, and two say the same");
+            assert_eq!(next_end(farm).1, 137);
             assert_eq!(left_out(farm), "", "both say the same");
             farm.start(2, &job("make a")).unwrap();
             let (number, _) = other.order(farm);
@@ -430,9 +432,165 @@ fn a_failure_that_no_machine_is_left_for_counts() {
             while farm.members.len() == 2 {
                 farm.wait(5);
             }
+            farm.moved -= MOVING;
             farm.send_waiting();
             assert_eq!(next_end(farm), (1, 137, String::new(), String::new()));
             assert_eq!(farm.attempts.len(), 1, "the lost one is on the machine that is left");
+        },
+    );
+}
+
+/// Has a worker fail a command as a bad machine would let it, and waits until the batch has taken that.
+fn fails(farm: &mut Farm, worker: &mut Worker) {
+    let running = farm.attempts.len();
+    worker.answer(farm, with_code(137));
+    while farm.attempts.len() == running {
+        farm.wait(5);
+    }
+}
+
+/// Waits until there is an event or nothing waits, for so long at most.
+fn settle(farm: &mut Farm, longest: Duration) {
+    let begun = Instant::now();
+    while farm.events.is_empty() && !farm.waiting.is_empty() && begun.elapsed() < longest {
+        while let Some(event) = farm.host.look() {
+            farm.take_host(event);
+        }
+        farm.wait(5);
+        farm.look_at_times();
+        farm.send_waiting();
+    }
+}
+
+const SHORT: Duration = Duration::from_millis(300);
+
+#[test]
+fn a_failure_waits_for_a_machine_that_is_about_to_get_work() {
+    with_farm(
+        |_| (),
+        |farm, _| {
+            let mut one = Worker::ready(farm, "n1", 1);
+            let mut other = Worker::introduced(farm, "n2", 2);
+            assert!(matches!(other.hear(farm), Message::Terms(_)));
+            farm.moved -= MOVING;
+            farm.start(1, &job("make a")).unwrap();
+            fails(farm, &mut one);
+            settle(farm, SHORT);
+            assert_eq!((farm.waiting.len(), farm.events.len()), (1, 0), "n2 shows what it has");
+            other.show(farm);
+            farm.send_waiting();
+            other.answer(farm, with_code(0));
+            assert_eq!(next_end(farm), (1, 0, String::new(), String::new()));
+            assert_eq!(left_out(farm), "n1: make ended with status 137 there, and otherwise on another machine\n");
+        },
+    );
+    // It doesn't wait for long, nor for one that gets no work, nor for another worker of the machine where it failed.
+    let hopeless: [fn(&mut Farm, &mut Worker); 3] = [
+        |farm, _| farm.waiting[0].since -= COMING,
+        |farm, other| {
+            other.say(&Message::Evidence(Evidence::default()));
+            while farm.left_out.is_empty() {
+                farm.wait(5);
+            }
+            farm.moved -= MOVING;
+        },
+        |farm, _| farm.waiting[0].avoided.push("n2".into()),
+    ];
+    for lose_hope in hopeless {
+        with_farm(
+            |_| (),
+            |farm, _| {
+                let mut one = Worker::ready(farm, "n1", 1);
+                let mut other = Worker::introduced(farm, "n2", 2);
+                assert!(matches!(other.hear(farm), Message::Terms(_)));
+                farm.moved -= MOVING;
+                farm.start(1, &job("make a")).unwrap();
+                fails(farm, &mut one);
+                lose_hope(farm, &mut other);
+                settle(farm, LONG);
+                assert_eq!(next_end(farm), (1, 137, String::new(), String::new()));
+            },
+        );
+    }
+}
+
+#[test]
+fn a_failure_waits_for_a_machine_that_may_still_come() {
+    with_farm(
+        |_| (),
+        |farm, _| {
+            let mut one = Worker::ready(farm, "n1", 1);
+            farm.start(1, &job("make a")).unwrap();
+            fails(farm, &mut one);
+            settle(farm, SHORT);
+            assert_eq!((farm.waiting.len(), farm.events.len()), (1, 0), "n1 has only just come");
+            assert!(!farm.may_take(), "a machine doesn't fail one command after the other meanwhile");
+            let mut other = Worker::ready(farm, "n2", 2);
+            farm.send_waiting();
+            assert_eq!(other.order(farm).1.words[1], "a");
+            farm.moved -= MOVING;
+            farm.attempts.values_mut().for_each(|attempt| attempt.since -= COMING);
+            drop(other);
+            while farm.members.len() == 2 {
+                farm.wait(5);
+            }
+            settle(farm, SHORT);
+            assert_eq!((farm.waiting.len(), farm.events.len()), (1, 0), "n2 may come back");
+            farm.moved -= MOVING;
+            assert_eq!(next_end(farm), (1, 137, String::new(), String::new()));
+            let _stranger = TcpStream::connect(("127.0.0.1", farm.listener.local_addr().unwrap().port())).unwrap();
+            while farm.members.len() == 1 {
+                farm.wait(5);
+            }
+            farm.start(2, &job("make a")).unwrap();
+            fails(farm, &mut one);
+            settle(farm, SHORT);
+            assert_eq!(farm.events.len(), 1, "for some time no machine has come or gone");
+            assert!(next_end(farm).1 == 137 && farm.may_take());
+        },
+    );
+    in_own_process(|| {
+        let room = Room::new();
+        let mut farm = room.farm(&format!("until [ -e {} ]; do sleep 0.01; done; exit 3", room.path("go")), |_| ());
+        let mut one = Worker::ready(&mut farm, "n1", 1);
+        farm.start(1, &job("make a")).unwrap();
+        fails(&mut farm, &mut one);
+        farm.moved += LONG;
+        farm.waiting[0].since += LONG;
+        fs::write(room.path("go"), "").unwrap();
+        settle(&mut farm, MOVING * 2);
+        assert_eq!(farm.events.len(), 1, "what starts workers has failed, so none will come");
+        farm.leave();
+    });
+}
+
+#[test]
+fn the_last_try_is_on_a_machine_on_which_commands_succeed() {
+    with_farm(
+        |_| (),
+        |farm, _| {
+            let mut good = Worker::ready(farm, "n1", 1);
+            farm.start(0, &job("make a")).unwrap();
+            let (number, _) = good.order(farm);
+            let _bad = Worker::ready(farm, "n2", 2);
+            let (mut one, mut other) = (Worker::ready(farm, "n3", 3), Worker::ready(farm, "n4", 4));
+            let mut fail_twice = |farm: &mut Farm, number: usize| {
+                farm.start(number, &job("make b")).unwrap();
+                fails(farm, &mut other);
+                farm.send_waiting();
+                fails(farm, &mut one);
+                farm.send_waiting();
+            };
+            fail_twice(farm, 1);
+            assert_eq!((farm.waiting.len(), farm.attempts.len()), (1, 1), "n1 may be sound, and nothing is known of n2");
+            good.say(&Message::Ended(number, with_code(0)));
+            assert_eq!(next_end(farm).0, 0);
+            farm.send_waiting();
+            let (number, _) = good.order(farm);
+            good.say(&Message::Ended(number, with_code(137)));
+            assert_eq!(next_end(farm).1, 137, "n1 is sound, so it's the command");
+            fail_twice(farm, 2);
+            assert_eq!((farm.waiting.len(), farm.attempts.len()), (0, 1), "no machine is sound, and none may be soon");
         },
     );
 }
@@ -443,6 +601,7 @@ fn a_command_may_take_so_long() {
         |conditions| conditions.limit = Some(Duration::ZERO),
         |farm, _| {
             let mut worker = Worker::ready(farm, "n1", 1);
+            farm.moved -= MOVING;
             farm.start(1, &job("make a")).unwrap();
             let (number, _) = worker.order(farm);
             worker.say(&Message::Said(number, true, Bytes(b"begun\n".to_vec())));
@@ -487,10 +646,36 @@ fn without_workers_the_batch_ends() {
             assert!(farm.events.is_empty(), "there is one");
         },
     );
+    with_farm(
+        |_| (),
+        |farm, _| {
+            let alone = farm.alone;
+            let mut worker = Worker::introduced(farm, "n1", 1);
+            assert!(matches!(worker.hear(farm), Message::Terms(_)));
+            drop(worker);
+            while !farm.members.is_empty() {
+                farm.wait(5);
+            }
+            assert_eq!(farm.alone, alone, "it got no work");
+            let mut worker = Worker::introduced(farm, "n2", 2);
+            assert!(matches!(worker.hear(farm), Message::Terms(_)));
+            worker.say(&Message::Evidence(Evidence::default()));
+            while !farm.members.is_empty() {
+                farm.wait(5);
+            }
+            let left_out = farm.alone;
+            assert!(left_out > alone, "it may be the first one of several");
+            drop(Worker::ready(farm, "n3", 3));
+            while !farm.members.is_empty() {
+                farm.wait(5);
+            }
+            assert!(farm.alone > left_out);
+        },
+    );
     in_own_process(|| {
         let room = Room::new();
-        let mut farm = room.farm("echo said; exit 3", |_| ());
         let begun = Instant::now();
+        let mut farm = room.farm("echo said; exit 3", |_| ());
         let Event::Lost(why) = farm.next() else { panic!("it waits") };
         assert_eq!((why.as_str(), farm.starters.failed.as_deref()), ("there is no worker", Some("echo said; exit 3")));
         assert!(begun.elapsed() > Duration::from_secs(1), "one may still come");
@@ -535,12 +720,19 @@ fn who_is_no_worker_goes() {
     with_farm(
         |_| (),
         |farm, _| {
-            let mut stranger = Connection::new(TcpStream::connect(("127.0.0.1", farm.listener.local_addr().unwrap().port())).unwrap()).unwrap();
+            let before = (farm.alone, farm.moved);
+            let address = ("127.0.0.1", farm.listener.local_addr().unwrap().port());
+            let mut stranger = Connection::new(TcpStream::connect(address).unwrap()).unwrap();
             stranger.send(&Message::Bye);
             while stranger.read().is_ok() {
                 farm.wait(5);
             }
             assert!(farm.members.is_empty());
+            drop(TcpStream::connect(address).unwrap());
+            while farm.next_member < 2 || !farm.members.is_empty() {
+                farm.wait(5);
+            }
+            assert_eq!((farm.alone, farm.moved), before, "strangers don't count as machines");
             // A known one that says what a worker doesn't say gets no work any more.
             let mut worker = Worker::ready(farm, "n1", 1);
             worker.say(&Message::Challenge { once: [0; 32], proof: [0; 32] });

@@ -11,6 +11,8 @@ use std::path::{Path, PathBuf};
 
 /// How many bytes may wait for the other side before more are read.
 const AHEAD: usize = 1 << 18;
+/// How many messages go at once, however fast the other side takes them: others wait meanwhile, and would give this process up.
+const AT_ONCE: usize = 4;
 
 /// What tells a file's contents from those that it had before.
 type State = (u64, u64, u64, i64, i64);
@@ -93,11 +95,16 @@ impl Departures {
         self.waiting.iter().any(|waiting| waiting.number() == number)
     }
 
-    /// Sends what the other side takes by now. Says of which commands a file has changed: nothing more of them is sent.
+    /// Whether more can be sent by now.
+    pub fn can_go(&self, connection: &Connection) -> bool {
+        !self.waiting.is_empty() && connection.backlog() < AHEAD
+    }
+
+    /// Sends some of what the other side takes by now. Says of which commands a file has changed: nothing more of them is sent.
     pub fn pump(&mut self, connection: &mut Connection) -> Vec<u64> {
         let mut changed = Vec::new();
-        while connection.backlog() < AHEAD {
-            let Some(first) = self.waiting.front_mut() else { break };
+        for _ in 0..AT_ONCE {
+            let Some(first) = self.waiting.front_mut().filter(|_| connection.backlog() < AHEAD) else { break };
             let number = first.number();
             let Ok((message, is_last)) = first.next() else {
                 self.forget(number);
@@ -344,8 +351,24 @@ mod tests {
         let [mut one, _other] = pair();
         let mut departures = Departures::default();
         departures.add(1, 0, &path).unwrap();
-        departures.pump(&mut one);
+        while departures.can_go(&one) {
+            departures.pump(&mut one);
+        }
         assert!(one.backlog() >= AHEAD && one.backlog() < AHEAD + 2 * LONGEST_PART && departures.has(1), "{}", one.backlog());
+    }
+
+    #[test]
+    fn one_side_does_not_take_all_the_time() {
+        let scratch = Scratch::new("at-once");
+        let path = scratch.file("long", &[0; AT_ONCE * LONGEST_PART]);
+        let [mut one, _other] = pair();
+        let mut departures = Departures::default();
+        departures.add(1, 0, &path).unwrap();
+        assert!(departures.can_go(&one));
+        departures.pump(&mut one);
+        assert!(departures.can_go(&one), "its end waits, though the other side would take it");
+        departures.pump(&mut one);
+        assert!(!departures.can_go(&one));
     }
 
     #[test]
