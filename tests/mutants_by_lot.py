@@ -44,10 +44,12 @@ SIDE_BY_SIDE = 3
 # As in a release: sums that overflow don't panic.
 BUILD = {"CARGO_PROFILE_DEV_DEBUG": "0", "CARGO_PROFILE_DEV_OVERFLOW_CHECKS": "false", "CARGO_PROFILE_DEV_DEBUG_ASSERTIONS": "false"}
 
-# What runs a command as the first process of a namespace: all but the lane's folder can only be read, and all ends with the command.
+# What runs a command as the first process of a namespace: all but the lane's folder can only be read, and all ends with the command. A test that has
+# the path of the program in it runs UNEDITED in place of EDITED, if that is set.
 SANDBOX = ["unshare", *([] if os.geteuid() == 0 else ["--user", "--map-root-user"]), "--mount", "--pid", "--fork", "--kill-child", "--mount-proc",
            "bash", "-c", 'mount --make-rprivate / && mount --bind "$1" /mnt && mount --bind "$2" /tmp && mkdir -p "$1" && mount --bind /mnt "$1" &&'
-           ' mount -o remount,bind,ro / && mount -o remount,bind,ro /dev && mount -t tmpfs tmpfs /dev/shm &&'
+           ' { [ -z "${UNEDITED-}" ] || mount --bind "$UNEDITED" "$EDITED"; } && mount -o remount,bind,ro / &&'
+           ' mount -o remount,bind,ro /dev && mount -t tmpfs tmpfs /dev/shm &&'
            f' ulimit -v 4000000 -t {LONGEST_BUSY} && "${{@:3}}"; status=$?; times > /tmp/times; exit $status', "sandbox"]
 
 # The files of each kind, and the parts of its tests.
@@ -222,6 +224,7 @@ class Lane:
     def __init__(self, number: int, kind: str) -> None:
         self.folder, self.kind = WORK / f"lane{number}", kind
         self.built, self.unedited, self.running = Built([], Path()), Built([], Path()), set[subprocess.Popen[str]]()
+        self.program = Path()
         self.sound: dict[tuple[str, str], bool] = {}
         self.seconds = 0.0
         self.sources = self.folder / "out/rust" if kind == "driver" else self.folder
@@ -262,6 +265,7 @@ class Lane:
         kept = self.folder / "out/unedited/target/debug"
         kept.mkdir(parents=True, exist_ok=True)
         copies = [Path(shutil.copy(path, kept)) for path in [*tests, *programs]]
+        self.program = programs[0] if programs else self.program
         self.unedited = Built(copies[:-1], copies[-1]) if tests and programs else self.unedited
         return bool(tests and programs)
 
@@ -294,8 +298,9 @@ class Lane:
         """Runs a part of the tests with a build. Says what fails first, or nothing. A part `unit NAME` are the unit tests whose names begin so."""
         if part.startswith("unit"):
             names = part.split()[1:]
+            settings = {"UNEDITED": str(built.program), "EDITED": str(self.program)} if built == self.unedited else {}
             status, said = self.run(["sh", "-c", 'tests=$1 && shift && for test in $tests; do "$test" -q "$@" || exit; done', "unit",
-                                     " ".join(map(str, built.tests)), *names])
+                                     " ".join(map(str, built.tests)), *names], **settings)
             failures = re.findall(r"^    (\S+)$", said, re.M)
         else:
             words = [f"tests/{script}.sh", *([str(built.program)] if self.kind == "driver" else [])]

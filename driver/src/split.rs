@@ -370,7 +370,8 @@ mod tests {
         fs::write(folder.join("file"), "").unwrap();
         assert!(std::process::Command::new("mkfifo").arg(folder.join("pipe")).status().unwrap().success());
         assert!(["pipe", "./pipe"].iter().all(|word| names_pipe(word, &folder)));
-        assert!(!["file", "missing", "-o", "/dev/null", "/dev/stdout"].iter().any(|word| names_pipe(word, &folder) || names_open_file(word)));
+        assert!(!["file", "missing", "-o", "/dev/null"].iter().any(|word| names_pipe(word, &folder)));
+        assert!(!["file", "-o", "/dev/null", "/dev/stdout"].iter().any(|word| names_open_file(word)));
         assert!(names_pipe(folder.join("pipe").to_str().unwrap(), Path::new("/")));
         let call = |line: &str| {
             let first_dry_run = Words { folder: folder.to_string_lossy().into_owned(), ..words(line) };
