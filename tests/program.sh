@@ -173,6 +173,7 @@ refused_plans() {
     check 'a folder as first file' 1 '' "$unread" plan /w /t -c "$scratch" "$good"
     check 'a folder as second file' 1 '' "$unread" plan /w /t -c "$good" "$scratch"
     check 'a file without a name' 1 '' "$unread" plan /w /t -c '' "$good"
+    check 'standard input, which has no name here' 1 '' "$unread" plan /w /t -c - "$good" < "$data/one_kernel.dry1"
     for suffix in .ii .cpp1.ii '' .a/b gpu .x.; do
         check "suffix '$suffix'" 1 '' $'cudaplan: bad generated suffixes\n' plan /w /t -c "$good" "$good" "$suffix"
     done
@@ -992,6 +993,25 @@ unread_files() {
     chmod 0 "$folder/secret"
     denied 'a first file without permission' secret open
     denied 'a second file without permission' open secret
+    closed_folder "$folder"
+}
+
+# closed_folder FOLDER: a folder of PATH that has a program and that the user may not search. The user finds the next one.
+closed_folder() {
+    mkdir "$1/closed" "$1/beside"
+    install -m 755 /dev/null "$1/closed/gcc"
+    install -m 755 /dev/null "$1/beside/gcc"
+    chmod 0 "$1/closed"
+    lines_of unread/run "#\$ PATH=$1/closed:$1/beside" "${KERNEL[0]}"
+    cp "$1/run" "$1/run.2"
+    (
+        cd "$1" || exit
+        as_nobody ./zigrunk json /w /t -c run run.2 > "$scratch/plan" 2> "$scratch/err"
+        echo $? > "$scratch/status"
+    )
+    chmod 700 "$1/closed"
+    grep -o '"exe":"[^"]*"' "$scratch/plan" > "$scratch/out"
+    judge 'a folder of PATH that may not be searched' 0 "\"exe\":\"$1/beside/gcc\""$'\n' ''
 }
 
 # holds NAME FORMAT RUN WORD: a plan that has this long word once.
@@ -1274,6 +1294,19 @@ standard_input() {
     check 'the second run from standard input' 0 "${plan%.}" '' json /w /t -c "$scratch/kernel" - < <(cat "$scratch/kernel.2")
     check 'both runs from standard input' 1 '' $'zigrunk: -: both dry runs are the same file\n' json /w /t -c - - < "$scratch/kernel"
     check 'a closed standard input' 1 '' $'zigrunk: cannot read -: the system reports error 9\n' json /w /t -c "$scratch/kernel" - <&-
+    check 'a folder as standard input' 1 '' $'zigrunk: cannot read -: Is a directory\n' json /w /t -c - "$scratch/kernel.2" < "$scratch"
+    check 'a first run without a name' 1 '' $'zigrunk: cannot read : No such file or directory\n' \
+        json /w /t -c '' "$scratch/kernel.2" < "$scratch/kernel"
+    check 'a second run without a name' 1 '' $'zigrunk: cannot read : No such file or directory\n' \
+        json /w /t -c "$scratch/kernel" '' < "$scratch/kernel.2"
+    mkdir -p "$scratch/dashes"
+    cp "$scratch/kernel" "$scratch/dashes/-"
+    (
+        cd "$scratch/dashes" || exit
+        "$program" json /w /t -c ./- ../kernel.2 > "$scratch/out" 2> "$scratch/err" < /dev/null
+        echo $? > "$scratch/status"
+    )
+    judge 'a file that has the name of standard input' 0 "${plan%.}" ''
 }
 
 # plans that aren't written

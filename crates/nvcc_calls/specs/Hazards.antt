@@ -12,7 +12,7 @@ use Rattle.nvcc_options.specs.declared.reason.Reason.{Reason}
 use Rattle.nvcc_options.specs.declared.reason.Reason.TheVariants.{GeneratedName, DirectoryName, ToolFile, HostFile, KeptName}
 use Rattle.nvcc_words.specs.Asked.{reason_unless}
 use Rattle.nvcc_words.specs.NormalForm.{extension_of_phase, has_extension}
-use Rattle.program_calls.specs.Calls.{NvccOf}
+use Rattle.program_calls.specs.Operands.{NvccOf}
 
 -- whether a text may be changed where generated files get canonical names: it contains one of their suffixes. In all other
 -- texts there is no name of such a file

@@ -7,7 +7,7 @@ ghost use Rattle.compilers.specs.Compiler.{reading_of};
 ghost use Rattle.nvcc_options.specs.Reasons.{text_of};
 ghost use Rattle.nvcc_calls.specs.declared.answer.Answer.TheVariants.{Pass};
 ghost use Rattle.nvcc_calls.specs.Answer as spec;
-ghost use Rattle.program_calls.specs.Calls.{nvcc_of};
+ghost use Rattle.program_calls.specs.Operands.{nvcc_of};
 
 use crate::hazard::hazard_of;
 use crate::outline::{Outline, command, outline_of};

@@ -4,7 +4,7 @@ ghost use Rattle.std.specs.Prelude.{◌≡◌, IfOk, map, nat_eq, not, string_by
 ghost use Rattle.std.specs.List.{list_all, list_any, starts_with};
 ghost use Rattle.canonical_names.specs.Alike as alike;
 ghost use Rattle.nvcc_words.specs.Asked.{reason_unless};
-ghost use Rattle.program_calls.specs.Calls.{nvcc_of};
+ghost use Rattle.program_calls.specs.Operands.{nvcc_of};
 ghost use Rattle.nvcc_calls.specs.Hazards as spec;
 
 use nvcc_options::Reason;

@@ -3,7 +3,7 @@
 ghost use Rattle.std.specs.Prelude.{◌≡◌, IfOk, Ok, map, string_bytes};
 ghost use Rattle.texts.specs.Fault.{UnlessMemory};
 ghost use Rattle.texts.specs.Variables.{pair_of};
-ghost use Rattle.program_calls.specs.Calls.{nvcc_of};
+ghost use Rattle.program_calls.specs.Operands.{nvcc_of};
 ghost use Rattle.nvcc_calls.specs.Outline as spec;
 
 use crate::jobs::{number_of_jobs, threads_asked};

@@ -1,118 +1,210 @@
-//! The calls that programs take, as words.
+//! The calls of `zigrunk`, and how words are read as one.
 
-ghost use Rattle.std.specs.Prelude.{◌≡◌, map, string_bytes, option_map};
+ghost use Rattle.std.specs.Prelude.{◌≡◌, map, string_bytes, option_map, option_copied};
+ghost use Rattle.program_calls.specs.Operands.{plan_call_of};
+ghost use Rattle.program_calls.specs.Misuse as misuses;
+ghost use Rattle.program_calls.specs.Settings.{rest_seen};
 ghost use Rattle.program_calls.specs.Calls as spec;
 
-use plan_texts::Tool;
+use crate::command::{Command, command_named, form_of, operands_of, takes_options};
+use crate::misuse::{ALL_CALLS, Misuse, misuse_at};
+use crate::operands::{
+    DirectoryCall, LineCall, NvccCall, PlanCall, directory_call, line_call, nvcc_call, plan_call,
+};
+use crate::settings::{Settings, begins_option, options_taken};
+use plan_scripts::Format;
 
-/// A call that reads a tool's line and writes it back.
-#[derive(Debug, Drop)]
-pub struct LineCall<'a> {
-    /// The tool whose line it is.
-    pub tool: Tool,
-    /// The working directory's path.
-    pub cwd: &'a str,
-    /// The line's words, without the tool's name.
-    pub words: &'a [String],
+/// A call that writes the plan of two dry runs for another tool.
+#[derive(Drop)]
+pub struct ExportCall<'a> {
+    /// What the plan is written as.
+    pub format: Format,
+    /// Whether generated files keep nvcc's names.
+    pub keeps: bool,
+    /// Whether a plan that dropped a command is an error.
+    pub whole: bool,
+    /// The plan's own words.
+    pub plan: PlanCall<'a>,
 }
 
-/// Parses `TOOL CWD WORD..`. `None` if the words have another form or name another tool.
-pub fn line_call<'a>(words: &'a [String]) -> Option<LineCall<'a>>
-    ensures { option_map spec.line_of result ≡ spec.line_call_of (map string_bytes words.now) }
+/// A call of the program.
+#[derive(Drop)]
+pub enum Call<'a> {
+    /// Reads a tool's line and writes it back.
+    Line(LineCall<'a>),
+    /// Writes the text of the plan of two dry runs.
+    Plan(PlanCall<'a>),
+    /// Writes the plan of two dry runs for another tool.
+    Export(ExportCall<'a>),
+    /// Reads an nvcc line.
+    Nvcc(NvccCall<'a>),
+    /// Names the directory of an nvcc call.
+    Directory(DirectoryCall<'a>),
+    /// Prints how to call the program.
+    Help,
+    /// Prints the version.
+    Version,
+}
+
+// The settings of a call without options. The limit is 2 MiB: the dry runs of a real call hold some hundred KiB.
+const NO_OPTIONS: Settings = Settings {
+    limit: 2_097_152,
+    keeps: false,
+    whole: false,
+};
+
+// Whether words are one that asks for help.
+fn are_help(words: &[String]) -> bool
+    ensures { result ≡ spec.are_help (map string_bytes words.now) }
 {
-    let [tool, cwd, line @ ..] = words else {
-        return None;
-    };
-    Some(LineCall {
-        tool: Tool::named(tool.as_str())?,
-        cwd: cwd.as_str(),
-        words: line,
-    })
+    match words {
+        [word] => word.as_str() == "--help" || word.as_str() == "-h",
+        _ => false,
+    }
 }
 
-/// A call that plans the dry runs of two files.
-#[derive(Debug, Drop)]
-pub struct PlanCall<'a> {
-    /// The working directory's path.
-    pub cwd: &'a str,
-    /// The temporary directory's path.
-    pub tmp: &'a str,
-    /// The compilation flag, as `-c`.
-    pub flag: &'a str,
-    /// The path of the first dry run's file.
-    pub dry1: &'a str,
-    /// The path of the second dry run's file.
-    pub dry2: &'a str,
-    /// Further suffixes of generated files.
-    pub suffixes: &'a [String],
-}
-
-/// Parses `CWD TMP FLAG DRY1 DRY2 SUFFIX..`. `None` if the words are too few.
-pub fn plan_call<'a>(words: &'a [String]) -> Option<PlanCall<'a>>
-    ensures { option_map spec.plan_of result ≡ spec.plan_call_of (map string_bytes words.now) }
+// The call that writes the plan of these operands in a format.
+fn export_call<'a>(format: Format, settings: Settings, operands: &'a [String]) -> Option<Call<'a>>
+    ensures { option_map spec.seen result ≡ option_map (spec.exporting format settings) (plan_call_of (map string_bytes operands.now)) }
 {
-    let [cwd, tmp, flag, dry1, dry2, suffixes @ ..] = words else {
-        return None;
-    };
-    Some(PlanCall {
-        cwd: cwd.as_str(),
-        tmp: tmp.as_str(),
-        flag: flag.as_str(),
-        dry1: dry1.as_str(),
-        dry2: dry2.as_str(),
-        suffixes,
-    })
+    let plan = plan_call(operands)?;
+    let (keeps, whole) = (settings.keeps, settings.whole);
+    Some(Call::Export(ExportCall {
+        format,
+        keeps,
+        whole,
+        plan,
+    }))
 }
 
-/// A call that reads an nvcc line.
-#[derive(Debug, Drop)]
-pub struct NvccCall<'a> {
-    /// The working directory's path.
-    pub cwd: &'a str,
-    /// The temporary directory's path.
-    pub tmp: &'a str,
-    /// nvcc's path or name.
-    pub nvcc: &'a str,
-    /// The line's words, without nvcc's name.
-    pub words: &'a [String],
-}
-
-/// Parses `CWD TMP NVCC WORD..`. `None` if the words are too few.
-pub fn nvcc_call<'a>(words: &'a [String]) -> Option<NvccCall<'a>>
-    ensures { option_map spec.nvcc_of result ≡ spec.nvcc_call_of (map string_bytes words.now) }
+// The call of a command with these operands, if it takes them.
+fn call_with<'a>(command: Command, settings: Settings, operands: &'a [String]) -> Option<Call<'a>>
+    ensures { option_map spec.seen result ≡ spec.call_with command settings (map string_bytes operands.now) }
 {
-    let [cwd, tmp, nvcc, line @ ..] = words else {
-        return None;
-    };
-    Some(NvccCall {
-        cwd: cwd.as_str(),
-        tmp: tmp.as_str(),
-        nvcc: nvcc.as_str(),
-        words: line,
-    })
+    match command {
+        Command::Export(format) => export_call(format, settings, operands),
+        Command::Plan => plan_call(operands).map(Call::Plan),
+        Command::Calls => nvcc_call(operands).map(Call::Nvcc),
+        Command::Directory => directory_call(operands).map(Call::Directory),
+        Command::Line => line_call(operands).map(Call::Line),
+        Command::Help if operands.is_empty() => Some(Call::Help),
+        Command::Version if operands.is_empty() => Some(Call::Version),
+        Command::Help | Command::Version => None,
+    }
 }
 
-/// A call that asks for the name of an nvcc call's directory.
-#[derive(Debug, Drop)]
-pub struct DirectoryCall<'a> {
-    /// The working directory's path.
-    pub cwd: &'a str,
-    /// nvcc's path or name.
-    pub nvcc: &'a str,
-    /// The line's words, without nvcc's name.
-    pub words: &'a [String],
-}
-
-/// Parses `CWD NVCC WORD..`. `None` if the words are too few.
-pub fn directory_call<'a>(words: &'a [String]) -> Option<DirectoryCall<'a>>
-    ensures { option_map spec.directory_of result ≡ spec.directory_call_of (map string_bytes words.now) }
+// The misuse of a word that isn't what is expected. Behind `--limit`, a number is.
+fn odd_word<'a>(
+    count: usize,
+    rest: &'a [String],
+    expected: &'static str,
+    form: &'static str,
+) -> Misuse<'a>
+    ensures { misuses.misuse_seen result ≡ spec.odd_word count (map string_bytes rest.now) expected.now form.now }
 {
-    let [cwd, nvcc, line @ ..] = words else {
-        return None;
+    match rest {
+        [word, behind @ ..] if word.as_str() == "--limit" => {
+            misuse_at(count, behind, "a number of bytes for --limit", form)
+        }
+        _ => misuse_at(count, rest, expected, form),
+    }
+}
+
+// What a command takes in place of its first operand, if it lacks none.
+fn other_operand(command: Command) -> &'static str
+    ensures { result.now ≡ spec.other_operand command }
+{
+    match command {
+        Command::Line => "cicc, ptxas or cudafe++",
+        _ => "no more words",
+    }
+}
+
+// The misuse of operands that a command doesn't take: it lacks one, or the first is another.
+fn operand_misuse<'a>(count: usize, command: Command, operands: &'a [String]) -> Misuse<'a>
+    ensures { misuses.misuse_seen result ≡ spec.operand_misuse count command (map string_bytes operands.now) }
+{
+    let form = form_of(command);
+    match operands_of(command).get(operands.len()) {
+        Some(expected) => misuse_at(count, &[], expected, form),
+        None => misuse_at(count, operands, other_operand(command), form),
+    }
+}
+
+// Takes the options that follow the name of a format.
+fn options_behind<'a>(
+    command: Option<Command>,
+    settings: Settings,
+    words: &'a [String],
+) -> (Settings, &'a [String])
+    ensures { rest_seen result ≡ spec.options_behind command settings (map string_bytes words.now) }
+{
+    match command {
+        Some(Command::Export(_)) => options_taken(settings, words),
+        _ => (settings, words),
+    }
+}
+
+// Whether a command needs to be a format, given the options before it.
+fn needs_format(command: Command, settings: Settings) -> bool
+    ensures { result ≡ spec.needs_format command settings }
+{
+    match command {
+        Command::Export(_) | Command::Help | Command::Version => false,
+        _ => settings.keeps || settings.whole,
+    }
+}
+
+// Reads a call from its name on, given the operands behind its options. No working directory of a call with options begins with `-`: a
+// mistyped option would count as one.
+fn named_call<'a>(
+    count: usize,
+    named: &'a [String],
+    command: Option<Command>,
+    settings: Settings,
+    operands: &'a [String],
+) -> Result<(usize, Call<'a>), Misuse<'a>>
+    ensures { spec.result_seen result ≡ spec.named_call count (map string_bytes named.now) command settings (map string_bytes operands.now) }
+{
+    let Some(command) = command else {
+        return Err(odd_word(count, named, "an option or a command", ALL_CALLS));
     };
-    Some(DirectoryCall {
-        cwd: cwd.as_str(),
-        nvcc: nvcc.as_str(),
-        words: line,
-    })
+    if needs_format(command, settings) {
+        let expected = "a format behind --keep or --whole";
+        return Err(misuse_at(count, named, expected, ALL_CALLS));
+    }
+    if takes_options(command) && begins_option(operands) {
+        let form = form_of(command);
+        return Err(odd_word(count, operands, "an option or CWD", form));
+    }
+    match call_with(command, settings, operands) {
+        Some(call) => Ok((settings.limit, call)),
+        None => Err(operand_misuse(count, command, operands)),
+    }
+}
+
+/// Reads the words after the program's name as one of these calls, with its limit:
+///
+/// - `shell|ninja|json|dot|compdb|makeflow|text CWD TMP FLAG DRY1 DRY2 SUFFIX..`;
+/// - `calls CWD TMP NVCC WORD..`;
+/// - `directory CWD NVCC WORD..`;
+/// - `line TOOL CWD WORD..` or `plan CWD TMP FLAG DRY1 DRY2 SUFFIX..`, as `cudaplan`;
+/// - `--help`, `-h` or `--version`, and `--help` or `-h` alone behind any other name.
+///
+/// Options precede the name of a call, or follow that of a format, any number in any order: `--keep` if generated files keep nvcc's names,
+/// `--whole` if a plan that dropped a command is an error, and `--limit BYTES`. Of several limits the last one counts.
+pub fn call_of<'a>(words: &'a [String]) -> Result<(usize, Call<'a>), Misuse<'a>>
+    ensures { spec.result_seen result ≡ spec.call_of (map string_bytes words.now) }
+{
+    let (settings, named) = options_taken(NO_OPTIONS, words);
+    let [name, behind @ ..] = named else {
+        let expected = "a command, and words and variables in UTF-8";
+        return Err(misuse_at(words.len(), named, expected, ALL_CALLS));
+    };
+    let command = command_named(name.as_str());
+    let (settings, operands) = options_behind(command, settings, behind);
+    if are_help(operands) {
+        return Ok((settings.limit, Call::Help));
+    }
+    named_call(words.len(), named, command, settings, operands)
 }

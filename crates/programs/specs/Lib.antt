@@ -1,8 +1,11 @@
 pub mod Complaint
 pub mod Delivery
+pub mod Exports
 pub mod LineText
+pub mod Messages
+pub mod Places
+pub mod PlanFiles
 pub mod PlanText
 pub mod PlanTextExamples
 pub mod Start
-pub mod SuffixFault
 pub mod Unread

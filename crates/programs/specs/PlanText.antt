@@ -7,12 +7,11 @@ use Rattle.canonical_names.specs.FurtherSuffixes.{all_suffixes}
 use Rattle.plans.specs.declared.plan.Plan.{Plan}
 use Rattle.command_groups.specs.Plan.{PlanSetting}
 use Rattle.command_groups.specs.PlanOfBytes.{planning_of}
-use Rattle.dry_runs.specs.DryRun.{LookUp}
 use Rattle.dry_runs.specs.FirstDir.{first_dir}
 use Rattle.programs.specs.declared.stop.Stop.{Stop}
 use Rattle.programs.specs.declared.stop.Stop.TheVariants as stops
 use Rattle.plan_texts.specs.ShownPlan.{show_plan}
-use Rattle.program_calls.specs.Calls.{PlanOf}
+use Rattle.program_calls.specs.Operands.{PlanOf}
 use Rattle.programs.specs.Delivery.{Delivers}
 
 -- what a program plans for: gcc compiles host code, and the call's environment is empty
@@ -24,18 +23,19 @@ abbrev pub show_planning : Result Plan Fault → Result (List ℕ) Stop
 show_planning (Ok plan) = Ok (show_plan plan)
 show_planning (Err fault) = Err (stops.Fault fault)
 
--- the plan of two dry runs with these suffixes, unless the suffixes are at fault
-abbrev pub planned_with : Option (List ℕ) → PlanSetting → LookUp → List ℕ → List ℕ → Result (List (List ℕ)) Fault → Result Plan Fault
-planned_with keep_dir setting which first second (Ok suffixes) = planning_of suffixes keep_dir setting which first second
-planned_with keep_dir setting which first second (Err fault) = Err fault
+-- the plan of two dry runs with these suffixes, unless the suffixes are at fault. Nothing keeps generated files, and every program is
+-- looked up in the first folder of `PATH`
+abbrev pub planned_with : PlanSetting → List ℕ → List ℕ → Result (List (List ℕ)) Fault → Result Plan Fault
+planned_with setting first second (Ok suffixes) = planning_of suffixes None setting first_dir first second
+planned_with setting first second (Err fault) = Err fault
 
--- the plan of a program, with the standard suffixes and further ones. Bad suffixes come before any fault of a run
-abbrev pub planned : List ℕ → List ℕ → List ℕ → Option (List ℕ) → LookUp → List ℕ → List ℕ → List (List ℕ) → Result Plan Fault
-planned cwd tmp flag keep_dir which first second further = planned_with keep_dir (program_setting cwd tmp flag) which first second (all_suffixes further)
+-- the plan of two dry runs with the standard suffixes and further ones. Bad suffixes come before any fault of a run
+abbrev pub planned : List ℕ → List ℕ → List ℕ → List ℕ → List ℕ → List (List ℕ) → Result Plan Fault
+planned cwd tmp flag first second further = planned_with (program_setting cwd tmp flag) first second (all_suffixes further)
 
--- the text of the plan of two dry runs, without a keep directory. Every program is looked up in the first folder of `PATH`
+-- its text
 abbrev pub shown_plan : List ℕ → List ℕ → List ℕ → List ℕ → List ℕ → List (List ℕ) → Result (List ℕ) Stop
-shown_plan cwd tmp flag first second further = show_planning (planned cwd tmp flag None first_dir first second further)
+shown_plan cwd tmp flag first second further = show_planning (planned cwd tmp flag first second further)
 
 -- the answer if the file of a run can't be read
 abbrev pub unread : Result (List ℕ) Stop

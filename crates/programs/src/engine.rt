@@ -3,18 +3,20 @@
 ghost use Rattle.std.specs.Prelude.{◌≡◌, ◌⊎◌, ℕ, List, Option, Result, map, string_bytes};
 ghost use Rattle.texts.specs.declared.fault.Fault.{Fault};
 ghost use Rattle.texts.specs.Fault.{UnlessMemory};
-ghost use Rattle.program_calls.specs.Calls.{plan_of};
+ghost use Rattle.program_calls.specs.Operands.{plan_of};
 ghost use Rattle.programs.specs.Delivery.{Answers, Delivers, text_of};
 ghost use Rattle.programs.specs.LineText.{shown_line, stopped};
 ghost use Rattle.programs.specs.PlanText as spec;
 
 use crate::delivery::deliver;
-use crate::file::Sources;
-use crate::planning::plan_dry_runs;
+use crate::sources::Sources;
 use crate::stop::Stop;
+use canonical_names::all_suffixes;
+use command_groups::group_nvcc_subcommands_by_compilation_stage;
 use compilers::compiler::NvccHostCompiler;
 use dry_runs::FirstDir;
 use plan_texts::{Tool, show_line, show_plan};
+use plans::Plan;
 use program_calls::PlanCall;
 use std::alloc::Global;
 use std::io::Write;
@@ -48,7 +50,33 @@ pub fn write_line<W: Write>(
     deliver(answered(show_line(alloc, tool, cwd, words)), w)
 }
 
-// The text of the plan of two dry runs.
+fn plan_of_runs(
+    alloc: Global,
+    cwd: &str,
+    tmp: &str,
+    flag: &str,
+    dry1: &[u8],
+    dry2: &[u8],
+    further: &[String],
+) -> Result<Plan, Fault>
+    ensures { UnlessMemory result (spec.planned cwd.now tmp.now flag.now dry1.now dry2.now (map string_bytes further.now)) }
+{
+    let suffixes = all_suffixes(alloc, further)?;
+    group_nvcc_subcommands_by_compilation_stage(
+        alloc,
+        dry1,
+        dry2,
+        flag,
+        cwd,
+        tmp,
+        None,
+        &[],
+        NvccHostCompiler::Gcc,
+        &FirstDir,
+        &suffixes,
+    )
+}
+
 fn plan_text(
     alloc: Global,
     cwd: &str,
@@ -60,20 +88,7 @@ fn plan_text(
 ) -> Result<String, Stop>
     ensures { Answers (text_of result) (spec.shown_plan cwd.now tmp.now flag.now dry1.now dry2.now (map string_bytes further.now)) }
 {
-    let gcc = NvccHostCompiler::Gcc;
-    let plan = plan_dry_runs(
-        alloc,
-        cwd,
-        tmp,
-        flag,
-        None,
-        dry1,
-        dry2,
-        further,
-        &[],
-        gcc,
-        &FirstDir,
-    )?;
+    let plan = plan_of_runs(alloc, cwd, tmp, flag, dry1, dry2, further)?;
     Ok(show_plan(alloc, &plan)?)
 }
 

@@ -1,18 +1,18 @@
 -- How calls of the program end.
 use Rattle.std.specs.Prelude.{◌≡◌, ℕ, List, [], ◌∷◌, ◌++◌, ◌⊎◌, Option, Result, Ok, Err, MatchResult}
 use Rattle.std.specs.Io.KnownBytes.{Keeps}
-use Rattle.program_calls.specs.Calls.{NvccOf}
+use Rattle.program_calls.specs.Operands.{NvccOf}
 use Rattle.nvcc_calls.specs.Directory.{directory_name}
 use Rattle.programs.specs.declared.stop.Stop.{Stop}
 use Rattle.programs.specs.declared.stop.Stop.TheVariants.{Fault, NotCompilation, ToNvcc, Unwritable, Write}
 use Rattle.programs.specs.Delivery.{Delivers}
 use Rattle.programs.specs.LineText.{shown_line}
 use Rattle.programs.specs.PlanText.{out_of_memory}
-use Rattle.plan_calls.specs.PlanFiles.{ExportsFiles, ShowsFiles}
-use Rattle.usage.specs.Calls.{CallOf, exports, reads, names, rewrites, plans, helps, tells_version}
+use Rattle.programs.specs.PlanFiles.{ExportsFiles, ShowsFiles}
+use Rattle.program_calls.specs.Calls.{CallOf, exports, reads, names, rewrites, plans, helps, tells_version}
 use Rattle.zigrunk.specs.NvccText.{nvcc_text}
 use Rattle.zigrunk.specs.OptionsFiles.{AreHeld}
-use Rattle.usage.specs.Misuse.{MisuseOf}
+use Rattle.program_calls.specs.Misuse.{MisuseOf}
 
 -- the exit status of a call that reads an nvcc line, if it stops: 3 if its call goes to nvcc unchanged
 abbrev pub nvcc_status : Stop → ℕ

@@ -1,7 +1,7 @@
 //! The options files that an nvcc line names.
 
 ghost use Rattle.std.specs.Prelude.{Some, IfOk, IfSome, OnOk, string_bytes};
-ghost use Rattle.program_calls.specs.Calls.{nvcc_of};
+ghost use Rattle.program_calls.specs.Operands.{nvcc_of};
 ghost use Rattle.zigrunk.specs.OptionsFiles as spec;
 
 use nvcc_calls::file_names;

@@ -3,22 +3,22 @@
 ghost use Rattle.std.specs.Prelude.{◌≡◌, [], ◌∷◌, ◌++◌, map, Ok, string_bytes};
 ghost use Rattle.texts.specs.Variables.{pair_of};
 ghost use Rattle.nvcc_calls.specs.Directory as directories;
-ghost use Rattle.program_calls.specs.Calls.{directory_of, nvcc_of};
+ghost use Rattle.program_calls.specs.Operands.{directory_of, nvcc_of};
 ghost use Rattle.programs.specs.Delivery.{Delivers};
-ghost use Rattle.usage.specs.Calls as forms;
+ghost use Rattle.program_calls.specs.Calls as forms;
 ghost use Rattle.zigrunk.specs.Endings as spec;
 
 use crate::nvcc_text::write_nvcc_text;
 use crate::options_files::options_files;
-use complaints::complain_of_answer;
 use nvcc_calls::directory_name;
-use plan_calls::{export_files, show_files};
-use program_calls::{DirectoryCall, NvccCall};
-use programs::{Sources, Stop, deliver, write_line};
+use program_calls::{Call, DirectoryCall, HELP, NvccCall, VERSION, call_of};
+use programs::{
+    Sources, Stop, complain_of_answer, complain_of_misuse, deliver, export_files, show_files,
+    write_line,
+};
 use std::alloc::Global;
 use std::fs::Files;
 use std::io::Write;
-use usage::{Call, HELP, VERSION, call_of, complain_of_misuse};
 
 // Writes a page.
 fn show<W: Write>(alloc: Global, page: &str, out: &mut W) -> Result<(), Stop>

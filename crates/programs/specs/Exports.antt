@@ -1,0 +1,86 @@
+-- What the program writes for a plan.
+use Rattle.std.specs.Prelude.{ℕ, List, length, ◌==◌, Bool, true, false, not, if◌then◌else◌, codes, Option, Some, None, Result, Ok, Err, bytes_eq}
+use Rattle.std.specs.List.{list_all}
+use Rattle.texts.specs.declared.fault.Fault.{Fault}
+use Rattle.dry_runs.specs.declared.parsed_runs.ParsedRuns.{ParsedRuns}
+use Rattle.dry_runs.specs.DryRun.{LookUp}
+use Rattle.dry_runs.specs.Parsed.{both_parsed}
+use Rattle.plans.specs.declared.origins.PlanWithOrigins.{PlanWithOrigins}
+use Rattle.plans.specs.declared.plan.Plan.{Plan}
+use Rattle.command_groups.specs.Origins.{planning_of_parsed}
+use Rattle.command_groups.specs.Plan.{PlanSetting}
+use Rattle.plan_scripts.specs.declared.refusal.Refusal.{Refusal}
+use Rattle.plan_formats.specs.Texts.{file_in}
+use Rattle.plan_json.specs.Json.{Described}
+use Rattle.plan_scripts.specs.Message.{message_of}
+use Rattle.programs.specs.declared.stop.Stop.{Stop}
+use Rattle.programs.specs.declared.stop.Stop.TheVariants as stops
+use Rattle.program_calls.specs.Operands.{PlanOf}
+use Rattle.dry_runs.specs.DryRunText.{is_dry_run}
+use Rattle.programs.specs.PlanText.{program_setting}
+use Rattle.canonical_names.specs.FurtherSuffixes.{all_suffixes}
+use Rattle.program_calls.specs.Calls.{ExportOf}
+use Rattle.directories.specs.Directories.{is_plain}
+
+-- a writer's answer, with a refusal as text
+abbrev pub written : Result (List ℕ) Refusal → Result (List ℕ) Stop
+written (Ok text) = Ok text
+written (Err refusal) = Err (stops.Unwritable (message_of refusal))
+
+-- what the plan of a call's dry runs is made for
+abbrev pub described : PlanOf → PlanWithOrigins → Described
+described call planned = record { cwd = call.cwd; tmp = call.tmp; flag = call.flag; planned = planned }
+
+-- the plan of a call, in its format
+abbrev pub plan_in : ExportOf → PlanWithOrigins → Result (List ℕ) Stop
+plan_in call planned = written (file_in call.format (described call.plan planned))
+
+-- why a plan lacks commands, if it does: it has none, or it has to be whole and dropped one
+abbrev pub lacking : Bool → Plan → Option (List ℕ)
+lacking whole plan =
+    if list_all (λ group. length group == 0) plan.groups then Some (codes "the plan has no command") else
+    if not whole then None else
+    if length plan.dropped == 0 then None else Some (codes "the plan dropped a command")
+
+-- a text, unless something stops the program
+abbrev pub unless_stopped : Option (List ℕ) → Result (List ℕ) Stop → Result (List ℕ) Stop
+unless_stopped None text = text
+unless_stopped (Some why) text = Err (stops.Unwritable why)
+
+-- the plan of a call in its format, or why there is none
+abbrev pub planned_in : ExportOf → Result PlanWithOrigins Fault → Result (List ℕ) Stop
+planned_in call (Ok planned) = unless_stopped (lacking call.whole planned.plan) (plan_in call planned)
+planned_in call (Err fault) = Err (stops.Fault fault)
+
+-- the directory that keeps generated files: the temporary one, if they keep nvcc's names
+abbrev pub keep_dir_of : Bool → List ℕ → Option (List ℕ)
+keep_dir_of true tmp = Some tmp
+keep_dir_of false tmp = None
+
+-- the plan of two dry runs with these suffixes, unless the suffixes are at fault
+abbrev pub planned_with : Option (List ℕ) → PlanSetting → LookUp → ParsedRuns → Result (List (List ℕ)) Fault → Result PlanWithOrigins Fault
+planned_with keep_dir setting which runs (Ok suffixes) = planning_of_parsed suffixes keep_dir setting which runs
+planned_with keep_dir setting which runs (Err fault) = Err fault
+
+-- the plan of a call, given a look-up of programs and its two dry runs
+abbrev pub plan_of_runs : ExportOf → LookUp → ParsedRuns → Result PlanWithOrigins Fault
+plan_of_runs call which runs =
+    planned_with (keep_dir_of call.keeps call.plan.tmp) (program_setting call.plan.cwd call.plan.tmp call.plan.flag) which runs
+    (all_suffixes call.plan.suffixes)
+
+-- why a call's directories can't be those of a plan, if they can't
+abbrev pub odd_directory : PlanOf → Option (List ℕ)
+odd_directory call =
+    if not (is_plain call.cwd) then Some (codes "the working directory has to be absolute, without an empty part, . or ..") else
+    if is_plain call.tmp then None else Some (codes "the directory for temporary files has to be absolute, without an empty part, . or ..")
+
+-- why a call can't be planned, if it can't: it names one file twice, one has no line of a dry run, or a directory is odd
+abbrev pub unfit : PlanOf → List ℕ → List ℕ → Option (List ℕ)
+unfit call first second =
+    if bytes_eq call.dry1 call.dry2 then Some (codes "both dry runs are the same file") else
+    if not (is_dry_run first) then Some (codes "the first file is no dry run: no line begins with \"#$ \"") else
+    if is_dry_run second then odd_directory call else Some (codes "the second file is no dry run: no line begins with \"#$ \"")
+
+-- what the program writes for a call
+abbrev pub exported : ExportOf → LookUp → List ℕ → List ℕ → Result (List ℕ) Stop
+exported call which first second = unless_stopped (unfit call.plan first second) (planned_in call (plan_of_runs call which (both_parsed first second)))

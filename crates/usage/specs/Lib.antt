@@ -1,4 +1,0 @@
-pub mod Calls
-pub mod Commands
-pub mod Misuse
-pub mod Settings
