@@ -143,18 +143,29 @@ def batch_rows(driver: list[str], environment: dict[str, str], folder: Path, cal
             (f"ms until a batch of {calls} calls ends by an interrupt", milliseconds_to_stop(driver, environment, calls), MOST_STOP_MILLISECONDS)]
 
 
+def ended_after(begun: float, most: int, options: int) -> list[float]:
+    """The times since then at which calls end: all of them, or those that have by now."""
+    ends: list[float] = []
+    while len(ends) < most:
+        process, status = os.waitpid(-1, options)
+        if process == 0:
+            break
+        if status != 0:
+            sys.exit(f"one of many calls fails, in {Path.cwd()}")
+        ends.append(time.time() - begun)
+    return ends
+
+
 def many_rows(driver: list[str], environment: dict[str, str], calls: int) -> list[tuple[str, float, float]]:
     """When the first of many calls at once ends, and the median, as parts of the time of all."""
     settings = {**environment, "PAUSE": str(WAIT), "ZIGRUNK_SLOTS": str(SLOTS)}
-    begun, ends = time.time(), list[float]()
     words = ([*driver, "-c", "k.cu", "-o", f"k{number}.o", "-arch=sm_75"] for number in range(calls))
-    left = {os.posix_spawn(driver[0], call, settings, setsigdef=[]) for call in words}
-    while left:
-        process, status = os.waitpid(-1, 0)
-        if status != 0:
-            sys.exit(f"one of many calls fails, in {Path.cwd()}")
-        left.remove(process)
-        ends.append(time.time() - begun)
+    begun, ends = time.time(), list[float]()
+    for number, call in enumerate(words):
+        os.posix_spawn(driver[0], call, settings, setsigdef=[])
+        # A busy machine takes as long to start all calls as the first one takes.
+        ends += ended_after(begun, number + 1 - len(ends), os.WNOHANG)
+    ends += ended_after(begun, calls - len(ends), 0)
     waited = calls * 7 * WAIT / 1000 / SLOTS
     print(f"{ends[-1]:6.2f} s for {calls} calls at once, {ends[-1] / waited:.2f} of what their commands wait in {SLOTS} slots")
     first, median = (100 * end / ends[-1] for end in (ends[0], statistics.median(ends)))

@@ -583,6 +583,7 @@ mod tests {
     use super::*;
     use crate::forked::in_own_process;
     use crate::jobserver::Jobserver;
+    use crate::streams::write_all;
     use crate::system::{TERM, UNBLOCKED};
     use std::fs;
     use std::os::fd::AsFd;
@@ -725,6 +726,27 @@ mod tests {
                 assert_eq!(end, b"one\ntwo\n");
             });
         }
+    }
+
+    #[test]
+    fn a_job_is_heard_by_both_streams() {
+        in_own_process(|| {
+            let mut host = plain_host();
+            let [out, errors] = [system::memory_file().unwrap(), system::memory_file().unwrap()];
+            let texts = || [content(&out).unwrap(), content(&errors).unwrap()];
+            let streams = (out.try_clone().unwrap(), Printed::Memory(errors.try_clone().unwrap()));
+            host.running.push(Running { number: 5, process: 0, place: 0, permit: None, out: streams.0, errors: streams.1, heard: 0, begun: 0.0 });
+            host.listen(Some(5));
+            for [one, other] in [["as long", "as this"], ["", " and"], [" more", ""]] {
+                write_all(&out, one.as_bytes()).unwrap();
+                write_all(&errors, other.as_bytes()).unwrap();
+                host.listen_to_job();
+                let Some(Event::Printed(5, heard)) = host.events.pop_front() else { panic!("{one} and {other} aren't heard") };
+                assert_eq!(heard, texts());
+                host.listen_to_job();
+                assert!(host.events.is_empty(), "nothing is new");
+            }
+        });
     }
 
     #[test]

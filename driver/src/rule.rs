@@ -125,6 +125,7 @@ impl Watch for RuleMaker<'_, '_> {
 #[cfg(test)]
 mod tests {
     use super::*;
+    use crate::run::Task;
     use crate::voice::Habits;
     use std::fs;
     use std::path::PathBuf;
@@ -174,6 +175,18 @@ mod tests {
         assert_eq!(scratch.made(ASKED, &[host.clone(), device.clone()]).as_deref(), Some("k.o : k.cu \\\n    a\\ b.h \\\n    host.h\n"));
         assert_eq!(scratch.made("nvcc -x cu k.cu -MM -MF k.d -MT k.o", &[host.clone(), device]), None, "other words");
         assert_eq!(scratch.made(ASKED, &[host]), None, "no command for a device");
+    }
+
+    #[test]
+    fn what_a_task_prints_is_told() {
+        let mut said = Vec::new();
+        let mut say = |is_error: bool, text: &[u8]| said.push((is_error, text.to_vec()));
+        let refusals = Refusals::default();
+        let voice = Voice::new(&[Task::default()], Habits::default(), &mut say);
+        let mut maker = RuleMaker { commands: &[], asked: None, launcher: "", refusals: &refusals, voice, cache: None, made: None };
+        assert_eq!(maker.front(), Some(0));
+        maker.hear(0, [b"out", b"warns"]);
+        assert_eq!(said, [(false, b"out".to_vec()), (true, b"warns".to_vec())]);
     }
 
     #[test]

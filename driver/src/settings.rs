@@ -4,7 +4,7 @@ use std::ffi::OsString;
 use std::path::PathBuf;
 
 /// The variables `ZIGRUNK_..` and `TMPDIR`.
-#[derive(Clone, Debug, Default)]
+#[derive(Clone, PartialEq, Eq, Debug, Default)]
 pub struct Settings {
     /// nvcc's name or path.
     pub nvcc: OsString,
@@ -87,6 +87,7 @@ impl Settings {
 #[cfg(test)]
 mod tests {
     use super::*;
+    use crate::forked::in_own_process;
 
     #[test]
     fn numbers_have_digits_only() {
@@ -95,6 +96,48 @@ mod tests {
             assert_eq!(number(text), wanted, "{text}");
         }
         assert_eq!(number("99999999999999999999999"), Some(usize::MAX));
+    }
+
+    #[test]
+    fn each_variable_has_its_setting() {
+        let wanted = Settings {
+            nvcc: "/c/nvcc".into(),
+            launcher: vec!["ccache".into(), "-v".into()],
+            launched: vec!["cicc".into()],
+            runner: vec!["step.sh".into()],
+            has_workers: false,
+            slots: Some(3),
+            shared: Some("/shared".into()),
+            temporary: "/t".into(),
+            log: Some("log".into()),
+            explains: true,
+            inside: "/a:/b".into(),
+        };
+        let variables = [
+            ("ZIGRUNK_NVCC", "/c/nvcc"),
+            ("ZIGRUNK_LAUNCHER", " ccache  -v "),
+            ("ZIGRUNK_LAUNCHED", "cicc"),
+            ("ZIGRUNK_RUNNER", "step.sh"),
+            ("ZIGRUNK_SLOTS", "3"),
+            ("ZIGRUNK_TMP", "/shared"),
+            ("TMPDIR", "/t"),
+            ("ZIGRUNK_LOG", "log"),
+            ("ZIGRUNK_EXPLAIN", "0"),
+            ("ZIGRUNK_INSIDE", "/a:/b"),
+        ];
+        let none = Settings { nvcc: "nvcc".into(), temporary: "/tmp".into(), ..Settings::default() };
+        in_own_process(|| {
+            // SAFETY: this process has no other thread.
+            let put = |name: &str, value: &str| unsafe { env::set_var(name, value) };
+            for (name, value) in variables {
+                put(name, value);
+            }
+            assert_eq!(Settings::of_environment(), wanted);
+            for (name, _) in variables {
+                put(name, "");
+            }
+            assert_eq!(Settings::of_environment(), none, "one that is empty is none");
+        });
     }
 
     #[test]

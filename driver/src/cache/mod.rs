@@ -525,15 +525,17 @@ mod tests {
         fs::remove_dir_all(folder).unwrap();
     }
 
-    #[test]
-    fn only_messages_are_for_a_kind_of_terminal() {
-        let store = Store::new(env::temp_dir().join(format!("no-entries-{}", std::process::id())), 1 << 20);
-        let session = Session { terminal: b"xterm".to_vec(), ..Session::new(&store, "/t", &[], &[]) };
-        let recipe = Recipe {
-            kind: Kind::Host,
+    fn store() -> Store {
+        Store::new(env::temp_dir().join(format!("no-entries-{}", std::process::id())), 1 << 20)
+    }
+
+    /// A command that reads these files, and writes none.
+    fn recipe(kind: Kind, reads: Vec<PathBuf>) -> Recipe {
+        Recipe {
+            kind,
             counted: Vec::new(),
             job: Job::default(),
-            reads: Vec::new(),
+            reads,
             outputs: Vec::new(),
             directory: "/t".into(),
             lines_count: false,
@@ -541,7 +543,37 @@ mod tests {
             assembles: false,
             included: None,
             stem: None,
+        }
+    }
+
+    #[test]
+    fn what_begins_early_has_the_keys_of_what_begins_late() {
+        let folder = env::temp_dir().join(format!("early-{}", std::process::id()));
+        fs::create_dir_all(&folder).unwrap();
+        let recipe = recipe(Kind::Cicc, ["k.ii", "k.module_id"].map(|name| folder.join(name)).to_vec());
+        let parts = |has_late: bool| {
+            let texts = Session::texts(&recipe, has_late).unwrap();
+            let by_texts = Part::by_texts(Hasher::default(), &recipe, &texts).unwrap();
+            (Parts(by_texts, Part::by_tokens(Hasher::default(), &recipe, &texts)), texts)
         };
+        fs::write(&recipe.reads[0], "int one;\n").unwrap();
+        let (early, texts) = parts(false);
+        fs::write(&recipe.reads[1], "an id").unwrap();
+        let (store, state) = (store(), State::Begun(Box::new(early), texts[0].content.clone()));
+        let mut session = Session::new(&store, "/t", &[], &[]);
+        session.candidates.insert(7, Candidate { recipe: recipe.clone(), state, hit: None, direct: Direct::default() });
+        assert!(session.caught_up(7) && !session.caught_up(7) && !session.caught_up(8));
+        let State::Missed(keys, text) = &session.candidates[&7].state else { panic!("it runs, and is to be kept") };
+        let (late, texts) = parts(true);
+        assert_eq!((keys, text, keys.marks.len()), (&late.keys(&recipe, &texts), &texts[0].content, 2));
+        fs::remove_dir_all(folder).unwrap();
+    }
+
+    #[test]
+    fn only_messages_are_for_a_kind_of_terminal() {
+        let store = store();
+        let session = Session { terminal: b"xterm".to_vec(), ..Session::new(&store, "/t", &[], &[]) };
+        let recipe = recipe(Kind::Host, Vec::new());
         let terminal_of = |errors: &str| {
             let status = Status { code: 0, signal: None, dumped: false };
             let ended = Ended { status, out: Vec::new(), errors: errors.as_bytes().to_vec(), times: (0.0, 1.0) };

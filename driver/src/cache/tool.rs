@@ -265,8 +265,25 @@ impl Tools {
 #[cfg(test)]
 mod tests {
     use super::*;
+    use crate::forked::in_own_process;
     use std::env;
     use std::os::unix::fs::{PermissionsExt, symlink};
+
+    #[test]
+    fn calls_take_turns() {
+        in_own_process(|| {
+            let folder = env::temp_dir().join(format!("turns-{}", std::process::id()));
+            let store = Store::new(folder.join("store"), 1 << 20);
+            let first = turn(&store).expect("it makes the store's folder");
+            let other = store.clone();
+            let next = thread::spawn(move || turn(&other).is_some());
+            thread::sleep(25 * PAUSE);
+            assert!(!next.is_finished());
+            drop(first);
+            assert!(next.join().unwrap());
+            fs::remove_dir_all(folder).unwrap();
+        });
+    }
 
     #[test]
     fn tools_are_known_by_their_names() {

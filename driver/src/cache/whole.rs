@@ -349,6 +349,7 @@ impl Session<'_> {
 mod tests {
     use super::*;
     use crate::cache::ahead::Known;
+    use crate::cache::store::Store;
     use std::os::unix::fs::symlink;
     use std::thread;
 
@@ -367,6 +368,79 @@ mod tests {
         assert_eq!(gathered.add(seen.clone(), &room), None);
         fs::remove_file(room.join("a.h")).unwrap();
         assert_eq!(gathered.add(seen, &room), None);
+        fs::remove_dir_all(room).unwrap();
+    }
+
+    fn command(words: &str, reads: &[&str], writes: &[&str]) -> PlannedCommand {
+        let list = |words: &[&str]| words.iter().map(|&word| word.to_owned()).collect::<Vec<_>>();
+        let words = list(&words.split(' ').collect::<Vec<_>>());
+        let preprocesses = words.iter().any(|word| word == "-E");
+        let (reads, writes) = (list(reads), list(writes));
+        PlannedCommand {
+            program: words[0].clone(),
+            words: words[1..].to_vec(),
+            preprocesses,
+            reads,
+            writes,
+            complete: true,
+            ..PlannedCommand::default()
+        }
+    }
+
+    /// Makes a test of a call of these commands in a folder.
+    fn with_call<T>(commands: &[PlannedCommand], cwd: &Path, said: Said, test: impl FnOnce(&mut Session<'_>, &Finished<'_>) -> T) -> T {
+        let job =
+            |one: &PlannedCommand| Job { words: [std::slice::from_ref(&one.program), &one.words].concat(), folder: "/w".into(), ..Job::default() };
+        let task = |(number, one): (usize, &PlannedCommand)| Task { command: Some(number), job: job(one), ..Task::default() };
+        let tasks: Vec<Task> = commands.iter().enumerate().map(task).collect();
+        let store = Store::new(cwd.join("no-entries"), 1 << 20);
+        let line = Line { cwd: cwd.to_string_lossy().into_owned(), nvcc: "nvcc".into(), words: Vec::new(), variables: Vec::new() };
+        let call = Finished { line: &line, commands, tasks: &tasks, rule: None, said, begun: SystemTime::now() };
+        test(&mut Session::new(&store, "/t", commands, &tasks), &call)
+    }
+
+    #[test]
+    fn what_is_defined_counts_unless_lines_do() {
+        let preprocessors = ["-DB=2", "-D A", "-DB=2"].map(|word| command(&format!("/b/gcc {word} -E k.cu -o /t/k.ii"), &["/w/k.cu"], &["/t/k.ii"]));
+        let ptxas = |word: &str| command(&format!("/b/ptxas {word} -arch=sm_80 /t/k.ptx -o /t/k.cubin"), &["/t/k.ptx"], &["/t/k.cubin"]);
+        let defined = |commands: &[PlannedCommand], said: &str| {
+            let said = vec![(true, said.as_bytes().to_vec())];
+            with_call(&[&preprocessors, commands].concat(), Path::new("/w"), said, |session, call| session.defines(call))
+        };
+        assert_eq!(defined(&[ptxas("-m64")], ""), Some(vec![b"A".to_vec(), b"B=2".to_vec()]));
+        assert_eq!(defined(&[ptxas("-m64")], "it warns"), None);
+        assert_eq!(defined(&[ptxas("-m64"), ptxas("-g")], ""), None, "lines count for one of them");
+    }
+
+    #[test]
+    fn a_copy_of_what_is_read_once_may_be_left_out() {
+        let room = env::temp_dir().join(format!("once-{}", std::process::id()));
+        let _ = fs::remove_dir_all(&room);
+        fs::create_dir(&room).unwrap();
+        let path = |name: &str| room.join(name).to_string_lossy().into_owned();
+        let texts = [
+            ("a.h", "#pragma once\nint a;\n"),
+            ("b.h", "#pragma once\nint b;\n"),
+            ("copy.h", "#pragma once\nint a;\n"),
+            ("c.h", "int a;\n"),
+            ("d.h", "int a;\n"),
+        ];
+        for (name, text) in texts {
+            fs::write(path(name), text).unwrap();
+        }
+        thread::sleep(2 * MARGIN);
+        let gathers = |names: [&str; 2]| {
+            let markers: Vec<String> = names.iter().map(|name| format!("# 1 \"{}\" 1\nint x;\n", path(name))).collect();
+            fs::write(path("k.ii"), markers.concat()).unwrap();
+            let preprocessor = command(&format!("/b/gcc -E k.cu -o {}", path("k.ii")), &[], &[&path("k.ii")]);
+            with_call(&[preprocessor], &room, Vec::new(), |session, call| {
+                let folders = Folders::default();
+                let search = Search::new(call.cwd(), &folders, call.begun);
+                let mut gathered = Gathered { search, begun: call.begun, seen: BTreeMap::new(), sees_lines: false };
+                session.gather_files(call, &mut gathered).map(|()| gathered.seen.len())
+            })
+        };
+        assert_eq!([["a.h", "b.h"], ["c.h", "d.h"], ["a.h", "copy.h"]].map(gathers), [Some(2), Some(2), None]);
         fs::remove_dir_all(room).unwrap();
     }
 

@@ -16,6 +16,8 @@ mod members;
 mod messages;
 mod packed;
 mod parcels;
+#[cfg(test)]
+mod parts;
 mod received;
 mod secrets;
 mod session;

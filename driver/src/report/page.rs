@@ -274,6 +274,19 @@ mod tests {
     }
 
     #[test]
+    fn what_zigrunk_took_has_a_sum_a_median_and_a_most() {
+        let mut log = Log::default();
+        for end in [3.25, 2.0, 2.5] {
+            let command = r#"{"kind":"cicc","asked":0.25,"begin":0.5,"end":1.0,"status":0}"#;
+            log.add(format!(r#"{{"begin":0,"end":{end},"status":0,"commands":[{command}],"words":[]}}"#).as_bytes());
+        }
+        let page = own(&log);
+        let cells: Vec<&str> = page.split("<td").skip(1).filter_map(|cell| cell.split_once('>')?.1.split('<').next()).collect();
+        assert_eq!(cells[1..5], ["5.50&nbsp;s", "1.75&nbsp;s", "2.50&nbsp;s", "71.0&nbsp;%"]);
+        assert_eq!(cells[6..], ["0.75&nbsp;s", "", "", ""]);
+    }
+
+    #[test]
     fn texts_of_a_log_are_no_code_of_the_page() {
         let mut log = Log::default();
         log.add(SMALL.replace("a.cu", "<b>&amp;\\u0022.cu").replace("it links", "<script>").as_bytes());
