@@ -615,7 +615,7 @@ alone() {
 # two_alone [WORD..]: as `two_nodes`, without a shared disk. n2 starts once n1 has.
 two_alone() {
     sources 6
-    PAUSE=300 start --send-files --give-up 3 --wait 5 --workers "$(alone n1 "$@")" \
+    PAUSE=300 start --send-files --give-up 3 --workers "$(alone n1 "$@")" \
         --workers "until pgrep -f '^$scratch/bin/zigrunk-worker --name n1 ' > /dev/null; do sleep 0.02; done; $(worker n2)" list
 }
 

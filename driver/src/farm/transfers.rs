@@ -360,7 +360,7 @@ mod tests {
     #[test]
     fn one_side_does_not_take_all_the_time() {
         let scratch = Scratch::new("at-once");
-        let path = scratch.file("long", &[0; AT_ONCE * LONGEST_PART]);
+        let path = scratch.file("long", &vec![0; AT_ONCE * LONGEST_PART]);
         let [mut one, _other] = pair();
         let mut departures = Departures::default();
         departures.add(1, 0, &path).unwrap();
