@@ -100,10 +100,9 @@ fn listing_text(alloc: Global, rule: &Rule<'_>, files: &[Vec<u8>]) -> Result<Vec
     ensures { IfOk result (λ text. text.items ≡ spec.listing_text (rule_of rule.now) (map vec_items files.now)) }
 {
     let mut text = text_of(alloc, rule.target, files)?;
-    if rule.listing.targets
-        && let [_, further @ ..] = files
-    {
-        push_targets(&mut text, further)?;
+    match files {
+        [_, further @ ..] if rule.listing.targets => push_targets(&mut text, further)?,
+        _ => {}
     }
     Ok(text)
 }
