@@ -736,7 +736,7 @@ products() {
         same 'the file' "$(cat k.d)" $'k.o : k.cu \\\n    a.h'
         call -MMD -MP -MF x.d -c k.cu -o k.o
         same 'its file is a target too' "$(cat x.d)" $'k.o : k.cu \\\n    a.h\n\na.h:'
-        call -MF x.d -MD -c k.cu -o k.o
+        call -MD -MT a,b -MF x.d -c k.cu -o k.o
         same 'by nvcc' "$status$(cat x.d "$room/err")" '0by nvcc'
         call SOURCE=j.cu -MD -c k.cu -o k.o
         same 'by nvcc, for another form' "$status$(cat k.d)" '0by nvcc'

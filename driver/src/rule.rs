@@ -173,7 +173,10 @@ mod tests {
         let host = scratch.wrote("-E -D__CUDACC_VER_MAJOR__=13 k.cu", "host.ii", "# 0 \"k.cu\"\n# 1 \"host.h\" 1\n");
         let device = scratch.wrote("-D__CUDA_ARCH__=800 -E -D__CUDACC_VER_MAJOR__=13 k.cu", "80.ii", "# 0 \"k.cu\"\n# 1 \"a b.h\" 1\n");
         assert_eq!(scratch.made(ASKED, &[host.clone(), device.clone()]).as_deref(), Some("k.o : k.cu \\\n    a\\ b.h \\\n    host.h\n"));
-        assert_eq!(scratch.made("nvcc -x cu k.cu -MM -MF k.d -MT k.o", &[host.clone(), device]), None, "other words");
+        let of_system = scratch.wrote("-E -D__CUDACC_VER_MAJOR__=13 k.cu", "own.ii", "# 0 \"k.cu\"\n# 1 \"own.h\" 1\n# 1 \"host.h\" 1 3\n");
+        let own = scratch.made("nvcc -x cu k.cu -MM -MP -MF k.d -MT k.o", &[of_system, device.clone()]);
+        assert_eq!(own.as_deref(), Some("k.o : k.cu \\\n    a\\ b.h \\\n    own.h\n\na\\ b.h:\n\nown.h:\n"));
+        assert_eq!(scratch.made("nvcc -x cu k.cu -MD -MF k.d -MT k.o", &[host.clone(), device]), None, "other words");
         assert_eq!(scratch.made(ASKED, &[host]), None, "no command for a device");
     }
 
