@@ -166,10 +166,16 @@ def contents(path: str) -> bytes:
 MADE_UP = re.compile(rb"_[0-9a-f]{8}_\d+$")
 
 
+def as_numbers(name: bytes) -> bytes:
+    """A name as the elements of an array, as cudafe++ writes those of kernels."""
+    return b",".join(b"0x%02x" % byte for byte in name)
+
+
 def without_id(text: bytes, ids: set[bytes]) -> bytes:
     """A text without what cudafe++ makes up of a module id."""
     for name in ids:
-        text = text.replace(name, MADE_UP.sub(b"", name))
+        known = MADE_UP.sub(b"", name)
+        text = text.replace(name, known).replace(as_numbers(name), as_numbers(known))
     return text
 
 
