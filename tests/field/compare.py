@@ -90,7 +90,7 @@ def debug_information(data: bytes) -> list[bytes]:
     names: dict[bytes, bytes] = dict(re.findall(rb"^  (\d+)\t\d+\t\(.*\): (.*)$", said, re.MULTILINE))
     text = said[said.index(b".debug_info"):said.rindex(b".debug_line")]
     text = re.sub(rb"(?<=_file)( *: )(\d+)", lambda found: bytes(found[1] + names.get(found[2], found[2])), text)
-    text = re.sub(rb"<[0-9a-f]+>|<0x[0-9a-f]+>|offset: 0x[0-9a-f]+|Abbrev Number: \d+|\(DW_OP_[^)]*\)|file format.*", b"", text)
+    text = re.sub(rb"<[0-9a-f]+>|<0x[0-9a-f]+>|offset: (?:0x)?[0-9a-f]+|Abbrev Number: \d+|\(DW_OP_[^)]*\)|file format.*", b"", text)
     text = re.sub(rb"(DW_AT_(?:stmt_list|low_pc|high_pc|ranges|GNU_locviews|location) *:).*|(?:Length|Abbrev Offset): .*", rb"\1", text)
     return without_names(text).split(b"\n")
 
