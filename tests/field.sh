@@ -87,7 +87,8 @@ unpack() {
 
 # configure, build JOBS: what a CMake project does. Others have functions of these names in their file. The makefiles of CMake have no target
 # for an object that can be called from above, so objects.mk calls those below.
-# FindCUDA drops the variable for nvcc if the toolkit's folder isn't the one that it has noted.
+# FindCUDA drops the variable for nvcc if the toolkit's folder isn't the one that it has noted. With Ninja, an object of it would wait for
+# hundreds of others, which its target links and which aren't CUDA's.
 configure() {
     local name=Ninja
     [ "$generator" != own ] || return 0
@@ -95,7 +96,10 @@ configure() {
     cmake -G "$name" -S "source/$within" -B build "${settings[@]}" -DCMAKE_PREFIX_PATH="$place/root/usr" -DCMAKE_CUDA_COMPILER="$nvcc" \
         -DCUDA_TOOLKIT_ROOT_DIR="$toolkit" -DCUDA_TOOLKIT_ROOT_DIR_INTERNAL="$toolkit" -DCUDA_NVCC_EXECUTABLE="$nvcc" \
         -DCUDA_HOST_COMPILER=/usr/bin/c++ || return
-    [ "$generator" != Ninja ] || return 0
+    if [ "$generator" = Ninja ]; then
+        sed -i '/^build .*_generated_.*: CUSTOM_COMMAND/s/ || .*//' build/build.ninja
+        return
+    fi
     find build -name build.make -exec grep -HoE '"Building (CUDA|NVCC \(Device\)) object [^"]*' {} + | LC_ALL=C sort -u | chosen |
         sed 's,^build/,,; s,^\([^:]*\):.* object \(.*\),all: \2\n\2: FORCE\n\t$(MAKE) -f \1 \2,; $a FORCE:' > build/objects.mk
 }
