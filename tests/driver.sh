@@ -525,8 +525,8 @@ k.cu:it links
 --keep --keep-dir k.cu -c k.cu -o k.o:the keep directory is missing
 -MD -MF /dev/stderr -c k.cu -o k.o:its dependency file is standard error
 -MD -MF /proc/self/fd/2 -c k.cu -o k.o:its dependency file is standard error
--x cu -c /dev/stdin -o k.o:it reads a pipe or an open file
--Xcompiler -include,/dev/fd/0 -c k.cu -o k.o:it reads a pipe or an open file
+-x cu -c /dev/stdin -o k.o:it uses an open file
+-Xcompiler -include,/dev/fd/0 -c k.cu -o k.o:it uses an open file
 ROWS
     if case_of 'no explanation'; then
         call NVCC_STATUS=5 k.cu

@@ -588,6 +588,12 @@ refused_nvcc_lines() {
     passes 'options of fatbinary in a file' 'a tool reads options from a file' -c k.cu --fatbin-options=-v,-optf,p.txt
     passes 'a file of several preprocessors' 'several preprocessors may write one file' -fatbin k.cu -Xcompiler -MD,-MF,k.d
     passes 'an output named as a kept file' 'its output may have the name of a kept file' --keep -c k.cu -o o/k.ptx
+    passes 'standard input under another name' 'it uses an open file' -c /dev/stdin -x cu -o x.o
+    passes 'standard input as an open file' 'it uses an open file' -x cu -c /dev/fd/0
+    passes 'standard input as a file of the process' 'it uses an open file' -x cu -c /proc/self/fd/0
+    passes 'a header that is open' 'it uses an open file' -c k.cu -Xcompiler -include,/dev/fd/63
+    passes 'a product that is open' 'it uses an open file' -ptx k.cu -o /dev/fd/3
+    NVCC_APPEND_FLAGS='-include /dev/stdin' passes 'a header of a variable' 'it uses an open file' -c k.cu
     check 'a directory that a shell expands' 3 '' $'zigrunk: goes to nvcc: nvcc\'s shell may expand its directory\'s name\n' calls '/w$x' /t nvcc -c k.cu
     check 'a directory with a generated name' 3 '' $'zigrunk: goes to nvcc: a name looks like that of a generated file\n' \
         calls /w/a.cpp1.ii.d /t nvcc -c k.cu

@@ -19,8 +19,9 @@ use crate::voice::{End, Habits, Say, Voice};
 use dry_run_pairs::runs_devices_first;
 use std::env;
 use std::fs;
+use std::iter;
 use std::os::unix::fs::FileTypeExt;
-use std::path::Path;
+use std::path::{Path, PathBuf};
 use std::time::SystemTime;
 
 /// Why a call doesn't come to its end here.
@@ -62,6 +63,9 @@ pub fn by_nvcc<T>(reason: &str) -> Result<T, Stop> {
 
 /// Variables by which each command of gcc adds to one file, so that their order shows there.
 const DEPENDENCY_VARIABLES: [&str; 2] = ["DEPENDENCIES_OUTPUT", "SUNPRO_DEPENDENCIES"];
+
+/// How many links Linux follows, and the file behind the last.
+const MOST_LINKS: usize = 41;
 
 /// The words of nvcc's variable, as it cuts its value. A call is split only if they have no quotes.
 fn flags(name: &str) -> Vec<String> {
@@ -259,21 +263,30 @@ fn check(outline: &Outline) -> Result<(), Stop> {
     }
     let Words { folder, words } = &outline.first_dry_run;
     let is_output = |place: usize| place > 0 && words[place - 1] == "-o";
-    let reads = |(place, word): (usize, &String)| names_open_file(word) || (!is_output(place) && names_pipe(word, Path::new(folder)));
-    if words.iter().enumerate().any(reads) {
-        return by_nvcc("it reads a pipe or an open file");
+    let is_input = |&(place, word): &(usize, &String)| !is_output(place) && !word.starts_with('-');
+    for (_, word) in words.iter().enumerate().filter(is_input) {
+        let file = Path::new(folder).join(word);
+        if leads_to_open_file(&file) {
+            return by_nvcc("it uses an open file");
+        }
+        if is_pipe(&file) {
+            return by_nvcc("it reads a pipe");
+        }
     }
     Ok(())
 }
 
-/// Whether a word names a file that is open, as standard input is. nvcc's commands get it from nvcc.
-fn names_open_file(word: &str) -> bool {
-    ["/dev/stdin", "/dev/fd/", "/proc/self/fd/"].iter().any(|name| word.contains(name))
+/// Whether a file is a pipe. Of the commands that read one, the first takes all.
+fn is_pipe(file: &Path) -> bool {
+    fs::metadata(file).is_ok_and(|file| file.file_type().is_fifo())
 }
 
-/// Whether a word names a pipe. Of the commands that read one, the first takes all.
-fn names_pipe(word: &str, folder: &Path) -> bool {
-    !word.starts_with('-') && fs::metadata(folder.join(word)).is_ok_and(|file| file.file_type().is_fifo())
+/// Whether links lead from a path to an open file, as standard input is. nvcc's commands get it from nvcc. A line that has its name doesn't
+/// come here.
+fn leads_to_open_file(path: &Path) -> bool {
+    let next = |path: &PathBuf| Some(path.parent()?.join(fs::read_link(path).ok()?));
+    let mut folders = iter::successors(Some(path.to_owned()), next).take(MOST_LINKS).filter_map(|path| path.parent()?.canonicalize().ok());
+    folders.any(|folder| folder.starts_with("/proc") && folder.ends_with("fd"))
 }
 
 /// Whether the end of the commands is the call's, whose directory is there or not, or nvcc has to make it.
@@ -357,10 +370,6 @@ mod tests {
         for (outline, wanted) in cases {
             assert_eq!(check(&outline), wanted, "{outline:?}");
         }
-        for line in ["nvcc -c /dev/stdin", "nvcc -include /proc/self/fd/0 k.cu", "nvcc -Xcompiler -include,/dev/fd/3 k.cu"] {
-            let outline = Outline { first_dry_run: words(line), ..outline(None, None) };
-            assert_eq!(check(&outline), to_nvcc("it reads a pipe or an open file"), "{line}");
-        }
     }
 
     #[test]
@@ -369,16 +378,36 @@ mod tests {
         fs::create_dir(&folder).unwrap();
         fs::write(folder.join("file"), "").unwrap();
         assert!(std::process::Command::new("mkfifo").arg(folder.join("pipe")).status().unwrap().success());
-        assert!(["pipe", "./pipe"].iter().all(|word| names_pipe(word, &folder)));
-        assert!(!["file", "missing", "-o", "/dev/null"].iter().any(|word| names_pipe(word, &folder)));
-        assert!(!["file", "-o", "/dev/null", "/dev/stdout"].iter().any(|word| names_open_file(word)));
-        assert!(names_pipe(folder.join("pipe").to_str().unwrap(), Path::new("/")));
+        assert!(["pipe", "./pipe"].iter().all(|name| is_pipe(&folder.join(name))));
+        assert!(!["file", "missing", "/dev/null"].iter().any(|name| is_pipe(&folder.join(name))));
         let call = |line: &str| {
             let first_dry_run = Words { folder: folder.to_string_lossy().into_owned(), ..words(line) };
             check(&Outline { first_dry_run, ..outline(None, None) })
         };
-        assert_eq!(call("nvcc -c pipe -o k.o"), to_nvcc("it reads a pipe or an open file"));
+        assert_eq!(call("nvcc -c pipe -o k.o"), to_nvcc("it reads a pipe"));
         assert_eq!(call("nvcc -c file -o pipe"), Ok(()));
+        fs::remove_dir_all(folder).unwrap();
+    }
+
+    #[test]
+    fn links_to_open_files_are_seen() {
+        let folder = env::temp_dir().join(format!("links-{}", std::process::id()));
+        fs::create_dir(&folder).unwrap();
+        fs::write(folder.join("file"), "").unwrap();
+        for (name, target) in [("open", "/dev/stdin"), ("second", "open"), ("folder", "/dev/fd"), ("usual", "file"), ("loop", "loop")] {
+            std::os::unix::fs::symlink(target, folder.join(name)).unwrap();
+        }
+        let call = |folder: &Path, line: &str| {
+            let first_dry_run = Words { folder: folder.to_string_lossy().into_owned(), ..words(line) };
+            check(&Outline { first_dry_run, ..outline(None, None) })
+        };
+        for name in ["open", "second", "./second", "folder/0", "folder/1"] {
+            assert_eq!(call(&folder, &format!("nvcc -c {name}")), to_nvcc("it uses an open file"), "{name}");
+        }
+        for words in ["usual", "file", "loop", "missing", "missing/k.cu", "/dev/null", "k.cu -o open"] {
+            assert_eq!(call(&folder, &format!("nvcc -c {words}")), Ok(()), "{words}");
+        }
+        assert_eq!(call(Path::new("/dev"), "nvcc -c stdin"), to_nvcc("it uses an open file"));
         fs::remove_dir_all(folder).unwrap();
     }
 

@@ -64,7 +64,7 @@ module _ (call : NvccOf) (variables : List (List ℕ × List ℕ)) (asked : Aske
   by-hazard hazard reading o e = grind (arith, false≢true, by-command)
 
   by-verdict : (v : Verdict) (o : Outline) → outline_in (answer_to_verdict call variables asked v) ≡ Some o → IsKept o
-  by-verdict (verdicts.Split normal) o e = by-hazard (hazard_of call normal) (nvcc_reading normal.words call.cwd []) o e
+  by-verdict (verdicts.Split normal) o e = by-hazard (hazard_of call asked normal) (nvcc_reading normal.words call.cwd []) o e
   by-verdict (verdicts.Pass reason) o e = absurd (false≢true (ap is_some e))
 
   by-line : (b c : Bool) (one other : Reason) (o : Outline) → outline_in (answer_to call variables (cond b (cond c (Ok asked) (Err one)) (Err other))) ≡ Some o → IsKept o

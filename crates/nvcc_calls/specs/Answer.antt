@@ -48,7 +48,7 @@ unless_hazard (Some reason) answer = Ok (Pass (text_of reason))
 
 abbrev pub answer_to_normal : NvccOf → List (List ℕ × List ℕ) → Asked → Call → Result Answer Fault
 answer_to_normal call variables asked normal =
-    unless_hazard (hazard_of call normal) (answer_to_reading call variables asked (nvcc_reading normal.words call.cwd []))
+    unless_hazard (hazard_of call asked normal) (answer_to_reading call variables asked (nvcc_reading normal.words call.cwd []))
 
 -- the answer to a line by what it asks for, and by the verdict on that. A normal form has the words of both variables and of the options
 -- files in it

@@ -1,5 +1,5 @@
 -- Why nvcc makes a call whose line could be split: a plan of it would make something else.
-use Rattle.std.specs.Prelude.{◌≡◌, ℕ, List, [], ◌∷◌, Bool, true, false, not, ◌==◌, ◌&&◌, ◌||◌, nat_eq, nat_le, Option, Some, None, refl, codes, bytes_eq}
+use Rattle.std.specs.Prelude.{◌≡◌, ℕ, List, [], ◌∷◌, map, Bool, true, false, not, ◌==◌, ◌&&◌, ◌||◌, nat_eq, nat_le, Option, Some, None, refl, codes, bytes_eq}
 use Rattle.std.specs.List.{list_any, list_all, starts_with}
 use Rattle.std.specs.Option.{option_or}
 use Rattle.texts.specs.Extension.{last_part, extension_of, with_extension}
@@ -7,10 +7,11 @@ use Rattle.texts.specs.ObjectFlags.{makes_objects}
 use Rattle.texts.specs.Rows.{spaced}
 use Rattle.canonical_names.specs.Alike.{holds}
 use Rattle.canonical_names.specs.Generated.{standard_suffixes}
+use Rattle.nvcc_words.specs.declared.asked.Asked.{Asked}
 use Rattle.nvcc_words.specs.declared.call.Call.{Call}
 use Rattle.nvcc_options.specs.declared.reason.Reason.{Reason}
-use Rattle.nvcc_options.specs.declared.reason.Reason.TheVariants.{GeneratedName, DirectoryName, ToolFile, HostFile, KeptName}
-use Rattle.nvcc_words.specs.Asked.{reason_unless}
+use Rattle.nvcc_options.specs.declared.reason.Reason.TheVariants.{GeneratedName, DirectoryName, ToolFile, HostFile, KeptName, OpenFile}
+use Rattle.nvcc_words.specs.Asked.{nothing_asked, reason_unless}
 use Rattle.nvcc_words.specs.NormalForm.{extension_of_phase, has_extension}
 use Rattle.program_calls.specs.Operands.{NvccOf}
 
@@ -66,6 +67,17 @@ is_kept_name call =
 abbrev pub may_be_kept : Call → Bool
 may_be_kept call = list_any asks_to_keep call.words && is_kept_name call
 
+-- whether a text names a file that is open when nvcc begins, as standard input is. Two dry runs and the commands would each read it,
+-- and of those that read a pipe, the first takes all. A text tells by such a file's name: not a link to it, nor a name below `/dev`
+abbrev pub names_open_file : List ℕ → Bool
+names_open_file text =
+    holds (codes "/dev/stdin") text || holds (codes "/dev/fd/") text || (holds (codes "/proc/") text && holds (codes "/fd/") text)
+
+-- whether a call uses such a file: as its input, as its output, or in an option. A dependency file may be one, since one command writes it
+abbrev pub uses_open_file : Asked → Call → Bool
+uses_open_file asked normal =
+    names_open_file normal.input || names_open_file normal.output || list_any names_open_file asked.kept
+
 -- why nvcc makes the call, if it does: its directories, the words, and what the line asks for
 abbrev pub is_renamed : NvccOf → Call → Bool
 is_renamed call normal =
@@ -82,8 +94,10 @@ file_hazard normal =
     (option_or (reason_unless (not (may_share_file normal)) HostFile)
     (reason_unless (not (may_be_kept normal)) KeptName))
 
-abbrev pub hazard_of : NvccOf → Call → Option Reason
-hazard_of call normal = option_or (name_hazard call normal) (file_hazard normal)
+abbrev pub hazard_of : NvccOf → Asked → Call → Option Reason
+hazard_of call asked normal =
+    option_or (name_hazard call normal)
+    (option_or (file_hazard normal) (reason_unless (not (uses_open_file asked normal)) OpenFile))
 
 -- Worked examples.
 abbrev pub call_in : List ℕ → NvccOf
@@ -92,29 +106,48 @@ call_in cwd = record { cwd = cwd; tmp = codes "/t"; nvcc = codes "nvcc"; words =
 abbrev pub call_for : List ℕ → List ℕ → List (List ℕ) → Call
 call_for flag output words = record { flag = flag; input = codes "sub/dev.cu"; output = output; words = words }
 
-pub macro_with_a_name : hazard_of (call_in (codes "/w")) (call_for (codes "-c") (codes "k.o") (spaced "-c -DN=a.cpp1.ii")) ≡ Some GeneratedName
+pub macro_with_a_name : hazard_of (call_in (codes "/w")) nothing_asked (call_for (codes "-c") (codes "k.o") (spaced "-c -DN=a.cpp1.ii")) ≡ Some GeneratedName
 macro_with_a_name = refl
 
-pub folder_with_a_name : hazard_of (call_in (codes "/w/a.cudafe1.cpp.d")) (call_for (codes "-c") (codes "k.o") []) ≡ Some GeneratedName
+pub folder_with_a_name : hazard_of (call_in (codes "/w/a.cudafe1.cpp.d")) nothing_asked (call_for (codes "-c") (codes "k.o") []) ≡ Some GeneratedName
 folder_with_a_name = refl
 
-pub usual_names : hazard_of (call_in (codes "/w")) (call_for (codes "-c") (codes "k.o") (spaced "-c -DN=a.ii -I/x.cpp1 sub/dev.cu")) ≡ None
+pub usual_names : hazard_of (call_in (codes "/w")) nothing_asked (call_for (codes "-c") (codes "k.o") (spaced "-c -DN=a.ii -I/x.cpp1 sub/dev.cu")) ≡ None
 usual_names = refl
 
-pub folder_with_a_dollar : hazard_of (call_in (codes "/w$x")) (call_for (codes "-c") (codes "k.o") []) ≡ Some DirectoryName
+pub folder_with_a_dollar : hazard_of (call_in (codes "/w$x")) nothing_asked (call_for (codes "-c") (codes "k.o") []) ≡ Some DirectoryName
 folder_with_a_dollar = refl
 
-pub file_for_ptxas : hazard_of (call_in (codes "/w")) (call_for (codes "-c") (codes "k.o") (spaced "-Xptxas=-optf,p.txt")) ≡ Some ToolFile
+pub file_for_ptxas : hazard_of (call_in (codes "/w")) nothing_asked (call_for (codes "-c") (codes "k.o") (spaced "-Xptxas=-optf,p.txt")) ≡ Some ToolFile
 file_for_ptxas = refl
 
-pub shared_file : hazard_of (call_in (codes "/w")) (call_for (codes "-fatbin") (codes "k.f") (spaced "-Xcompiler=-MD,-MF,k.d")) ≡ Some HostFile
+pub shared_file : hazard_of (call_in (codes "/w")) nothing_asked (call_for (codes "-fatbin") (codes "k.f") (spaced "-Xcompiler=-MD,-MF,k.d")) ≡ Some HostFile
 shared_file = refl
 
-pub file_of_an_object : hazard_of (call_in (codes "/w")) (call_for (codes "-c") (codes "k.o") (spaced "-Xcompiler=-MD,-MF,k.d")) ≡ None
+pub file_of_an_object : hazard_of (call_in (codes "/w")) nothing_asked (call_for (codes "-c") (codes "k.o") (spaced "-Xcompiler=-MD,-MF,k.d")) ≡ None
 file_of_an_object = refl
 
-pub kept_cubin : hazard_of (call_in (codes "/w")) (call_for (codes "-c") (codes "o/dev.sm_80.cubin") (spaced "--keep")) ≡ Some KeptName
+pub kept_cubin : hazard_of (call_in (codes "/w")) nothing_asked (call_for (codes "-c") (codes "o/dev.sm_80.cubin") (spaced "--keep")) ≡ Some KeptName
 kept_cubin = refl
 
-pub kept_beside_an_object : hazard_of (call_in (codes "/w")) (call_for (codes "-c") (codes "dev.cu.o") (spaced "--keep")) ≡ None
+pub kept_beside_an_object : hazard_of (call_in (codes "/w")) nothing_asked (call_for (codes "-c") (codes "dev.cu.o") (spaced "--keep")) ≡ None
 kept_beside_an_object = refl
+
+-- a line that asks only for these words
+abbrev pub keeping : List (List ℕ) → Asked
+keeping words = record nothing_asked { kept = words }
+
+pub standard_input : map names_open_file (spaced "/dev/stdin ../dev/stdin /dev/fd/63 /proc/self/fd/0 /proc/9/fd/3") ≡ true ∷ true ∷ true ∷ true ∷ true ∷ []
+standard_input = refl
+
+pub usual_files : map names_open_file (spaced "/dev/null /dev/stdout /w/fd/k.cu /proc/cpuinfo stdin") ≡ false ∷ false ∷ false ∷ false ∷ false ∷ []
+usual_files = refl
+
+pub open_header : hazard_of (call_in (codes "/w")) (keeping (spaced "-Xcompiler=-include,/dev/fd/3")) (call_for (codes "-c") (codes "k.o") []) ≡ Some OpenFile
+open_header = refl
+
+pub open_product : hazard_of (call_in (codes "/w")) nothing_asked (call_for (codes "-ptx") (codes "/dev/fd/3") []) ≡ Some OpenFile
+open_product = refl
+
+pub open_dependency_file : hazard_of (call_in (codes "/w")) nothing_asked (call_for (codes "-c") (codes "k.o") (spaced "-MD -MF /dev/fd/3")) ≡ None
+open_dependency_file = refl

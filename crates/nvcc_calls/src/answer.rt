@@ -33,7 +33,7 @@ pub enum Answer {
 /// Reads an nvcc line as nvcc does, at the call's working directory, with `variables`, those of the environment that nvcc and
 /// Ninja's jobs depend on, `ZIGRUNK_IN_PLACE` if the caller runs nvcc's tools in the call's own directory, and `files`, the options
 /// files by name and text. `file_names` names them. A call that compiles one source is split, unless a plan of it would make something
-/// else; any other goes to nvcc.
+/// else; any other goes to nvcc. It sees names, not the disk: you have to look whether a link leads to standard input, or an input is a pipe.
 ///
 /// Fails if `generate_compile_commands` or `preprocess` of nvcc does.
 pub fn read_call(
@@ -80,7 +80,7 @@ fn answer_to_normal(
 ) -> Result<Answer, Fault>
     ensures { UnlessMemory result (spec.answer_to_normal (nvcc_of call.now) (map pair_of variables.now) asked.now normal.now) }
 {
-    if let Some(reason) = hazard_of(alloc, call, normal)? {
+    if let Some(reason) = hazard_of(alloc, call, asked, normal)? {
         return Ok(passed(alloc, reason)?);
     }
     let reading = Nvcc::gcc().parse_arguments(alloc, normal.words.as_slice(), call.cwd, &[])?;

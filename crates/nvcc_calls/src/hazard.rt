@@ -8,7 +8,7 @@ ghost use Rattle.program_calls.specs.Operands.{nvcc_of};
 ghost use Rattle.nvcc_calls.specs.Hazards as spec;
 
 use nvcc_options::Reason;
-use nvcc_words::{Call, extension_of_phase, has_extension};
+use nvcc_words::{Asked, Call, extension_of_phase, has_extension};
 use program_calls::NvccCall;
 use std::alloc::{AllocError, Global};
 use texts::compilation_flags::asks_object;
@@ -173,6 +173,35 @@ fn may_be_kept(alloc: Global, call: &Call) -> Result<bool, AllocError>
     Ok(one_asks_to_keep(call.words.as_slice()) && is_kept_name(alloc, call)?)
 }
 
+// Whether a text names a file that is open when nvcc begins.
+fn names_open_file(text: &str) -> bool
+    ensures { result ≡ spec.names_open_file text.now }
+{
+    holds(text, "/dev/stdin")
+        || holds(text, "/dev/fd/")
+        || (holds(text, "/proc/") && holds(text, "/fd/"))
+}
+
+fn one_names_open_file(words: &[String]) -> bool
+    ensures { result ≡ list_any spec.names_open_file (map string_bytes words.now) }
+{
+    for word in words {
+        if names_open_file(word.as_str()) {
+            return true;
+        }
+    }
+    false
+}
+
+// Whether a call uses such a file.
+fn uses_open_file(asked: &Asked, normal: &Call) -> bool
+    ensures { result ≡ spec.uses_open_file asked.now normal.now }
+{
+    names_open_file(normal.input.as_str())
+        || names_open_file(normal.output.as_str())
+        || one_names_open_file(asked.kept.as_slice())
+}
+
 // A reason, if there is a hazard.
 fn reason_if(is_hazard: bool, reason: Reason) -> Option<Reason>
     ensures { result ≡ reason_unless (not is_hazard) reason }
@@ -213,14 +242,19 @@ fn file_hazard(alloc: Global, normal: &Call) -> Result<Option<Reason>, AllocErro
 
 /// Why nvcc makes a call whose line could be split, if a plan of it would make something else: a text looks like the name of a
 /// generated file, a shell may expand a directory's name, commands would read or write a file at another place or side by
-/// side, or a kept file would replace the output.
+/// side, a kept file would replace the output, or a file is used that was open when nvcc began, as standard input is.
+///
+/// It sees names alone: no link to such an open file, no name of one below `/dev` as the working directory, and no header that a
+/// source includes. A caller that runs commands looks at the disk for that.
 pub fn hazard_of(
     alloc: Global,
     call: &NvccCall<'_>,
+    asked: &Asked,
     normal: &Call,
 ) -> Result<Option<Reason>, AllocError>
-    ensures { IfOk result (λ reason. reason ≡ spec.hazard_of (nvcc_of call.now) normal.now) }
+    ensures { IfOk result (λ reason. reason ≡ spec.hazard_of (nvcc_of call.now) asked.now normal.now) }
 {
     let file = file_hazard(alloc, normal)?;
-    Ok(name_hazard(call, normal).or(file))
+    let used = reason_if(uses_open_file(asked, normal), Reason::OpenFile);
+    Ok(name_hazard(call, normal).or(file.or(used)))
 }

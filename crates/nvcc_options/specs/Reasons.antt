@@ -1,7 +1,7 @@
 -- The texts of the reasons for which a call goes to nvcc unchanged.
 use Rattle.std.specs.Prelude.{ℕ, List, codes}
 use Rattle.nvcc_options.specs.declared.reason.Reason.{Reason}
-use Rattle.nvcc_options.specs.declared.reason.Reason.TheVariants.{Links, OtherPhase, SeveralPhases, NoInput, SeveralInputs, NotSource, HostSource, Prints, Cleans, Measures, OptionsFile, TemporaryFiles, Jobserver, DrivePrefix, StandardInput, StandardOutput, HiddenName, UnknownOption, MissingValue, BadValue, DependencyWords, ShellCharacter, VariableQuotes, OtherReading, GeneratedName, DirectoryName, ToolFile, HostFile, KeptName}
+use Rattle.nvcc_options.specs.declared.reason.Reason.TheVariants.{Links, OtherPhase, SeveralPhases, NoInput, SeveralInputs, NotSource, HostSource, Prints, Cleans, Measures, OptionsFile, TemporaryFiles, Jobserver, DrivePrefix, StandardInput, StandardOutput, HiddenName, UnknownOption, MissingValue, BadValue, DependencyWords, ShellCharacter, VariableQuotes, OtherReading, GeneratedName, DirectoryName, ToolFile, HostFile, KeptName, OpenFile}
 
 -- a reason's text
 abbrev pub text_of : Reason → List ℕ
@@ -34,3 +34,4 @@ text_of DirectoryName = codes "nvcc's shell may expand its directory's name"
 text_of ToolFile = codes "a tool reads options from a file"
 text_of HostFile = codes "several preprocessors may write one file"
 text_of KeptName = codes "its output may have the name of a kept file"
+text_of OpenFile = codes "it uses an open file"

@@ -64,6 +64,8 @@ pub enum Reason {
     HostFile,
     /// The output may have the name of a file that is kept.
     KeptName,
+    /// It reads a file that was open when nvcc began, as standard input is, or makes its product there.
+    OpenFile,
 }
 
 impl Reason {
@@ -104,6 +106,7 @@ impl Reason {
             Reason::ToolFile => "a tool reads options from a file",
             Reason::HostFile => "several preprocessors may write one file",
             Reason::KeptName => "its output may have the name of a kept file",
+            Reason::OpenFile => "it uses an open file",
         }
     }
 }
