@@ -133,7 +133,7 @@ pub struct Farm {
     next_member: usize,
     /// The member that got the last command with a slot of its own.
     latest: usize,
-    /// Since when no worker is ready.
+    /// Since when no worker is ready, if none is.
     alone: Instant,
     /// When a machine has last come or gone.
     moved: Instant,
@@ -574,8 +574,7 @@ impl Farm {
             self.moved = Instant::now();
         }
         // One that comes and goes again and again without ever getting work doesn't count.
-        let counts = member.is_ready() || self.left_out.contains_key(&member.worker.name);
-        if counts && !self.members.iter().any(Member::is_ready) {
+        if member.is_ready() || self.left_out.contains_key(&member.worker.name) {
             self.alone = Instant::now();
         }
         numbers.len()
