@@ -413,10 +413,6 @@ mod tests {
         assert_eq!(other.try_take().unwrap().number, 2);
         stopped.beat([&slot].into_iter());
         assert!(other.try_take().is_none());
-        age(&slot.file);
-        drop(slot);
-        let again = other.try_take().unwrap();
-        assert!(again.number == 1 && is_fresh(&again.file), "it counts from its beginning");
     }
 
     /// Whether a call's ticket says that it may look again.
