@@ -1,13 +1,13 @@
 #!/usr/bin/env python3
 """Edits by lot what no contract sees, and looks whether a test fails.
 
-    tests/mutants_by_lot.py [--seed S] [--first N] [--count N] [--only N] [--kind KIND] [--lanes N] [--bound PERCENT] [--draw]
+    tests/mutants_by_lot.py [--seed S] [--first N] [--count N] [--only N] [--kind KIND] [--lanes N] [--bound PERCENT] [--draw] [--unit]
 
 An edit changes one line of code: it negates a condition, drops a call, and so on (RUST, SCRIPT). The seed and its number say which line and which
 operator, so --only makes one edit again, and --first begins at another than the first. One that doesn't compile is drawn again, and so is one of
 tests/mutants_known.txt, of a time by one, or of a border of a time. Then tests run until one fails: the unit tests of its module and all others for
-each edit, and then, for those that none of them finds, the parts of the scripts, the likeliest first. A test counts if it fails twice and passes
-without the edit. One that takes too long has failed.
+each edit, and then, for those that none of them finds, the parts of the scripts, the likeliest first: not with --unit. A test counts if it fails
+twice and passes without the edit. One that takes too long has failed.
 
 An edited driver may send any signal, remove any file and take all memory. So tests run where they see no other process, can write only below the
 folder of their lane, and have 4 GB each. That takes root, or a kernel that lets users make namespaces.
@@ -415,10 +415,11 @@ class Lot:
                 left.append((number, edit, lane.seconds))
                 print(f"edit {number}, {edit.path}:{edit.line + 1}, {edit.operator}: no unit test fails, {edit.new.strip()}", flush=True)
         for number, edit, seconds in left:
-            lane.seconds = seconds
-            lane.edit(edit)
-            failure = lane.test(str(edit.path))
-            lane.edit(edit, False)
+            lane.seconds, failure = seconds, ""
+            if not self.args.unit:
+                lane.edit(edit)
+                failure = lane.test(str(edit.path))
+                lane.edit(edit, False)
             self.tell(number, edit, failure, lane.seconds)
 
     def tell(self, number: int, edit: Edit, failure: str, seconds: float) -> None:
@@ -444,6 +445,7 @@ def main() -> int:
     parser.add_argument("--lanes", type=int, default=2)
     parser.add_argument("--bound", type=float, default=95)
     parser.add_argument("--draw", action="store_true", help="print the edits, and make none")
+    parser.add_argument("--unit", action="store_true", help="no scripts")
     args = parser.parse_args()
     lot = Lot(args)
     for number in lot.numbers if args.draw else []:

@@ -463,7 +463,8 @@ impl Host {
     ///
     /// If there is no process or no file for it.
     pub fn start_with(&mut self, number: usize, job: &Job, input: RawFd) -> io::Result<()> {
-        let (place, (out, errors)) = (self.free_place()?, self.streams()?);
+        let taken: Vec<usize> = self.running.iter().map(|running| running.place).collect();
+        let (place, (out, errors)) = (free_place(&taken)?, self.streams()?);
         let begun = now();
         let image = match self.image_of(job) {
             Ok(image) => image,
@@ -481,12 +482,11 @@ impl Host {
         self.running.push(Running { number, process, place, permit, out, errors, heard: 0, begun });
         Ok(())
     }
+}
 
-    /// A place for a group that nobody has.
-    fn free_place(&self) -> io::Result<usize> {
-        let is_free = |&place: &usize| self.running.iter().all(|running| running.place != place);
-        (0..MOST_GROUPS).find(is_free).ok_or_else(|| io::ErrorKind::ResourceBusy.into())
-    }
+/// The first place for a group that is none of these.
+fn free_place(taken: &[usize]) -> io::Result<usize> {
+    (0..MOST_GROUPS).find(|place| !taken.contains(place)).ok_or_else(|| io::ErrorKind::ResourceBusy.into())
 }
 
 /// A program to run, by its path, words, environment and folder.
@@ -726,6 +726,13 @@ mod tests {
                 assert_eq!(end, b"one\ntwo\n");
             });
         }
+    }
+
+    #[test]
+    fn each_group_has_a_place_of_its_own_as_long_as_there_are_any() {
+        let all: Vec<usize> = (0..MOST_GROUPS).rev().collect();
+        assert_eq!([free_place(&[]).unwrap(), free_place(&[0, 2]).unwrap(), free_place(&all[1..]).unwrap()], [0, 1, MOST_GROUPS - 1]);
+        assert_eq!(free_place(&all).unwrap_err().kind(), io::ErrorKind::ResourceBusy);
     }
 
     #[test]

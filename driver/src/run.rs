@@ -510,8 +510,9 @@ mod tests {
             self.running.clear();
         }
 
+        /// Goes on by one with each job that starts.
         fn now(&self) -> f64 {
-            1.0
+            1.0 + f64::from(u32::try_from(self.started.len()).unwrap())
         }
     }
 
@@ -594,6 +595,13 @@ mod tests {
         let mut machine = Fake::default();
         assert_eq!(run_all(&mut machine, &tasks, 1), ("abcde".into(), vec![Some(0); 5]));
         assert_eq!(machine.most_at_once, 1);
+    }
+
+    #[test]
+    fn it_is_noted_when_each_could_have_started() {
+        let tasks = [task("a 0", &[]), task("b 0", &[]), task("c 0", &[0, 1])];
+        let done = run(&mut Fake::default(), &mut Heard::default(), &tasks, 9).unwrap();
+        assert_eq!(done.iter().map(|done| done.asked).collect::<Vec<_>>(), [1.0, 2.0, 3.0]);
     }
 
     #[test]

@@ -715,6 +715,14 @@ mod tests {
     }
 
     #[test]
+    fn new_files_lack_the_modes_that_are_set() {
+        in_own_process(|| {
+            set_mask(0o27);
+            assert_eq!([mask(), set_mask(0o31), mask()], [0o27, 0o27, 0o31]);
+        });
+    }
+
+    #[test]
     fn a_state_is_a_status() {
         let status = |code, signal, dumped| Status { code, signal, dumped };
         let cases = [

@@ -209,6 +209,7 @@ pub fn without_rule(words: &[String]) -> Vec<String> {
 #[cfg(test)]
 mod tests {
     use super::*;
+    use std::time::Duration;
 
     fn set(files: &[&str]) -> BTreeSet<String> {
         files.iter().map(|file| (*file).to_owned()).collect()
@@ -247,6 +248,28 @@ mod tests {
         assert_eq!(rule_of(&["-MD".into()], "/d/k").as_deref(), Some("/d/k.d"));
         let words = ["-MD", "-MT", "a.o", "-MF", "a.d", "-c", "a.cu"].map(String::from);
         assert_eq!(without_rule(&words), ["-c", "a.cu"]);
+    }
+
+    #[test]
+    fn a_call_is_current_while_all_that_it_has_read_stays() {
+        let folder = env::temp_dir().join(format!("records-{}", std::process::id()));
+        fs::create_dir_all(&folder).unwrap();
+        let (record, head, named) = (folder.join("record"), "= call\n".to_owned(), set(&["k.cu"]));
+        let call = Described { record, folder: folder.clone(), head, products: Vec::new(), named, rule: None };
+        let reads = Reads::Files(set(&["a.h"]));
+        for name in ["k.cu", "a.h"] {
+            fs::write(folder.join(name), "old").unwrap();
+        }
+        call.record(&Reads::Unknown, SystemTime::now() + Duration::from_secs(9));
+        call.record(&reads, SystemTime::UNIX_EPOCH);
+        assert!(!call.is_current(), "nobody says what it read, and then the files are newer than its begin");
+        for name in ["k.cu", "a.h"] {
+            call.record(&reads, SystemTime::now() + Duration::from_secs(9));
+            assert!(call.is_current());
+            fs::write(folder.join(name), "other").unwrap();
+            assert!(!call.is_current(), "{name} has changed");
+        }
+        fs::remove_dir_all(folder).unwrap();
     }
 
     #[test]

@@ -570,6 +570,21 @@ mod tests {
     }
 
     #[test]
+    fn what_names_the_calls_directory_is_no_entry() {
+        let folder = env::temp_dir().join(format!("named-{}", std::process::id()));
+        fs::create_dir_all(&folder).unwrap();
+        let path = folder.join("k.ptx");
+        let output = Output { path: path.clone(), is_optional: false, written_to: path.clone() };
+        let has_entry = |text: &str, directory: &str| {
+            fs::write(&path, text).unwrap();
+            made(&Recipe { directory: directory.into(), ..recipe(Kind::Cicc, Vec::new()) }, &output, new_modes().unwrap()).is_some()
+        };
+        assert!(has_entry("in /t/call.7/k.cu", "/t/call.7"), "a mark has the path's place");
+        assert!(!has_entry("in call.7", "/t/call.7") && has_entry("in call.7", "/t/call.8"));
+        fs::remove_dir_all(folder).unwrap();
+    }
+
+    #[test]
     fn only_messages_are_for_a_kind_of_terminal() {
         let store = store();
         let session = Session { terminal: b"xterm".to_vec(), ..Session::new(&store, "/t", &[], &[]) };

@@ -228,8 +228,8 @@ mod tests {
 
     #[test]
     fn a_folder_that_is_another_is_noted_for_all_names() {
-        let scratch = Scratch::new("doubled", &["one/a.h", "two/b.h"]);
-        let folders = folders(&[], &["one", "two"], &["link"], &[]);
+        let scratch = Scratch::new("doubled", &["one/a.h", "two/b.h", "three/c.h"]);
+        let folders = folders(&[], &["one", "two", "three"], &["link"], &[]);
         std::os::unix::fs::symlink("one", scratch.0.join("link")).unwrap();
         let vain = scratch
             .vain(&folders, |search| search.seek_anywhere(&search.names_of(Path::new("two/b.h"))).and_then(|()| search.seek(None, b"b.h", false)));

@@ -285,6 +285,16 @@ mod tests {
     }
 
     #[test]
+    fn a_worker_takes_files_until_it_has_them_all() {
+        let mut room = Room::new();
+        assert!(!room.member.takes_files());
+        room.member.equip(&[(std::env::current_exe().unwrap(), [0; 32])]).unwrap();
+        assert!(room.member.takes_files());
+        room.member.departures.forget(TOOLKIT);
+        assert!(!room.member.takes_files());
+    }
+
+    #[test]
     fn who_does_not_know_the_secret_is_a_stranger() {
         for message in [Message::Ended(1, Answer::default()), Message::Bye, Message::Beat, evidence("word"), Message::Terms(Terms::default())] {
             let mut room = Room::new();

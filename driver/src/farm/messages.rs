@@ -174,70 +174,65 @@ records! {
     Answer { code, signal, dumped, took, products, fault }
 }
 
+impl Message {
+    /// The number that its kind has in bytes.
+    fn kind(&self) -> u8 {
+        match self {
+            Message::Greeting { .. } => 0,
+            Message::Challenge { .. } => 1,
+            Message::Hello { .. } => 2,
+            Message::Terms(_) => 3,
+            Message::Evidence(_) => 4,
+            Message::Refusal(_) => 5,
+            Message::Start(..) => 6,
+            Message::End(..) => 7,
+            Message::Said(..) => 8,
+            Message::Ended(..) => 9,
+            Message::Beat => 10,
+            Message::Bye => 11,
+            Message::Part(..) => 12,
+            Message::Whole(..) => 13,
+            Message::Began(_) => 14,
+        }
+    }
+}
+
 impl Field for Message {
     fn put(&self, out: &mut Vec<u8>) {
-        let mut kind = |kind: u8| out.push(kind);
+        self.kind().put(out);
         match self {
-            Message::Greeting { version, once } => {
-                kind(0);
-                (*version, *once).put(out);
-            }
-            Message::Challenge { once, proof } => {
-                kind(1);
-                (*once, *proof).put(out);
-            }
+            Message::Greeting { version, once } => (*version, *once).put(out),
+            Message::Challenge { once, proof } => (*once, *proof).put(out),
             Message::Hello { proof, worker } => {
-                kind(2);
                 proof.put(out);
                 worker.put(out);
             }
-            Message::Terms(terms) => {
-                kind(3);
-                terms.put(out);
-            }
-            Message::Evidence(evidence) => {
-                kind(4);
-                evidence.put(out);
-            }
-            Message::Refusal(reason) => {
-                kind(5);
-                reason.put(out);
-            }
+            Message::Terms(terms) => terms.put(out),
+            Message::Evidence(evidence) => evidence.put(out),
+            Message::Refusal(reason) => reason.put(out),
             Message::Start(number, order) => {
-                kind(6);
                 number.put(out);
                 order.put(out);
             }
-            Message::End(number, signal) => {
-                kind(7);
-                (*number, *signal).put(out);
-            }
+            Message::End(number, signal) => (*number, *signal).put(out),
             Message::Said(number, is_error, part) => {
-                kind(8);
                 (*number, *is_error).put(out);
                 part.put(out);
             }
             Message::Ended(number, answer) => {
-                kind(9);
                 number.put(out);
                 answer.put(out);
             }
-            Message::Beat => kind(10),
-            Message::Bye => kind(11),
+            Message::Beat | Message::Bye => {}
             Message::Part(number, place, part) => {
-                kind(12);
                 (*number, *place).put(out);
                 part.put(out);
             }
             Message::Whole(number, place, digest) => {
-                kind(13);
                 (*number, *place).put(out);
                 digest.put(out);
             }
-            Message::Began(number) => {
-                kind(14);
-                number.put(out);
-            }
+            Message::Began(number) => number.put(out),
         }
     }
 

@@ -32,6 +32,7 @@ use crate::folder::{CallFolder, DRAFTS, ELSEWHERE};
 use crate::host::{self, Host};
 use crate::jobserver::{Make, MakeFlags};
 use crate::machine::{Ended, Event, Job, Machine};
+use crate::places;
 use crate::programs;
 use crate::settings::Settings;
 use crate::streams::complain;
@@ -132,11 +133,23 @@ pub struct Farm {
     next_member: usize,
     /// The member that got the last command with a slot of its own.
     latest: usize,
-    /// Since when no worker is ready.
+    /// Since when no worker is ready, if none is.
     alone: Instant,
     /// When a machine has last come or gone.
     moved: Instant,
     looked: Instant,
+}
+
+/// Says what a batch lacks for workers, and why.
+fn lacks(what: &'static str) -> impl Fn(io::Error) -> String {
+    move |error| format!("no {what} for workers: {error}")
+}
+
+/// A port to which workers connect.
+fn listen() -> io::Result<TcpListener> {
+    let listener = TcpListener::bind("[::]:0").or_else(|_| TcpListener::bind("0.0.0.0:0"))?;
+    listener.set_nonblocking(true)?;
+    Ok(listener)
 }
 
 /// The file with a random text by which workers show that they see the shared directory.
@@ -144,6 +157,37 @@ fn write_shared(folder: &Path) -> io::Result<(PathBuf, Vec<u8>)> {
     let (path, text) = (folder.join("shared"), secrets::digits(&secrets::random()?));
     fs::write(&path, &text)?;
     Ok((path, text.into_bytes()))
+}
+
+/// What workers show of their machines, and the file that they share with the batch, if they share a disk.
+fn wanted(conditions: &Conditions, settings: &Settings, folder: &Path) -> io::Result<(Wanted, Option<PathBuf>)> {
+    let (shared, text) = (!conditions.sends_files).then(|| write_shared(folder)).transpose()?.unzip();
+    let mut tools = toolkits::tools(settings);
+    tools.retain(|(path, _)| !conditions.sends_files || toolkits::is_of_devices(path));
+    let directory = places::absolute(settings.plans(), &places::working_directory().unwrap_or_default());
+    Ok((Wanted { tools, directory, shared: text }, shared))
+}
+
+/// What each worker gets first.
+fn terms(conditions: &Conditions, settings: &Settings, environment: &Environment, wanted: &Wanted, shared: Option<PathBuf>) -> Terms {
+    Terms {
+        environment: environment.variables().map(|variable| Bytes(variable.to_vec())).collect(),
+        has_terminal: io::stderr().is_terminal(),
+        temporary: places::absolute(&settings.temporary, &places::working_directory().unwrap_or_default()),
+        tools: wanted.tools.iter().map(|(path, _)| path.clone()).collect(),
+        shared,
+        has_own_temporary: settings.launcher.is_empty(),
+        // A worker ends its commands before the batch gives it up.
+        patience: u64::try_from(conditions.patience.as_millis() * 6 / 10).unwrap_or(u64::MAX),
+        mask: system::mask(),
+    }
+}
+
+/// This machine, which starts workers and runs commands that can't go. Slots are counted here, not by it.
+fn own_machine(settings: &Settings, environment: Environment, folder: &Rc<CallFolder>) -> Result<Host, String> {
+    let unlimited = Settings { slots: Some(0), ..settings.clone() };
+    let no_make = Make { flags: MakeFlags::default(), server: None };
+    Host::of_process(&unlimited, no_make, environment, Rc::clone(folder)).map_err(|lacks| format!("no {lacks} for the batch"))
 }
 
 /// The tool that a job runs, where this machine finds it.
@@ -172,40 +216,17 @@ impl Farm {
     ///
     /// What it lacks.
     pub fn new(conditions: Conditions, settings: &Settings, environment: Environment, folder: &Rc<CallFolder>) -> Result<Farm, String> {
-        let lacks = |what: &'static str| move |error: io::Error| format!("no {what} for workers: {error}");
         let secret = Secret::new().map_err(lacks("secret"))?;
-        let listener = TcpListener::bind("[::]:0").or_else(|_| TcpListener::bind("0.0.0.0:0")).map_err(lacks("port"))?;
-        listener.set_nonblocking(true).map_err(lacks("port"))?;
-        let shared = (!conditions.sends_files).then(|| write_shared(folder.path())).transpose().map_err(lacks("file"))?;
-        let (shared, text) = shared.unzip();
-        let mut tools = toolkits::tools(settings);
-        tools.retain(|(path, _)| !conditions.sends_files || toolkits::is_of_devices(path));
-        let cwd = crate::places::working_directory().unwrap_or_default();
-        let terms = Terms {
-            environment: environment.variables().map(|variable| Bytes(variable.to_vec())).collect(),
-            has_terminal: io::stderr().is_terminal(),
-            temporary: crate::places::absolute(&settings.temporary, &cwd),
-            tools: tools.iter().map(|(path, _)| path.clone()).collect(),
-            shared,
-            has_own_temporary: settings.launcher.is_empty(),
-            // A worker ends its commands before the batch gives it up.
-            patience: u64::try_from(conditions.patience.as_millis() * 6 / 10).unwrap_or(u64::MAX),
-            mask: system::mask(),
-        };
-        let plans = crate::places::absolute(settings.plans(), &cwd);
-        let unlimited = Settings { slots: Some(0), ..settings.clone() };
-        let no_make = Make { flags: MakeFlags::default(), server: None };
-        let mut host = Host::of_process(&unlimited, no_make, environment, Rc::clone(folder)).map_err(|lacks| format!("no {lacks} for the batch"))?;
+        let listener = listen().map_err(lacks("port"))?;
+        let (wanted, shared) = wanted(&conditions, settings, folder.path()).map_err(lacks("file"))?;
+        let terms = terms(&conditions, settings, &environment, &wanted, shared);
+        let mut host = own_machine(settings, environment, folder)?;
         host.hide(listener.as_raw_fd());
-        let drafts = format!("{DRAFTS}{}", &secrets::digits(&secrets::random().map_err(lacks("name"))?)[..8]);
-        let elsewhere = fs::File::create(folder.path().join(ELSEWHERE)).map_err(lacks("file"))?;
-        let known = tools.iter().map(|(path, digest)| (path.clone(), Some(*digest))).collect();
         let mut farm = Farm {
             host,
             listener,
             secret,
             terms,
-            wanted: Wanted { tools, directory: plans.clone(), shared: text },
             conditions,
             starters: Starters::default(),
             inputs: Vec::new(),
@@ -216,10 +237,11 @@ impl Farm {
             events: VecDeque::new(),
             left_out: BTreeMap::new(),
             here: Here::new(settings),
-            tools: known,
-            plans,
-            drafts,
-            elsewhere,
+            tools: wanted.tools.iter().map(|(path, digest)| (path.clone(), Some(*digest))).collect(),
+            plans: wanted.directory.clone(),
+            wanted,
+            drafts: format!("{DRAFTS}{}", &secrets::digits(&secrets::random().map_err(lacks("name"))?)[..8]),
+            elsewhere: fs::File::create(folder.path().join(ELSEWHERE)).map_err(lacks("file"))?,
             wants: false,
             is_ending: false,
             next_attempt: 0,
@@ -552,8 +574,7 @@ impl Farm {
             self.moved = Instant::now();
         }
         // One that comes and goes again and again without ever getting work doesn't count.
-        let counts = member.is_ready() || self.left_out.contains_key(&member.worker.name);
-        if counts && !self.members.iter().any(Member::is_ready) {
+        if member.is_ready() || self.left_out.contains_key(&member.worker.name) {
             self.alone = Instant::now();
         }
         numbers.len()

@@ -681,6 +681,17 @@ mod tests {
             system::signal_process(system::process(), TERM);
             while next(batch) != Message::Bye {}
         });
+        work(LONG, 1, &End::Signal(TERM), |batch, room| {
+            let [begun, ended] = ["begun", "ended"].map(|name| room.path(name));
+            let script = format!("trap 'touch {}; exit' TERM; touch {}; while :; do sleep 0.01; done", ended.display(), begun.display());
+            batch.send(&Message::Start(1, shell(&script)));
+            while !begun.exists() {
+                thread::sleep(Duration::from_millis(1));
+            }
+            system::signal_process(system::process(), TERM);
+            while next(batch) != Message::Bye {}
+            assert!(ended.exists(), "what runs gets the signal, and ends before its worker says so");
+        });
         work(LONG, 1, &End::Lost, |batch, _| {
             let listener = TcpListener::bind("127.0.0.1:0").unwrap();
             let other = TcpStream::connect(listener.local_addr().unwrap()).unwrap();

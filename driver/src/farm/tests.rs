@@ -565,6 +565,79 @@ fn a_failure_waits_for_a_machine_that_may_still_come() {
 }
 
 #[test]
+fn what_this_machine_says_comes_in_its_order() {
+    with_farm(
+        |_| (),
+        |farm, _| {
+            let attempt = Attempt::new(3, job("make a"));
+            farm.fail(&attempt, 5, Vec::new());
+            farm.take_host(Event::Signal(TERM));
+            assert_eq!(next_end(farm).0, 3);
+            assert!(matches!(farm.next(), Event::Signal(TERM)));
+        },
+    );
+}
+
+fn seconds_ago(seconds: u64) -> Instant {
+    Instant::now().checked_sub(Duration::from_secs(seconds)).unwrap()
+}
+
+#[test]
+fn a_failure_waits_so_long_for_another_machine() {
+    with_farm(
+        |_| (),
+        |farm, _| {
+            let has_other = |farm: &Farm, avoided: &[&str], since: u64| {
+                let avoided: Vec<String> = avoided.iter().map(|&name| name.into()).collect();
+                farm.has_other(&avoided, seconds_ago(since))
+            };
+            for (since, moved, waits) in [(0, 0, true), (20, 5, true), (31, 5, false), (20, 11, false)] {
+                farm.moved = seconds_ago(moved);
+                assert_eq!(has_other(farm, &["n1"], since), waits, "{since} s after its failure, {moved} s after a machine has come or gone");
+            }
+            farm.moved = Instant::now();
+            assert!(!has_other(farm, &["n1", "n3"], 0), "two machines have failed, and nothing is known of a third");
+            let begun = Instant::now();
+            let mut other = Worker::introduced(farm, "n2", 2);
+            assert!(matches!(other.hear(farm), Message::Terms(_)) && farm.moved > begun, "n2 has come");
+            farm.moved = seconds_ago(11);
+            for (avoided, since, waits) in [(&["n1"][..], 20, true), (&["n1"], 31, false), (&["n1", "n3"], 20, true), (&["n1", "n2"], 20, false)] {
+                assert_eq!(has_other(farm, avoided, since), waits, "n2 shows what it has: {avoided:?}, {since} s");
+            }
+            other.show(farm);
+            assert!(has_other(farm, &["n1", "n3"], 1000) && !has_other(farm, &["n1", "n2"], 0), "n2 gets work");
+            let begun = Instant::now();
+            drop(other);
+            while !farm.members.is_empty() {
+                farm.wait(5);
+            }
+            assert!(farm.moved > begun, "n2 has gone");
+        },
+    );
+}
+
+#[test]
+fn as_many_failures_wait_as_workers_have_slots() {
+    with_farm(
+        |_| (),
+        |farm, _| {
+            let mut one = Worker::ready(farm, "n1", 1);
+            let mut other = Worker::introduced(farm, "n2", 2);
+            assert!(matches!(other.hear(farm), Message::Terms(_)));
+            farm.start(1, &job("make a")).unwrap();
+            fails(farm, &mut one);
+            assert_eq!((farm.waiting.len(), farm.may_take()), (1, false), "n2 has no slots yet");
+            other.show(farm);
+            assert!(farm.may_take());
+            farm.waiting.push_back(Attempt::new(2, job("make b")));
+            assert!(!farm.may_take(), "two wait, and there are two slots");
+            farm.members[0].worker.slots = 2;
+            assert!(farm.may_take());
+        },
+    );
+}
+
+#[test]
 fn the_last_try_is_on_a_machine_on_which_commands_succeed() {
     with_farm(
         |_| (),
@@ -572,7 +645,7 @@ fn the_last_try_is_on_a_machine_on_which_commands_succeed() {
             let mut good = Worker::ready(farm, "n1", 1);
             farm.start(0, &job("make a")).unwrap();
             let (number, _) = good.order(farm);
-            let _bad = Worker::ready(farm, "n2", 2);
+            let mut bad = Worker::ready(farm, "n2", 2);
             let (mut one, mut other) = (Worker::ready(farm, "n3", 3), Worker::ready(farm, "n4", 4));
             let mut fail_twice = |farm: &mut Farm, number: usize| {
                 farm.start(number, &job("make b")).unwrap();
@@ -591,6 +664,7 @@ fn the_last_try_is_on_a_machine_on_which_commands_succeed() {
             assert_eq!(next_end(farm).1, 137, "n1 is sound, so it's the command");
             fail_twice(farm, 2);
             assert_eq!((farm.waiting.len(), farm.attempts.len()), (0, 1), "no machine is sound, and none may be soon");
+            assert_eq!(bad.order(farm).1.words[1], "b", "n1 isn't sound any more, so the last of the free ones has it");
         },
     );
 }
@@ -866,6 +940,34 @@ fn as_many_commands_wait_as_run_at_once() {
             assert!(!Path::new(&room.path("b.cubin")).exists());
             fs::write(room.path("go"), "").unwrap();
             assert_eq!(next_end(farm).0, 0);
+        },
+    );
+}
+
+#[test]
+fn no_more_commands_wait_than_run_at_once() {
+    with_farm(
+        |conditions| conditions.sends_files = true,
+        |farm, room| {
+            let _worker = Worker::ready(farm, "n1", 1);
+            farm.members[0].taken = 2;
+            assert!(farm.may_take(), "there is room here");
+            let waits = shell(&format!("until [ -e {} ]; do sleep 0.01; done", room.path("go")));
+            farm.start(0, &waits).unwrap();
+            assert!(!farm.may_take(), "there is none");
+            farm.members[0].taken = 1;
+            farm.start(1, &shell("echo b")).unwrap();
+            assert_eq!((farm.here.waiting.len(), farm.may_take()), (1, true), "one waits, and there are two slots");
+            farm.start(2, &shell("echo c")).unwrap();
+            assert!(!farm.may_take());
+            farm.here.waiting.pop_back();
+            farm.waiting.push_back(Attempt::new(2, job("make c")));
+            assert!(!farm.may_take(), "one waits here, and one for a worker");
+            farm.members[0].worker.slots = 2;
+            assert!(farm.may_take());
+            farm.waiting.clear();
+            fs::write(room.path("go"), "").unwrap();
+            assert_eq!([next_end(farm).0, next_end(farm).0], [0, 1]);
         },
     );
 }

@@ -134,6 +134,8 @@ pub fn tools(settings: &Settings) -> Vec<(PathBuf, [u8; 32])> {
 mod tests {
     use super::*;
     use crate::cache::digest::Digest;
+    use crate::forked::in_own_process;
+    use std::os::unix::fs::PermissionsExt;
 
     #[test]
     fn a_dry_run_names_the_toolkit() {
@@ -143,6 +145,41 @@ mod tests {
         assert_eq!(dry_run(text), wanted);
         assert_eq!(dry_run("#$ \"/a b/g++\" -E x\n").compiler, "/a b/g++");
         assert_eq!(dry_run("nvcc: no\n"), DryRun::default());
+    }
+
+    /// A toolkit in a folder: its nvcc, which says where the others are, and files of which some belong to it.
+    fn make_toolkit(here: &Path) {
+        for folder in ["nvvm", "lib", "bin"] {
+            fs::create_dir_all(here.join(folder)).unwrap();
+        }
+        let others = ["lib/d.bc", "lib/a.bc", "lib/e.bc", "lib/c.bc", "lib/b.bc", "nvvm/cicc", "ptxas", "bin/as", "bin/cc1plus", "cudafe", "bin/ld"];
+        for name in others {
+            fs::write(here.join(name), name).unwrap();
+        }
+        let shown = here.display();
+        let says = format!("_HERE_={shown}\n#$ CICC_PATH={shown}/nvvm\n#$ NVVMIR_LIBRARY_DIR={shown}/lib\n#$ PATH={shown}/bin\n#$ gcc -E k.cu");
+        fs::write(here.join("nvcc"), format!("#!/bin/sh\n[ \"$*\" = '--dryrun -c zigrunk.cu' ] && echo '#$ {says}' >&2\n")).unwrap();
+        fs::write(here.join("bin/gcc"), format!("#!/bin/sh\necho {shown}/bin/${{1#-print-prog-name=}}\n")).unwrap();
+        for name in ["nvcc", "bin/gcc", "bin/as", "bin/cc1plus", "bin/ld"] {
+            fs::set_permissions(here.join(name), PermissionsExt::from_mode(0o755)).unwrap();
+        }
+    }
+
+    #[test]
+    fn tools_are_the_files_of_the_nvcc_that_is_found() {
+        // In a process of its own no other test keeps a program open that this one writes.
+        in_own_process(|| {
+            let here = env::temp_dir().join(format!("tools-{}", std::process::id()));
+            make_toolkit(&here);
+            let found = tools(&Settings { nvcc: here.join("nvcc").into(), ..Settings::default() });
+            let libraries = ["lib/a.bc", "lib/b.bc", "lib/c.bc", "lib/d.bc", "lib/e.bc"];
+            let wanted = [&["nvcc", "nvvm/cicc", "ptxas"][..], &libraries, &["bin/gcc", "bin/cc1plus", "bin/as"]].concat();
+            let wanted: Vec<_> = wanted.into_iter().map(|name| (here.join(name), Digest::of(&fs::read(here.join(name)).unwrap()).0)).collect();
+            assert_eq!(found, wanted);
+            assert_eq!(found.iter().filter(|(path, _)| is_of_devices(path)).count(), 7);
+            assert_eq!(tools(&Settings { nvcc: here.join("missing").into(), ..Settings::default() }), []);
+            fs::remove_dir_all(&here).unwrap();
+        });
     }
 
     #[test]

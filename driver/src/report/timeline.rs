@@ -277,6 +277,18 @@ mod tests {
     }
 
     #[test]
+    fn narrow_bars_have_the_phase_that_took_most_or_the_first_one() {
+        let log = small();
+        let bar = |kind: &'static str, begin: f64, end: f64| Bar { row: 0, kind, call: &log.calls[0], begin, end, status: 0 };
+        let phase = |last: f64| {
+            let drawn = drawn(vec![bar("cicc compute_80", 0.0, 2.0), bar("ptxas sm_80", 2.0, 3.0), bar("ptxas sm_90", 3.0, last)], 0.0, 0.01);
+            assert_eq!((drawn.len(), drawn[0].title.as_str()), (1, "3 commands"));
+            drawn[0].phase()
+        };
+        assert_eq!([3.5, 4.0, 4.5].map(phase), [Phase::DeviceFront, Phase::DeviceFront, Phase::Assemble].map(|phase| phase as usize));
+    }
+
+    #[test]
     fn an_axis_has_few_marks() {
         let steps = [0.5, 1.0, 11.0, 60.0, 3600.0, 1e7].map(step);
         for (seconds, step) in [0.5, 1.0, 11.0, 60.0, 3600.0, 1e7].iter().zip(steps) {
