@@ -333,7 +333,7 @@ stand_ins() {
         local part='for word; do case $word in --create=*) echo part > "${word#*=}" ;; esac; done'
         fatbin TOOL_DOES="[ \$name != fatbinary ] || { $part; kill -9 \$\$; }" k.fatbin
         same 'a fatbinary that is killed' "$([ "$status" != 0 ] && echo told)" told
-        fatbin TOOL_DOES="[ \$name != fatbinary ] || { $part; kill -9 \$PPID; sleep 1; }" k.fatbin
+        fatbin TOOL_DOES="[ \$name != fatbinary ] || { $part; kill -9 \$PPID; sleep 1; }" k.fatbin 2> /dev/null
         same 'a call that is killed' "$status" 137
         while [ -n "$(find "$room/tmp" -mindepth 2)" ]; do sleep 0.1; done
         fatbin k.fatbin
