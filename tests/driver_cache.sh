@@ -73,6 +73,14 @@ toolkit() {
     find "$CUDA" -type f -exec touch -d '2020-01-01' {} +
 }
 
+# fatbin [NAME=VALUE..] WORD..: makes a call whose dry runs are those of one for a fatbin.
+fatbin() {
+    [ -d "$room/data" ] || mkdir "$room/data"
+    for run in dry1 dry2; do sed 's,/w/kernel.fatbin,kernel.o,' "$DATA/only_fatbin.$run" > "$room/data/two_targets.$run"; done
+    call DATA="$room/data" "${@:1:$#-1}" -fatbin k.cu -o "${*: -1}"
+    fatbinaries=$(grep -c '^fatbinary' "$room/log")
+}
+
 stand_ins() {
     local path=$PATH
     toolkit
@@ -284,6 +292,58 @@ stand_ins() {
         ran 'each time' cudafe++
         end
     fi
+    if case_of 'a fatbin'; then
+        fatbin k.fatbin
+        ran first cicc.80 cicc.90 ptxas.80 ptxas.90
+        cp k.fatbin first.fatbin && rm k.fatbin
+        for product in k.fatbin other; do
+            fatbin $product
+            ran_none "for $product"
+            same "fatbinary ran for $product" "$fatbinaries $(cmp $product first.fatbin 2>&1)" '0 '
+        done
+        fatbin ZIGRUNK_CACHE= plain
+        same 'product without the cache' "$(cmp plain first.fatbin 2>&1)" ''
+        (umask 077 && fatbin private)
+        same 'with umask 077' "$(stat -c %a private)" 600
+        # fatbinary writes to what is there
+        ln private another && echo > private && fatbin private
+        same 'a file with two names' "$(stat -c %a another) $(cmp another first.fatbin 2>&1)" '600 '
+        echo target > target && ln -s target link
+        fatbin link
+        same 'for a link' "$fatbinaries $(cmp target first.fatbin 2>&1)" '1 '
+        cp -p "$CUDA/bin/fatbinary" "$room/kept" && printf x | dd of="$CUDA/bin/fatbinary" bs=1 seek=$(($(stat -c %s "$room/kept") - 1)) conv=notrunc 2> /dev/null
+        touch -r "$room/kept" "$CUDA/bin/fatbinary"
+        fatbin k.fatbin
+        same 'with another fatbinary' "$fatbinaries $status" '1 0'
+        cp -p "$room/kept" "$CUDA/bin/fatbinary"
+        end
+    fi
+    if case_of 'a fatbin in whose place others write'; then
+        fatbin ZIGRUNK_CACHE= first.fatbin
+        # when fatbinary has ended, and before anything else can have read its product
+        fatbin TOOL_DOES='[ "$name" != fatbinary ] || trap "echo theirs > k.fatbin" EXIT' k.fatbin
+        for try in 1 2; do
+            same "product of try $try" "$(cmp k.fatbin first.fatbin 2>&1)" ''
+            rm k.fatbin
+            fatbin k.fatbin
+            same "fatbinary ran after try $try" "$fatbinaries" 0
+        done
+        echo second > k.cu
+        fatbin ZIGRUNK_CACHE= first.fatbin
+        local part='for word; do case $word in --create=*) echo part > "${word#*=}" ;; esac; done'
+        fatbin TOOL_DOES="[ \$name != fatbinary ] || { $part; kill -9 \$\$; }" k.fatbin
+        same 'a fatbinary that is killed' "$([ "$status" != 0 ] && echo told)" told
+        fatbin TOOL_DOES="[ \$name != fatbinary ] || { $part; kill -9 \$PPID; sleep 1; }" k.fatbin 2> /dev/null
+        same 'a call that is killed' "$status" 137
+        while [ -n "$(find "$room/tmp" -mindepth 2)" ]; do sleep 0.1; done
+        fatbin k.fatbin
+        same 'the next call' "$fatbinaries $(cmp k.fatbin first.fatbin 2>&1)" '1 '
+        echo third > k.cu
+        part='for word; do case $word in --create=*) echo "${word#*=}" > "${word#*=}" && exit ;; esac; done'
+        for _ in 1 2; do fatbin TOOL_DOES="[ \$name != fatbinary ] || $part" k.fatbin; done
+        same 'a product with its own name in it' "$(basename "$(cat k.fatbin)")" k.fatbin
+        end
+    fi
     if case_of 'what is not asked for'; then
         for value in '' no; do
             call ZIGRUNK_CACHE=$value -c k.cu -o k.o
@@ -481,7 +541,7 @@ made() {
     done
     same "names of files of $what" "$(ls "$room/by.cache")" "$(ls "$room/by.nvcc")"
     # what gcc writes beside an object names temporary files, and when it was made
-    find "$room"/by.* -type f ! -name '*.o' ! -name '*.ptx' ! -name '*.cubin' -delete
+    find "$room"/by.* -type f ! -name '*.o' ! -name '*.ptx' ! -name '*.cubin' ! -name '*.fatbin' -delete
     same "files of $what, with the cache and without" "$(diff -rq "$room/by.plain" "$room/by.cache")" ''
     for file in "$room"/by.{nvcc,cache}/*.o; do objcopy --strip-unneeded "$file" 2> /dev/null; done
     case $what in *' -g '*) ;; *) same "files of $what, and nvcc's" "$(diff -rq "$room/by.nvcc" "$room/by.cache")" '' ;; esac
@@ -523,7 +583,8 @@ real_calls() {
     command -v nvcc > /dev/null || { skip 'calls of nvcc' 'nvcc is not on the path' && return; }
     if case_of 'nvcc: phases'; then
         project
-        for words in '-std=c++20 -c' '-O3 -Xcompiler -fPIC,-O2 -dc' '-lineinfo -c' '-g -c' '-G -g -c' -ptx -cubin; do
+        for words in '-std=c++20 -c' '-O3 -Xcompiler -fPIC,-O2 -dc' '-lineinfo -c' '-g -c' '-G -g -c' -ptx -cubin -fatbin '-lineinfo -ptx' '-lineinfo -cubin' \
+            '-lineinfo -fatbin' '-G -ptx'; do
             # shellcheck disable=SC2086 # several words
             made -arch=sm_80 -Iinc $words k.cu
             # shellcheck disable=SC2086
@@ -759,6 +820,57 @@ whole_calls() {
         common+=(-maxrregcount=64 -Xptxas -warn-spills -diag-suppress 177 -Xcompiler "-fPIC,-Wall" -Wno-deprecated-gpu-targets -lineinfo)
         twice "${common[@]}" "${usual[@]}"
         whole '' -DNDEBUG=2 "${common[@]:1}" "${usual[@]}"
+        end
+    fi
+    if case_of 'whole: phases'; then
+        project
+        for words in -ptx -cubin -fatbin "-fatbin ${two[*]}" '-fatbin -Xfatbin -compress-all' -dc -dw '-rdc=true -c' '-lineinfo -ptx' '-lineinfo -cubin' '-lineinfo -fatbin'; do
+            for edit in 's/= 4;/= 5;/' 's/= 5;/= 6;/'; do
+                # shellcheck disable=SC2086 # several words
+                twice -Iinc $words k.cu -o k.o
+                sed -i "$edit" k.cu
+            done
+            sed -i 's/= 6;/= 4;/' k.cu
+        done
+        end
+    fi
+    if case_of 'whole: times of files in line information'; then
+        project
+        # ptxas writes when a file that it hears of was last changed
+        local day=1
+        for words in -c -cubin -fatbin; do
+            twice -lineinfo "${usual[@]/-c/$words}"
+            for file in k.cu inc/size.h; do
+                touch -d "2021-01-$((day += 1))" $file
+                whole "$([ $file = k.cu ] || echo whole)" -lineinfo "${usual[@]/-c/$words}"
+            done
+        done
+        twice "${usual[@]}"
+        touch -d '2021-01-02' k.cu
+        whole whole "${usual[@]}"
+        sed -i '/fill/i #line 7 "named.cu"' k.cu
+        twice -lineinfo "${usual[@]}"
+        echo 'any text' > named.cu && touch -d '2021-01-01' named.cu
+        whole '' -lineinfo "${usual[@]}"
+        end
+    fi
+    if case_of 'whole: files that only tools read'; then
+        project
+        for number in 5 6; do
+            echo "__global__ void more(int* values) { values[0] = $number; }" > more.cu
+            nvcc -cubin -arch=sm_90 more.cu -o $number.cubin
+        done
+        rm more.cu
+        for words in '"-image3=kind=elf,sm=90,file=more.cubin"' '--image3,"kind=elf,sm=90,file=more.cubin"' '"--image3=file=more.cubin,kind=elf,sm=90"'; do
+            for phase in -c -fatbin; do
+                for number in 5 6 6; do
+                    cp $number.cubin more.cubin
+                    whole '' -Xfatbin "$words" "${usual[@]/-c/$phase}"
+                    cp k.o $number.o
+                done
+                same "that $words count" "$(cmp -s 5.o 6.o; echo $?)" 1
+            done
+        done
         end
     fi
     if case_of 'whole: messages and failures'; then

@@ -53,10 +53,10 @@ INSIDE = ["", "", " ", "/**/", " /* x */", "\n", " // x\n", "\n\n  // /* x\n"]
 HERE = ["0", "HERE", "JOINED(HE, RE)", "JOINED(__LI, NE__)"]
 KINDS = ["comment", "lines", "lines", "header_lines", "header_lines", "header_line", "inside", "inside", "header_inside", "here", "line",
          "unused", "kernel", "newer", "older", "host", "size", "other", "block", "blank", "targets",
-         "words", "umask", "early", "product", "touch", "back", "same_time"]
+         "words", "words", "umask", "early", "product", "touch", "touch", "touch", "back", "same_time"]
 WORDS: list[list[str]] = [
-    [], ["-O3"], ["-lineinfo"], ["-g"], ["-dc"], ["-DX=1"], ["-std=c++20"], ["-MD"], ["-Xcompiler", "-fPIC"], ["-Xcompiler", "-Wconversion"],
-    ["-Xcompiler", "-Wall"], [], [], ["-DHERE_IS=__LINE__"],
+    [], ["-O3"], ["-lineinfo"], ["-lineinfo"], ["-fatbin"], ["-fatbin", "-lineinfo"], ["-g"], ["-dc"], ["-DX=1"], ["-std=c++20"], ["-MD"],
+    ["-Xcompiler", "-fPIC"], ["-Xcompiler", "-Wconversion"], ["-Xcompiler", "-Wall"], [], [], ["-DHERE_IS=__LINE__"],
 ]
 Build = tuple[int, bytes, int | None, bytes | None]
 
@@ -152,7 +152,7 @@ class Project:
 
     def call(self, name: str) -> list[str]:
         targets = [word for target in self.targets for word in ("-gencode", f"arch=compute_{target},code=sm_{target}")]
-        phase = [] if "-dc" in self.words else ["-c"]
+        phase = [] if {"-dc", "-fatbin"} & set(self.words) else ["-c"]
         return [*targets, *self.words, "-Iearly", "-Iinc", *phase, f"{name}.cu", "-o", self.product.format(name)]
 
 
@@ -202,6 +202,9 @@ class Builds:
             return process.returncode, said, None, None
         mode = product.stat().st_mode
         os.chmod(product, 0o600)
+        made = product.read_bytes()
+        if not made.startswith(b"\x7fELF"):
+            return process.returncode, said, mode, made
         subprocess.run(["objcopy", "--strip-unneeded", product, self.room / "stripped"], check=True)
         return process.returncode, said, mode, (self.room / "stripped").read_bytes()
 

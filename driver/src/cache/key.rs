@@ -62,6 +62,7 @@ fn key_tool(kind: Kind) -> KeyTool {
         Kind::CudaFe => KeyTool::CudaFe,
         Kind::Cicc => KeyTool::Cicc,
         Kind::Ptxas => KeyTool::Ptxas,
+        Kind::Fatbinary => KeyTool::Fatbinary,
         Kind::Host => KeyTool::Host,
     }
 }
@@ -130,7 +131,7 @@ impl Part {
     pub fn by_texts(mut start: Hasher, recipe: &Recipe, texts: &[Text]) -> Option<Part> {
         start.add(b"texts");
         for text in texts.iter().filter(|text| text.role != Role::Late) {
-            start.update(&text_identity(&counted(text, recipe)?, recipe.directory.as_bytes()).0);
+            start.update(&text_identity(&counted(text, recipe)?, recipe.directory_in_texts()).0);
             if recipe.kind == Kind::Ptxas {
                 add_named(&mut start, &text.content, Path::new(&recipe.job.folder))?;
             }
@@ -329,6 +330,17 @@ mod tests {
         for (words, directory, text) in cases {
             assert_eq!(tokens(&recipe(words, directory), text, &[]), None, "{words} {text}");
         }
+    }
+
+    #[test]
+    fn in_what_fatbinary_packs_the_calls_directory_counts() {
+        let of = |kind: Kind, directory: &str, text: &str| {
+            let recipe = Recipe { kind, ..recipe(&format!("--create={directory}/x"), directory) };
+            key(&recipe, &[], text)
+        };
+        assert_eq!(of(Kind::Fatbinary, "/t", "text"), of(Kind::Fatbinary, "/u", "text"));
+        assert_ne!(of(Kind::Fatbinary, "/t", "/t/k.cu"), of(Kind::Fatbinary, "/u", "/u/k.cu"));
+        assert_eq!(of(Kind::Cicc, "/t", "/t/k.cu"), of(Kind::Cicc, "/u", "/u/k.cu"));
     }
 
     #[test]

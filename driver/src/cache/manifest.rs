@@ -63,6 +63,8 @@ pub enum Form {
     /// A text of which each byte counts.
     Text,
     Source(Layouts),
+    /// A file that counts by the time of its last change, too.
+    Dated,
 }
 
 impl Form {
@@ -93,6 +95,16 @@ impl Seen {
         Some(Seen { path: path.to_owned(), digest, stamp: Stamp::settled(&status), form: Form::Other })
     }
 
+    /// The same, if the time of its last change counts, too.
+    pub fn dated(path: &Path, cwd: &Path) -> Option<Seen> {
+        let seen = Seen::now(path, cwd)?;
+        let status = fs::metadata(cwd.join(path)).ok()?;
+        let mut hasher = Hasher::default();
+        hasher.update(&seen.digest.0);
+        [status.mtime(), status.mtime_nsec()].iter().for_each(|part| hasher.update(&part.to_le_bytes()));
+        Some(Seen { digest: hasher.finish(), form: Form::Dated, ..seen })
+    }
+
     /// The same, with its text.
     pub fn with_text(path: &Path, cwd: &Path) -> Option<(Seen, Vec<u8>)> {
         let file = File::open(cwd.join(path)).ok()?;
@@ -107,8 +119,10 @@ impl Seen {
         if self.stamp.is_some_and(|stamp| stamp == Stamp::of(&status)) {
             return Some(self.clone());
         }
-        if !matches!(self.form, Form::Source(_)) {
-            return Some(Seen { form: self.form.clone(), ..Seen::now(&self.path, cwd)? });
+        match self.form {
+            Form::Other | Form::Text => return Some(Seen { form: self.form.clone(), ..Seen::now(&self.path, cwd)? }),
+            Form::Dated => return Seen::dated(&self.path, cwd),
+            Form::Source(_) => {}
         }
         let (now, text) = Seen::with_text(&self.path, cwd)?;
         let form = if now.digest == self.digest { self.form.clone() } else { Form::of_source(&text) };
@@ -295,6 +309,7 @@ fn put_form(to: &mut Vec<u8>, form: &Form) {
         Form::Other => 0,
         Form::Text => 1,
         Form::Source(_) => 2,
+        Form::Dated => 3,
     });
     if let Form::Source(layouts) = form {
         to.extend(layouts.lined.0);
@@ -308,6 +323,7 @@ fn form(rest: &mut Rest<'_>) -> Option<Form> {
     match rest.bytes(1)? {
         [0] => Some(Form::Other),
         [1] => Some(Form::Text),
+        [3] => Some(Form::Dated),
         [2] => Some(Form::Source(Layouts { lined: rest.digest()?, free: rest.list(Rest::digest)?.pop(), is_free: rest.flag()? })),
         _ => None,
     }
@@ -369,6 +385,7 @@ mod tests {
         let mut manifest = scratch.manifest();
         manifest.files[0].stamp = Some(Stamp([[1; 8], [2; 8], [3; 8], [4; 8], [5; 8], [6; 8], [255; 8]]));
         manifest.defines = Some(vec![b"A=1".to_vec(), Vec::new()]);
+        manifest.files.push(Seen { form: Form::Dated, ..manifest.files[0].clone() });
         for text in ["int a;\n", "f(\n", "??"] {
             manifest.files.push(Seen { form: Form::of_source(text.as_bytes()), ..manifest.files[0].clone() });
         }
@@ -395,6 +412,25 @@ mod tests {
         assert_eq!(scratch.again(&manifest), None);
         fs::create_dir(scratch.0.join("k.cu")).unwrap();
         assert_eq!(scratch.again(&manifest), None);
+    }
+
+    #[test]
+    fn times_count_if_that_is_asked_for() {
+        let scratch = Scratch::new("dated");
+        let manifest = Manifest { files: vec![Seen::dated(Path::new("k.cu"), &scratch.0).unwrap()], ..Manifest::default() };
+        let first = manifest.digest(&Digest::of(b"call"));
+        assert_eq!(scratch.again(&manifest), Some(first));
+        let file = File::options().write(true).open(scratch.0.join("k.cu")).unwrap();
+        let own = file.metadata().unwrap().modified().unwrap();
+        for part in [Duration::from_secs(1), Duration::from_nanos(1)] {
+            file.set_modified(own - part).unwrap();
+            assert!(scratch.again(&manifest).is_some_and(|now| now != first), "{part:?}");
+        }
+        file.set_modified(own).unwrap();
+        assert_eq!(scratch.again(&manifest), Some(first));
+        fs::write(scratch.0.join("k.cu"), "two").unwrap();
+        file.set_modified(own).unwrap();
+        assert!(scratch.again(&manifest).is_some_and(|now| now != first), "its contents count too");
     }
 
     #[test]

@@ -400,8 +400,9 @@ impl<'a> Session<'a> {
     fn ran(&mut self, task: usize, keys: &Keys, text: &[u8], ended: Ended) -> Step {
         let Some(candidate) = self.candidates.get(&task) else { return Step::Ended(ended) };
         let recipe = &candidate.recipe;
-        let says_where = recipe.outputs.iter().any(|output| output.path != output.written_to && speaks_of(&ended, &output.written_to));
-        let may_move = !recipe.has_products() || (ended.status.succeeded() && !says_where);
+        let mut moved = recipe.outputs.iter().filter(|output| output.path != output.written_to);
+        let shows_where = moved.any(|output| speaks_of(&ended, &output.written_to) || has_own_name(output));
+        let may_move = !recipe.has_products() || (ended.status.succeeded() && !shows_where);
         let Some(products) = may_move.then(|| move_products(recipe)).flatten() else { return self.runs_alone(task) };
         let entry = if ended.status.succeeded() { self.entry_of(recipe, text, &ended) } else { None };
         if let Some(entry) = entry {
@@ -491,6 +492,12 @@ fn shown_file(recipe: &Recipe, name: &[u8]) -> Option<Digest> {
 /// Whether what a process said names a file.
 fn speaks_of(ended: &Ended, file: &Path) -> bool {
     [&ended.out, &ended.errors].iter().any(|text| contains(text, file.as_os_str().as_bytes()))
+}
+
+/// Whether a product has the name of its file in it, which isn't its own yet.
+fn has_own_name(output: &Output) -> bool {
+    let name = output.written_to.file_name().unwrap_or_default().as_bytes();
+    content_of(&output.written_to).is_ok_and(|text| contains(&text, name))
 }
 
 /// Puts the products of a command in their places.

@@ -68,21 +68,24 @@ fn outputs(command: &PlannedCommand, number: usize, tmp: &str) -> Vec<Output> {
 
 /// The words of a command as they count, and as it runs. `None` if a word isn't known, or names a file that its record doesn't.
 fn words_of(kind: Kind, words: &[String], folder: &Path, reads: &[PathBuf], outputs: &[Output], counts_all: bool) -> Option<[Vec<String>; 2]> {
-    let (mut counted, mut run) = (Vec::new(), Vec::new());
+    let (mut counted, mut run, mut moved) = (Vec::new(), Vec::new(), BTreeSet::new());
     for (word, role) in words::roles(kind, words)? {
-        let path = folder.join(word);
+        let name = words::file_in(word, role);
+        let path = folder.join(name);
         let product = outputs.iter().position(|output| output.path == path && output.written_to != path);
-        let product = product.filter(|_| role == WordRole::TakesValue);
-        if role == WordRole::File && !reads.contains(&path) {
+        let product = product.filter(|_| matches!(role, WordRole::TakesValue | WordRole::Created));
+        if matches!(role, WordRole::File | WordRole::Image) && !reads.contains(&path) {
             return None;
         }
+        let renamed = |other: &str| format!("{}{other}", word.strip_suffix(name).unwrap_or_default());
         if counts_all || !matches!(role, WordRole::Preprocessed | WordRole::PreprocessedValue) {
-            counted.push(product.map_or_else(|| word.to_owned(), |number| format!("output {number}")));
+            counted.push(product.map_or_else(|| word.to_owned(), |number| renamed(&format!("output {number}"))));
         }
-        run.push(product.map_or_else(|| word.to_owned(), |number| outputs[number].written_to.to_string_lossy().into_owned()));
+        moved.extend(product);
+        run.push(product.map_or_else(|| word.to_owned(), |number| renamed(&outputs[number].written_to.to_string_lossy())));
     }
-    let is_moved = |output: &Output| output.written_to == output.path || run.iter().any(|word| output.written_to == Path::new(word));
-    outputs.iter().all(is_moved).then_some([counted, run])
+    let is_moved = |(number, output): (usize, &Output)| output.written_to == output.path || moved.contains(&number);
+    outputs.iter().enumerate().all(is_moved).then_some([counted, run])
 }
 
 /// What cudafe++'s files begin with, by the words of a command that writes them, or assembler text of one.
@@ -124,8 +127,9 @@ impl Recipe {
         let reads: Vec<PathBuf> = command.reads.iter().map(PathBuf::from).collect();
         let outputs = outputs(command, number, tmp);
         let has_product = outputs.iter().any(|output| output.written_to != output.path);
-        // A debugger's cubin has its own name in it.
-        if reads.is_empty() || outputs.is_empty() || (names_count && !is_host && has_product) {
+        // To look up what fatbinary makes for an object takes longer than to make it.
+        let is_quick = kind == Kind::Fatbinary && !has_product;
+        if reads.is_empty() || outputs.is_empty() || is_quick || (words::names_product(kind, words) && has_product) {
             return None;
         }
         let [counted, run] = words_of(kind, words, Path::new(&job.folder), &reads, &outputs, names_count)?;
@@ -137,6 +141,11 @@ impl Recipe {
         let directory = if names_count { String::new() } else { tmp.to_owned() };
         let included = is_assembly.then(|| late::included(tmp));
         Some(Recipe { kind, counted, job, reads, outputs, directory, lines_count: names_count, question, assembles, included, stem })
+    }
+
+    /// The directory whose path doesn't count in texts that the command reads. fatbinary packs them, so nobody sees whether its product has it.
+    pub fn directory_in_texts(&self) -> &[u8] {
+        if self.kind == Kind::Fatbinary { b"" } else { self.directory.as_bytes() }
     }
 
     /// Whether each product can be made by a new file in its place: nothing is there, or a plain file.
@@ -251,6 +260,22 @@ mod tests {
         let words = "/b/ptxas -arch=sm_80 -g /t/x.ptx -o";
         assert!(recipe(&format!("{words} /t/x.cubin"), &["/t/x.ptx"], &["/t/x.cubin"]).is_some());
         assert_eq!(recipe(&format!("{words} k.cubin"), &["/t/x.ptx"], &["/w/k.cubin"]), None);
+        let made = recipe("/b/ptxas -lineinfo /t/x.ptx -o k.cubin", &["/t/x.ptx"], &["/w/k.cubin"]).unwrap();
+        assert_eq!((made.directory.as_str(), made.job.words.last().unwrap().as_str()), ("", "/t/zigrunk.tmp/product.3.0"));
+    }
+
+    #[test]
+    fn a_fatbin_goes_to_the_calls_directory_first() {
+        let words = "/b/fatbinary --create=k.fatbin -64 --image3=kind=elf,sm=80,file=/t/x.cubin";
+        let made = recipe(words, &["/t/x.cubin"], &["/w/k.fatbin"]).unwrap();
+        assert_eq!(made.counted, ["--create=output 0", "-64", "--image3=kind=elf,sm=80,file=/t/x.cubin"]);
+        assert_eq!(made.job.words.join(" "), words.replace("k.fatbin", "/t/zigrunk.tmp/product.3.0"));
+        assert_eq!((made.directory.as_str(), made.directory_in_texts(), made.kind), ("/t", &b""[..], Kind::Fatbinary));
+        assert_eq!(recipe(words, &["/t/y.cubin"], &["/w/k.fatbin"]), None, "another file than its record has");
+        assert_eq!(recipe(words, &["/t/x.cubin"], &["/w/k.fatbin", "/w/k.c"]), None, "another product than its words name");
+        assert_eq!(recipe(&words.replace("k.fatbin", "/t/k.fatbin"), &["/t/x.cubin"], &["/t/k.fatbin"]), None, "for an object");
+        let cicc = recipe("/b/cicc -m64 /t/x.ii -o k.ptx", &["/t/x.ii"], &["/w/k.ptx"]).unwrap();
+        assert_eq!(cicc.directory_in_texts(), b"/t");
     }
 
     #[test]

@@ -42,6 +42,7 @@ pub enum Kind {
     CudaFe,
     Cicc,
     Ptxas,
+    Fatbinary,
     /// gcc, when it compiles.
     Host,
 }
@@ -53,6 +54,7 @@ impl Kind {
             "cudafe++" => Some(Kind::CudaFe),
             "cicc" => Some(Kind::Cicc),
             "ptxas" => Some(Kind::Ptxas),
+            "fatbinary" => Some(Kind::Fatbinary),
             name => {
                 let version = name.strip_prefix("gcc").or_else(|| name.strip_prefix("g++"))?;
                 let is_version = version.trim_start_matches('-').bytes().all(|byte| byte.is_ascii_digit() || byte == b'.');
@@ -293,7 +295,8 @@ mod tests {
             ("/c/ptxas", Some(Kind::Ptxas)),
             ("gcc", Some(Kind::Host)),
             ("/b/g++-12.2", Some(Kind::Host)),
-            ("fatbinary", None),
+            ("/b/fatbinary", Some(Kind::Fatbinary)),
+            ("fatbinary.sh", None),
             ("clang++", None),
             ("gcc-ar", None),
             ("", None),

@@ -1,11 +1,13 @@
 //! Keeps a whole call: finds out what was read for it, and where something was sought in vain.
 use crate::cache::ahead::Asked;
 use crate::cache::calls::{self, Answer, Product};
+use crate::cache::host_text::files_of_ptx;
 use crate::cache::includes::{self, Folders};
 use crate::cache::manifest::{Form, Manifest, Seen, Stamp, is_older};
 use crate::cache::searches::{MARGIN, Search};
-use crate::cache::tool::{is_called, is_disguised};
-use crate::cache::{Candidate, Session, State, names, terminal, words};
+use crate::cache::tool::{Kind, is_called, is_disguised};
+use crate::cache::words::{self, Role};
+use crate::cache::{Candidate, Session, State, names, terminal};
 use crate::machine::Job;
 use crate::planner::{Line, PlannedCommand};
 use crate::programs;
@@ -16,11 +18,20 @@ use std::collections::{BTreeMap, BTreeSet, HashMap};
 use std::env;
 use std::ffi::{OsStr, OsString};
 use std::fs;
+use std::io::ErrorKind;
 use std::os::unix::ffi::OsStrExt;
 use std::os::unix::fs::MetadataExt;
 use std::path::{Path, PathBuf};
 use std::process::{Command, Stdio};
 use std::time::SystemTime;
+
+/// The files that a command reads by its words as it runs. `None` if the cache doesn't know the command or one of its words.
+fn read_by(job: &Job) -> Option<Vec<PathBuf>> {
+    let (program, words) = job.words.split_first()?;
+    let roles = words::roles(Kind::of(program)?, words)?;
+    let names = roles.iter().filter(|(_, role)| matches!(role, Role::File | Role::Image)).map(|&(word, role)| words::file_in(word, role));
+    Some(names.map(|name| Path::new(&job.folder).join(name)).collect())
+}
 
 /// A call that has come to its end, and has succeeded.
 pub struct Finished<'a> {
@@ -167,6 +178,7 @@ impl Session<'_> {
         let mut gathered = Gathered { search, begun: call.begun, seen: BTreeMap::new(), sees_lines: false };
         self.gather_files(call, &mut gathered)?;
         self.gather_programs(call, &nvcc, &mut gathered)?;
+        self.gather_named(call.cwd(), &mut gathered)?;
         let defines = self.defines(call).filter(|_| !gathered.sees_lines);
         let direct: Vec<Manifest> = self.candidates.values().filter_map(|candidate| candidate.direct.found.clone()).collect();
         let vain = gathered.search.vain()?.into_iter().chain(direct.into_iter().flat_map(|found| found.vain));
@@ -179,11 +191,17 @@ impl Session<'_> {
 
     /// Whether each command is one of which all inputs and outputs are known, and the cache has seen all products.
     fn is_known(&self, call: &Finished<'_>) -> bool {
-        let stays = |command: &PlannedCommand| command.writes.iter().chain(&command.may_write).all(|path| path.starts_with(self.tmp));
+        let is_own = |path: &String| Path::new(path).starts_with(self.tmp);
+        let stays = |command: &PlannedCommand| command.writes.iter().chain(&command.may_write).all(is_own);
+        // What a command reads that isn't a preprocessor has to be made of the call's sources: the manifest has no more.
+        let reads_own = |task: &Task, command: &PlannedCommand| {
+            let by_words = read_by(&task.job).is_some_and(|files| files.iter().all(|file| file.starts_with(self.tmp)));
+            by_words && command.reads.iter().all(is_own)
+        };
         let is_known = |(number, task, command): (usize, &Task, &PlannedCommand)| match self.candidates.get(&number) {
-            Some(candidate) => matches!(candidate.state, State::Hit | State::Kept),
             None if command.preprocesses => stays(command) && task.job.folder == call.line.cwd && words::is_preprocess(&command.words),
-            None => command.program.ends_with("/fatbinary") && command.complete && stays(command),
+            Some(candidate) => reads_own(task, command) && matches!(candidate.state, State::Hit | State::Kept),
+            None => command.program.ends_with("/fatbinary") && command.complete && stays(command) && reads_own(task, command),
         };
         let made = self.candidates.values().flat_map(|candidate| &candidate.recipe.outputs).filter(|output| output.path != output.written_to).count();
         let has_rule = call.rule.is_some() == call.tasks.iter().any(|task| task.is_rule);
@@ -265,6 +283,21 @@ impl Session<'_> {
         }
         gathered.search.seek_anywhere(&any)?;
         gathered.add_copies(if has_import { &files } else { &once }, call.cwd())
+    }
+
+    /// Notes the files that PTX names for debuggers: ptxas writes the size of each, and when it was changed.
+    fn gather_named(&self, cwd: &Path, gathered: &mut Gathered<'_>) -> Option<()> {
+        let of_ptxas = self.candidates.values().map(|candidate| &candidate.recipe).filter(|recipe| recipe.kind == Kind::Ptxas);
+        for (recipe, ptx) in of_ptxas.flat_map(|recipe| recipe.reads.iter().map(move |ptx| (recipe, ptx))) {
+            for name in files_of_ptx(&content_of(ptx).ok()?) {
+                let path = Path::new(&recipe.job.folder).join(OsStr::from_bytes(name));
+                match fs::symlink_metadata(&path) {
+                    Err(error) if error.kind() == ErrorKind::NotFound => gathered.search.lacks(path),
+                    _ => gathered.add(Seen::dated(&path, cwd)?, cwd)?,
+                }
+            }
+        }
+        Some(())
     }
 
     /// Notes which programs nvcc has run, and where they were sought.
@@ -397,6 +430,65 @@ mod tests {
         let line = Line { cwd: cwd.to_string_lossy().into_owned(), nvcc: "nvcc".into(), words: Vec::new(), variables: Vec::new() };
         let call = Finished { line: &line, commands, tasks: &tasks, rule: None, said, begun: SystemTime::now() };
         test(&mut Session::new(&store, "/t", commands, &tasks), &call)
+    }
+
+    #[test]
+    fn commands_read_files_by_their_words() {
+        let read = |words: &str| {
+            let words: Vec<String> = words.split(' ').map(String::from).collect();
+            read_by(&Job { words, folder: "/w".into(), ..Job::default() })
+        };
+        assert_eq!(
+            read("/b/fatbinary --create=k --image3=kind=elf,file=/t/x.cubin --image3=file=y,kind=elf"),
+            Some(vec!["/t/x.cubin".into(), "/w/y".into()])
+        );
+        assert_eq!(read("/b/ptxas -m64 more.ptx /t/x.ptx -o /t/x.cubin"), Some(vec!["/w/more.ptx".into(), "/t/x.ptx".into()]));
+        assert_eq!(["/b/fatbinary -image3=file=y", "/b/other x"].map(read), [None, None]);
+    }
+
+    #[test]
+    fn what_is_read_beside_the_sources_is_not_kept() {
+        let preprocessor = command("/b/gcc -E k.cu -o /t/k.ii", &["/w/k.cu"], &["/t/k.ii"]);
+        let known = |words: &str, reads: &[&str], writes: &[&str]| {
+            let commands = [preprocessor.clone(), command(words, reads, writes)];
+            with_call(&commands, Path::new("/w"), Vec::new(), |session, call| {
+                session.candidates.values_mut().for_each(|candidate| candidate.state = State::Kept);
+                session.is_known(call)
+            })
+        };
+        let fatbin = |file: &str| known(&format!("/b/fatbinary --create=/t/x --image3=kind=elf,file={file}"), &[], &["/t/x"]);
+        assert_eq!(["/t/x.cubin", "/tt/x.cubin", "x.cubin"].map(fatbin), [true, false, false]);
+        let words = "/b/fatbinary --create=/t/x --image3=kind=elf,file=/t/x.cubin";
+        assert!(!known(words, &["/w/x.cubin"], &["/t/x"]) && !known(words, &[], &["/w/x"]) && !known(&format!("{words} y"), &[], &["/t/x"]));
+        let ptxas = |file: &str| known(&format!("/b/ptxas -m64 {file} /t/k.ptx -o /t/x"), &[file, "/t/k.ptx"], &["/t/x"]);
+        assert_eq!(["/t/more.ptx", "/w/more.ptx"].map(ptxas), [true, false]);
+    }
+
+    #[test]
+    fn files_that_ptx_names_count_by_their_times() {
+        let room = env::temp_dir().join(format!("named-{}", std::process::id()));
+        let _ = fs::remove_dir_all(&room);
+        fs::create_dir(&room).unwrap();
+        let path = |name: &str| room.join(name).to_string_lossy().into_owned();
+        fs::write(path("k.cu"), "int a;\n").unwrap();
+        fs::write(path("k.ptx"), format!(".file 1 \"{}\"\n.file 2 \"missing.h\"\n", path("k.cu"))).unwrap();
+        thread::sleep(2 * MARGIN);
+        let ptxas = command(&format!("/b/ptxas -m64 {} -o {}", path("k.ptx"), path("k.cubin")), &[&path("k.ptx")], &[&path("k.cubin")]);
+        let gathered = || {
+            with_call(std::slice::from_ref(&ptxas), &room, Vec::new(), |session, call| {
+                let folders = Folders::default();
+                let search = Search::new(call.cwd(), &folders, call.begun);
+                let mut gathered = Gathered { search, begun: call.begun, seen: BTreeMap::new(), sees_lines: false };
+                let is_known = session.gather_named(call.cwd(), &mut gathered).is_some();
+                let files: Vec<(String, Form)> =
+                    gathered.seen.into_values().map(|seen| (seen.path.to_string_lossy().into_owned(), seen.form)).collect();
+                (is_known, files, gathered.search.vain().map(|vain| vain.iter().map(|vain| vain.lacks.len()).sum::<usize>()))
+            })
+        };
+        assert_eq!(gathered(), (true, vec![(path("k.cu"), Form::Dated)], Some(1)));
+        fs::write(path("k.cu"), "int b;\n").unwrap();
+        assert!(!gathered().0, "it has only just been changed");
+        fs::remove_dir_all(room).unwrap();
     }
 
     #[test]

@@ -95,6 +95,21 @@ const PTXAS: Known = Known {
     naming: &["--dont-merge-basicblocks", "--generate-line-info", "--return-at-end", "-g", "-lineinfo"],
 };
 
+/// Those of its words that tell debuggers of lines, and of nothing else.
+const LINES_ALONE: [&str; 2] = ["--generate-line-info", "-lineinfo"];
+
+/// Words of fatbinary beside those that name files.
+const FATBINARY: Known = Known {
+    alone: &["--device-c", "-64", "-compress-all", "-g"],
+    beginnings: &["--cicc-cmdline=", "--cmdline=", "--compress-mode=", "--ident=", "-compress="],
+    with_value: &[],
+    naming: &[],
+};
+
+/// What words of fatbinary begin with that name a file: one that it reads, and those that it writes.
+const IMAGE: &str = "--image3=";
+const CREATED: [&str; 2] = ["--create=", "--embedded-fatbin="];
+
 const HOST: Known = Known {
     alone: &[
         "-O",
@@ -196,6 +211,7 @@ fn known(kind: Kind) -> &'static [Known] {
         Kind::CudaFe => &[CUDA_FE],
         Kind::Cicc => &[CUDA_FE, CICC],
         Kind::Ptxas => &[PTXAS],
+        Kind::Fatbinary => &[FATBINARY],
         Kind::Host => &[HOST],
     }
 }
@@ -212,11 +228,18 @@ pub enum Role {
     PreprocessedValue,
     /// It names a file.
     File,
+    /// A part of it names a file that is read.
+    Image,
+    /// Its end names a file that is written.
+    Created,
 }
 
 /// What a word is that isn't the value of another; `None` if the cache doesn't know.
 fn role(kind: Kind, word: &str) -> Option<Role> {
     let lists = known(kind);
+    if kind == Kind::Fatbinary && !lists.iter().any(|list| list.has(word)) {
+        return role_of_file(word);
+    }
     if !word.starts_with('-') {
         return (!word.starts_with('@')).then_some(Role::File);
     }
@@ -233,6 +256,27 @@ fn role(kind: Kind, word: &str) -> Option<Role> {
         return Some(Role::TakesValue);
     }
     lists.iter().any(|list| list.has(word)).then_some(Role::Counts)
+}
+
+/// What a word of fatbinary is that names a file: in one part of several, or behind what it begins with. Quotes may hide further parts.
+fn role_of_file(word: &str) -> Option<Role> {
+    if word.contains(['"', '\'', '\\']) {
+        return None;
+    }
+    let names_one = |image: &str| image.split(',').filter(|part| part.starts_with("file=")).count() == 1;
+    let is_image = word.strip_prefix(IMAGE).is_some_and(names_one);
+    let is_created = CREATED.iter().any(|begin| goes_on(word, begin));
+    if is_image { Some(Role::Image) } else { is_created.then_some(Role::Created) }
+}
+
+/// The name of a file in a word of this role.
+pub fn file_in(word: &str, role: Role) -> &str {
+    let name = match role {
+        Role::Image => word.strip_prefix(IMAGE).and_then(|image| image.split(',').find_map(|part| part.strip_prefix("file="))),
+        Role::Created => CREATED.iter().find_map(|begin| word.strip_prefix(begin)),
+        _ => None,
+    };
+    name.unwrap_or(word)
 }
 
 /// The words of a command with their roles; a value has the role of its option. `None` if the cache doesn't know one of them.
@@ -252,6 +296,11 @@ pub fn roles(kind: Kind, words: &[String]) -> Option<Vec<(&str, Role)>> {
 /// Whether names of files and folders may reach what a command with these words makes.
 pub fn names_count(kind: Kind, words: &[String]) -> bool {
     words.iter().any(|word| known(kind).iter().any(|list| list.names(word)))
+}
+
+/// Whether a command with these words writes its product's own name into it: for debuggers, ptxas does.
+pub fn names_product(kind: Kind, words: &[String]) -> bool {
+    kind == Kind::Ptxas && words.iter().any(|word| PTXAS.names(word) && !LINES_ALONE.contains(&word.as_str()))
 }
 
 /// Whether a host compiler makes one file of a language, in one of these phases.
@@ -324,6 +373,8 @@ mod tests {
         assert!(is_known(Kind::CudaFe, &format!("{front} --m64 --parse_templates --gen_c_file_name a --stub_file_name b x.ii")));
         assert!(is_known(Kind::Cicc, &format!("{front} -arch compute_80 -m64 -ftz=0 -prec_div=1 -fmad=1 -tused x.ii -o x.ptx")));
         assert!(is_known(Kind::Ptxas, "-arch=sm_80 -m64 x.ptx -o x.cubin"));
+        let images = "--image3=kind=elf,sm=80,file=x.cubin --image3=file=x.ptx,kind=ptx,sm=80";
+        assert!(is_known(Kind::Fatbinary, &format!("--create=x.fatbin -64 --cicc-cmdline=-fmad=1 {images} --embedded-fatbin=x.fatbin.c --device-c")));
         assert!(is_known(Kind::Host, "-D__CUDA_ARCH__=800 -c -x c++ -Wno-psabi -I/i -isystem /s -m64 -O2 x.cpp -o k.o"));
         assert!(is_preprocess(&list("-D__CUDACC__ -E -x c++ -I/i -D NAME=name -U X -include cuda_runtime.h -m64 k.cu -o k.ii")));
         assert!(!is_preprocess(&list("-E -x c++ k.cu -o k.ii -D")));
@@ -355,6 +406,9 @@ mod tests {
             ("-Xptxas -warn-spills", Kind::Ptxas, "-warn-spills -warn-lmem-usage -suppress-stack-size-warning"),
             ("-Xptxas --allow-expensive-optimizations=true", Kind::Ptxas, "--allow-expensive-optimizations=true"),
             ("-Xcicc -extra-device-vectorization", Kind::Cicc, "-extra-device-vectorization --unicode_source_kind=UTF-8"),
+            ("-G", Kind::Fatbinary, "--ident=k.cu --cmdline=-g -g"),
+            ("-Xfatbin -compress-all", Kind::Fatbinary, "-compress-all"),
+            ("-no-compress --compress-mode=size", Kind::Fatbinary, "-compress=false --compress-mode=size"),
             ("-Xcompiler -pedantic,-fno-gnu-unique", Kind::Host, "-pedantic -fno-gnu-unique"),
         ];
         for (options, kind, words) in cases {
@@ -364,7 +418,7 @@ mod tests {
 
     #[test]
     fn all_that_is_known_are_options() {
-        for known in [CUDA_FE, CICC, PTXAS, HOST] {
+        for known in [CUDA_FE, CICC, PTXAS, FATBINARY, HOST] {
             let lists = [known.alone, known.beginnings, known.with_value, known.naming];
             assert!(lists.concat().iter().all(|word| word.len() > 1 && word.starts_with('-')), "{lists:?}");
             assert!(known.naming.iter().all(|word| known.alone.contains(word) || known.beginnings.contains(word)), "{lists:?}");
@@ -394,6 +448,17 @@ mod tests {
             (Kind::Ptxas, "--compiler-stats-file=s.txt"),
             (Kind::Ptxas, "-arch=compute_80"),
             (Kind::Ptxas, "@o.txt"),
+            (Kind::Fatbinary, "--image3"),
+            (Kind::Fatbinary, "-image3=kind=elf,sm=80,file=x.cubin"),
+            (Kind::Fatbinary, "--image3=kind=elf,sm=80"),
+            (Kind::Fatbinary, "--image3=kind=elf,file=x.cubin,file=y.cubin"),
+            (Kind::Fatbinary, "--image3=kind=elf,file=\"x.cubin\""),
+            (Kind::Fatbinary, "--image2=kind=elf,file=x.o"),
+            (Kind::Fatbinary, "--create="),
+            (Kind::Fatbinary, "--create=x\\y"),
+            (Kind::Fatbinary, "-create=x"),
+            (Kind::Fatbinary, "--options-file=o.txt"),
+            (Kind::Fatbinary, "x.cubin"),
         ];
         for (kind, words) in cases {
             assert!(!is_known(kind, words), "{words}");
@@ -410,6 +475,25 @@ mod tests {
         for word in words.split_whitespace() {
             assert!(!is_known(Kind::Host, word), "{word}");
         }
+    }
+
+    #[test]
+    fn words_name_files() {
+        let names = |words: &str| {
+            let words = list(words);
+            roles(Kind::Fatbinary, &words).unwrap().into_iter().map(|(word, role)| (file_in(word, role).to_owned(), role)).collect::<Vec<_>>()
+        };
+        let wanted = [("/t/a.x", Role::Created), ("b.c", Role::Created), ("x,y", Role::Created), ("c", Role::Image), ("d=e", Role::Image)];
+        let words = "--create=/t/a.x --embedded-fatbin=b.c --create=x,y --image3=file=c,kind=elf --image3=kind=ptx,file=d=e";
+        assert_eq!(names(words), wanted.map(|(name, role)| (name.to_owned(), role)));
+        assert_eq!(names("-64 --cmdline=file=x"), [("-64".to_owned(), Role::Counts), ("--cmdline=file=x".to_owned(), Role::Counts)]);
+    }
+
+    #[test]
+    fn a_debuggers_cubin_has_its_own_name_in_it() {
+        let names = ["-g", "--return-at-end", "--generate-line-info -lineinfo", "-O3"].map(|words| names_product(Kind::Ptxas, &list(words)));
+        assert_eq!(names, [true, true, false, false]);
+        assert!(!names_product(Kind::Cicc, &list("-g --debug_mode")) && !names_product(Kind::Host, &list("-g")));
     }
 
     #[test]
