@@ -13,7 +13,6 @@ use c_texts::{Refused, Status};
 use directories::is_plain;
 use std::alloc::Global;
 
-// The working directory, as one that isn't absolute and plain.
 fn odd_cwd() -> Misfit
     ensures { misfit_seen result ≡ spec.odd_cwd }
 {
@@ -24,7 +23,6 @@ fn odd_cwd() -> Misfit
     }
 }
 
-// The same of the temporary directory.
 fn odd_tmp() -> Misfit
     ensures { misfit_seen result ≡ spec.odd_tmp }
 {
