@@ -23,16 +23,6 @@ fn odd_cwd() -> Misfit
     }
 }
 
-fn odd_tmp() -> Misfit
-    ensures { misfit_seen result ≡ spec.odd_tmp }
-{
-    Misfit {
-        status: Status::OddDirectory,
-        field: 4,
-        why: "the directory for temporary files has to be absolute, without an empty part, . or ..",
-    }
-}
-
 /// The first directory of a call that isn't absolute and plain, if there is one. Two commands are taken to use one file if its paths
 /// are the same text, so a plan for a directory that has several texts would lack needs.
 pub(crate) fn odd_directory(texts: Texts<'_>) -> Option<Misfit>
@@ -41,7 +31,11 @@ pub(crate) fn odd_directory(texts: Texts<'_>) -> Option<Misfit>
     if !is_plain(texts.cwd) {
         Some(odd_cwd())
     } else if !is_plain(texts.tmp) {
-        Some(odd_tmp())
+        Some(Misfit {
+            status: Status::OddDirectory,
+            field: 4,
+            why: "the directory for temporary files has to be absolute, without an empty part, . or ..",
+        })
     } else {
         None
     }

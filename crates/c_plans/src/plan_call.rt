@@ -2,7 +2,6 @@
 
 ghost use Rattle.std.specs.Prelude.{◌≡◌, IfOk, option_copied};
 ghost use Rattle.std.specs.List.{list_all};
-ghost use Rattle.program_lookups.specs.Lookup.{lookup_of};
 ghost use Rattle.c_plans.specs.PlanCalls as spec;
 
 use c_texts::{InputText, Variable, text_of};
@@ -100,45 +99,24 @@ pub(crate) fn if_flag(flag: u32, text: &str) -> Option<&str>
     if flag == 0 { None } else { Some(text) }
 }
 
-fn found_in(alloc: Global, is_found: u32, found: &str) -> Result<Option<Text>, AllocError>
-    ensures { IfOk result (λ text. text ≡ spec.if_flag is_found found.now) }
-{
-    if is_found == 0 {
-        return Ok(None);
-    }
-    Ok(Some(Text::copy_of(alloc, found)?))
-}
-
-fn entry_with(
-    alloc: Global,
-    cwd: &str,
-    program: &str,
-    path: &str,
-    found: Option<Text>,
-) -> Result<Entry, AllocError>
-    ensures { IfOk result (λ entry. entry ≡ record { lookup = lookup_of program.now path.now cwd.now; found = found }) }
-{
-    Ok(Entry {
-        lookup: Lookup::copy_of(alloc, program, path, cwd)?,
-        found,
-    })
-}
-
 // A row as an entry, if its texts are UTF-8.
 fn entry_of(alloc: Global, cwd: &str, row: &FoundProgram<'_>) -> Result<Option<Entry>, AllocError>
     ensures { IfOk result (λ entry. entry ≡ spec.valid_entry cwd.now row.now) }
 {
-    let Some(program) = text_of(row.program.bytes) else {
+    let texts = (
+        text_of(row.program.bytes),
+        text_of(row.path.bytes),
+        text_of(row.found.bytes),
+    );
+    let (Some(program), Some(path), Some(found)) = texts else {
         return Ok(None);
     };
-    let Some(path) = text_of(row.path.bytes) else {
-        return Ok(None);
+    let lookup = Lookup::copy_of(alloc, program, path, cwd)?;
+    let found = match row.is_found {
+        0 => None,
+        _ => Some(Text::copy_of(alloc, found)?),
     };
-    let Some(found) = text_of(row.found.bytes) else {
-        return Ok(None);
-    };
-    let found = found_in(alloc, row.is_found, found)?;
-    Ok(Some(entry_with(alloc, cwd, program, path, found)?))
+    Ok(Some(Entry { lookup, found }))
 }
 
 /// Rows as entries, if all their texts are UTF-8.

@@ -1,6 +1,6 @@
 //! The commands of a plan as records.
 
-ghost use Rattle.std.specs.Prelude.{◌≡◌, ◌-◌, ◌∷◌, [], List, ℕ, ◌&&◌, IfOk, OnOk, length, map, vec_items, bytes_eq};
+ghost use Rattle.std.specs.Prelude.{◌≡◌, ◌-◌, ◌∷◌, [], List, ℕ, IfOk, OnOk, length, map, vec_items};
 ghost use Rattle.texts.specs.Variables.{pair_of};
 ghost use Rattle.plans.specs.declared.origins.Origin.{Origin};
 ghost use Rattle.plan_json.specs.Json.{origin_at};
@@ -62,21 +62,6 @@ fn shared_of(groups: &[Vec<NvccGeneratedSubcommand>]) -> &[(String, String)]
     &[]
 }
 
-fn is_same(one: &(String, String), other: &(String, String)) -> bool
-    ensures { result ≡ (bytes_eq (pair_of one.now).0 (pair_of other.now).0 && bytes_eq (pair_of one.now).1 (pair_of other.now).1) }
-{
-    one.0.as_str() == other.0.as_str() && one.1.as_str() == other.1.as_str()
-}
-
-fn is_over(left: &[(String, String)]) -> bool
-    ensures { result ≡ spec.are_same [] (map pair_of left.now) }
-{
-    match left {
-        [] => true,
-        [_, ..] => false,
-    }
-}
-
 fn are_same(some: &[(String, String)], others: &[(String, String)]) -> bool
     ensures { result ≡ spec.are_same (map pair_of some.now) (map pair_of others.now) }
 {
@@ -85,21 +70,14 @@ fn are_same(some: &[(String, String)], others: &[(String, String)]) -> bool
         let Some((other, rest)) = left.split_first() else {
             return false;
         };
-        if !is_same(variable, other) {
+        if variable.0.as_str() != other.0.as_str() || variable.1.as_str() != other.1.as_str() {
             return false;
         }
         left = rest;
     }
-    is_over(left)
-}
-
-fn shared_by(shared: Shared<'_>, command: &NvccGeneratedSubcommand) -> Option<Range>
-    ensures { result ≡ spec.shared_by (spec.shared_seen shared.entry) command.now.env_vars }
-{
-    if are_same(command.env_vars.as_slice(), shared.variables) {
-        Some(shared.texts)
-    } else {
-        None
+    match left {
+        [] => true,
+        [_, ..] => false,
     }
 }
 
@@ -122,7 +100,11 @@ fn command_entry<'a>(
         line: origin.line,
         reason: 0,
         cacheable: cacheable_number(command.cacheable),
-        shared: shared_by(shared, command),
+        shared: if are_same(command.env_vars.as_slice(), shared.variables) {
+            Some(shared.texts)
+        } else {
+            None
+        },
     }
 }
 
@@ -141,18 +123,6 @@ fn dropped_entry<'a>(groups: usize, dropped: &'a Dropped) -> Entry<'a>
         reason: reason_number(dropped.reason),
         cacheable: 0,
         shared: None,
-    }
-}
-
-fn stage_at(last: usize, group: usize) -> u32
-    ensures { result ≡ spec.stage_at last group }
-{
-    if group == 0 {
-        0
-    } else if group == last {
-        2
-    } else {
-        1
     }
 }
 
@@ -190,7 +160,13 @@ fn push_group(
             offset: recorded.commands_count(),
             length: commands.len(),
         },
-        stage: stage_at(last, group),
+        stage: if group == 0 {
+            0
+        } else if group == last {
+            2
+        } else {
+            1
+        },
         reserved: 0,
     };
     push_commands(recorded, origins, shared, group, commands)?;
