@@ -163,7 +163,8 @@ pub(crate) fn nvcc_line<S: AsRef<str>>(call: &NvccCall<'_, S>) -> Result<Texts, 
 }
 
 pub(crate) fn command_key<S: AsRef<OsStr>>(call: &KeyCall<'_, S>) -> Result<Vec<u8>, Error> {
-    let tool = program_of(call.tool.number()).filter(|_| call.roots.len() <= MOST_ROOTS).ok_or_else(|| refused(Status::BadNumber))?;
+    let tool =
+        program_of(call.tool.number()).filter(|_| call.roots.len() <= MOST_ROOTS).ok_or_else(|| refused(Status::BadNumber))?;
     let words: Vec<&[u8]> = call.words.iter().map(|word| word.as_ref().as_encoded_bytes()).collect();
     let roots: Vec<&[u8]> = call.roots.iter().map(|root| root.as_os_str().as_encoded_bytes()).collect();
     let environment: Vec<(&[u8], &[u8])> = call.variables.iter().map(Variable::bytes).collect();
