@@ -10,7 +10,7 @@ pub(crate) use zigrunk_sys::records::{Command, Group, LineRecord, Output, Place,
 
 use crate::call::number_of_limit;
 use crate::error::UNSETTLED;
-use crate::{CommandTool, Error, Form, KeyCall, Line, LineCall, NvccCall, Plan, PlanCall, Texts, Variable};
+use crate::{Error, Form, KeyCall, Line, LineCall, NvccCall, Plan, PlanCall, Texts, Variable};
 
 impl From<Unsettled> for Error {
     fn from(error: Unsettled) -> Self {
@@ -152,19 +152,6 @@ pub(crate) fn nvcc_line<S: AsRef<str>>(call: &NvccCall<'_, S>) -> Result<Texts, 
     })?)
 }
 
-/// The number of a tool in `zigrunk.h`.
-fn tool_number(tool: CommandTool) -> u32 {
-    match tool {
-        CommandTool::Cicc => 0,
-        CommandTool::Ptxas => 1,
-        CommandTool::CudaFe => 2,
-        CommandTool::Fatbinary => 6,
-        CommandTool::NvLink => 7,
-        CommandTool::Host => 8,
-        CommandTool::Other(number) => number,
-    }
-}
-
 pub(crate) fn command_key<S: AsRef<OsStr>>(call: &KeyCall<'_, S>) -> Result<Vec<u8>, Error> {
     let words: Vec<Text<'_>> = call.words.iter().map(|word| word.as_ref().as_encoded_bytes().into()).collect();
     let roots: Vec<Text<'_>> = call.roots.iter().map(|root| root.as_os_str().as_encoded_bytes().into()).collect();
@@ -173,7 +160,7 @@ pub(crate) fn command_key<S: AsRef<OsStr>>(call: &KeyCall<'_, S>) -> Result<Vec<
         words: words.as_slice().into(),
         variables: variables.as_slice().into(),
         roots: roots.as_slice().into(),
-        tool: tool_number(call.tool),
+        tool: call.tool.number(),
         reserved: 0,
     })?)
 }

@@ -4,8 +4,8 @@ use std::ffi::OsStr;
 
 use c_lines::NvccLineCall;
 use c_plans::{FoundProgram, RefusedAt};
-use c_texts::{InputText, Outcome, Refused, Status};
-use command_keys::{KeyTool, MOST_ROOTS};
+use c_texts::{InputText, Outcome, Refused, Status, program_of};
+use command_keys::MOST_ROOTS;
 use rattle_std::alloc::{AllocError, Global};
 
 pub(crate) use c_lines::{LineRecord, OutputRecord as Output};
@@ -13,7 +13,7 @@ pub(crate) use c_plans::{CommandRecord as Command, GroupRecord as Group, PlaceRe
 pub(crate) use c_texts::{Range, abi_version};
 
 use crate::call::number_of_limit;
-use crate::{CommandTool, Error, Form, KeyCall, Line, LineCall, NvccCall, Plan, PlanCall, Texts, Variable};
+use crate::{Error, Form, KeyCall, Line, LineCall, NvccCall, Plan, PlanCall, Texts, Variable};
 
 impl From<Refused> for Error {
     fn from(why: Refused) -> Self {
@@ -162,21 +162,9 @@ pub(crate) fn nvcc_line<S: AsRef<str>>(call: &NvccCall<'_, S>) -> Result<Texts, 
     Ok(texts_of(&c_lines::call_outline(Global, &record)?))
 }
 
-/// The tool, if it is one whose commands have keys.
-fn key_tool(tool: CommandTool) -> Option<KeyTool> {
-    match tool {
-        CommandTool::Cicc => Some(KeyTool::Cicc),
-        CommandTool::Ptxas => Some(KeyTool::Ptxas),
-        CommandTool::CudaFe => Some(KeyTool::CudaFe),
-        CommandTool::Fatbinary => Some(KeyTool::Fatbinary),
-        CommandTool::NvLink => Some(KeyTool::Nvlink),
-        CommandTool::Host => Some(KeyTool::Host),
-        CommandTool::Other(_) => None,
-    }
-}
-
 pub(crate) fn command_key<S: AsRef<OsStr>>(call: &KeyCall<'_, S>) -> Result<Vec<u8>, Error> {
-    let tool = key_tool(call.tool).filter(|_| call.roots.len() <= MOST_ROOTS).ok_or_else(|| refused(Status::BadNumber))?;
+    let tool =
+        program_of(call.tool.number()).filter(|_| call.roots.len() <= MOST_ROOTS).ok_or_else(|| refused(Status::BadNumber))?;
     let words: Vec<&[u8]> = call.words.iter().map(|word| word.as_ref().as_encoded_bytes()).collect();
     let roots: Vec<&[u8]> = call.roots.iter().map(|root| root.as_os_str().as_encoded_bytes()).collect();
     let environment: Vec<(&[u8], &[u8])> = call.variables.iter().map(Variable::bytes).collect();

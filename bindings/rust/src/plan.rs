@@ -69,6 +69,18 @@ impl CommandTool {
         }
     }
 
+    pub(crate) fn number(self) -> u32 {
+        match self {
+            CommandTool::Cicc => 0,
+            CommandTool::Ptxas => 1,
+            CommandTool::CudaFe => 2,
+            CommandTool::Fatbinary => 6,
+            CommandTool::NvLink => 7,
+            CommandTool::Host => 8,
+            CommandTool::Other(number) => number,
+        }
+    }
+
     /// The tool for [`line_records`](crate::line_records), if it reads lines of this one.
     #[must_use]
     pub fn for_lines(self) -> Option<Tool> {

@@ -55,15 +55,13 @@ answer_at tools line =
 abbrev pub outline_at : Tools → Line → Result Outcome Refused
 outline_at tools line = and_then (answer_at tools line) texts_in
 
--- a call whose reserved number is 0
-abbrev pub valid_outline : NvccLineCall → Result Outcome Refused
-valid_outline call =
-    and_then (or_plain NotUtf8 (tools_of call.tmp call.nvcc)) (λ tools.
-    and_then (or_plain NotUtf8 (line_of call.cwd call.words.now call.variables.now)) (outline_at tools))
-
 -- a call. A number without a meaning comes first, then a text that isn't UTF-8
 abbrev pub call_outline : NvccLineCall → Result Outcome Refused
-call_outline call = if call.reserved == 0 then valid_outline call else Err (Plain BadNumber)
+call_outline call =
+    if call.reserved == 0 then
+    and_then (or_plain NotUtf8 (tools_of call.tmp call.nvcc)) (λ tools.
+    and_then (or_plain NotUtf8 (line_of call.cwd call.words.now call.variables.now)) (outline_at tools))
+    else Err (Plain BadNumber)
 
 abbrev pub nvcc_outcome : NvccLineCall → Outcome
 nvcc_outcome call = ended (call_outline call)

@@ -25,7 +25,8 @@ pub struct LineCall<'a> {
     pub reserved: u32,
 }
 
-/// A tool, by whose rules a line is read.
+/// A tool, by whose rules a line is read. That isn't `plans::Program`, what a command of a plan runs: no command runs nvcc or nvhpc, and
+/// lines of fatbinary and nvlink aren't read.
 #[derive(Clone, Copy, Debug)]
 pub(crate) enum LineTool {
     Cicc,

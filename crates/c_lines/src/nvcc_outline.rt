@@ -129,10 +129,13 @@ fn outline_at(alloc: Global, tools: Tools<'_>, line: &Line<'_>) -> Result<Outcom
     texts
 }
 
-// A call whose reserved number is 0.
-fn valid_outline(alloc: Global, call: &NvccLineCall<'_>) -> Result<Outcome, Refused>
-    ensures { Answers result (spec.valid_outline call.now) }
+/// What [`nvcc_line`] tells: what the line of a call says.
+pub fn call_outline(alloc: Global, call: &NvccLineCall<'_>) -> Result<Outcome, Refused>
+    ensures { Answers result (spec.call_outline call.now) }
 {
+    if call.reserved != 0 {
+        return Err(Refused::Plain(Status::BadNumber));
+    }
     let tools = tools_of(&call.tmp, &call.nvcc).ok_or(Refused::Plain(Status::NotUtf8))?;
     let line = line_of(alloc, &call.cwd, call.words, call.variables)?;
     let line = line.ok_or(Refused::Plain(Status::NotUtf8))?;
@@ -140,17 +143,6 @@ fn valid_outline(alloc: Global, call: &NvccLineCall<'_>) -> Result<Outcome, Refu
     // Dropped by a call: see "Explicit drops" in docs/ARCHITECTURE.md.
     drop(line);
     outline
-}
-
-/// What [`nvcc_line`] tells: what the line of a call says.
-pub fn call_outline(alloc: Global, call: &NvccLineCall<'_>) -> Result<Outcome, Refused>
-    ensures { Answers result (spec.call_outline call.now) }
-{
-    if call.reserved == 0 {
-        valid_outline(alloc, call)
-    } else {
-        Err(Refused::Plain(Status::BadNumber))
-    }
 }
 
 /// Reads a line of nvcc as `nvcc_calls::read_call`, and lists the texts of its outline: the command that writes the

@@ -2,6 +2,8 @@
 use Rattle.std.proofs.Common.{◌≡◌, ◌++◌, ◌+◌, ◌∷◌, [], ℕ, List, Bool, ◌==◌, map, length, take, drop, refl, sym, ap, subst, ◌∙◌, arith, length-append, append_assoc, flat_map}
 use Rattle.command_files.specs.PlanNeeds.{preprocesses}
 use Rattle.plans.specs.declared.plan.NvccGeneratedSubcommand.{NvccGeneratedSubcommand}
+use Rattle.plans.specs.declared.program.Program.{Program}
+use Rattle.plans.specs.Programs.{program_at}
 use Rattle.c_texts.proofs.RangeLemmas.{cut_behind}
 use Rattle.c_texts.proofs.TextLemmas.{ranges-length, texts-then}
 use Rattle.c_texts.specs.Memory.{cut}
@@ -12,8 +14,8 @@ use Rattle.c_plans.specs.StepLaws.{StepsReadBack, PlansReadBack, extra_in}
 
 -- ---- commands are read back
 
-complete-is : (tool : ℕ) (complete preprocesses : Bool) → (missing_of tool complete preprocesses == 0) ≡ complete
-complete-is tool complete preprocesses = grind arith
+complete-is : (program : Program) (complete preprocesses : Bool) → (missing_of program complete preprocesses == 0) ≡ complete
+complete-is program complete preprocesses = grind arith
 
 -- a part of a list at an offset
 part-at : {X : Type 0} (before here behind all : List X) (offset : ℕ) → all ≡ before ++ (here ++ behind) → offset ≡ length before →
@@ -68,7 +70,7 @@ module _ (known : Known) where
       (subst (λ ns. map (extra_in ((before ++ file_texts e) ++ texts) ns) (steps_at (length before + length (file_texts e)) (length numbers + length e.needs) left) ≡ left)
       (append_assoc numbers e.needs more) counted) in
       let own : extra_in all every (step_at (length before) (length numbers) e) ≡ e =
-      one-read before texts numbers more e (complete-is e.tool e.files.complete (preprocesses c.args)) in
+      one-read before texts numbers more e (complete-is (program_at c.exe) e.files.complete (preprocesses c.args)) in
       λ i. own i ∷ rest i
 
 -- the texts of a plan, and behind them those of files

@@ -24,14 +24,14 @@ abbrev pub lookups_by : ParsedRuns → List ℕ → Outcome
 lookups_by runs cwd = of_texts (flat_map texts_of (asked_by cwd runs))
 
 -- two dry runs, parsed, or why they can't be within a limit, which counts the paths that their look-ups try too, unless it is 0
-abbrev pub runs_within : ℕ → List ℕ → List ℕ → List ℕ → Result ParsedRuns Refused
-runs_within limit dry1 dry2 cwd = within_limit limit (Ok (both_parsed dry1 dry2)) (or_refused_within limit (both_fitting limit cwd dry1 dry2))
+abbrev pub parsed_runs : ℕ → List ℕ → List ℕ → List ℕ → Result ParsedRuns Refused
+parsed_runs limit dry1 dry2 cwd = within_limit limit (Ok (both_parsed dry1 dry2)) (or_refused_within limit (both_fitting limit cwd dry1 dry2))
 
 -- the look-ups of two dry runs within a limit. A directory that isn't UTF-8 is the first refusal, then one that isn't plain
 abbrev pub asked_lookups : ℕ → List ℕ → List ℕ → List ℕ → Result Outcome Refused
 asked_lookups limit dry1 dry2 cwd =
     and_then (or_plain NotUtf8 (text_of cwd)) (λ cwd. and_then (plain_cwd cwd) (λ _.
-    and_then (runs_within limit dry1 dry2 cwd) (λ runs. Ok (lookups_by runs cwd))))
+    and_then (parsed_runs limit dry1 dry2 cwd) (λ runs. Ok (lookups_by runs cwd))))
 
 abbrev pub limited_lookups_outcome : ℕ → List ℕ → List ℕ → List ℕ → Outcome
 limited_lookups_outcome limit dry1 dry2 cwd = ended (asked_lookups limit dry1 dry2 cwd)

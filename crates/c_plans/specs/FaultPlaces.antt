@@ -1,6 +1,5 @@
 -- Where planning fails: a line of a dry run, or a field of the call.
 use Rattle.std.specs.Prelude.{ℕ, ◌+◌, ◌-◌, ◌^◌, min, List, ◌==◌, if◌then◌else◌, Option, Some, None}
-use Rattle.texts.specs.declared.fault.Fault.{Fault}
 use Rattle.texts.specs.declared.fault.Fault.TheVariants as faults
 use Rattle.dry_runs.specs.declared.limit.LimitedFault.{LimitedFault}
 use Rattle.dry_runs.specs.declared.limit.LimitedFault.TheVariants as limited
@@ -12,17 +11,13 @@ use Rattle.c_plans.specs.declared.record.PlaceRecord.{PlaceRecord}
 use Rattle.c_plans.specs.Acceptance.{Accepted}
 use Rattle.c_plans.specs.Places.{in_field, nowhere}
 
--- the field that holds a dry run
-abbrev pub field_of_run : ℕ → ℕ
-field_of_run run = if run == 1 then 1 else 2
-
 -- a line's number that counts from 1. The greatest number that there is stays itself
 abbrev pub from_one : ℕ → ℕ
 from_one line = min (line + 1) (2 ^ 64 - 1)
 
 -- a line of a dry run. It counts from 0 here, and from 1 in the place
 abbrev pub in_line : ℕ → ℕ → PlaceRecord
-in_line run line = record { run = run; line = from_one line; field = field_of_run run; reserved = 0 }
+in_line run line = record { run = run; line = from_one line; field = if run == 1 then 1 else 2; reserved = 0 }
 
 -- a line of a run, if there is one, or else another place
 abbrev pub or_place : ℕ → Option ℕ → PlaceRecord → PlaceRecord
@@ -39,15 +34,12 @@ first_bad_line call a =
     or_place 1 (bad_line_of a 1 (bytes_of call.dry1)) (or_place 2 (bad_line_of a 2 (bytes_of call.dry2)) nowhere)
 
 -- Where a fault is. The fault of a program that isn't found names no line, so it is that of the first bad line.
-abbrev pub place_of_fault : PlanCall → Accepted → Fault → PlaceRecord
-place_of_fault call a (faults.NotUtf8 run line) = in_line run line
-place_of_fault call a (faults.BadShell run line) = in_line run line
-place_of_fault call a (faults.EmptyCommand run line) = in_line run line
-place_of_fault call a (faults.NoPath run line) = in_line run line
-place_of_fault call a (faults.NotFound program) = first_bad_line call a
-place_of_fault call a faults.BadSuffixes = in_field 8
-place_of_fault call a fault = nowhere
-
 abbrev pub place_of : PlanCall → Accepted → LimitedFault → PlaceRecord
-place_of call a (limited.Fault fault) = place_of_fault call a fault
 place_of call a (limited.TooLong run line) = in_line run line
+place_of call a (limited.Fault (faults.NotUtf8 run line)) = in_line run line
+place_of call a (limited.Fault (faults.BadShell run line)) = in_line run line
+place_of call a (limited.Fault (faults.EmptyCommand run line)) = in_line run line
+place_of call a (limited.Fault (faults.NoPath run line)) = in_line run line
+place_of call a (limited.Fault (faults.NotFound program)) = first_bad_line call a
+place_of call a (limited.Fault faults.BadSuffixes) = in_field 8
+place_of call a (limited.Fault fault) = nowhere

@@ -1,17 +1,14 @@
 -- What a caller passes for a plan.
-use Rattle.std.specs.Prelude.{ℕ, List, ◌==◌, ◌&&◌, Bool, nat_le, if◌then◌else◌, map, Option, Some, None, option_and_then}
+use Rattle.std.specs.Prelude.{ℕ, List, ◌==◌, ◌&&◌, Bool, nat_le, if◌then◌else◌, map, Option, Some, None}
 use Rattle.std.specs.List.{list_all}
 use Rattle.std.specs.Str.{is_utf8}
 use Rattle.compilers.specs.declared.compiler.NvccHostCompiler.{NvccHostCompiler}
 use Rattle.compilers.specs.declared.compiler.NvccHostCompiler.TheVariants.{Gcc, Msvc, Nvhpc}
 use Rattle.program_lookups.specs.declared.snapshot.Entry.{Entry}
 use Rattle.program_lookups.specs.Lookup.{lookup_of}
-use Rattle.c_plans.specs.declared.plan_call.PlanCall.{PlanCall}
 use Rattle.c_plans.specs.declared.plan_call.FoundProgram.{FoundProgram}
-use Rattle.c_plans.specs.declared.plan_call.Tables.{Tables}
 use Rattle.c_plans.specs.declared.plan_call.Texts.{Texts as HeldTexts}
-use Rattle.c_texts.specs.Memory.{bytes_of, text_of, words_of}
-use Rattle.c_texts.specs.Variables.{variables_of}
+use Rattle.c_texts.specs.Memory.{bytes_of}
 
 -- the host compiler with this number
 abbrev pub host_of : ℕ → Option NvccHostCompiler
@@ -21,27 +18,12 @@ host_of n = if n == 0 then Some Gcc else if n == 1 then Some Msvc else if n == 2
 abbrev pub has_row_numbers : FoundProgram → Bool
 has_row_numbers row = nat_le row.is_found 1 && row.reserved == 0
 
--- the same of a call and all its rows. Every limit has a meaning
-abbrev pub has_numbers : PlanCall → Bool
-has_numbers call = nat_le call.keeps 1 && list_all has_row_numbers call.lookups.now
-
--- the host compiler of a call, if all its numbers have a meaning
-abbrev pub host_in : PlanCall → Option NvccHostCompiler
-host_in call = if has_numbers call then host_of call.host_compiler else None
-
 -- the texts of a call but those of its tables
 pub record Texts : Type 0 where
   pub cwd : List ℕ
   pub tmp : List ℕ
   pub flag : List ℕ
   pub keep_dir : List ℕ
-
--- these texts of a call, if all are UTF-8
-abbrev pub texts_of : PlanCall → Option Texts
-texts_of call =
-    option_and_then (λ cwd. option_and_then (λ tmp. option_and_then (λ flag. option_and_then (λ keep_dir.
-    Some (record { cwd = cwd; tmp = tmp; flag = flag; keep_dir = keep_dir }))
-    (text_of (bytes_of call.keep_dir))) (text_of (bytes_of call.flag))) (text_of (bytes_of call.tmp))) (text_of (bytes_of call.cwd))
 
 -- such texts, as the code holds them
 abbrev pub texts_seen : HeldTexts → Texts
@@ -65,10 +47,3 @@ valid_entry cwd row = if is_utf8_row row then Some (entry_of cwd row) else None
 -- rows of the caller as entries, if their texts are UTF-8
 abbrev pub entries_of : List ℕ → List FoundProgram → Option (List Entry)
 entries_of cwd rows = if list_all is_utf8_row rows then Some (map (entry_of cwd) rows) else None
-
--- the tables of a call, if all their texts are UTF-8
-abbrev pub tables_of : List ℕ → PlanCall → Option Tables
-tables_of cwd call =
-    option_and_then (λ suffixes. option_and_then (λ variables. option_and_then (λ found.
-    Some (record { suffixes = suffixes; variables = variables; found = found }))
-    (entries_of cwd call.lookups.now)) (variables_of call.variables.now)) (words_of (map bytes_of call.suffixes.now))

@@ -1,5 +1,5 @@
 -- Planning the two dry runs of a call.
-use Rattle.std.specs.Prelude.{ℕ, List, Result}
+use Rattle.std.specs.Prelude.{ℕ, ◌==◌, List, if◌then◌else◌, Option, Some, None, Result, Ok, Err}
 use Rattle.texts.specs.declared.fault.Fault.{Fault}
 use Rattle.plans.specs.declared.origins.PlanWithOrigins.{PlanWithOrigins}
 use Rattle.command_groups.specs.Origins.{planning_with_origins}
@@ -11,8 +11,12 @@ use Rattle.canonical_names.specs.FurtherSuffixes.{all_suffixes}
 use Rattle.texts.specs.Results.{and_then}
 use Rattle.plan_formats.specs.Texts.{text_in}
 use Rattle.plan_scripts.specs.declared.format.Format.{Format}
+use Rattle.plan_scripts.specs.declared.format.Format.TheVariants.{Json, Ninja, Shell, Text}
+use Rattle.plan_scripts.specs.declared.refusal.Refusal.{Refusal}
+use Rattle.plan_scripts.specs.Message.{message_of}
 use Rattle.c_texts.specs.declared.refusal.Refused.{Refused}
-use Rattle.c_texts.specs.declared.status.Status.TheVariants.{BadNumber}
+use Rattle.c_texts.specs.declared.refusal.Refused.TheVariants.{Told}
+use Rattle.c_texts.specs.declared.status.Status.TheVariants.{BadNumber, Unwritable}
 use Rattle.c_texts.specs.Memory.{bytes_of}
 use Rattle.c_texts.specs.Outcomes.{Outcome}
 use Rattle.c_texts.specs.Refusals.{ended_text, or_plain}
@@ -21,8 +25,10 @@ use Rattle.c_plans.specs.Acceptance.{Accepted, accepted}
 use Rattle.c_plans.specs.Limits.{or_refused_within, within_limit, without_limit}
 use Rattle.c_plans.specs.Places.{without_place}
 use Rattle.c_plans.specs.PlanCalls.{Texts, if_flag}
-use Rattle.c_plans.specs.PlanForms.{form_of}
-use Rattle.c_plans.specs.Refusals.{written}
+
+-- the form with this number
+abbrev pub form_of : ℕ → Option Format
+form_of n = if n == 0 then Some Json else if n == 1 then Some Ninja else if n == 2 then Some Shell else if n == 3 then Some Text else None
 
 -- the setting that a call plans in
 abbrev pub setting_of : Accepted → PlanSetting
@@ -47,9 +53,14 @@ planned call a =
     and_then (without_limit (all_suffixes a.tables.suffixes)) (λ suffixes. within_limit call.limit
     (without_limit (planned_whole call a suffixes)) (planned_within call a suffixes))
 
--- the plan of a call that is accepted, or why it has none
-abbrev pub plan_by : PlanCall → Accepted → Result PlanWithOrigins Refused
-plan_by call a = or_refused_within call.limit (planned call a)
+-- the refusal of a plan, with its message
+abbrev pub unwritable : Refusal → Refused
+unwritable refusal = Told Unwritable (message_of refusal)
+
+-- the text of a plan, or why its form can't represent it
+abbrev pub written : Result (List ℕ) Refusal → Result (List ℕ) Refused
+written (Ok text) = Ok text
+written (Err refusal) = Err (unwritable refusal)
 
 -- a plan in a form, or why the form can't represent it
 abbrev pub text_of_plan : Format → Texts → PlanWithOrigins → Result (List ℕ) Refused
@@ -57,7 +68,7 @@ text_of_plan form texts plan = written (text_in form (record { cwd = texts.cwd; 
 
 -- the plan of a call that is accepted, in a form
 abbrev pub text_by : PlanCall → Format → Accepted → Result (List ℕ) Refused
-text_by call form a = and_then (plan_by call a) (text_of_plan form a.texts)
+text_by call form a = and_then (or_refused_within call.limit (planned call a)) (text_of_plan form a.texts)
 
 -- the plan of a call in a form. The form's number without a meaning is the first refusal, then come those of the call, then those of the
 -- plan, and last that of the form

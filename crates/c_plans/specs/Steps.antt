@@ -1,5 +1,5 @@
 -- A plan as records, with what a program that runs the commands has to know of each.
-use Rattle.std.specs.Prelude.{ℕ, ◌+◌, List, [], ◌∷◌, ◌++◌, Bool, nat_le, if◌then◌else◌, fold, get_or, length, map, vec_items, flat_map, Result, Ok, Err}
+use Rattle.std.specs.Prelude.{ℕ, ◌+◌, List, [], ◌∷◌, ◌++◌, Bool, true, false, if◌then◌else◌, get_or, length, map, vec_items, flat_map, Result, Ok, Err}
 use Rattle.command_files.specs.declared.files.CommandFiles.{CommandFiles}
 use Rattle.command_files.specs.CommandFiles.{files_of_words}
 use Rattle.command_files.specs.Order.{needs_at}
@@ -7,11 +7,13 @@ use Rattle.command_files.specs.PlanNeeds.{plan_files, plan_needs, preprocesses}
 use Rattle.plans.specs.declared.origins.PlanWithOrigins.{PlanWithOrigins}
 use Rattle.plans.specs.declared.plan.NvccGeneratedSubcommand.{NvccGeneratedSubcommand}
 use Rattle.plans.specs.declared.plan.Plan.{Plan}
+use Rattle.plans.specs.declared.program.Program.{Program}
+use Rattle.plans.specs.declared.program.Program.TheVariants.{Cicc, Ptxas, Cudafe, Fatbinary, Nvlink, Other}
+use Rattle.plans.specs.Programs.{program_at}
 use Rattle.c_texts.specs.declared.memory.Range.{Range}
 use Rattle.c_texts.specs.Outcomes.{Outcome, with_texts}
 use Rattle.c_texts.specs.Refusals.{refusal}
-use Rattle.c_plans.specs.declared.room.Room.{Room}
-use Rattle.c_plans.specs.Rooms.{with_text}
+use Rattle.c_texts.specs.Tools.{tool_number}
 use Rattle.c_plans.specs.declared.record.PlaceRecord.{PlaceRecord}
 use Rattle.c_plans.specs.declared.refused_at.RefusedAt.{RefusedAt}
 use Rattle.c_plans.specs.Places.{nowhere}
@@ -19,7 +21,6 @@ use Rattle.c_plans.specs.Records.{Recorded, records_of, without_records}
 use Rattle.c_plans.specs.declared.step_record.StepRecord.{StepRecord}
 use Rattle.c_plans.specs.declared.stepped.Extra.{Extra as HeldExtra}
 use Rattle.c_plans.specs.declared.steps.Known.{Known as HeldKnown}
-use Rattle.c_plans.specs.Tools.{tool_of}
 
 -- what there is to know of a command beside its record: what it needs, its files, its tool, and why these aren't all files
 pub record Extra : Type 0 where
@@ -32,11 +33,20 @@ pub record Extra : Type 0 where
 abbrev pub extra_seen : HeldExtra → Extra
 extra_seen e = record { needs = e.needs.now; files = e.files.now; tool = e.tool; missing = e.missing }
 
+-- whether a program is a device tool, whose files are known if its line can be read
+abbrev pub is_device_tool : Program → Bool
+is_device_tool Cicc = true
+is_device_tool Ptxas = true
+is_device_tool Cudafe = true
+is_device_tool Fatbinary = false
+is_device_tool Nvlink = false
+is_device_tool Other = false
+
 -- Why the files of a command's words aren't all files of the compilation that it touches: 0 if they are. Else 1 says that the line of
 -- a device tool can't be read, 2 that a host compiler also reads headers, and 3 that it, or nvlink, also reads what its input includes,
 -- and libraries.
-abbrev pub missing_of : ℕ → Bool → Bool → ℕ
-missing_of tool complete preprocesses = if complete then 0 else if nat_le tool 2 then 1 else if preprocesses then 2 else 3
+abbrev pub missing_of : Program → Bool → Bool → ℕ
+missing_of program complete preprocesses = if complete then 0 else if is_device_tool program then 1 else if preprocesses then 2 else 3
 
 -- what is known of all commands: what each needs, and its files
 pub record Known : Type 0 where
@@ -54,8 +64,8 @@ files_of_command files id c = get_or files id (files_of_words c.exe c.args c.cwd
 -- a command, given what it needs and its files
 abbrev pub extra_with : List ℕ → CommandFiles → NvccGeneratedSubcommand → Extra
 extra_with needs files c =
-    let tool = tool_of c.exe in
-    record { needs = needs; files = files; tool = tool; missing = missing_of tool files.complete (preprocesses c.args) }
+    let program = program_at c.exe in
+    record { needs = needs; files = files; tool = tool_number program; missing = missing_of program files.complete (preprocesses c.args) }
 
 -- the command with a number
 abbrev pub extra_of : Known → ℕ → NvccGeneratedSubcommand → Extra
@@ -77,10 +87,6 @@ extras_of plan = extras_from (record { needs = plan_needs plan; files = plan_fil
 -- the texts of a command's files
 abbrev pub file_texts : Extra → List (List ℕ)
 file_texts e = e.files.reads ++ (e.files.writes ++ e.files.may_write)
-
--- room for the paths of a further command's files
-abbrev pub with_room_of : Room → CommandFiles → Room
-with_room_of room f = fold with_text (fold with_text (fold with_text room f.reads) f.writes) f.may_write
 
 -- a command's record, if the first of these texts has this number, and if these numbers are its needs
 abbrev pub files_at : ℕ → Range → Extra → StepRecord

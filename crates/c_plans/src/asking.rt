@@ -1,7 +1,7 @@
 //! Look-ups of programs.
 
-ghost use Rattle.std.specs.Prelude.{◌≡◌, IfOk, OnOk, flat_map};
-ghost use Rattle.c_texts.specs.Outcomes.{GivesList, with_texts};
+ghost use Rattle.std.specs.Prelude.{◌≡◌, IfOk};
+ghost use Rattle.c_texts.specs.Outcomes.{GivesList};
 ghost use Rattle.c_texts.specs.Refusals.{Answers};
 ghost use Rattle.c_plans.specs.Asking as spec;
 
@@ -9,39 +9,30 @@ use crate::directory::check_cwd;
 use crate::limits::or_refused_within;
 use c_texts::{ListAnswer, Outcome, Range, Refused, Status, text_of, write_list};
 use dry_runs::{ParsedRuns, parse_dry_runs};
-use program_lookups::{Lookup, lookups_of_runs, parse_within};
+use program_lookups::{lookups_of_runs, parse_within};
 use std::alloc::{AllocError, Global};
 
-// Adds the texts of look-ups.
-fn push_lookups(outcome: &mut Outcome, lookups: &[Lookup]) -> Result<(), AllocError>
-    ensures { OnOk result (outcome.new ≡ with_texts outcome.old (flat_map spec.texts_of lookups.now)) }
-{
-    for lookup in lookups {
-        outcome.push(lookup.program.as_str())?;
-        outcome.push(lookup.path.as_str())?;
-    }
-    Ok(())
-}
-
-// The look-ups of two dry runs that are parsed.
 fn lookups_by(alloc: Global, runs: &ParsedRuns, cwd: &str) -> Result<Outcome, AllocError>
     ensures { IfOk result (λ outcome. outcome ≡ spec.lookups_by runs.now cwd.now) }
 {
     let lookups = lookups_of_runs(alloc, runs, cwd)?;
     let mut outcome = Outcome::new(alloc);
-    push_lookups(&mut outcome, lookups.as_slice())?;
+    for lookup in lookups.as_slice() {
+        outcome.push(lookup.program.as_str())?;
+        outcome.push(lookup.path.as_str())?;
+    }
     Ok(outcome)
 }
 
-// Two dry runs, parsed, or why they can't be within a limit.
-fn runs_within(
+// A limit of 0 is none, so such a call counts nothing.
+fn parsed_runs(
     alloc: Global,
     dry1: &[u8],
     dry2: &[u8],
     cwd: &str,
     limit: usize,
 ) -> Result<ParsedRuns, Refused>
-    ensures { Answers result (spec.runs_within limit dry1.now dry2.now cwd.now) }
+    ensures { Answers result (spec.parsed_runs limit dry1.now dry2.now cwd.now) }
 {
     if limit == 0 {
         return Ok(parse_dry_runs(alloc, dry1, dry2)?);
@@ -61,7 +52,7 @@ pub fn asked_lookups(
 {
     let cwd = text_of(cwd).ok_or(Refused::Plain(Status::NotUtf8))?;
     check_cwd(alloc, cwd)?;
-    let runs = runs_within(alloc, dry1, dry2, cwd, limit)?;
+    let runs = parsed_runs(alloc, dry1, dry2, cwd, limit)?;
     let outcome = lookups_by(alloc, &runs, cwd);
     // Dropped by a call: see "Explicit drops" in docs/ARCHITECTURE.md.
     drop(runs);

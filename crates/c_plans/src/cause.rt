@@ -20,58 +20,47 @@ pub(crate) fn status_within(fault: &LimitedFault) -> Status
 }
 
 // What is wrong, where that isn't said.
-fn cause_of_fault(alloc: Global, fault: &Fault) -> Result<String, AllocError>
-    ensures { IfOk result (λ text. string_bytes text ≡ spec.cause_of_fault fault.now) }
-{
-    match fault {
-        Fault::NotUtf8 { .. } => String::from_str(alloc, "the line isn't UTF-8"),
-        Fault::BadShell { .. } => String::from_str(
-            alloc,
-            "the command has an open quote or ends in a backslash",
-        ),
-        Fault::EmptyCommand { .. } => String::from_str(alloc, "the command has no words"),
-        Fault::NoPath { .. } => String::from_str(alloc, "no line before this one sets PATH"),
-        Fault::NotFound { program } => {
-            let program = program.as_str();
-            format!(in alloc; "cannot find {program}")
-        }
-        _ => fault.message(alloc),
-    }
-}
-
-// The same, of a fault within a limit.
 fn cause_of(alloc: Global, limit: usize, fault: &LimitedFault) -> Result<String, AllocError>
     ensures { IfOk result (λ text. string_bytes text ≡ spec.cause_of limit fault.now) }
 {
     match fault {
-        LimitedFault::Fault(fault) => cause_of_fault(alloc, fault),
         LimitedFault::TooLong { .. } => {
             format!(in alloc; "with this line, the dry run makes over {limit} bytes")
         }
+        LimitedFault::Fault(Fault::NotUtf8 { .. }) => {
+            String::from_str(alloc, "the line isn't UTF-8")
+        }
+        LimitedFault::Fault(Fault::BadShell { .. }) => String::from_str(
+            alloc,
+            "the command has an open quote or ends in a backslash",
+        ),
+        LimitedFault::Fault(Fault::EmptyCommand { .. }) => {
+            String::from_str(alloc, "the command has no words")
+        }
+        LimitedFault::Fault(Fault::NoPath { .. }) => {
+            String::from_str(alloc, "no line before this one sets PATH")
+        }
+        LimitedFault::Fault(Fault::NotFound { program }) => {
+            let program = program.as_str();
+            format!(in alloc; "cannot find {program}")
+        }
+        LimitedFault::Fault(fault) => fault.message(alloc),
     }
 }
 
-// A text with the place in front that it speaks of, if that is a line.
-fn placed(alloc: Global, place: PlaceRecord, text: &str) -> Result<String, AllocError>
-    ensures { IfOk result (λ message. string_bytes message ≡ spec.placed place text.now) }
-{
-    let run = place.run;
-    let line = place.line;
-    if run == 0 {
-        return String::from_str(alloc, text);
-    }
-    format!(in alloc; "dry run {run}, line {line}: {text}")
-}
-
-/// The message of a fault at a place.
+/// The message of a fault: what is wrong, behind its line if it has one.
 pub(crate) fn message_at(
     alloc: Global,
     limit: usize,
     place: PlaceRecord,
     fault: &LimitedFault,
 ) -> Result<String, AllocError>
-    ensures { IfOk result (λ message. string_bytes message ≡ spec.placed place (spec.cause_of limit fault.now)) }
+    ensures { IfOk result (λ text. string_bytes text ≡ spec.placed place (spec.cause_of limit fault.now)) }
 {
-    let text = cause_of(alloc, limit, fault)?;
-    placed(alloc, place, text.as_str())
+    let cause = cause_of(alloc, limit, fault)?;
+    if place.run == 0 {
+        return Ok(cause);
+    }
+    let (run, line, cause) = (place.run, place.line, cause.as_str());
+    format!(in alloc; "dry run {run}, line {line}: {cause}")
 }

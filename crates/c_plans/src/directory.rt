@@ -13,7 +13,6 @@ use c_texts::{Refused, Status};
 use directories::is_plain;
 use std::alloc::Global;
 
-// The working directory, as one that isn't absolute and plain.
 fn odd_cwd() -> Misfit
     ensures { misfit_seen result ≡ spec.odd_cwd }
 {
@@ -21,17 +20,6 @@ fn odd_cwd() -> Misfit
         status: Status::OddDirectory,
         field: 3,
         why: "the working directory has to be absolute, without an empty part, . or ..",
-    }
-}
-
-// The same of the temporary directory.
-fn odd_tmp() -> Misfit
-    ensures { misfit_seen result ≡ spec.odd_tmp }
-{
-    Misfit {
-        status: Status::OddDirectory,
-        field: 4,
-        why: "the directory for temporary files has to be absolute, without an empty part, . or ..",
     }
 }
 
@@ -43,7 +31,11 @@ pub(crate) fn odd_directory(texts: Texts<'_>) -> Option<Misfit>
     if !is_plain(texts.cwd) {
         Some(odd_cwd())
     } else if !is_plain(texts.tmp) {
-        Some(odd_tmp())
+        Some(Misfit {
+            status: Status::OddDirectory,
+            field: 4,
+            why: "the directory for temporary files has to be absolute, without an empty part, . or ..",
+        })
     } else {
         None
     }

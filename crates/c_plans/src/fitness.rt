@@ -32,7 +32,6 @@ fn is_flag(flag: &str) -> bool
     )
 }
 
-// What is wrong with the dry runs of a call, given the field and why.
 fn no_dry_run(field: u32, why: &'static str) -> Misfit
     ensures { misfit_seen result ≡ spec.no_dry_run field why.now }
 {
@@ -62,7 +61,6 @@ pub(crate) fn misfit_of(dry1: &[u8], dry2: &[u8], flag: &str) -> Option<Misfit>
     }
 }
 
-// Whether each group is empty.
 fn are_empty(groups: &[Vec<NvccGeneratedSubcommand>]) -> bool
     ensures { result ≡ spec.are_empty (map vec_items groups.now) }
 {

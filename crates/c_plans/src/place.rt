@@ -12,13 +12,6 @@ use dry_runs::{LimitedFault, parse_dry_run};
 use std::alloc::{AllocError, Global};
 use texts::fault::Fault;
 
-// The number of the field that holds a dry run.
-fn field_of_run(run: usize) -> u32
-    ensures { result ≡ spec.field_of_run run }
-{
-    if run == 1 { 1 } else { 2 }
-}
-
 // The line of a dry run with a number, which counts from 0 here and from 1 in the place.
 fn in_line(run: usize, line: usize) -> PlaceRecord
     ensures { result ≡ spec.in_line run line }
@@ -26,7 +19,7 @@ fn in_line(run: usize, line: usize) -> PlaceRecord
     PlaceRecord {
         run,
         line: line.saturating_add(1),
-        field: field_of_run(run),
+        field: if run == 1 { 1 } else { 2 },
         reserved: 0,
     }
 }
@@ -64,26 +57,6 @@ fn first_bad_line(
     }
 }
 
-// Where a fault is.
-fn place_of_fault(
-    alloc: Global,
-    call: &PlanCall<'_>,
-    accepted: &Accepted<'_>,
-    fault: &Fault,
-) -> Result<PlaceRecord, AllocError>
-    ensures { IfOk result (λ place. place ≡ spec.place_of_fault call.now (accepted_seen accepted.now) fault.now) }
-{
-    match fault {
-        Fault::NotUtf8 { run, line }
-        | Fault::BadShell { run, line }
-        | Fault::EmptyCommand { run, line }
-        | Fault::NoPath { run, line } => Ok(in_line(*run, *line)),
-        Fault::NotFound { .. } => first_bad_line(alloc, call, accepted),
-        Fault::BadSuffixes => Ok(in_field(8)),
-        _ => Ok(nowhere()),
-    }
-}
-
 /// Where a fault of planning is.
 pub(crate) fn place_of(
     alloc: Global,
@@ -94,7 +67,13 @@ pub(crate) fn place_of(
     ensures { IfOk result (λ place. place ≡ spec.place_of call.now (accepted_seen accepted.now) fault.now) }
 {
     match fault {
-        LimitedFault::Fault(fault) => place_of_fault(alloc, call, accepted, fault),
-        LimitedFault::TooLong { run, line } => Ok(in_line(*run, *line)),
+        LimitedFault::TooLong { run, line }
+        | LimitedFault::Fault(Fault::NotUtf8 { run, line })
+        | LimitedFault::Fault(Fault::BadShell { run, line })
+        | LimitedFault::Fault(Fault::EmptyCommand { run, line })
+        | LimitedFault::Fault(Fault::NoPath { run, line }) => Ok(in_line(*run, *line)),
+        LimitedFault::Fault(Fault::NotFound { .. }) => first_bad_line(alloc, call, accepted),
+        LimitedFault::Fault(Fault::BadSuffixes) => Ok(in_field(8)),
+        LimitedFault::Fault(_) => Ok(nowhere()),
     }
 }

@@ -1,11 +1,10 @@
 //! What a caller passes for a plan.
 
-ghost use Rattle.std.specs.Prelude.{◌≡◌, IfOk, option_copied, option_map};
+ghost use Rattle.std.specs.Prelude.{◌≡◌, IfOk, option_copied};
 ghost use Rattle.std.specs.List.{list_all};
-ghost use Rattle.program_lookups.specs.Lookup.{lookup_of};
 ghost use Rattle.c_plans.specs.PlanCalls as spec;
 
-use c_texts::{InputText, Variable, text_of, variables_of, words_of};
+use c_texts::{InputText, Variable, text_of};
 use compilers::compiler::NvccHostCompiler;
 use program_lookups::{Entry, Lookup, Snapshot};
 use std::alloc::{AllocError, Global};
@@ -72,23 +71,12 @@ pub(crate) fn host_of(number: u32) -> Option<NvccHostCompiler>
     }
 }
 
-// Whether the numbers of rows have a meaning.
-fn have_numbers(rows: &[FoundProgram<'_>]) -> bool
+/// Whether the numbers of rows have a meaning.
+pub(crate) fn have_numbers(rows: &[FoundProgram<'_>]) -> bool
     ensures { result ≡ list_all spec.has_row_numbers rows.now }
 {
     rows.iter()
         .all(|row| row.is_found <= 1 && row.reserved == 0)
-}
-
-/// The host compiler of a call, if all its numbers have a meaning: its flags and the reserved numbers of its rows too.
-pub(crate) fn host_in(call: &PlanCall<'_>) -> Option<NvccHostCompiler>
-    ensures { result ≡ spec.host_in call.now }
-{
-    if call.keeps <= 1 && have_numbers(call.lookups) {
-        host_of(call.host_compiler)
-    } else {
-        None
-    }
 }
 
 /// The texts of a call but those of its tables.
@@ -104,18 +92,6 @@ pub struct Texts<'a> {
     pub keep_dir: &'a str,
 }
 
-/// These texts of a call, if all are UTF-8.
-pub(crate) fn texts_of<'a>(call: &PlanCall<'a>) -> Option<Texts<'a>>
-    ensures { option_map spec.texts_seen result ≡ spec.texts_of call.now }
-{
-    Some(Texts {
-        cwd: text_of(call.cwd.bytes)?,
-        tmp: text_of(call.tmp.bytes)?,
-        flag: text_of(call.flag.bytes)?,
-        keep_dir: text_of(call.keep_dir.bytes)?,
-    })
-}
-
 /// A text that there is if a flag isn't 0.
 pub(crate) fn if_flag(flag: u32, text: &str) -> Option<&str>
     ensures { option_copied result ≡ spec.if_flag flag text.now }
@@ -123,51 +99,28 @@ pub(crate) fn if_flag(flag: u32, text: &str) -> Option<&str>
     if flag == 0 { None } else { Some(text) }
 }
 
-// A copy of what a row says that a look-up found.
-fn found_in(alloc: Global, is_found: u32, found: &str) -> Result<Option<Text>, AllocError>
-    ensures { IfOk result (λ text. text ≡ spec.if_flag is_found found.now) }
-{
-    if is_found == 0 {
-        return Ok(None);
-    }
-    Ok(Some(Text::copy_of(alloc, found)?))
-}
-
-// A row as an entry, given its texts.
-fn entry_with(
-    alloc: Global,
-    cwd: &str,
-    program: &str,
-    path: &str,
-    found: Option<Text>,
-) -> Result<Entry, AllocError>
-    ensures { IfOk result (λ entry. entry ≡ record { lookup = lookup_of program.now path.now cwd.now; found = found }) }
-{
-    Ok(Entry {
-        lookup: Lookup::copy_of(alloc, program, path, cwd)?,
-        found,
-    })
-}
-
 // A row as an entry, if its texts are UTF-8.
 fn entry_of(alloc: Global, cwd: &str, row: &FoundProgram<'_>) -> Result<Option<Entry>, AllocError>
     ensures { IfOk result (λ entry. entry ≡ spec.valid_entry cwd.now row.now) }
 {
-    let Some(program) = text_of(row.program.bytes) else {
+    let texts = (
+        text_of(row.program.bytes),
+        text_of(row.path.bytes),
+        text_of(row.found.bytes),
+    );
+    let (Some(program), Some(path), Some(found)) = texts else {
         return Ok(None);
     };
-    let Some(path) = text_of(row.path.bytes) else {
-        return Ok(None);
+    let lookup = Lookup::copy_of(alloc, program, path, cwd)?;
+    let found = match row.is_found {
+        0 => None,
+        _ => Some(Text::copy_of(alloc, found)?),
     };
-    let Some(found) = text_of(row.found.bytes) else {
-        return Ok(None);
-    };
-    let found = found_in(alloc, row.is_found, found)?;
-    Ok(Some(entry_with(alloc, cwd, program, path, found)?))
+    Ok(Some(Entry { lookup, found }))
 }
 
-// Rows as entries, if all their texts are UTF-8.
-fn entries_of(
+/// Rows as entries, if all their texts are UTF-8.
+pub(crate) fn entries_of(
     alloc: Global,
     cwd: &str,
     rows: &[FoundProgram<'_>],
@@ -193,28 +146,4 @@ pub struct Tables {
     pub variables: Variables,
     /// What the look-ups of programs find.
     pub found: Snapshot,
-}
-
-/// The tables of a call, if all their texts are UTF-8.
-pub(crate) fn tables_of(
-    alloc: Global,
-    cwd: &str,
-    call: &PlanCall<'_>,
-) -> Result<Option<Tables>, AllocError>
-    ensures { IfOk result (λ tables. tables ≡ spec.tables_of cwd.now call.now) }
-{
-    let Some(suffixes) = words_of(alloc, call.suffixes)? else {
-        return Ok(None);
-    };
-    let Some(variables) = variables_of(alloc, call.variables)? else {
-        return Ok(None);
-    };
-    let Some(found) = entries_of(alloc, cwd, call.lookups)? else {
-        return Ok(None);
-    };
-    Ok(Some(Tables {
-        suffixes,
-        variables,
-        found,
-    }))
 }

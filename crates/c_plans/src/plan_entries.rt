@@ -1,6 +1,6 @@
 //! The commands of a plan as records.
 
-ghost use Rattle.std.specs.Prelude.{◌≡◌, ◌-◌, ◌∷◌, [], List, ℕ, ◌&&◌, IfOk, OnOk, length, map, vec_items, bytes_eq};
+ghost use Rattle.std.specs.Prelude.{◌≡◌, ◌-◌, ◌∷◌, [], List, ℕ, IfOk, OnOk, length, map, vec_items};
 ghost use Rattle.texts.specs.Variables.{pair_of};
 ghost use Rattle.plans.specs.declared.origins.Origin.{Origin};
 ghost use Rattle.plan_json.specs.Json.{origin_at};
@@ -10,13 +10,11 @@ ghost use Rattle.c_plans.specs.Records as spec;
 
 use crate::record::GroupRecord;
 use crate::recorded::{Entry, Recorded};
-use crate::room::{Room, room_with};
 use c_texts::Range;
 use compilers::command::Cacheable;
 use plans::{Dropped, NvccGeneratedSubcommand, Origin, PlanWithOrigins, Reason};
 use std::alloc::{AllocError, Global};
 
-// The number of a reason.
 fn reason_number(reason: Reason) -> u32
     ensures { result ≡ spec.reason_number reason }
 {
@@ -28,7 +26,6 @@ fn reason_number(reason: Reason) -> u32
     }
 }
 
-// 1 if a cache may serve a command's outputs.
 fn cacheable_number(cacheable: Cacheable) -> u32
     ensures { result ≡ spec.cacheable_number cacheable }
 {
@@ -38,7 +35,6 @@ fn cacheable_number(cacheable: Cacheable) -> u32
     }
 }
 
-// Where the command with a number comes from.
 fn origin_of(origins: &[Origin], id: usize) -> Origin
     ensures { result ≡ origin_at origins.now id }
 {
@@ -48,14 +44,13 @@ fn origin_of(origins: &[Origin], id: usize) -> Origin
     }
 }
 
-// Variables that commands share, and which texts they are.
 #[derive(Clone, Copy)]
 struct Shared<'a> {
     variables: &'a [(String, String)],
     texts: Range,
 }
 
-// The variables that commands share: those of the first command.
+// Mostly all commands of a plan have the first one's variables, so their texts are there once.
 fn shared_of(groups: &[Vec<NvccGeneratedSubcommand>]) -> &[(String, String)]
     ensures { map pair_of result.now ≡ spec.shared_of (map vec_items groups.now) }
 {
@@ -67,24 +62,6 @@ fn shared_of(groups: &[Vec<NvccGeneratedSubcommand>]) -> &[(String, String)]
     &[]
 }
 
-// Whether two variables are the same.
-fn is_same(one: &(String, String), other: &(String, String)) -> bool
-    ensures { result ≡ (bytes_eq (pair_of one.now).0 (pair_of other.now).0 && bytes_eq (pair_of one.now).1 (pair_of other.now).1) }
-{
-    one.0.as_str() == other.0.as_str() && one.1.as_str() == other.1.as_str()
-}
-
-// Whether no variable is left.
-fn is_over(left: &[(String, String)]) -> bool
-    ensures { result ≡ spec.are_same [] (map pair_of left.now) }
-{
-    match left {
-        [] => true,
-        [_, ..] => false,
-    }
-}
-
-// Whether lists of variables are the same.
 fn are_same(some: &[(String, String)], others: &[(String, String)]) -> bool
     ensures { result ≡ spec.are_same (map pair_of some.now) (map pair_of others.now) }
 {
@@ -93,26 +70,17 @@ fn are_same(some: &[(String, String)], others: &[(String, String)]) -> bool
         let Some((other, rest)) = left.split_first() else {
             return false;
         };
-        if !is_same(variable, other) {
+        if variable.0.as_str() != other.0.as_str() || variable.1.as_str() != other.1.as_str() {
             return false;
         }
         left = rest;
     }
-    is_over(left)
-}
-
-// Which texts a command's variables are, if it shares them.
-fn shared_by(shared: Shared<'_>, command: &NvccGeneratedSubcommand) -> Option<Range>
-    ensures { result ≡ spec.shared_by (spec.shared_seen shared.entry) command.now.env_vars }
-{
-    if are_same(command.env_vars.as_slice(), shared.variables) {
-        Some(shared.texts)
-    } else {
-        None
+    match left {
+        [] => true,
+        [_, ..] => false,
     }
 }
 
-// What a command's record says.
 fn command_entry<'a>(
     origin: Origin,
     shared: Shared<'_>,
@@ -132,7 +100,11 @@ fn command_entry<'a>(
         line: origin.line,
         reason: 0,
         cacheable: cacheable_number(command.cacheable),
-        shared: shared_by(shared, command),
+        shared: if are_same(command.env_vars.as_slice(), shared.variables) {
+            Some(shared.texts)
+        } else {
+            None
+        },
     }
 }
 
@@ -154,35 +126,6 @@ fn dropped_entry<'a>(groups: usize, dropped: &'a Dropped) -> Entry<'a>
     }
 }
 
-// The stage of a group, given the number of the last one.
-fn stage_at(last: usize, group: usize) -> u32
-    ensures { result ≡ spec.stage_at last group }
-{
-    if group == 0 {
-        0
-    } else if group == last {
-        2
-    } else {
-        1
-    }
-}
-
-// Adds a command of a group.
-fn push_command(
-    recorded: &mut Recorded,
-    origins: &[Origin],
-    shared: Shared<'_>,
-    group: usize,
-    command: &NvccGeneratedSubcommand,
-) -> Result<(), AllocError>
-    ensures { OnOk result (recorded.new
-        ≡ spec.with_entry recorded.old (spec.command_entry origins.now (spec.shared_seen shared.entry) (length recorded.old.1.1) group command.now)) }
-{
-    let origin = origin_of(origins, recorded.commands_count());
-    recorded.push(command_entry(origin, shared, group, command))
-}
-
-// Adds the commands of a group.
 fn push_commands(
     recorded: &mut Recorded,
     origins: &[Origin],
@@ -194,12 +137,12 @@ fn push_commands(
         ≡ spec.with_entries recorded.old (of_group (spec.command_entry origins.now (spec.shared_seen shared.entry)) (length recorded.old.1.1) group commands.now)) }
 {
     for command in commands {
-        push_command(recorded, origins, shared, group, command)?;
+        let origin = origin_of(origins, recorded.commands_count());
+        recorded.push(command_entry(origin, shared, group, command))?;
     }
     Ok(())
 }
 
-// Adds a group and its commands.
 fn push_group(
     recorded: &mut Recorded,
     origins: &[Origin],
@@ -217,14 +160,19 @@ fn push_group(
             offset: recorded.commands_count(),
             length: commands.len(),
         },
-        stage: stage_at(last, group),
+        stage: if group == 0 {
+            0
+        } else if group == last {
+            2
+        } else {
+            1
+        },
         reserved: 0,
     };
     push_commands(recorded, origins, shared, group, commands)?;
     recorded.push_group(record)
 }
 
-// Adds the groups of a plan, with their commands.
 fn push_groups(
     recorded: &mut Recorded,
     origins: &[Origin],
@@ -243,7 +191,6 @@ fn push_groups(
     Ok(())
 }
 
-// Adds the dropped commands of a plan, given the number of its groups.
 fn push_dropped(
     recorded: &mut Recorded,
     groups: usize,
@@ -257,36 +204,25 @@ fn push_dropped(
     Ok(())
 }
 
-// Fills empty records with a plan. `room` is for texts that the caller adds.
-fn push_plan(
-    recorded: &mut Recorded,
-    planned: &PlanWithOrigins,
-    room: Room,
-) -> Result<(), AllocError>
+fn push_plan(recorded: &mut Recorded, planned: &PlanWithOrigins) -> Result<(), AllocError>
     requires { recorded.now ≡ spec.without_records (of_texts []) }
     ensures { OnOk result (recorded.new ≡ spec.records_of planned.now) }
 {
     let groups = planned.plan.groups.as_slice();
     let origins = planned.origins.as_slice();
     let variables = shared_of(groups);
-    let room = room_with(room, variables, &planned.plan);
-    recorded.reserve(room, groups.len(), origins.len())?;
     let texts = recorded.share(variables)?;
     push_groups(recorded, origins, Shared { variables, texts }, groups)?;
     push_dropped(recorded, groups.len(), planned.plan.dropped.as_slice())?;
     Ok(())
 }
 
-/// A plan as records. `room` is for texts that the caller adds.
-pub fn records_of(
-    alloc: Global,
-    planned: &PlanWithOrigins,
-    room: Room,
-) -> Result<Recorded, AllocError>
+/// A plan as records.
+pub fn records_of(alloc: Global, planned: &PlanWithOrigins) -> Result<Recorded, AllocError>
     ensures { IfOk result (λ recorded. recorded ≡ spec.records_of planned.now) }
 {
     let mut recorded = Recorded::new(alloc);
-    match push_plan(&mut recorded, planned, room) {
+    match push_plan(&mut recorded, planned) {
         Ok(()) => Ok(recorded),
         Err(fault) => {
             // Dropped by a call: see "Explicit drops" in docs/ARCHITECTURE.md.

@@ -1,9 +1,6 @@
 //! Planning the two dry runs of a call for a program that runs the commands.
 
-ghost use Rattle.std.specs.Prelude.{◌≡◌, IfOk, Result};
-ghost use Rattle.dry_runs.specs.declared.limit.LimitedFault.{LimitedFault};
-ghost use Rattle.dry_runs.specs.Limit.{UnlessMemoryWithin};
-ghost use Rattle.plans.specs.declared.origins.PlanWithOrigins.{PlanWithOrigins};
+ghost use Rattle.std.specs.Prelude.{◌≡◌, IfOk};
 ghost use Rattle.c_plans.specs.Acceptance.{accepted_seen};
 ghost use Rattle.c_plans.specs.Places.{AnswersAt};
 ghost use Rattle.c_plans.specs.PlanSteps as spec;
@@ -42,24 +39,7 @@ fn refused_fault(
     Ok(RefusedAt { place, why })
 }
 
-// A plan, or the refusal of the fault of a plan that there isn't.
-fn or_refused_at(
-    alloc: Global,
-    call: &PlanCall<'_>,
-    accepted: &Accepted<'_>,
-    plan: Result<PlanWithOrigins, LimitedFault>,
-) -> Result<PlanWithOrigins, RefusedAt>
-    ensures { (expected : Result PlanWithOrigins LimitedFault) → UnlessMemoryWithin plan expected
-        → AnswersAt result (spec.or_refused_at call.now (accepted_seen accepted.now) expected) }
-{
-    match plan {
-        Ok(plan) => Ok(plan),
-        Err(LimitedFault::Fault(Fault::Memory)) => Err(RefusedAt::from(AllocError)),
-        Err(fault) => Err(refused_fault(alloc, call, accepted, &fault)?),
-    }
-}
-
-// The plan of a call that is accepted.
+// The plan of a call that is accepted, or the refusal of the fault of a plan that there isn't.
 fn plan_at(
     alloc: Global,
     call: &PlanCall<'_>,
@@ -67,7 +47,11 @@ fn plan_at(
 ) -> Result<PlanWithOrigins, RefusedAt>
     ensures { AnswersAt result (spec.plan_at call.now (accepted_seen accepted.now)) }
 {
-    or_refused_at(alloc, call, accepted, planned(alloc, call, accepted))
+    match planned(alloc, call, accepted) {
+        Ok(plan) => Ok(plan),
+        Err(LimitedFault::Fault(Fault::Memory)) => Err(RefusedAt::from(AllocError)),
+        Err(fault) => Err(refused_fault(alloc, call, accepted, &fault)?),
+    }
 }
 
 // The steps of a plan, unless it doesn't fit.
@@ -78,7 +62,6 @@ fn steps_of_plan(alloc: Global, plan: &PlanWithOrigins) -> Result<Stepped, Refus
     Ok(steps_of(alloc, plan)?)
 }
 
-// The steps of a call that is accepted.
 fn steps_by(
     alloc: Global,
     call: &PlanCall<'_>,

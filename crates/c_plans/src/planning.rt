@@ -1,9 +1,11 @@
 //! Planning the two dry runs of a call.
 
-ghost use Rattle.std.specs.Prelude.{map, string_bytes};
+ghost use Rattle.std.specs.Prelude.{◌≡◌, List, ℕ, Result, map, string_bytes};
 ghost use Rattle.texts.specs.Fault.{UnlessMemory};
 ghost use Rattle.canonical_names.specs.FurtherSuffixes.{all_suffixes};
 ghost use Rattle.dry_runs.specs.Limit.{UnlessMemoryWithin};
+ghost use Rattle.plan_scripts.specs.declared.refusal.Refusal.{Refusal};
+ghost use Rattle.plan_scripts.specs.Answers as scripts;
 ghost use Rattle.c_texts.specs.Outcomes.{GivesText};
 ghost use Rattle.c_texts.specs.Refusals.{Answers};
 ghost use Rattle.c_plans.specs.Acceptance.{accepted_of, accepted_seen};
@@ -14,18 +16,28 @@ ghost use Rattle.c_plans.specs.Planning as spec;
 use crate::accepted::{Accepted, accept};
 use crate::limits::or_refused_within;
 use crate::plan_call::{PlanCall, Tables, Texts, if_flag};
-use crate::plan_forms::form_of;
-use crate::refusal::written;
 use c_texts::{Refused, Status, TextAnswer, write_text};
 use canonical_names::{Suffixes, all_suffixes};
 use command_groups::{CallToPlan, plan_with_origins, plan_with_origins_within};
 use compilers::compiler::NvccHostCompiler;
 use dry_runs::LimitedFault;
-use plan_scripts::Format;
+use plan_scripts::{Format, Refusal};
 use plans::PlanWithOrigins;
 use std::alloc::Global;
 use texts::fault::Fault;
 use texts::text::Text;
+
+fn form_of(number: u32) -> Option<Format>
+    ensures { result ≡ spec.form_of number }
+{
+    match number {
+        0 => Some(Format::Json),
+        1 => Some(Format::Ninja),
+        2 => Some(Format::Shell),
+        3 => Some(Format::Text),
+        _ => None,
+    }
+}
 
 // The standard suffixes, with those of the call behind them. Without such they are as they were written: renaming is faster with these.
 fn suffixes_of(alloc: Global, further: &[String]) -> Result<Suffixes, Fault>
@@ -37,7 +49,7 @@ fn suffixes_of(alloc: Global, further: &[String]) -> Result<Suffixes, Fault>
     }
 }
 
-// The plan of a call with such suffixes, or why there is none.
+// It takes the parts of an `Accepted`: the prover knows no struct that borrows both from one and from what is in it.
 fn planned_with(
     alloc: Global,
     call: &PlanCall<'_>,
@@ -83,31 +95,20 @@ pub fn planned(
     planned
 }
 
-/// The plan of a call that is accepted, or why it has none.
-pub(crate) fn plan_by(
-    alloc: Global,
-    call: &PlanCall<'_>,
-    accepted: &Accepted<'_>,
-) -> Result<PlanWithOrigins, Refused>
-    ensures { Answers result (spec.plan_by call.now (accepted_seen accepted.now)) }
+// The text of a plan, or why its form can't represent it.
+fn written(alloc: Global, answer: Result<String, Refusal>) -> Result<Text, Refused>
+    ensures { (expected : Result (List ℕ) Refusal) → scripts.Answers answer expected → Answers result (spec.written expected) }
 {
-    or_refused_within(alloc, call.limit, planned(alloc, call, accepted))
+    match answer {
+        Ok(text) => Ok(Text::new(text)),
+        Err(Refusal::Memory) => Err(Refused::Memory),
+        Err(refusal) => {
+            let why = Text::new(refusal.to_string(alloc)?);
+            Err(Refused::Told(Status::Unwritable, why))
+        }
+    }
 }
 
-// A plan in a form, or why the form can't represent it.
-fn text_of_plan(
-    alloc: Global,
-    form: Format,
-    texts: Texts<'_>,
-    plan: &PlanWithOrigins,
-) -> Result<Text, Refused>
-    ensures { Answers result (spec.text_of_plan form (texts_seen texts.entry) plan.now) }
-{
-    let text = plan_formats::plan_text(alloc, form, texts.cwd, texts.tmp, texts.flag, plan);
-    written(alloc, text)
-}
-
-// The plan of a call that is accepted, in a form.
 fn text_by(
     alloc: Global,
     call: &PlanCall<'_>,
@@ -116,11 +117,12 @@ fn text_by(
 ) -> Result<Text, Refused>
     ensures { Answers result (spec.text_by call.now form (accepted_seen accepted.now)) }
 {
-    let plan = plan_by(alloc, call, accepted)?;
-    let text = text_of_plan(alloc, form, accepted.texts, &plan);
+    let plan = or_refused_within(alloc, call.limit, planned(alloc, call, accepted))?;
+    let texts = accepted.texts;
+    let text = plan_formats::plan_text(alloc, form, texts.cwd, texts.tmp, texts.flag, &plan);
     // Dropped by a call: see "Explicit drops" in docs/ARCHITECTURE.md.
     drop(plan);
-    text
+    written(alloc, text)
 }
 
 /// What [`plan`] tells of a call and the number of a form.

@@ -6,7 +6,6 @@ ghost use Rattle.c_texts.specs.Outcomes.{of_texts, with_texts};
 ghost use Rattle.c_plans.specs.Records as spec;
 
 use crate::record::{CommandRecord, GroupRecord};
-use crate::room::Room;
 use c_texts::{Outcome, Range};
 use std::alloc::{AllocError, Global};
 use std::marker::Model;
@@ -46,7 +45,6 @@ pub(crate) struct Entry<'a> {
     pub(crate) shared: Option<Range>,
 }
 
-// Adds the texts of variables.
 fn push_pairs(texts: &mut Outcome, variables: &[(String, String)]) -> Result<(), AllocError>
     ensures { OnOk result (texts.new ≡ with_texts texts.old (spec.variable_texts (map pair_of variables.now))) }
 {
@@ -124,20 +122,6 @@ impl Recorded {
         ensures { result ≡ length self.now.1.1 }
     {
         self.commands.len()
-    }
-
-    /// Makes room for further texts, groups and commands.
-    pub(crate) fn reserve(
-        &mut self,
-        room: Room,
-        groups: usize,
-        commands: usize,
-    ) -> Result<(), AllocError>
-        ensures { self.new ≡ self.old }
-    {
-        self.groups.reserve(groups)?;
-        self.commands.reserve(commands)?;
-        self.outcome.reserve(room.texts, room.bytes)
     }
 
     /// Adds the texts of variables that commands share, and says which they are.

@@ -14,32 +14,21 @@ use c_texts::{
 };
 use canonical_names::{Renames, Suffixes, all_suffixes, remap_generated_filenames};
 use std::alloc::{AllocError, Global};
-use texts::words::Words;
 
-// Words with canonical names.
-fn renamed(alloc: Global, words: &[String], suffixes: &Suffixes) -> Result<Words, AllocError>
-    ensures { IfOk result (λ new. new ≡ renamed_words suffixes.now [] (map string_bytes words.now)) }
-{
-    let mut renames = Renames::new(alloc, suffixes)?;
-    remap_generated_filenames(alloc, words, &mut renames)
-}
-
-// The list of them.
 fn renamed_list(alloc: Global, words: &[String], suffixes: &Suffixes) -> Result<Outcome, AllocError>
     ensures { IfOk result (λ outcome. outcome ≡ of_texts (renamed_words suffixes.now [] (map string_bytes words.now))) }
 {
-    let words = renamed(alloc, words, suffixes)?;
-    Outcome::of_texts(alloc, words.as_slice())
+    let mut renames = Renames::new(alloc, suffixes)?;
+    let renamed = remap_generated_filenames(alloc, words, &mut renames)?;
+    Outcome::of_texts(alloc, renamed.as_slice())
 }
 
-// The standard suffixes and further ones, or the refusal of such as break the rule of such a list.
 fn suffixes_with(alloc: Global, further: &[String]) -> Result<Suffixes, Refused>
     ensures { Answers result (or_refused (all_suffixes (map string_bytes further.now))) }
 {
     or_refused(alloc, all_suffixes(alloc, further))
 }
 
-// Words with canonical names, with further suffixes behind the standard ones.
 fn remapped(alloc: Global, words: &[String], further: &[String]) -> Result<Outcome, Refused>
     ensures { Answers result (spec.remapped (map string_bytes words.now) (map string_bytes further.now)) }
 {

@@ -101,13 +101,6 @@ impl Stepped {
         self.steps.len()
     }
 
-    /// Makes room for further commands.
-    pub(crate) fn reserve(&mut self, commands: usize) -> Result<(), AllocError>
-        ensures { self.new ≡ self.old }
-    {
-        self.steps.reserve(commands)
-    }
-
     /// Adds what there is to know of a command.
     pub(crate) fn push(&mut self, extra: Extra<'_>) -> Result<(), AllocError>
         ensures { OnOk result (self.new ≡ spec.with_extra self.old (spec.extra_seen extra.entry)) }
@@ -129,7 +122,6 @@ fn put<T: Copy>(all: bool, items: &[T], memory: &mut [T])
     }
 }
 
-// Whether all parts of an answer fit into memory of the caller.
 fn all_fit(
     stepped: &Stepped,
     groups: &[GroupRecord],

@@ -1,18 +1,15 @@
 //! A plan as records, with what each command reads, writes and needs.
 
-ghost use Rattle.std.specs.Prelude.{◌≡◌, IfOk, OnOk, fold, length, map, vec_items};
+ghost use Rattle.std.specs.Prelude.{◌≡◌, IfOk, OnOk, length, map, vec_items};
 ghost use Rattle.command_files.specs.Order.{needs_at as needs_of};
 ghost use Rattle.c_plans.specs.Records as records;
-ghost use Rattle.c_plans.specs.Rooms.{no_room};
 ghost use Rattle.c_plans.specs.Steps as spec;
 
-use crate::missing::missing_of;
 use crate::plan_entries::records_of;
-use crate::room::Room;
 use crate::stepped::{Extra, Stepped};
-use crate::tool::tool_of;
+use c_texts::tool_number;
 use command_files::{CommandFiles, files_and_needs, files_of, preprocesses};
-use plans::{NvccGeneratedSubcommand, PlanWithOrigins};
+use plans::{NvccGeneratedSubcommand, PlanWithOrigins, Program};
 use std::alloc::{AllocError, Global};
 
 /// What is known of all commands of a plan.
@@ -24,7 +21,6 @@ pub(crate) struct Known<'a> {
     pub(crate) files: &'a [CommandFiles],
 }
 
-// What the command with a number needs.
 fn needs_at(needs: &[Vec<usize>], id: usize) -> &[usize]
     ensures { result.now ≡ needs_of (map vec_items needs.now) id }
 {
@@ -34,7 +30,21 @@ fn needs_at(needs: &[Vec<usize>], id: usize) -> &[usize]
     }
 }
 
-// Adds a command with these needs and files.
+// 0 if a command's words name all files of the compilation that it touches, else the number of the reason why they don't.
+fn missing_of(program: Program, complete: bool, preprocesses: bool) -> u32
+    ensures { result ≡ spec.missing_of program complete preprocesses }
+{
+    if complete {
+        0
+    } else if matches!(program, Program::Cicc | Program::Ptxas | Program::Cudafe) {
+        1
+    } else if preprocesses {
+        2
+    } else {
+        3
+    }
+}
+
 fn push_with(
     stepped: &mut Stepped,
     needs: &[usize],
@@ -43,12 +53,16 @@ fn push_with(
 ) -> Result<(), AllocError>
     ensures { OnOk result (stepped.new ≡ spec.with_extra stepped.old (spec.extra_with needs.now files.now command.now)) }
 {
-    let tool = tool_of(command.exe.as_str());
+    let program = Program::at(command.exe.as_str());
     let extra = Extra {
         needs,
         files,
-        tool,
-        missing: missing_of(tool, files.complete, preprocesses(command.args.as_slice())),
+        tool: tool_number(program),
+        missing: missing_of(
+            program,
+            files.complete,
+            preprocesses(command.args.as_slice()),
+        ),
     };
     stepped.push(extra)
 }
@@ -70,7 +84,6 @@ fn push_command(
     }
 }
 
-// Adds the commands of a group.
 fn push_group(
     alloc: Global,
     stepped: &mut Stepped,
@@ -86,7 +99,6 @@ fn push_group(
     Ok(())
 }
 
-// Adds the commands of groups.
 fn push_groups(
     alloc: Global,
     stepped: &mut Stepped,
@@ -103,36 +115,6 @@ fn push_groups(
     Ok(())
 }
 
-// Room for the paths of files.
-fn room_of(files: &[CommandFiles]) -> Room
-    ensures { result ≡ fold spec.with_room_of no_room files.now }
-{
-    let mut room = Room::none();
-    for command in files {
-        room = room
-            .with_texts(command.reads.as_slice())
-            .with_texts(command.writes.as_slice())
-            .with_texts(command.may_write.as_slice());
-    }
-    room
-}
-
-// Adds the commands of a plan.
-fn push_plan(
-    alloc: Global,
-    stepped: &mut Stepped,
-    known: Known<'_>,
-    planned: &PlanWithOrigins,
-) -> Result<(), AllocError>
-    ensures { OnOk result (stepped.new
-        ≡ spec.with_extras stepped.old
-        (spec.extras_from (spec.known_seen known.entry) (length stepped.old.steps) (spec.commands_of planned.now.plan.groups))) }
-{
-    stepped.reserve(known.files.len())?;
-    push_groups(alloc, stepped, known, planned.plan.groups.as_slice())
-}
-
-// A plan as records, with what is known of its commands.
 fn with_steps(
     alloc: Global,
     planned: &PlanWithOrigins,
@@ -141,9 +123,9 @@ fn with_steps(
     ensures { IfOk result (λ stepped. stepped ≡ spec.with_extras (spec.of_recorded (records.records_of planned.now))
         (spec.extras_from (spec.known_seen known.entry) 0 (spec.commands_of planned.now.plan.groups))) }
 {
-    let recorded = records_of(alloc, planned, room_of(known.files))?;
+    let recorded = records_of(alloc, planned)?;
     let mut stepped = Stepped::of_recorded(alloc, recorded);
-    match push_plan(alloc, &mut stepped, known, planned) {
+    match push_groups(alloc, &mut stepped, known, planned.plan.groups.as_slice()) {
         Ok(()) => Ok(stepped),
         Err(fault) => {
             // Dropped by a call: see "Explicit drops" in docs/ARCHITECTURE.md.

@@ -1,5 +1,5 @@
 -- What a caller passes for the key of a command, and what it gets.
-use Rattle.std.specs.Prelude.{ℕ, List, ◌==◌, ◌&&◌, nat_le, if◌then◌else◌, length, map, Option, Some, None, ok_or, Result, codes}
+use Rattle.std.specs.Prelude.{ℕ, List, ◌==◌, ◌&&◌, nat_le, if◌then◌else◌, length, map, Option, None, ok_or, Result, codes}
 use Rattle.texts.specs.Results.{and_then}
 use Rattle.c_texts.specs.declared.key_call.KeyCall.{KeyCall}
 use Rattle.c_texts.specs.declared.refusal.Refused.{Refused}
@@ -8,29 +8,18 @@ use Rattle.c_texts.specs.declared.status.Status.TheVariants.{BadLine, BadNumber}
 use Rattle.c_texts.specs.Memory.{bytes_of}
 use Rattle.c_texts.specs.Outcomes.{Outcome}
 use Rattle.c_texts.specs.Refusals.{ended_text, or_plain}
+use Rattle.c_texts.specs.Tools.{program_of}
 use Rattle.c_texts.specs.Variables.{pair_of}
-use Rattle.command_keys.specs.declared.environment.KeyTool.{KeyTool}
-use Rattle.command_keys.specs.declared.environment.KeyTool.TheVariants.{Cicc, Ptxas, CudaFe, Fatbinary, Nvlink, Host}
 use Rattle.command_keys.specs.Keys.{key_of, most_roots}
 use Rattle.command_keys.specs.ToolVariables.{tool_variables}
-
--- the tool with this number, as `zigrunk_step` has it
-abbrev pub tool_of : ℕ → Option KeyTool
-tool_of n =
-    if n == 0 then Some Cicc
-    else if n == 1 then Some Ptxas
-    else if n == 2 then Some CudaFe
-    else if n == 6 then Some Fatbinary
-    else if n == 7 then Some Nvlink
-    else if n == 8 then Some Host
-    else None
+use Rattle.plans.specs.declared.program.Program.{Program}
 
 -- the tool of a call, if its numbers have a meaning: there are letters for at most 26 roots
-abbrev pub tool_in : KeyCall → Option KeyTool
-tool_in call = if (call.reserved == 0) && nat_le (length call.roots.now) most_roots then tool_of call.tool else None
+abbrev pub tool_in : KeyCall → Option Program
+tool_in call = if (call.reserved == 0) && nat_le (length call.roots.now) most_roots then program_of call.tool else None
 
 -- the key of a call's command, if no text of it contains NUL
-abbrev pub key_by : KeyTool → KeyCall → Option (List ℕ)
+abbrev pub key_by : Program → KeyCall → Option (List ℕ)
 key_by tool call = key_of (map bytes_of call.roots.now) (map bytes_of call.words.now, tool_variables tool (map pair_of call.variables.now))
 
 -- the key of a call's command. A number without a meaning comes first, then a text with NUL: no process can have such a command

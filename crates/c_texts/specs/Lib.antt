@@ -10,5 +10,6 @@ pub mod ScheduleCalls
 pub mod ScheduleNumbers
 pub mod Shell
 pub mod Statuses
+pub mod Tools
 pub mod Variables
 pub mod Version

@@ -14,7 +14,8 @@ use crate::outcome::tell_text;
 use crate::refusal::Refused;
 use crate::status::Status;
 use crate::variables::Variable;
-use command_keys::{KeyTool, tool_variables};
+use command_keys::tool_variables;
+use plans::Program;
 use std::alloc::{AllocError, Global};
 use texts::bytes::Bytes;
 use texts::text::Text;
@@ -45,7 +46,7 @@ fn variables_of<'a>(
 }
 
 // The key of a call's command, if no text of it contains NUL.
-fn key_by(alloc: Global, tool: KeyTool, call: &KeyCall<'_>) -> Result<Option<Vec<u8>>, AllocError>
+fn key_by(alloc: Global, tool: Program, call: &KeyCall<'_>) -> Result<Option<Vec<u8>>, AllocError>
     ensures { IfOk result (λ key. option_map (λ key. key.items) key ≡ spec.key_by tool call.now) }
 {
     let words = texts_of(alloc, call.words)?;

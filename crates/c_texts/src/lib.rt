@@ -26,6 +26,7 @@ mod schedule_reason;
 mod schedule_state;
 mod shell;
 mod status;
+mod tool;
 mod variables;
 mod versions;
 
@@ -40,5 +41,6 @@ pub use schedule_call::{ScheduleCall, ScheduledCommand};
 pub use schedule_reason::Reason;
 pub use shell::{quote, quoted_text, split, split_words};
 pub use status::{Status, message};
+pub use tool::{program_of, tool_number};
 pub use variables::{Variable, variables_of};
 pub use versions::{abi_version, version};

@@ -79,14 +79,6 @@ impl Outcome {
         self.ranges.len()
     }
 
-    /// Makes room for as many further texts, and for as many bytes of them, so that adding them moves nothing.
-    pub fn reserve(&mut self, count: usize, length: usize) -> Result<(), AllocError>
-        ensures { self.new ≡ self.old }
-    {
-        self.ranges.reserve(count)?;
-        self.text.reserve(length)
-    }
-
     /// Adds a text.
     pub fn push(&mut self, text: &str) -> Result<(), AllocError>
         ensures { OnOk result (self.new ≡ spec.with_texts self.old (text.now ∷ [])) }

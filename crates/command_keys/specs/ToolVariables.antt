@@ -7,24 +7,24 @@
 -- library that LD_LIBRARY_PATH finds.
 use Rattle.std.specs.Prelude.{◌≡◌, ℕ, List, [], ◌∷◌, ◌++◌, if◌then◌else◌, Option, Some, None, refl, codes, flat_map, bytes_eq}
 use Rattle.texts.specs.Lists.{latest}
-use Rattle.command_keys.specs.declared.environment.KeyTool.{KeyTool}
-use Rattle.command_keys.specs.declared.environment.KeyTool.TheVariants.{Cicc, Ptxas, CudaFe, Fatbinary, Nvlink, Host}
+use Rattle.plans.specs.declared.program.Program.{Program}
+use Rattle.plans.specs.declared.program.Program.TheVariants.{Cicc, Ptxas, Cudafe, Fatbinary, Nvlink, Other}
 
 -- The variables that the C library and its loader read in any tool: which other code is loaded, and with which instructions libm computes. cicc
 -- has libm compute constants: `cos(8.1764856122660277)` is another one without FMA.
 abbrev pub read_by_loader : List (List ℕ)
 read_by_loader = codes "GLIBC_TUNABLES" ∷ codes "LD_AUDIT" ∷ codes "LD_PRELOAD" ∷ []
 
--- the variables that a tool reads itself
-abbrev pub read_by_code : KeyTool → List (List ℕ)
+-- the variables that a tool reads itself. Any other program counts as a host compiler: gcc, or clang
+abbrev pub read_by_code : Program → List (List ℕ)
 read_by_code Cicc =
     codes "EDG_BASE" ∷ codes "EDG_MODULES_PATH" ∷ codes "LLVM_OVERRIDE_PRODUCER" ∷ codes "NVVMCCWIZ" ∷ codes "NVVM_IR_VER_CHK"
     ∷ codes "NV_NVVM_VERSION" ∷ codes "PWD" ∷ codes "USR_INCLUDE" ∷ []
 read_by_code Ptxas = codes "CAN_FINALIZE_DEBUG" ∷ codes "DUMP_KNOBS_TO_FILE" ∷ []
-read_by_code CudaFe = codes "EDG_BASE" ∷ codes "EDG_MODULES_PATH" ∷ codes "USR_INCLUDE" ∷ []
+read_by_code Cudafe = codes "EDG_BASE" ∷ codes "EDG_MODULES_PATH" ∷ codes "USR_INCLUDE" ∷ []
 read_by_code Fatbinary = []
 read_by_code Nvlink = codes "CAN_FINALIZE_DEBUG" ∷ codes "LIBRARY_PATH" ∷ []
-read_by_code Host =
+read_by_code Other =
     codes "BINUTILS_ROOT" ∷ codes "CCC_OVERRIDE_OPTIONS" ∷ codes "COMPILER_PATH" ∷ codes "CPATH" ∷ codes "CPLUS_INCLUDE_PATH"
     ∷ codes "C_INCLUDE_PATH" ∷ codes "DEPENDENCIES_OUTPUT" ∷ codes "G++_ROOT" ∷ codes "GCC_COMPARE_DEBUG" ∷ codes "GCC_EXEC_PREFIX"
     ∷ codes "GCC_ROOT" ∷ codes "LANG" ∷ codes "LC_ALL" ∷ codes "LC_CTYPE" ∷ codes "LC_MESSAGES"
@@ -32,7 +32,7 @@ read_by_code Host =
     ∷ codes "SUNPRO_DEPENDENCIES" ∷ []
 
 -- the variables that a tool reads, in the order of a key
-abbrev pub read_by : KeyTool → List (List ℕ)
+abbrev pub read_by : Program → List (List ℕ)
 read_by tool = read_by_loader ++ read_by_code tool
 
 -- the value of a variable in an environment; of a name that occurs twice, the last one
@@ -45,12 +45,12 @@ set_variable name None = []
 set_variable name (Some value) = (name, value) ∷ []
 
 -- the variables that a tool reads, as far as an environment sets them
-abbrev pub tool_variables : KeyTool → List (List ℕ × List ℕ) → List (List ℕ × List ℕ)
+abbrev pub tool_variables : Program → List (List ℕ × List ℕ) → List (List ℕ × List ℕ)
 tool_variables tool environment = flat_map (λ name. set_variable name (last_value name environment)) (read_by tool)
 
 -- Examples: the order of the environment doesn't count, and of two values the last one does; those of the loader count for each tool.
 pub variables_of_cudafe :
-    tool_variables CudaFe ((codes "USR_INCLUDE", codes "/a") ∷ (codes "HOME", codes "/") ∷ (codes "EDG_BASE", codes "/b") ∷ (codes "USR_INCLUDE", codes "/c") ∷ [])
+    tool_variables Cudafe ((codes "USR_INCLUDE", codes "/a") ∷ (codes "HOME", codes "/") ∷ (codes "EDG_BASE", codes "/b") ∷ (codes "USR_INCLUDE", codes "/c") ∷ [])
     ≡ (codes "EDG_BASE", codes "/b") ∷ (codes "USR_INCLUDE", codes "/c") ∷ []
 variables_of_cudafe = refl
 

@@ -4,30 +4,14 @@ ghost use Rattle.std.specs.Prelude.{◌≡◌, map, IfOk, option_copied};
 ghost use Rattle.command_keys.specs.Keys.{shown, shown_variable};
 ghost use Rattle.command_keys.specs.ToolVariables as spec;
 
+use plans::Program;
 use std::alloc::{AllocError, Global};
 
-/// The kinds of tools that a command runs.
-#[derive(Clone, Copy, Debug)]
-pub enum KeyTool {
-    /// cicc, which makes PTX.
-    Cicc,
-    /// ptxas, which makes a cubin.
-    Ptxas,
-    /// cudafe++, which makes host code.
-    CudaFe,
-    /// fatbinary, which joins what the device tools make.
-    Fatbinary,
-    /// nvlink, which links device code.
-    Nvlink,
-    /// A host compiler: gcc, or clang.
-    Host,
-}
-
-fn names_of(tool: KeyTool) -> &'static [&'static str]
+fn names_of(tool: Program) -> &'static [&'static str]
     ensures { map shown result.now ≡ spec.read_by tool }
 {
     match tool {
-        KeyTool::Cicc => &[
+        Program::Cicc => &[
             "GLIBC_TUNABLES",
             "LD_AUDIT",
             "LD_PRELOAD",
@@ -40,14 +24,14 @@ fn names_of(tool: KeyTool) -> &'static [&'static str]
             "PWD",
             "USR_INCLUDE",
         ],
-        KeyTool::Ptxas => &[
+        Program::Ptxas => &[
             "GLIBC_TUNABLES",
             "LD_AUDIT",
             "LD_PRELOAD",
             "CAN_FINALIZE_DEBUG",
             "DUMP_KNOBS_TO_FILE",
         ],
-        KeyTool::CudaFe => &[
+        Program::Cudafe => &[
             "GLIBC_TUNABLES",
             "LD_AUDIT",
             "LD_PRELOAD",
@@ -55,15 +39,15 @@ fn names_of(tool: KeyTool) -> &'static [&'static str]
             "EDG_MODULES_PATH",
             "USR_INCLUDE",
         ],
-        KeyTool::Fatbinary => &["GLIBC_TUNABLES", "LD_AUDIT", "LD_PRELOAD"],
-        KeyTool::Nvlink => &[
+        Program::Fatbinary => &["GLIBC_TUNABLES", "LD_AUDIT", "LD_PRELOAD"],
+        Program::Nvlink => &[
             "GLIBC_TUNABLES",
             "LD_AUDIT",
             "LD_PRELOAD",
             "CAN_FINALIZE_DEBUG",
             "LIBRARY_PATH",
         ],
-        KeyTool::Host => &[
+        Program::Other => &[
             "GLIBC_TUNABLES",
             "LD_AUDIT",
             "LD_PRELOAD",
@@ -112,7 +96,7 @@ fn last_value<'a>(environment: &[(&'a [u8], &'a [u8])], name: &[u8]) -> Option<&
 /// working directory in a key, which debugging information has, sets `PWD` to it.
 pub fn tool_variables<'a>(
     alloc: Global,
-    tool: KeyTool,
+    tool: Program,
     environment: &[(&'a [u8], &'a [u8])],
 ) -> Result<Vec<(&'a [u8], &'a [u8])>, AllocError>
     ensures { IfOk result (λ chosen. map shown_variable chosen.items ≡ spec.tool_variables tool (map shown_variable environment.now)) }

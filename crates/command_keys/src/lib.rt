@@ -11,6 +11,6 @@ mod keys;
 pub mod laws;
 mod marks;
 
-pub use environment::{KeyTool, tool_variables};
+pub use environment::tool_variables;
 pub use keys::{MOST_ROOTS, command_key};
 pub use marks::Part;

@@ -5,7 +5,8 @@ use crate::cache::marked;
 use crate::cache::processor::instructions;
 use crate::cache::recipe::Recipe;
 use crate::cache::tool::Kind;
-use command_keys::{KeyTool, command_key, tool_variables};
+use command_keys::{command_key, tool_variables};
+use plans::Program;
 use rattle_std::alloc::Global;
 use std::borrow::Cow;
 use std::ffi::{OsStr, OsString};
@@ -57,20 +58,20 @@ fn counted<'a>(text: &'a Text, recipe: &Recipe) -> Option<Cow<'a, [u8]>> {
     if recipe.stem.as_ref().is_some_and(is_seen) { None } else { recipe.unnamed(&text.content) }
 }
 
-fn key_tool(kind: Kind) -> KeyTool {
+fn program_of(kind: Kind) -> Program {
     match kind {
-        Kind::CudaFe => KeyTool::CudaFe,
-        Kind::Cicc => KeyTool::Cicc,
-        Kind::Ptxas => KeyTool::Ptxas,
-        Kind::Fatbinary => KeyTool::Fatbinary,
-        Kind::Host => KeyTool::Host,
+        Kind::CudaFe => Program::Cudafe,
+        Kind::Cicc => Program::Cicc,
+        Kind::Ptxas => Program::Ptxas,
+        Kind::Fatbinary => Program::Fatbinary,
+        Kind::Host => Program::Other,
     }
 }
 
 /// The key of a command's words and variables, by what is proved of keys. `PWD` is where the command runs, which only debugging information has.
 fn words_key(recipe: &Recipe, environment: &[(OsString, OsString)]) -> Option<Vec<u8>> {
     let variables: Vec<(&[u8], &[u8])> = environment.iter().map(|(name, value)| (name.as_bytes(), value.as_bytes())).collect();
-    let chosen = tool_variables(Global, key_tool(recipe.kind), &variables).ok()?;
+    let chosen = tool_variables(Global, program_of(recipe.kind), &variables).ok()?;
     let names_count = recipe.directory.is_empty();
     let counted: Vec<_> = chosen.as_slice().iter().filter(|variable| names_count || variable.0 != b"PWD").copied().collect();
     let words: Vec<&[u8]> = recipe.counted.iter().map(String::as_bytes).collect();
