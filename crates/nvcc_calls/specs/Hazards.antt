@@ -34,13 +34,19 @@ is_plain_directory path = list_all is_left path
 abbrev pub begins_with_one : List (List ℕ) → List ℕ → Bool
 begins_with_one texts word = list_any (starts_with nat_eq word) texts
 
--- whether a word has a tool read options from a file. The tool runs in the temporary directory, and finds no relative file
+-- whether a word has a tool read options, or fatbinary code, from a file. The tool runs in the temporary directory, and finds no relative file
 abbrev pub tool_options : List (List ℕ)
 tool_options =
     spaced "-Xptxas= --ptxas-options= -Xfatbin= --fatbin-options= -Xcicc= --cicc-options= -Xcudafe= --cudafe-options="
 
+-- fatbinary's options, of which an image's names a file of code
+abbrev pub fatbinary_options : List (List ℕ)
+fatbinary_options = spaced "-Xfatbin= --fatbin-options="
+
 abbrev pub reads_file : List ℕ → Bool
-reads_file word = begins_with_one tool_options word && (holds (codes "-optf") word || holds (codes "-options-file") word)
+reads_file word =
+    begins_with_one tool_options word && (holds (codes "-optf") word || holds (codes "-options-file") word)
+    || begins_with_one fatbinary_options word && holds (codes "file=") word
 
 -- whether a word has each host preprocessor write a dependency file
 abbrev pub host_options : List (List ℕ)
@@ -120,6 +126,9 @@ folder_with_a_dollar = refl
 
 pub file_for_ptxas : hazard_of (call_in (codes "/w")) nothing_asked (call_for (codes "-c") (codes "k.o") (spaced "-Xptxas=-optf,p.txt")) ≡ Some ToolFile
 file_for_ptxas = refl
+
+pub code_for_fatbinary : hazard_of (call_in (codes "/w")) nothing_asked (call_for (codes "-c") (codes "k.o") (spaced "-Xfatbin=--image=file=a")) ≡ Some ToolFile
+code_for_fatbinary = refl
 
 pub shared_file : hazard_of (call_in (codes "/w")) nothing_asked (call_for (codes "-fatbin") (codes "k.f") (spaced "-Xcompiler=-MD,-MF,k.d")) ≡ Some HostFile
 shared_file = refl

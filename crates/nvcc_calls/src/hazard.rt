@@ -84,11 +84,19 @@ fn is_tool_option(word: &str) -> bool
         || begins_with("--cudafe-options=", word)
 }
 
-// Whether a word has a tool read options from a file.
+// Whether a word is an option for fatbinary, with its value.
+fn is_fatbinary_option(word: &str) -> bool
+    ensures { result ≡ spec.begins_with_one spec.fatbinary_options word.now }
+{
+    begins_with("-Xfatbin=", word) || begins_with("--fatbin-options=", word)
+}
+
+// Whether a word has a tool read a file of options, or fatbinary one of code.
 fn reads_file(word: &str) -> bool
     ensures { result ≡ spec.reads_file word.now }
 {
-    is_tool_option(word) && (holds(word, "-optf") || holds(word, "-options-file"))
+    (is_tool_option(word) && (holds(word, "-optf") || holds(word, "-options-file")))
+        || (is_fatbinary_option(word) && holds(word, "file="))
 }
 
 fn one_reads_file(words: &[String]) -> bool
