@@ -736,6 +736,19 @@ mod tests {
     }
 
     #[test]
+    fn a_call_whose_jobs_run_looks_again_and_again() {
+        in_own_process(|| {
+            let mut host = plain_host();
+            start(&mut host, 0, &shell("sleep 300"));
+            host.want(false);
+            let begun = Instant::now();
+            host.wait();
+            assert!(begun.elapsed() < Duration::from_secs(30), "it wouldn't touch its slots");
+            host.end_all(TERM);
+        });
+    }
+
+    #[test]
     fn a_job_is_heard_by_both_streams() {
         in_own_process(|| {
             let mut host = plain_host();
