@@ -837,6 +837,12 @@ mod tests {
         assert_eq!(said, "1I 2I 15I 17B 18I 20I , 1I 2I 15I 17 18I 20I ");
     }
 
+    /// Whether a process is stopped, as the kernel says.
+    fn is_stopped(process: i32) -> bool {
+        let text = fs::read_to_string(format!("/proc/{process}/stat")).unwrap_or_default();
+        text.rsplit(") ").next().is_some_and(|rest| rest.starts_with('T'))
+    }
+
     #[test]
     fn a_process_stops_until_it_is_continued() {
         // Where nobody could continue it, as in a group whose shell is gone, the kernel doesn't stop it.
@@ -847,7 +853,13 @@ mod tests {
             Signals::stop();
             assert_eq!((dispositions(&[TSTP]).as_str(), signals.next()), ("20BI ", None));
         };
-        assert!(status_of(stop, |process| signal_process(process, CONT)).succeeded());
+        // (a CONT before that would take the TSTP away which waits)
+        let goes_on = |process| {
+            if is_stopped(process) {
+                signal_process(process, CONT);
+            }
+        };
+        assert!(status_of(stop, goes_on).succeeded());
     }
 
     #[test]
