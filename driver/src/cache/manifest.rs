@@ -101,7 +101,9 @@ impl Seen {
         let status = fs::metadata(cwd.join(path)).ok()?;
         let mut hasher = Hasher::default();
         hasher.update(&seen.digest.0);
-        [status.mtime(), status.mtime_nsec()].iter().for_each(|part| hasher.update(&part.to_le_bytes()));
+        for part in [status.mtime(), status.mtime_nsec()] {
+            hasher.update(&part.to_le_bytes());
+        }
         Some(Seen { digest: hasher.finish(), form: Form::Dated, ..seen })
     }
 
