@@ -509,12 +509,13 @@ deaths() {
     fi
     if case_of 'the shared directory is removed'; then
         two_nodes
-        rm -rf "$room/share/zigrunk-$user"
+        # (a command may write into it meanwhile, and with some of its files left a call ends by the status of what misses others)
+        rm -rf "$room/share/zigrunk-$user" 2> /dev/null || rm -rf "$room/share/zigrunk-$user"
         within 60 has_ended || { problems+='  it ends late'$'\n'; kill -KILL "$process"; }
-        { wait "$process"; } 2> /dev/null
-        same status $? 1
+        ! { wait "$process"; } 2> /dev/null || problems+='  it succeeds'$'\n'
         for number in 1 2 3 4 5 6; do
-            grep -q "^zigrunk-batch: line $number: exit status 1: " "$room/err" || cmp -s "wanted/k$number.o" "k$number.o" || problems+="  call $number is lost"$'\n'
+            grep -qE "^zigrunk-batch: line $number: exit status [1-9][0-9]*: " "$room/err" || cmp -s "wanted/k$number.o" "k$number.o" ||
+                problems+="  call $number is lost: $(grep "line $number:" "$room/err")"$'\n'
         done
         PAUSE=0 farm --workers "$(worker n1)" list
         same 'status and messages of the next one' "$status$(cat "$room/err")" 0
