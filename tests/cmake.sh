@@ -115,7 +115,7 @@ old_module() {
     rm -rf "$folder" && mkdir -p "$folder/build" && cp "$headers/cuda_runtime.h" "$folder/build"
     printf '%s\n' 'cmake_minimum_required(VERSION 3.18)' 'project(Old CXX)' 'find_package(CUDA REQUIRED)' 'cuda_add_library(k STATIC k.cu)' > "$folder/CMakeLists.txt"
     printf '%s\n' '__global__ void kernel(int* values) { values[0] = 1; }' 'void run(int* values) { kernel<<<1, 1>>>(values); }' > "$folder/k.cu"
-    (cmake -S "$folder" -B "$folder/build" "$@" && ZIGRUNK_LOG=$folder/calls cmake --build "$folder/build") > "$folder/log" 2>&1 || tail -n 20 "$folder/log"
+    (CMAKE_LIBRARY_PATH=$libraries cmake -S "$folder" -B "$folder/build" "$@" && ZIGRUNK_LOG=$folder/calls cmake --build "$folder/build") > "$folder/log" 2>&1 || tail -n 20 "$folder/log"
     : >> "$folder/calls"
     grep '"-c"' "$folder/calls" | grep -vc '"reason"'
 }
@@ -124,10 +124,13 @@ project Ninja &
 project 'Unix Makefiles' &
 wait
 if cmake --help-module FindCUDA > /dev/null 2>&1; then
+    # The module doesn't look where Debian has the toolkit's libraries.
+    libraries=$(cd "$scratch" && : > k.cu && nvcc --dryrun k.cu 2>&1 | sed -n 's/^#\$ LIBRARIES=.*-L\([^ "]*\).*/\1/p')
     same "FindCUDA's variable" "$(old_module -DCUDA_NVCC_EXECUTABLE="$wrapper")" 1
     same 'the variable that it ignores' "$(old_module -DCMAKE_CUDA_COMPILER="$wrapper")" 0
     toolkit=$(cd "$scratch" && : > k.cu && nvcc --dryrun -c k.cu 2>&1 | sed -n 's/^#\$ TOP=//p')
-    same 'its variable beside the toolkit, which drops it' "$(old_module -DCUDA_NVCC_EXECUTABLE="$wrapper" -DCUDA_TOOLKIT_ROOT_DIR="$(realpath "$toolkit")")" 0
+    toolkit=$(realpath "${toolkit:-$(dirname "$(command -v nvcc)")/..}")
+    same 'its variable beside the toolkit, which drops it' "$(old_module -DCUDA_NVCC_EXECUTABLE="$wrapper" -DCUDA_TOOLKIT_ROOT_DIR="$toolkit")" 0
 else
     skip "CMake's FindCUDA" 'this CMake lacks it'
 fi

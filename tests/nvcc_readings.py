@@ -60,7 +60,8 @@ def answer(line: list[str], base: str) -> str:
         call = [str(TOOLS / "zigrunk-nvcc"), *line]
         ran = subprocess.run(call, cwd=base, env=env, stdin=subprocess.DEVNULL, capture_output=True, text=True, check=False)
     said = re.search("^zigrunk-nvcc: nvcc itself: (.*)$", ran.stderr, re.M)
-    return said[1] if said and said[1] != MADE_AGAIN else "planned" if ran.returncode == 1 else f"status {ran.returncode}"
+    # (with several threads, a command that fails is status 255)
+    return said[1] if said and said[1] != MADE_AGAIN else "planned" if ran.returncode in (1, 255) else f"status {ran.returncode}"
 
 
 def main() -> int:

@@ -584,9 +584,9 @@ refused_nvcc_lines() {
     passes 'a generated file as the source' 'a name looks like that of a generated file' -c k.cudafe1.cpp
     passes 'a macro with a generated name' 'a name looks like that of a generated file' -c k.cu -DN=a.cpp4.ii
     passes 'a folder with a generated name' 'a name looks like that of a generated file' -c k.cu -isystem k.cudafe1.stub.c/x
-    passes 'options of ptxas in a file' 'a tool reads options or code from a file' -c k.cu -Xptxas --options-file=p.txt
-    passes 'options of fatbinary in a file' 'a tool reads options or code from a file' -c k.cu --fatbin-options=-v,-optf,p.txt
-    passes 'code for fatbinary in a file' 'a tool reads options or code from a file' -c k.cu -Xfatbin '"--image3=kind=elf,sm=90,file=x.cubin"'
+    passes 'options of ptxas in a file' 'a word for a tool may name a file' -c k.cu -Xptxas --options-file=p.txt
+    passes 'options of fatbinary in a file' 'a word for a tool may name a file' -c k.cu --fatbin-options=-v,-optf,p.txt
+    passes 'code for fatbinary in a file' 'a word for a tool may name a file' -c k.cu -Xfatbin '"--image3=kind=elf,sm=90,file=x.cubin"'
     passes 'a file of several preprocessors' 'several preprocessors may write one file' -fatbin k.cu -Xcompiler -MD,-MF,k.d
     passes 'an output named as a kept file' 'its output may have the name of a kept file' --keep -c k.cu -o o/k.ptx
     passes 'standard input under another name' 'it uses an open file' -c /dev/stdin -x cu -o x.o

@@ -213,7 +213,7 @@ def is_debug(line: str, want: Ran, got: Ran, found: Difference) -> bool:
 
 def is_later_failure(line: str, want: Ran, got: Ran, found: Difference) -> bool:
     """A command fails: others run at the same time, and what they write stays. Of several targets a later one may fail first."""
-    kept = found[0] == "FILE-EXTRA" and re.search(r"-keep|save-temps|-X(cicc|ptxas|compiler)\b|-(cicc|ptxas|compiler)-options", line) is not None
+    kept = found[0] == "FILE-EXTRA" and re.search(r"-keep|save-temps|-Xcompiler\b|-compiler-options", line) is not None
     other = found[0] in ("SAID", "STATUS") and len(re.findall(r"sm_\d\d|compute_\d\d|all-major", line)) > 1
     return both_fail(want, got) and (kept or other)
 
@@ -229,14 +229,8 @@ def is_left_by_nvcc(line: str, want: Ran, got: Ran, found: Difference) -> bool:
     return found[0] == "LEFT" and both_fail(want, got) and not got["left"]
 
 
-def is_silent_failure(line: str, want: Ran, got: Ran, found: Difference) -> bool:
-    """A command fails and says nothing, as with --error_output: ours names its status."""
-    said = r"lacks \[\], has \['zigrunk-nvcc: a command failed with status \d+ and without a message'\]"
-    return found[0] == "SAID" and both_fail(want, got) and re.match(said, found[1]) is not None
-
-
 # The rows of docs/DIFFERENCES.md, "From nvcc", that such calls can show.
-KNOWN: list[Callable[[str, Ran, Ran, Difference], bool]] = [is_debug, is_later_failure, is_failure_of_threads, is_left_by_nvcc, is_silent_failure]
+KNOWN: list[Callable[[str, Ran, Ran, Difference], bool]] = [is_debug, is_later_failure, is_failure_of_threads, is_left_by_nvcc]
 
 
 def row_of(line: str, want: Ran, got: Ran, found: Difference) -> str:

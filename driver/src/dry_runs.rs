@@ -153,9 +153,10 @@ pub fn make<M: Machine>(machine: &mut M, line: &Line<'_>, meanwhile: impl FnOnce
     Ok(DryRuns { first: commands, second: second.errors, messages: bytes(remarks_in(Global, &own))?, has_threads, stub_folder: stub_folder(&own) })
 }
 
-/// What a dry run has in front of the stub file's name, the last time that it names the file.
+/// What a dry run has in front of the stub file's name where cicc gets it. cudafe++, which only names the file, gets another.
 fn stub_folder(run: &[u8]) -> Option<String> {
-    let (_, rest) = std::str::from_utf8(run).ok()?.rsplit_once("--stub_file_name \"")?;
+    let is_cicc = |line: &&str| line.starts_with("#$ cicc ") || line.starts_with("#$ \"$CICC_PATH/cicc\" ");
+    let (_, rest) = std::str::from_utf8(run).ok()?.lines().rfind(is_cicc)?.split_once("--stub_file_name \"")?;
     let (name, _) = rest.split_once('"')?;
     Some(name.rfind('/').map_or("", |slash| &name[..=slash]).to_owned())
 }
@@ -345,10 +346,15 @@ mod tests {
     }
 
     #[test]
-    fn the_stub_file_is_named_last_where_it_is_written() {
+    fn the_stub_file_is_named_where_it_is_written() {
         let of = |name: &str| format!("#$ cudafe++ --stub_file_name \"k.cudafe1.stub.c\" x\n#$ cicc --stub_file_name \"{name}\" \"k.cpp1.ii\"\n");
         for (name, wanted) in [("k.stub.c", ""), ("./a b/k.stub.c", "./a b/"), ("/t/k.stub.c", "/t/"), ("/k.stub.c", "/")] {
-            assert_eq!(stub_folder(of(name).as_bytes()).as_deref(), Some(wanted), "{name}");
+            let lines = of(name);
+            assert_eq!(stub_folder(lines.as_bytes()).as_deref(), Some(wanted), "{name}");
+            // (an older nvcc runs cicc first)
+            let turned: Vec<&str> = lines.lines().rev().collect();
+            assert_eq!(stub_folder(turned.join("\n").as_bytes()).as_deref(), Some(wanted), "{name}");
+            assert_eq!(stub_folder(lines.replace("#$ cicc", "#$ \"$CICC_PATH/cicc\"").as_bytes()).as_deref(), Some(wanted), "{name}");
         }
         assert_eq!(stub_folder(b"#$ gcc -c k.cpp\n"), None);
     }

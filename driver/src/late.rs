@@ -71,17 +71,11 @@ fn places_in(tmp: &str) -> Option<Places> {
     })
 }
 
-/// Whether a command can write its files. A compiler that can't names the source, and an assembler another file.
-fn can_write(command: &PlannedCommand) -> bool {
-    let is_free = |file: &Path| !file.is_dir() && file.parent().is_some_and(Path::is_dir);
-    command.writes.iter().all(|file| is_free(&Path::new(&command.folder).join(file)))
-}
-
 /// Puts two commands in place of the last, a host compile. The first makes assembler text without the fatbin. Says what the second
 /// includes. `None` if the commands stay as they are: then the fatbin may show in the product, or in what a command says.
 pub fn begin_early(commands: &mut Vec<PlannedCommand>, tmp: &str) -> Option<Include> {
     let (last, before) = commands.split_last()?;
-    if !is_gcc(last) || !are_known(before) || !can_write(last) {
+    if !is_gcc(last) || !are_known(before) {
         return None;
     }
     let places = places_in(tmp)?;
@@ -190,17 +184,6 @@ mod tests {
         };
         assert_eq!([0, 1, 2, 4].map(without), [const { None }; 4], "one is missing");
         assert!(begin_early(&mut commands("/missing", "", ""), "/missing").is_none(), "it can't be written");
-        fs::remove_dir_all(folder).unwrap();
-    }
-
-    #[test]
-    fn a_product_needs_a_folder() {
-        let folder = env::temp_dir().join(format!("late-{}", std::process::id()));
-        fs::create_dir_all(folder.join("taken")).unwrap();
-        for (file, wanted) in [("k.o", true), ("taken", false), ("no/k.o", false), ("taken/k.o", true)] {
-            let last = PlannedCommand { folder: folder.to_str().unwrap().to_owned(), ..command("gcc -c", &[file]) };
-            assert_eq!(can_write(&last), wanted, "{file}");
-        }
         fs::remove_dir_all(folder).unwrap();
     }
 

@@ -1,6 +1,7 @@
 //! What the proved crates say of a call: the name of its directory, its dry runs, and its plan. Here their texts become Rust's own.
 use crate::programs::is_program;
 use crate::streams::content_of;
+use crate::system::may_write;
 use canonical_names::all_suffixes;
 use command_files::{CommandFiles, files_and_needs, preprocesses};
 use command_groups::{CallToPlan, plan_with_origins_within};
@@ -9,7 +10,6 @@ use compilers::compiler::NvccHostCompiler;
 use dry_runs::Which;
 use early_starts::{late_file, may_begin_beside, may_go_ahead};
 use nvcc_calls::{Answer, directory_name, file_names, read_call};
-use own_files::makes_own_file;
 use placed_commands::placed_command;
 use plan_scripts::Format;
 use plans::{NvccGeneratedSubcommand as Command, PlanWithOrigins};
@@ -68,6 +68,8 @@ pub struct Outline {
 /// A command of a plan.
 #[derive(Clone, PartialEq, Eq, Debug, Default)]
 pub struct PlannedCommand {
+    /// The line of a dry run that it comes from, the first is 0.
+    pub line: usize,
     /// The program's path, and the words behind it.
     pub program: String,
     pub words: Vec<String>,
@@ -109,10 +111,11 @@ impl PlannedCommand {
         self.writes.iter().filter_map(|file| file.rsplit('/').next()).any(|name| name.len() > LONGEST_NAME)
     }
 
-    /// Whether it makes a file that the line asks for and no plan has: another fatbin than nvcc's, or a precompiled header, for which cudafe++
-    /// wants a directory for temporary files with a short name. If memory runs out, it may.
-    pub fn makes_own_file(&self) -> bool {
-        list_of(&self.words).map_or(true, |words| makes_own_file(&self.program, &words))
+    /// Whether it can write its files. A tool that can't names them, or others, as the plan does.
+    pub fn can_write(&self) -> bool {
+        let is_free = |folder: &Path, file: &Path| folder.is_dir() && !file.is_dir() && may_write(if file.exists() { file } else { folder });
+        let mut files = self.writes.iter().map(|file| Path::new(&self.folder).join(file));
+        files.all(|file| file.parent().is_some_and(|folder| is_free(folder, &file)))
     }
 }
 
@@ -320,10 +323,12 @@ fn commands_of(planned: &PlanWithOrigins, as_it_runs: impl Fn(&Command) -> Resul
     let both = files_and_needs(Global, &planned.plan).map_err(out_of_memory)?;
     let commands = planned.plan.groups.as_slice().iter().flat_map(List::as_slice);
     let commands: Vec<Command> = commands.map(as_it_runs).collect::<Result<_, _>>().map_err(out_of_memory)?;
+    let origins = planned.origins.as_slice();
     let facts = both.files.as_slice().iter().zip(both.needs.as_slice());
     let command = |(number, (files, needs)): (usize, (&CommandFiles, &List<usize>))| {
         let (command, needs) = (&commands[number], needs.as_slice());
         Ok(PlannedCommand {
+            line: origins[number].line,
             program: command.exe.as_str().to_owned(),
             words: strings(command.args.as_slice()),
             folder: command.cwd.as_str().to_owned(),
@@ -371,18 +376,15 @@ mod tests {
     }
 
     #[test]
-    fn a_tool_may_make_a_file_of_its_own() {
-        let makes = |program: &str, words: &str| {
-            let words = words.split(' ').map(String::from).collect();
-            PlannedCommand { program: program.into(), words, ..PlannedCommand::default() }.makes_own_file()
-        };
-        assert!(makes("/b/fatbinary", "--create=x -64 --create=k.fatbin"));
-        assert!(makes("/b/fatbinary", "-fatbin x.c -64 --embedded-fatbin=/t/k.fatbin.c"));
-        assert!(makes("/b/fatbinary", "--create=/w/x -64 --embedded-fatbin=/t/k.fatbin.c"));
-        assert!(!makes("/b/fatbinary", "-64 --image3=kind=elf,file=/t/k.cubin --embedded-fatbin=/t/k.fatbin.c"));
-        assert!(!makes("/b/fatbinary", "--create=/t/k.fatbin -64 --image3=kind=elf,file=/t/k.cubin --embedded-fatbin=/t/k.fatbin.c"));
-        assert!(makes("/b/cudafe++", "--c++17 --create_pch=k.pch /t/k.cpp4.ii") && makes("/b/cudafe++", "--pch /t/k.cpp4.ii"));
-        assert!(!makes("/b/cudafe++", "--orig_src_file_name pch/k.cu /t/k.cpp4.ii") && !makes("/b/cicc", "--create=x --create=y --pch"));
+    fn a_product_needs_a_folder() {
+        let scratch = Scratch::new("product");
+        fs::create_dir(scratch.0.join("taken")).unwrap();
+        fs::write(scratch.0.join("k.ptx"), "").unwrap();
+        for (file, wanted) in [("k.o", true), ("k.ptx", true), ("taken", false), ("no/k.o", false), ("k.ptx/k.o", false), ("taken/k.o", true)] {
+            let folder = scratch.0.to_str().unwrap().to_owned();
+            let command = PlannedCommand { folder, writes: vec![file.into()], ..PlannedCommand::default() };
+            assert_eq!(command.can_write(), wanted, "{file}");
+        }
     }
 
     #[test]

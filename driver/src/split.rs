@@ -145,8 +145,8 @@ impl Call<'_> {
         if commands.iter().any(PlannedCommand::writes_long_name) {
             return by_nvcc("a generated file's name is too long");
         }
-        if commands.iter().any(PlannedCommand::makes_own_file) {
-            return by_nvcc("a tool makes a file of its own");
+        if !commands.last().is_some_and(PlannedCommand::can_write) {
+            return by_nvcc("its output can't be written");
         }
         let late = if late::is_on(self.settings) && !keeps { late::begin_early(&mut commands, tmp) } else { None };
         let is_early = early::is_on(self.settings) && !keeps;
@@ -202,8 +202,8 @@ impl Call<'_> {
             said.extend(store.is_some().then(|| (is_error, text.to_vec())));
             say(is_error, text);
         };
-        say(true, &dry_runs.messages);
-        let voice = Voice::new(&tasks, habits, &mut say);
+        let mut voice = Voice::new(&tasks, habits, &mut say).in_order(told_order(&commands, &tasks, &dry_runs));
+        voice.remark(&dry_runs.messages);
         let cache = store.as_ref().map(|store| Session::new(store, tmp, &commands, &tasks));
         let mut maker =
             RuleMaker { commands: &commands, asked: outline.dependencies.as_ref(), launcher, refusals: self.refusals, voice, cache, made: None };
@@ -249,6 +249,15 @@ fn habits_of(tasks: &[Task], may_go_to_nvcc: bool, dry_runs: &DryRuns, outline: 
         return by_nvcc("it keeps a file that only its dependencies need");
     }
     Ok(Habits { holds_back: may_go_to_nvcc || runs_devices_first(&dry_runs.first), has_threads: dry_runs.has_threads, rule_speaks })
+}
+
+/// The order in which tasks are told. An older nvcc runs device commands first, though the plan has cudafe++ before cicc.
+fn told_order(commands: &[PlannedCommand], tasks: &[Task], dry_runs: &DryRuns) -> Vec<usize> {
+    let mut order: Vec<usize> = (0..tasks.len()).collect();
+    if runs_devices_first(&dry_runs.first) && !tasks.iter().any(|task| task.is_rule) {
+        order.sort_by_key(|&number| tasks[number].command.map(|command| commands[command].line));
+    }
+    order
 }
 
 /// What of a line's outline nvcc has to make.
@@ -352,6 +361,19 @@ mod tests {
             jobs: None,
             keep_dir: keep_dir.map(String::from),
         }
+    }
+
+    #[test]
+    fn an_older_nvccs_commands_are_told_by_their_lines() {
+        let commands = [5, 6, 0, 1].map(|line| PlannedCommand { line, ..PlannedCommand::default() });
+        let mut tasks: Vec<Task> = (0..4).map(|command| Task { command: Some(command), ..Task::default() }).collect();
+        let host = "#$ gcc -E -x c++ \"k.cu\"\n#$ cudafe++ \"k.cpp4.ii\"\n";
+        let device = "#$ gcc -D__CUDA_ARCH__=520 -E -x c++ \"k.cu\"\n#$ cicc \"k.cpp1.ii\" -o \"k.ptx\"\n";
+        let order = |tasks: &[Task], run: String| told_order(&commands, tasks, &DryRuns { first: run.into_bytes(), ..DryRuns::default() });
+        assert_eq!(order(&tasks, format!("{device}{host}")), [2, 3, 0, 1]);
+        assert_eq!(order(&tasks, format!("{host}{device}")), [0, 1, 2, 3]);
+        tasks.push(Task { is_rule: true, ..Task::default() });
+        assert_eq!(order(&tasks, format!("{device}{host}")), [0, 1, 2, 3, 4]);
     }
 
     #[test]

@@ -7,6 +7,8 @@ use std::fs::File;
 use std::io;
 use std::ops::Deref;
 use std::os::fd::{AsRawFd, BorrowedFd, FromRawFd, OwnedFd, RawFd};
+use std::os::unix::ffi::OsStrExt;
+use std::path::Path;
 use std::ptr;
 use std::sync::atomic::{AtomicBool, Ordering};
 use std::thread::sleep;
@@ -68,6 +70,7 @@ struct Times([[c_long; 2]; 2]);
 
 unsafe extern "C" {
     fn _exit(status: c_int) -> !;
+    fn access(path: *const c_char, how: c_int) -> c_int;
     fn chdir(path: *const c_char) -> c_int;
     fn clone(run: extern "C" fn(*mut c_void) -> c_int, stack: *mut c_void, flags: c_int, given: *mut c_void, ...) -> c_int;
     fn dup2(from: c_int, to: c_int) -> c_int;
@@ -195,6 +198,11 @@ pub fn open_below(folder: BorrowedFd<'_>, name: &str, how: Opening) -> io::Resul
     };
     let name = CString::new(name)?;
     owned(unsafe { openat(folder.as_raw_fd(), name.as_ptr(), flags | NO_LINK | CLOSE_ON_EXEC, 0o600) })
+}
+
+/// Whether this process may write a file, or the names in a folder.
+pub fn may_write(path: &Path) -> bool {
+    CString::new(path.as_os_str().as_bytes()).is_ok_and(|path| unsafe { access(path.as_ptr(), 2) } == 0)
 }
 
 /// Opens a path for reading or for writing, without waiting.

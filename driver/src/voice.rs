@@ -4,6 +4,7 @@ use crate::run::{Done, Task};
 use crate::tasks;
 use dependency_rules::without_warnings;
 use rattle_std::alloc::Global;
+use std::mem;
 
 /// Takes a text for a standard stream, and whether that is standard error.
 pub type Say<'a> = dyn FnMut(bool, &[u8]) + 'a;
@@ -44,7 +45,11 @@ pub struct Voice<'a> {
     is_open: Vec<bool>,
     /// The task that makes the dependency file. If it fails, nvcc makes the call, so tasks before it aren't told before its end.
     rule: Option<usize>,
-    /// The first task that isn't told to its end, and how much of its two texts is told.
+    /// What nvcc says of the line, if it isn't told yet.
+    remarks: Vec<u8>,
+    /// The tasks in the order in which they are told.
+    order: Vec<usize>,
+    /// The place there of the first task that isn't told to its end, and how much of its two texts is told.
     next: usize,
     told: [usize; 2],
     is_silent: bool,
@@ -56,7 +61,28 @@ impl<'a> Voice<'a> {
     pub fn new(tasks: &[Task], habits: Habits, say: &'a mut Say<'a>) -> Voice<'a> {
         let is_open = tasks.iter().map(|task| !task.is_rule && task.without_launcher.is_none()).collect();
         let rule = tasks.iter().position(|task| task.is_rule);
-        Voice { say, habits, is_open, rule, next: 0, told: [0; 2], is_silent: true, failed: None }
+        let (remarks, order) = (Vec::new(), (0..tasks.len()).collect());
+        Voice { say, habits, is_open, rule, remarks, order, next: 0, told: [0; 2], is_silent: true, failed: None }
+    }
+
+    /// The same voice, which tells the tasks in another order. Nothing may be told before the call's end.
+    pub fn in_order(self, order: Vec<usize>) -> Voice<'a> {
+        Voice { order, ..self }
+    }
+
+    /// Tells first what nvcc says of the line.
+    pub fn remark(&mut self, remarks: &[u8]) {
+        self.remarks = remarks.to_vec();
+        if !self.habits.holds_back {
+            self.tell_remarks();
+        }
+    }
+
+    fn tell_remarks(&mut self) {
+        let remarks = mem::take(&mut self.remarks);
+        if !remarks.is_empty() {
+            (self.say)(true, &remarks);
+        }
     }
 
     /// The task whose texts may be told while it runs.
@@ -105,11 +131,11 @@ impl<'a> Voice<'a> {
 
     /// Tells the rest of the next task, if it ran.
     fn tell_next(&mut self, done: &[Done]) {
-        let number = self.next;
+        let number = self.order[self.next];
         if let Some(ended) = done[number].ended.as_ref().filter(|_| !self.is_told_by_rule(number, done)) {
             self.tell_end(number, ended);
         }
-        (self.next, self.told) = (number + 1, [0; 2]);
+        (self.next, self.told) = (self.next + 1, [0; 2]);
     }
 
     /// Whether what makes the dependency file tells what a task said.
@@ -133,6 +159,7 @@ impl<'a> Voice<'a> {
 
     /// Tells all that isn't told yet, up to the first command that failed. Says how the call has ended.
     pub fn end(mut self, done: &[Done]) -> End {
+        self.tell_remarks();
         while !self.is_over() {
             self.tell_next(done);
         }
@@ -191,6 +218,30 @@ mod tests {
         assert_eq!(end, End { status: 0, is_silent: false });
         let (all, _) = told(&tasks(3), Habits { holds_back: true, ..Habits::default() }, &steps);
         assert_eq!(all, ["", "", "", "!a !b .c !d "]);
+    }
+
+    #[test]
+    fn what_nvcc_says_of_the_line_comes_first() {
+        for (holds_back, wanted) in [(false, ["!of the line ", "!a "]), (true, ["", "!of the line !a "])] {
+            let said = std::cell::RefCell::new(String::new());
+            let mut say = |is_error: bool, text: &[u8]| {
+                let _ = write!(said.borrow_mut(), "{}{} ", if is_error { '!' } else { '.' }, String::from_utf8_lossy(text));
+            };
+            let mut voice = Voice::new(&[Task::default()], Habits { holds_back, ..Habits::default() }, &mut say);
+            voice.remark(b"of the line");
+            let at_once = said.take();
+            assert!(!voice.end(&[ok("a")]).is_silent);
+            assert_eq!([at_once, said.take()], wanted);
+        }
+    }
+
+    #[test]
+    fn tasks_are_told_in_an_order_of_their_own() {
+        let mut said = Vec::new();
+        let mut say = |_: bool, text: &[u8]| said.push(String::from_utf8_lossy(text).into_owned());
+        let voice = Voice::new(&tasks(3), Habits { holds_back: true, ..Habits::default() }, &mut say).in_order(vec![2, 0, 1]);
+        assert_eq!(voice.end(&[ok("host"), ok("cudafe"), ok("cicc")]), End { status: 0, is_silent: false });
+        assert_eq!(said, ["cicc", "host", "cudafe"]);
     }
 
     #[test]

@@ -14,6 +14,7 @@ use Rattle.nvcc_options.specs.declared.reason.Reason.TheVariants.{GeneratedName,
 use Rattle.nvcc_words.specs.Asked.{nothing_asked, reason_unless}
 use Rattle.nvcc_words.specs.NormalForm.{extension_of_phase, has_extension}
 use Rattle.program_calls.specs.Operands.{NvccOf}
+use Rattle.nvcc_calls.specs.ToolWords.{begins_with_one, may_name_file}
 
 -- whether a text may be changed where generated files get canonical names: it contains one of their suffixes. In all other
 -- texts there is no name of such a file
@@ -29,24 +30,6 @@ is_left byte = nat_le 32 byte && not (byte == 36) && not (byte == 92) && not (by
 
 abbrev pub is_plain_directory : List ℕ → Bool
 is_plain_directory path = list_all is_left path
-
--- whether a word begins with one of some texts
-abbrev pub begins_with_one : List (List ℕ) → List ℕ → Bool
-begins_with_one texts word = list_any (starts_with nat_eq word) texts
-
--- whether a word has a tool read options, or fatbinary code, from a file. The tool runs in the temporary directory, and finds no relative file
-abbrev pub tool_options : List (List ℕ)
-tool_options =
-    spaced "-Xptxas= --ptxas-options= -Xfatbin= --fatbin-options= -Xcicc= --cicc-options= -Xcudafe= --cudafe-options="
-
--- fatbinary's options, of which an image's names a file of code
-abbrev pub fatbinary_options : List (List ℕ)
-fatbinary_options = spaced "-Xfatbin= --fatbin-options="
-
-abbrev pub reads_file : List ℕ → Bool
-reads_file word =
-    begins_with_one tool_options word && (holds (codes "-optf") word || holds (codes "-options-file") word)
-    || begins_with_one fatbinary_options word && holds (codes "file=") word
 
 -- whether a word has each host preprocessor write a dependency file
 abbrev pub host_options : List (List ℕ)
@@ -96,7 +79,7 @@ name_hazard call normal =
 
 abbrev pub file_hazard : Call → Option Reason
 file_hazard normal =
-    option_or (reason_unless (not (list_any reads_file normal.words)) ToolFile)
+    option_or (reason_unless (not (list_any may_name_file normal.words)) ToolFile)
     (option_or (reason_unless (not (may_share_file normal)) HostFile)
     (reason_unless (not (may_be_kept normal)) KeptName))
 

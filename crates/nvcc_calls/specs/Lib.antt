@@ -5,3 +5,4 @@ pub mod Jobs
 pub mod Laws
 pub mod Outline
 pub mod OutlineTexts
+pub mod ToolWords

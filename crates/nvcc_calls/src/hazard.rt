@@ -6,7 +6,9 @@ ghost use Rattle.canonical_names.specs.Alike as alike;
 ghost use Rattle.nvcc_words.specs.Asked.{reason_unless};
 ghost use Rattle.program_calls.specs.Operands.{nvcc_of};
 ghost use Rattle.nvcc_calls.specs.Hazards as spec;
+ghost use Rattle.nvcc_calls.specs.ToolWords as tool;
 
+use crate::tool_words::may_name_file;
 use nvcc_options::Reason;
 use nvcc_words::{Asked, Call, extension_of_phase, has_extension};
 use program_calls::NvccCall;
@@ -70,40 +72,11 @@ fn begins_with(text: &str, word: &str) -> bool
     word.as_bytes().starts_with(text.as_bytes())
 }
 
-// Whether a word is an option for one of nvcc's tools, with its value.
-fn is_tool_option(word: &str) -> bool
-    ensures { result ≡ spec.begins_with_one spec.tool_options word.now }
-{
-    begins_with("-Xptxas=", word)
-        || begins_with("--ptxas-options=", word)
-        || begins_with("-Xfatbin=", word)
-        || begins_with("--fatbin-options=", word)
-        || begins_with("-Xcicc=", word)
-        || begins_with("--cicc-options=", word)
-        || begins_with("-Xcudafe=", word)
-        || begins_with("--cudafe-options=", word)
-}
-
-// Whether a word is an option for fatbinary, with its value.
-fn is_fatbinary_option(word: &str) -> bool
-    ensures { result ≡ spec.begins_with_one spec.fatbinary_options word.now }
-{
-    begins_with("-Xfatbin=", word) || begins_with("--fatbin-options=", word)
-}
-
-// Whether a word has a tool read a file of options, or fatbinary one of code.
-fn reads_file(word: &str) -> bool
-    ensures { result ≡ spec.reads_file word.now }
-{
-    (is_tool_option(word) && (holds(word, "-optf") || holds(word, "-options-file")))
-        || (is_fatbinary_option(word) && holds(word, "file="))
-}
-
-fn one_reads_file(words: &[String]) -> bool
-    ensures { result ≡ list_any spec.reads_file (map string_bytes words.now) }
+fn one_names_file(words: &[String]) -> bool
+    ensures { result ≡ list_any tool.may_name_file (map string_bytes words.now) }
 {
     for word in words {
-        if reads_file(word.as_str()) {
+        if may_name_file(word.as_str()) {
             return true;
         }
     }
@@ -112,7 +85,7 @@ fn one_reads_file(words: &[String]) -> bool
 
 // Whether a word is an option for the host compiler, with its value.
 fn is_host_option(word: &str) -> bool
-    ensures { result ≡ spec.begins_with_one spec.host_options word.now }
+    ensures { result ≡ tool.begins_with_one spec.host_options word.now }
 {
     begins_with("-Xcompiler=", word)
         || begins_with("--compiler-options=", word)
@@ -244,8 +217,8 @@ fn file_hazard(alloc: Global, normal: &Call) -> Result<Option<Reason>, AllocErro
 {
     let kept = reason_if(may_be_kept(alloc, normal)?, Reason::KeptName);
     let shared = reason_if(may_share_file(normal), Reason::HostFile).or(kept);
-    let read = one_reads_file(normal.words.as_slice());
-    Ok(reason_if(read, Reason::ToolFile).or(shared))
+    let named = one_names_file(normal.words.as_slice());
+    Ok(reason_if(named, Reason::ToolFile).or(shared))
 }
 
 /// Why nvcc makes a call whose line could be split, if a plan of it would make something else: a text looks like the name of a

@@ -10,6 +10,7 @@ pub mod laws;
 mod outline;
 mod outline_texts;
 mod shell;
+mod tool_words;
 
 pub use answer::{Answer, read_call};
 pub use directory::directory_name;

@@ -58,7 +58,7 @@ pub enum Reason {
     GeneratedName,
     /// A shell may expand the name of the working directory or of the temporary one.
     DirectoryName,
-    /// A tool reads options from a file, or fatbinary code: the commands of a plan seek it in the temporary directory.
+    /// A word for a tool, such as ptxas, may name a file: commands of a plan may write it side by side, or seek it at another place.
     ToolFile,
     /// Several preprocessors may write one dependency file at once.
     HostFile,
@@ -103,7 +103,7 @@ impl Reason {
             Reason::OtherReading => "its words can be read in two ways",
             Reason::GeneratedName => "a name looks like that of a generated file",
             Reason::DirectoryName => "nvcc's shell may expand its directory's name",
-            Reason::ToolFile => "a tool reads options or code from a file",
+            Reason::ToolFile => "a word for a tool may name a file",
             Reason::HostFile => "several preprocessors may write one file",
             Reason::KeptName => "its output may have the name of a kept file",
             Reason::OpenFile => "it uses an open file",

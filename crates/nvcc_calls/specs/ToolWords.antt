@@ -1,0 +1,83 @@
+-- Whether a word for one of nvcc's tools may name a file. Several commands may get the word: they'd write the file side by side, and
+-- a relative name may mean another file to each. So nvcc makes the call unless each option is known, or has no value.
+use Rattle.std.specs.Prelude.{◌≡◌, ℕ, List, [], ◌∷◌, Bool, true, false, not, ◌==◌, ◌&&◌, ◌||◌, nat_eq, nat_le, if◌then◌else◌, refl, codes, bytes_eq}
+use Rattle.std.specs.Borrow.{Bor}
+use Rattle.std.specs.List.{list_any, starts_with, slice_split}
+use Rattle.texts.specs.Lists.{is_some_and, rest_after}
+use Rattle.texts.specs.Rows.{spaced}
+
+abbrev pub shown : Bor (List ℕ) → List ℕ
+shown text = text.now
+
+-- whether a word begins with one of some texts
+abbrev pub begins_with_one : List (List ℕ) → List ℕ → Bool
+begins_with_one texts word = list_any (starts_with nat_eq word) texts
+
+-- how a word with a tool's options begins, in nvcc's normal form of the line
+abbrev pub tool_options : List (List ℕ)
+tool_options =
+    spaced "-Xptxas= --ptxas-options= -Xfatbin= --fatbin-options= -Xcicc= --cicc-options= -Xcudafe= --cudafe-options="
+
+-- options of the tools whose values are numbers, switches, kinds of caches, or names of diagnostics
+abbrev pub valued_options : List (List ℕ)
+valued_options =
+    spaced "abi= allow-expensive-optimizations= compress= compress-all= compress-mode= def-load-cache= def-store-cache= diag_default= diag_error= diag_once= diag_remark= diag_suppress= diag_warning= dlcm= dscm= error_limit= flcm= fmad= force-load-cache= force-store-cache= fscm= ftz= inline-threshold= maxrregcount= opt= opt-level= prec_div= prec_sqrt= register-usage-level= split-compile= unroll-threshold="
+
+-- short options whose value, a file, may follow at once
+abbrev pub short_file_options : List (List ℕ)
+short_file_options = spaced "L X o"
+
+-- a tool's options stand between commas and blanks
+abbrev pub is_between : ℕ → Bool
+is_between byte = byte == 44 || byte == 32
+
+-- quotes, backslashes and control bytes, which a shell reads in its own way
+abbrev pub is_odd : ℕ → Bool
+is_odd byte = nat_le byte 31 || byte == 34 || byte == 39 || byte == 92
+
+abbrev pub has_value : List ℕ → Bool
+has_value name = list_any (λ byte. byte == 61) name
+
+-- an option without its dashes. With `--pch`, cudafe++ keeps precompiled headers
+abbrev pub long_names_file : List ℕ → Bool
+long_names_file name = if has_value name then not (begins_with_one valued_options name) else bytes_eq name (codes "pch")
+
+-- an option without its first dash
+abbrev pub option_names_file : List ℕ → Bool
+option_names_file [] = false
+option_names_file (byte ∷ name) =
+    if byte == 45 then long_names_file name
+    else long_names_file (byte ∷ name) || not (has_value (byte ∷ name)) && begins_with_one short_file_options (byte ∷ name)
+
+-- what doesn't begin with a dash is an input, or the value of the option before it
+abbrev pub part_names_file : List ℕ → Bool
+part_names_file [] = false
+part_names_file (byte ∷ option) = not (byte == 45) || option_names_file option
+
+abbrev pub value_names_file : List ℕ → Bool
+value_names_file value = list_any is_odd value || list_any part_names_file (slice_split is_between value)
+
+abbrev pub may_name_file : List ℕ → Bool
+may_name_file word = list_any (λ option. is_some_and value_names_file (rest_after option word)) tool_options
+
+-- Worked examples.
+pub messages_in_a_file : may_name_file (codes "-Xcudafe=--error_output=e.txt") ≡ true
+messages_in_a_file = refl
+
+pub listing_of_a_short_option : may_name_file (codes "-Xcicc=-Ll.txt") ≡ true
+listing_of_a_short_option = refl
+
+pub options_in_a_file : may_name_file (codes "--ptxas-options=-v,-optf,p") ≡ true
+options_in_a_file = refl
+
+pub kept_headers : may_name_file (codes "--cudafe-options=--pch") ≡ true
+kept_headers = refl
+
+pub another_fatbin : may_name_file (codes "-Xfatbin=--create=x") ≡ true
+another_fatbin = refl
+
+pub quoted_image : may_name_file (codes "-Xfatbin=\"--image3=kind=elf,sm=90,fi\"\"le=x.cubin\"") ≡ true
+quoted_image = refl
+
+pub usual_options : list_any may_name_file (spaced "-Xptxas=-v,-O3,-dlcm=ca,--warn-on-spills -Xcudafe=--diag_suppress=177,--display_error_number -Xcicc=-opt=3 -Xfatbin=-compress-all,-compress=false -Xcompiler=-MF,k.d -Xptxas=") ≡ false
+usual_options = refl

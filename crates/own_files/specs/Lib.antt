@@ -1,2 +1,0 @@
-pub mod Fatbins
-pub mod OwnFiles
