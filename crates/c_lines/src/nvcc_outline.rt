@@ -13,7 +13,7 @@ use c_texts::{
     write_list,
 };
 use nvcc_calls::{Answer, Outline, OutlineTexts, read_call, texts_of};
-use program_calls::NvccCall;
+use nvcc_lines::NvccCall;
 use std::alloc::{AllocError, Global};
 use texts::text::Text;
 

@@ -27,7 +27,7 @@ use Rattle.nvcc_calls.specs.declared.answer.Answer.TheVariants.{Split, Pass}
 use Rattle.nvcc_calls.specs.declared.outline.Outline.{Outline}
 use Rattle.nvcc_calls.specs.Answer.{answer_by, answer_to, answer_to_reading, answer_to_verdict, unless_hazard}
 use Rattle.nvcc_calls.specs.Outline.{dependencies_of, jobs_of_line, outline_of, outline_with}
-use Rattle.program_calls.specs.Operands.{NvccOf}
+use Rattle.nvcc_lines.specs.Calls.{NvccOf}
 use Rattle.nvcc_calls.specs.Hazards.{hazard_of}
 use Rattle.nvcc_calls.specs.Laws.{DryRunsSayAs, SplitLinesKeepOptions}
 

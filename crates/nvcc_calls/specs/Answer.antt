@@ -21,7 +21,7 @@ use Rattle.nvcc_words.specs.Verdict.{judged, line_asked}
 use Rattle.texts.specs.Results.{and_then}
 use Rattle.nvcc_calls.specs.declared.answer.Answer.{Answer}
 use Rattle.nvcc_calls.specs.declared.answer.Answer.TheVariants.{Split, Pass}
-use Rattle.program_calls.specs.Operands.{NvccOf}
+use Rattle.nvcc_lines.specs.Calls.{NvccOf}
 use Rattle.nvcc_calls.specs.Hazards.{hazard_of}
 use Rattle.nvcc_calls.specs.Outline.{command_of, outline_of}
 use Rattle.nvcc_calls.specs.OutlineTexts.{outline_text}

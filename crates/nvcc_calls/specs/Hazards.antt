@@ -13,7 +13,7 @@ use Rattle.nvcc_options.specs.declared.reason.Reason.{Reason}
 use Rattle.nvcc_options.specs.declared.reason.Reason.TheVariants.{GeneratedName, DirectoryName, ToolFile, HostFile, KeptName, OpenFile}
 use Rattle.nvcc_words.specs.Asked.{nothing_asked, reason_unless}
 use Rattle.nvcc_words.specs.NormalForm.{extension_of_phase, has_extension}
-use Rattle.program_calls.specs.Operands.{NvccOf}
+use Rattle.nvcc_lines.specs.Calls.{NvccOf}
 use Rattle.nvcc_calls.specs.ToolWords.{begins_with_one, may_name_file}
 
 -- whether a text may be changed where generated files get canonical names: it contains one of their suffixes. In all other

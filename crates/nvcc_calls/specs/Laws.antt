@@ -9,7 +9,7 @@ use Rattle.nvcc_words.specs.Keeping.{SaysAs}
 use Rattle.nvcc_calls.specs.declared.answer.Answer.TheVariants.{Split}
 use Rattle.nvcc_calls.specs.declared.outline.Outline.{Outline}
 use Rattle.nvcc_calls.specs.Answer.{nvcc_answer}
-use Rattle.program_calls.specs.Operands.{NvccOf}
+use Rattle.nvcc_lines.specs.Calls.{NvccOf}
 
 -- both dry runs of an outline are those of a command whose words say what a line that asks for `a` does
 pub record DryRunsSayAs (a : Asked) (outline : Outline) (command : NvccCompileCommand) : Type 0 where

@@ -18,7 +18,7 @@ use Rattle.cuda_plans.specs.NvccCommand.{dry_runs, nvcc_written}
 use Rattle.host_lines.specs.KeepThreads.{keep_of, threads_of}
 use Rattle.host_lines.specs.Preprocess.{nvcc_preprocess}
 use Rattle.nvcc_calls.specs.declared.outline.Outline.{Outline}
-use Rattle.program_calls.specs.Operands.{NvccOf}
+use Rattle.nvcc_lines.specs.Calls.{NvccOf}
 use Rattle.nvcc_calls.specs.Jobs.{jobs_of, threads_asked}
 
 -- whether a word asks nvcc to put the source's lines into device code

@@ -7,7 +7,7 @@ ghost use Rattle.compilers.specs.Compiler.{reading_of};
 ghost use Rattle.nvcc_options.specs.Reasons.{text_of};
 ghost use Rattle.nvcc_calls.specs.declared.answer.Answer.TheVariants.{Pass};
 ghost use Rattle.nvcc_calls.specs.Answer as spec;
-ghost use Rattle.program_calls.specs.Operands.{nvcc_of};
+ghost use Rattle.nvcc_lines.specs.Calls.{nvcc_of};
 
 use crate::hazard::hazard_of;
 use crate::outline::{Outline, command, outline_of};
@@ -16,7 +16,7 @@ use compilers::compiler::CCompilerImpl;
 use cuda_plans::nvcc::Nvcc;
 use nvcc_options::Reason;
 use nvcc_words::{Asked, Call, Verdict, read_line};
-use program_calls::NvccCall;
+use nvcc_lines::NvccCall;
 use std::alloc::{AllocError, Global};
 use texts::fault::Fault;
 use texts::text::Text;

@@ -5,9 +5,9 @@ ghost use Rattle.hex.specs.Hex.{encode_lower};
 ghost use Rattle.sha2.specs.Sha256.{sha256};
 ghost use Rattle.texts.specs.Variables.{pair_of};
 ghost use Rattle.nvcc_calls.specs.Directory as spec;
-ghost use Rattle.program_calls.specs.Operands.{directory_of};
+ghost use Rattle.nvcc_lines.specs.Calls.{directory_of};
 
-use program_calls::DirectoryCall;
+use nvcc_lines::DirectoryCall;
 use sha2::{Digest, Sha256};
 use std::alloc::{AllocError, Global};
 use texts::decimal::push_number;

@@ -4,14 +4,14 @@ ghost use Rattle.std.specs.Prelude.{◌≡◌, IfOk, map, nat_eq, not, string_by
 ghost use Rattle.std.specs.List.{list_all, list_any, starts_with};
 ghost use Rattle.canonical_names.specs.Alike as alike;
 ghost use Rattle.nvcc_words.specs.Asked.{reason_unless};
-ghost use Rattle.program_calls.specs.Operands.{nvcc_of};
+ghost use Rattle.nvcc_lines.specs.Calls.{nvcc_of};
 ghost use Rattle.nvcc_calls.specs.Hazards as spec;
 ghost use Rattle.nvcc_calls.specs.ToolWords as tool;
 
 use crate::tool_words::may_name_file;
 use nvcc_options::Reason;
 use nvcc_words::{Asked, Call, extension_of_phase, has_extension};
-use program_calls::NvccCall;
+use nvcc_lines::NvccCall;
 use std::alloc::{AllocError, Global};
 use texts::compilation_flags::asks_object;
 use texts::extension::{last, with_extension};

@@ -3,7 +3,7 @@
 ghost use Rattle.std.specs.Prelude.{◌≡◌, IfOk, Ok, map, string_bytes};
 ghost use Rattle.texts.specs.Fault.{UnlessMemory};
 ghost use Rattle.texts.specs.Variables.{pair_of};
-ghost use Rattle.program_calls.specs.Operands.{nvcc_of};
+ghost use Rattle.nvcc_lines.specs.Calls.{nvcc_of};
 ghost use Rattle.nvcc_calls.specs.Outline as spec;
 
 use crate::jobs::{number_of_jobs, threads_asked};
@@ -11,7 +11,7 @@ use compilers::arguments::ParsedArguments;
 use compilers::command::SingleCompileCommand;
 use compilers::compiler::{CCompilerImpl, Places};
 use cuda_plans::nvcc::{Nvcc, NvccCompileCommand, take_keep, take_threads};
-use program_calls::NvccCall;
+use nvcc_lines::NvccCall;
 use std::alloc::{AllocError, Global};
 use texts::fault::Fault;
 use texts::text::{Text, join};

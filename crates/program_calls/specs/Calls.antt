@@ -2,7 +2,8 @@
 use Rattle.std.specs.Prelude.{◌≡◌, ℕ, List, [], ◌∷◌, length, Bool, true, false, ◌||◌, ◌&&◌, if◌then◌else◌, Option, Some, None, Result, Ok, Err, slice_get, codes, refl, option_map, bytes_eq}
 use Rattle.plan_scripts.specs.declared.format.Format.{Format}
 use Rattle.plan_scripts.specs.declared.format.Format.TheVariants.{Ninja, Json}
-use Rattle.program_calls.specs.Operands.{NvccOf, nvcc_of, nvcc_call_of, DirectoryOf, directory_of, directory_call_of, LineOf, PlanOf, line_of, plan_of, line_call_of, plan_call_of}
+use Rattle.nvcc_lines.specs.Calls.{NvccOf, nvcc_of, DirectoryOf, directory_of}
+use Rattle.program_calls.specs.Operands.{nvcc_call_of, directory_call_of, LineOf, PlanOf, line_of, plan_of, line_call_of, plan_call_of}
 use Rattle.program_calls.specs.Commands.{command_named, takes_options, operands_of, form_of}
 use Rattle.program_calls.specs.Misuse.{MisuseOf, misuse_seen, all_calls, misuse_at}
 use Rattle.program_calls.specs.Settings.{begins_option, options_taken}

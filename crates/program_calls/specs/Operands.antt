@@ -4,8 +4,7 @@ use Rattle.plan_texts.specs.declared.tool.Tool.{Tool}
 use Rattle.plan_texts.specs.Tools.{tool_of_name}
 use Rattle.program_calls.specs.declared.operands.LineCall.{LineCall}
 use Rattle.program_calls.specs.declared.operands.PlanCall.{PlanCall}
-use Rattle.program_calls.specs.declared.operands.NvccCall.{NvccCall}
-use Rattle.program_calls.specs.declared.operands.DirectoryCall.{DirectoryCall}
+use Rattle.nvcc_lines.specs.Calls.{NvccOf, DirectoryOf}
 
 -- a call that reads a line: the tool, the working directory and the line's words
 pub record LineOf : Type 0 where
@@ -48,31 +47,10 @@ plan_call_of (cwd ∷ tmp ∷ flag ∷ dry1 ∷ dry2 ∷ suffixes) =
     Some (record { cwd = cwd; tmp = tmp; flag = flag; dry1 = dry1; dry2 = dry2; suffixes = suffixes })
 plan_call_of _ = None
 
--- a call that reads an nvcc line: the working directory, the temporary directory, nvcc and the line's words
-pub record NvccOf : Type 0 where
-  pub cwd : List ℕ
-  pub tmp : List ℕ
-  pub nvcc : List ℕ
-  pub words : List (List ℕ)
-
--- a call, as the code holds it
-abbrev pub nvcc_of : NvccCall → NvccOf
-nvcc_of call = record { cwd = call.cwd.now; tmp = call.tmp.now; nvcc = call.nvcc.now; words = map string_bytes call.words.now }
-
 -- the call that the words `CWD TMP NVCC WORD..` are
 abbrev pub nvcc_call_of : List (List ℕ) → Option NvccOf
 nvcc_call_of (cwd ∷ tmp ∷ nvcc ∷ words) = Some (record { cwd = cwd; tmp = tmp; nvcc = nvcc; words = words })
 nvcc_call_of _ = None
-
--- a call that asks for the name: the working directory, nvcc and the line's words
-pub record DirectoryOf : Type 0 where
-  pub cwd : List ℕ
-  pub nvcc : List ℕ
-  pub words : List (List ℕ)
-
--- a call, as the code holds it
-abbrev pub directory_of : DirectoryCall → DirectoryOf
-directory_of call = record { cwd = call.cwd.now; nvcc = call.nvcc.now; words = map string_bytes call.words.now }
 
 -- the call that the words `CWD NVCC WORD..` are
 abbrev pub directory_call_of : List (List ℕ) → Option DirectoryOf

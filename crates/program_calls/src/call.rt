@@ -8,10 +8,9 @@ ghost use Rattle.program_calls.specs.Calls as spec;
 
 use crate::command::{Command, command_named, form_of, operands_of, takes_options};
 use crate::misuse::{ALL_CALLS, Misuse, misuse_at};
-use crate::operands::{
-    DirectoryCall, LineCall, NvccCall, PlanCall, directory_call, line_call, nvcc_call, plan_call,
-};
+use crate::operands::{LineCall, PlanCall, directory_call, line_call, nvcc_call, plan_call};
 use crate::settings::{Settings, begins_option, options_taken};
+use nvcc_lines::{DirectoryCall, NvccCall};
 use plan_scripts::Format;
 
 /// A call that writes the plan of two dry runs for another tool.

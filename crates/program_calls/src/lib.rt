@@ -14,6 +14,6 @@ mod suffix_fault;
 pub use call::{Call, ExportCall, call_of};
 pub use excerpts::push_shown;
 pub use misuse::Misuse;
-pub use operands::{DirectoryCall, LineCall, NvccCall, PlanCall, line_call, plan_call};
+pub use operands::{LineCall, PlanCall, line_call, plan_call};
 pub use page::{HELP, VERSION};
 pub use suffix_fault::push_suffix_fault;

@@ -1,8 +1,10 @@
 //! The operands of calls.
 
 ghost use Rattle.std.specs.Prelude.{◌≡◌, map, string_bytes, option_map};
+ghost use Rattle.nvcc_lines.specs.Calls.{directory_of, nvcc_of};
 ghost use Rattle.program_calls.specs.Operands as spec;
 
+use nvcc_lines::{DirectoryCall, NvccCall};
 use plan_texts::Tool;
 
 /// A call that reads a tool's line and writes it back.
@@ -64,22 +66,9 @@ pub fn plan_call<'a>(words: &'a [String]) -> Option<PlanCall<'a>>
     })
 }
 
-/// A call that reads an nvcc line.
-#[derive(Debug, Drop)]
-pub struct NvccCall<'a> {
-    /// The working directory's path.
-    pub cwd: &'a str,
-    /// The temporary directory's path.
-    pub tmp: &'a str,
-    /// nvcc's path or name.
-    pub nvcc: &'a str,
-    /// The line's words, without nvcc's name.
-    pub words: &'a [String],
-}
-
 /// Parses `CWD TMP NVCC WORD..`. `None` if the words are too few.
 pub fn nvcc_call<'a>(words: &'a [String]) -> Option<NvccCall<'a>>
-    ensures { option_map spec.nvcc_of result ≡ spec.nvcc_call_of (map string_bytes words.now) }
+    ensures { option_map nvcc_of result ≡ spec.nvcc_call_of (map string_bytes words.now) }
 {
     let [cwd, tmp, nvcc, line @ ..] = words else {
         return None;
@@ -92,20 +81,9 @@ pub fn nvcc_call<'a>(words: &'a [String]) -> Option<NvccCall<'a>>
     })
 }
 
-/// A call that asks for the name of an nvcc call's directory.
-#[derive(Debug, Drop)]
-pub struct DirectoryCall<'a> {
-    /// The working directory's path.
-    pub cwd: &'a str,
-    /// nvcc's path or name.
-    pub nvcc: &'a str,
-    /// The line's words, without nvcc's name.
-    pub words: &'a [String],
-}
-
 /// Parses `CWD NVCC WORD..`. `None` if the words are too few.
 pub fn directory_call<'a>(words: &'a [String]) -> Option<DirectoryCall<'a>>
-    ensures { option_map spec.directory_of result ≡ spec.directory_call_of (map string_bytes words.now) }
+    ensures { option_map directory_of result ≡ spec.directory_call_of (map string_bytes words.now) }
 {
     let [cwd, nvcc, line @ ..] = words else {
         return None;

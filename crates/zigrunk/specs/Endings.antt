@@ -1,7 +1,7 @@
 -- How calls of the program end.
 use Rattle.std.specs.Prelude.{◌≡◌, ℕ, List, [], ◌∷◌, ◌++◌, ◌⊎◌, Option, Result, Ok, Err, MatchResult}
 use Rattle.std.specs.Io.KnownBytes.{Keeps}
-use Rattle.program_calls.specs.Operands.{NvccOf}
+use Rattle.nvcc_lines.specs.Calls.{NvccOf}
 use Rattle.nvcc_calls.specs.Directory.{directory_name}
 use Rattle.programs.specs.declared.stop.Stop.{Stop}
 use Rattle.programs.specs.declared.stop.Stop.TheVariants.{Fault, NotCompilation, ToNvcc, Unwritable, Write}

@@ -5,12 +5,12 @@ ghost use Rattle.texts.specs.declared.fault.Fault.{Fault};
 ghost use Rattle.texts.specs.Fault.{UnlessMemory};
 ghost use Rattle.texts.specs.Variables.{pair_of};
 ghost use Rattle.nvcc_calls.specs.declared.answer.Answer.{Answer};
-ghost use Rattle.program_calls.specs.Operands.{nvcc_of};
+ghost use Rattle.nvcc_lines.specs.Calls.{nvcc_of};
 ghost use Rattle.programs.specs.Delivery.{Answers, Delivers, text_of};
 ghost use Rattle.zigrunk.specs.NvccText as spec;
 
 use nvcc_calls::{Answer, read_call, shell_text};
-use program_calls::NvccCall;
+use nvcc_lines::NvccCall;
 use programs::{Stop, deliver};
 use std::alloc::Global;
 use std::io::Write;

@@ -1,11 +1,11 @@
 //! The options files that an nvcc line names.
 
 ghost use Rattle.std.specs.Prelude.{Some, IfOk, IfSome, OnOk, string_bytes};
-ghost use Rattle.program_calls.specs.Operands.{nvcc_of};
+ghost use Rattle.nvcc_lines.specs.Calls.{nvcc_of};
 ghost use Rattle.zigrunk.specs.OptionsFiles as spec;
 
 use nvcc_calls::file_names;
-use program_calls::NvccCall;
+use nvcc_lines::NvccCall;
 use programs::{Sources, Unread};
 use std::alloc::AllocError;
 use std::fs::{self, Files};

@@ -3,7 +3,7 @@
 ghost use Rattle.std.specs.Prelude.{◌≡◌, [], ◌∷◌, ◌++◌, map, Ok, string_bytes};
 ghost use Rattle.texts.specs.Variables.{pair_of};
 ghost use Rattle.nvcc_calls.specs.Directory as directories;
-ghost use Rattle.program_calls.specs.Operands.{directory_of, nvcc_of};
+ghost use Rattle.nvcc_lines.specs.Calls.{directory_of, nvcc_of};
 ghost use Rattle.programs.specs.Delivery.{Delivers};
 ghost use Rattle.program_calls.specs.Calls as forms;
 ghost use Rattle.zigrunk.specs.Endings as spec;
@@ -11,7 +11,8 @@ ghost use Rattle.zigrunk.specs.Endings as spec;
 use crate::nvcc_text::write_nvcc_text;
 use crate::options_files::options_files;
 use nvcc_calls::directory_name;
-use program_calls::{Call, DirectoryCall, HELP, NvccCall, VERSION, call_of};
+use nvcc_lines::{DirectoryCall, NvccCall};
+use program_calls::{Call, HELP, VERSION, call_of};
 use programs::{
     Sources, Stop, complain_of_answer, complain_of_misuse, deliver, export_files, show_files,
     write_line,
