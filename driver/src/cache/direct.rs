@@ -2,10 +2,10 @@
 use crate::cache::digest::Digest;
 use crate::cache::entry::Rest;
 use crate::cache::key::{self, Role, Text};
-use crate::cache::layout::{RAW_PREFIXES, is_word, join_of};
 use crate::cache::manifest::{Manifest, Seen, Vain};
 use crate::cache::marked::contains;
 use crate::cache::recipe::Recipe;
+use crate::cache::source::{RAW_PREFIXES, is_word, join_of};
 use crate::cache::tool::Run;
 use crate::cache::{Session, Taken};
 use crate::streams::content_of;

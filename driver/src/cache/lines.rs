@@ -3,8 +3,8 @@
 //! `__LINE__` is the number of the line from which it comes, be it by way of other macros. So the lines of a text don't count if none of its
 //! words leads there by any definition in any text, or on a command line, whether a preprocessor takes that definition or leaves it out.
 //! Macros may put parts of words together: then any words of what is reached may be parts, in any order.
-use crate::cache::layout::{spliced, words_of};
 use crate::cache::marked::{contains, find};
+use crate::cache::source::{spliced, words_of};
 use std::borrow::Cow;
 use std::collections::{HashMap, HashSet};
 
