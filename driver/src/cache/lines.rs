@@ -129,6 +129,8 @@ mod tests {
             (chain, "CHECK(a);", true),
             (chain, "int assert_a;", false),
             ("", "__LINE__", true),
+            ("", "\u{20ac}__LINE__", true),
+            ("#define \u{e4}b $__LINE__\n", "\u{e4}b", true),
             ("", "__LINE", false),
             ("#if 0\n#define A B\n#else\n#define A C\n#endif\n # define B D\n%:define D __LINE__\n", "A", true),
             ("#define A \\\n  1 \\ \n + __LINE__\n", "A", true),

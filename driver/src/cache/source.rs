@@ -2,23 +2,41 @@
 use rattle_std::alloc::Global;
 use rattle_std::vec::Vec as List;
 use std::borrow::Cow;
+use std::iter;
 
 /// Words right before a quote that make a raw string of it.
-pub const RAW_PREFIXES: [&[u8]; 5] = [b"R", b"LR", b"uR", b"UR", b"u8R"];
+const RAW_PREFIXES: [&[u8]; 5] = [b"R", b"LR", b"uR", b"UR", b"u8R"];
 
 /// The layout of a text, which the proved crate `source_layouts` defines. `None` if it has none, or if memory runs out.
 pub fn layout_of(text: &[u8], is_lined: bool) -> Option<List<u8>> {
     source_layouts::layout(Global, text, is_lined).ok()?
 }
 
-/// Whether a byte belongs to identifiers and numbers.
-pub fn is_word(byte: u8) -> bool {
-    byte.is_ascii_alphanumeric() || byte == b'_' || byte == b'$' || byte >= 0x80
+/// Whether some preprocessors take a byte for a part of a letter, and some don't.
+fn may_be_letter(byte: u8) -> bool {
+    byte == b'$' || byte >= 0x80
 }
 
-/// The words of a text: identifiers, numbers and their parts, wherever they stand.
+/// Whether a byte belongs to identifiers and numbers.
+fn is_word(byte: u8) -> bool {
+    byte.is_ascii_alphanumeric() || byte == b'_' || may_be_letter(byte)
+}
+
+/// The words of a text: identifiers, numbers and their parts, wherever they stand. Behind each comes what may be words to some preprocessors.
 pub fn words_of(text: &[u8]) -> impl Iterator<Item = &[u8]> {
-    text.split(|&byte| !is_word(byte)).filter(|word| !word.is_empty())
+    let words = text.split(|&byte| !is_word(byte)).filter(|word| !word.is_empty());
+    let has_parts = text.iter().any(|&byte| may_be_letter(byte));
+    words.flat_map(move |word| {
+        let split = if has_parts { word } else { b"" };
+        let parts = split.split(|&byte| may_be_letter(byte)).filter(|part| !part.is_empty() && part.len() < word.len());
+        iter::once(word).chain(parts)
+    })
+}
+
+/// Whether a quote behind this text begins a raw string for some preprocessor.
+pub fn begins_raw_string(before: &[u8]) -> bool {
+    let begin = before.iter().rposition(|&byte| !is_word(byte) || may_be_letter(byte)).map_or(0, |place| place + 1);
+    RAW_PREFIXES.contains(&&before[begin..])
 }
 
 /// Where a line has the backslash by which it is joined to the next, if it is: only blanks are behind that.
@@ -172,7 +190,7 @@ mod tests {
 
     #[test]
     fn words_are_found_anywhere() {
-        let found: Vec<&[u8]> = words_of(b"a+b1 \"c d\" // e$_\n#define 5x\n").collect();
-        assert_eq!(found, [&b"a"[..], b"b1", b"c", b"d", b"e$_", b"define", b"5x"]);
+        let found: Vec<&[u8]> = words_of("a+b1 \"c d\" // e$_\n#define 5x \u{e4}".as_bytes()).collect();
+        assert_eq!(found, [&b"a"[..], b"b1", b"c", b"d", b"e$_", b"e", b"_", b"define", b"5x", "\u{e4}".as_bytes()]);
     }
 }
