@@ -4,9 +4,9 @@
 //! call made.
 use crate::cache::digest::{Digest, Hasher};
 use crate::cache::entry::{Rest, put_number, put_text};
-use crate::cache::layout::words_of;
 use crate::cache::manifest::Manifest;
 use crate::cache::processor::instructions;
+use crate::cache::source::words_of;
 use crate::cache::store::Store;
 use crate::cache::{put, terminal};
 use crate::planner::Line;

@@ -2,10 +2,10 @@
 use crate::cache::digest::Digest;
 use crate::cache::entry::Rest;
 use crate::cache::key::{self, Role, Text};
-use crate::cache::layout::{RAW_PREFIXES, is_word, join_of};
 use crate::cache::manifest::{Manifest, Seen, Vain};
 use crate::cache::marked::contains;
 use crate::cache::recipe::Recipe;
+use crate::cache::source::{begins_raw_string, join_of};
 use crate::cache::tool::Run;
 use crate::cache::{Session, Taken};
 use crate::streams::content_of;
@@ -49,13 +49,9 @@ fn goes_on(line: &[u8]) -> bool {
 
 /// Whether a raw string, or a comment of several lines, may begin in a text, or lines are joined.
 fn may_go_on(text: &[u8]) -> bool {
-    let is_raw = |end: usize| {
-        let begin = text[..end].iter().rposition(|&byte| !is_word(byte)).map_or(0, |place| place + 1);
-        RAW_PREFIXES.contains(&&text[begin..end])
-    };
     text.split(|&byte| byte == b'\n').any(goes_on)
         || contains(text, b"??")
-        || (1..text.len()).any(|place| text[place] == b'"' && text[place - 1] == b'R' && is_raw(place))
+        || (1..text.len()).any(|place| text[place] == b'"' && text[place - 1] == b'R' && begins_raw_string(&text[..place]))
 }
 
 /// Whether a part that is left out may not go on behind a line: at a directive that is no line marker, or at a joined line.
@@ -165,7 +161,7 @@ mod tests {
     #[test]
     fn a_part_that_may_end_elsewhere_counts() {
         let part = |inside: &str| format!("int a;\n#if 0\n{inside}\n#endif\nint b;\n");
-        for inside in ["#else\nint c;", "#if 1\n#endif", " # endif", "%:endif", "a \\", "/* a", "R\"(", "a = u8R\"(", "??=endif"] {
+        for inside in ["#else\nint c;", "#if 1\n#endif", " # endif", "%:endif", "a \\", "/* a", "R\"(", "a = u8R\"(", "\u{20ac}R\"(", "??=endif"] {
             assert_eq!(without(&part(inside)), part(inside), "{inside}");
         }
         let comments = ["/* x */\n", "a /* x */ b /**/\n", "// /* x */\n"].map(|line| format!("{line}#if 0\na\n#endif\n"));

@@ -3,8 +3,8 @@
 //! `__LINE__` is the number of the line from which it comes, be it by way of other macros. So the lines of a text don't count if none of its
 //! words leads there by any definition in any text, or on a command line, whether a preprocessor takes that definition or leaves it out.
 //! Macros may put parts of words together: then any words of what is reached may be parts, in any order.
-use crate::cache::layout::{spliced, words_of};
 use crate::cache::marked::{contains, find};
+use crate::cache::source::{spliced, words_of};
 use std::borrow::Cow;
 use std::collections::{HashMap, HashSet};
 
@@ -129,6 +129,8 @@ mod tests {
             (chain, "CHECK(a);", true),
             (chain, "int assert_a;", false),
             ("", "__LINE__", true),
+            ("", "\u{20ac}__LINE__", true),
+            ("#define \u{e4}b $__LINE__\n", "\u{e4}b", true),
             ("", "__LINE", false),
             ("#if 0\n#define A B\n#else\n#define A C\n#endif\n # define B D\n%:define D __LINE__\n", "A", true),
             ("#define A \\\n  1 \\ \n + __LINE__\n", "A", true),

@@ -6,8 +6,8 @@
 //! A source whose layout is as it was may stand for what it was, if the call can't see the difference.
 use crate::cache::digest::{Digest, Hasher};
 use crate::cache::entry::{Rest, put_number, put_text};
-use crate::cache::layout::{layout_of, words_of};
 use crate::cache::lines::{Macros, definitions_in, without_definitions};
+use crate::cache::source::{layout_of, words_of};
 use crate::cache::store::digest_of;
 use crate::streams::{content, content_of};
 use std::ffi::OsStr;
@@ -70,7 +70,7 @@ pub enum Form {
 impl Form {
     /// That of a source.
     pub fn of_source(text: &[u8]) -> Form {
-        let digest = |is_lined: bool| layout_of(text, is_lined).map(|layout| Digest::of(&layout));
+        let digest = |is_lined: bool| layout_of(text, is_lined).map(|layout| Digest::of(layout.as_slice()));
         digest(true).map_or(Form::Text, |lined| Form::Source(Layouts { lined, free: digest(false), is_free: false }))
     }
 }
@@ -240,7 +240,7 @@ impl Manifest {
         }
         let sees = |place: &usize| {
             let layout = layout_of(&content_of(&cwd.join(&self.files[*place].path)).ok()?, false)?;
-            let uses = without_definitions(&layout);
+            let uses = without_definitions(layout.as_slice());
             Some(macros.see_lines(words_of(&uses)))
         };
         places.iter().map(sees).collect::<Option<Vec<bool>>>().map(|sees| sees.contains(&true))

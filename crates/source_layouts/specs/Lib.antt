@@ -1,0 +1,4 @@
+pub mod Bytes
+pub mod Examples
+pub mod LayoutLaws
+pub mod Reading

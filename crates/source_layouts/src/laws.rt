@@ -1,0 +1,20 @@
+//! Laws of the layouts of all texts.
+
+ghost use Rattle.source_layouts.specs.Examples as examples;
+ghost use Rattle.source_layouts.specs.LayoutLaws as spec;
+
+/// A comment between two tokens doesn't count, nor does an empty line if lines don't.
+pub fn comments()
+    ensures places { spec.TextsLeaveNothing }
+    ensures remarks { spec.CommentsDontCount }
+    ensures blocks { spec.CommentsAreBlanks }
+    ensures lines { spec.EmptyLinesDontCount }
+{}
+
+/// Examples: texts with their layouts, and texts without one.
+pub fn worked_texts()
+    ensures blanks { examples.BlanksAreLeftOut }
+    ensures lines { examples.LinesCount }
+    ensures texts { examples.TextsAreKept }
+    ensures doubts { examples.DoubtsHaveNone }
+{}
