@@ -9,9 +9,9 @@ ghost use Rattle.nvcc_calls.specs.Hazards as spec;
 ghost use Rattle.nvcc_calls.specs.ToolWords as tool;
 
 use crate::tool_words::may_name_file;
+use nvcc_lines::NvccCall;
 use nvcc_options::Reason;
 use nvcc_words::{Asked, Call, extension_of_phase, has_extension};
-use nvcc_lines::NvccCall;
 use std::alloc::{AllocError, Global};
 use texts::compilation_flags::asks_object;
 use texts::extension::{last, with_extension};

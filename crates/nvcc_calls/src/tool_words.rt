@@ -100,7 +100,7 @@ fn has_odd(value: &[u8]) -> bool
 fn has_value(name: &[u8]) -> bool
     ensures { result ≡ spec.has_value name.now }
 {
-    name.iter().any(|byte| *byte == b'=')
+    name.contains(&b'=')
 }
 
 // Whether an option without its dashes may name a file.
@@ -143,9 +143,7 @@ fn part_names_file(part: &[u8]) -> bool
 fn one_names_file(value: &[u8]) -> bool
     ensures { result ≡ list_any spec.part_names_file (slice_split spec.is_between value.now) }
 {
-    value
-        .split(|byte| is_between(*byte))
-        .any(|part| part_names_file(part))
+    value.split(|byte| is_between(*byte)).any(part_names_file)
 }
 
 // Whether what nvcc gives a tool may.
