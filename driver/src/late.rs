@@ -8,7 +8,7 @@ use late_fatbins::{Places, assembler_text, compiler_needs, placeholder, split_co
 use rattle_std::alloc::Global;
 use std::env;
 use std::fs;
-use std::path::{Path, PathBuf};
+use std::path::PathBuf;
 use texts::text::Text;
 
 /// The file that an assembler's command includes, to be written from fatbinary's right before it starts.
