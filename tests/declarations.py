@@ -1,8 +1,9 @@
 #!/usr/bin/env python3
 """Compares what bindings/c/zigrunk.h declares with the library's exports and the bindings: the types that each function takes and gives
 with the exports of crates/zigrunk_c, with Rust's declarations and with Python's, and each number with that of Python's enums. The layers
-for C, C++ and Go have to name numbers of the header, and Go all statuses; the words that a cache knows are the same in C and in Rust. (How
-records are laid out is a test of each binding.) It needs neither a library nor a compiler. Prints a line for each difference, and last
+for C, C++ and Go have to name numbers of the header, and Go all statuses; the words that a cache knows are the same in C and in Rust. The
+map, the bindings and the pages have to have each call. (How records are laid out is a test of each binding.) It needs neither a library nor
+a compiler. Prints a line for each difference, and last
 'N passed, M failed'; the status is 1 if something differs."""
 
 import ast
@@ -11,6 +12,7 @@ import enum
 import re
 import sys
 import types
+from collections.abc import Iterable
 from pathlib import Path
 from typing import Any
 
@@ -33,6 +35,10 @@ ENUMS = {"Status": ("", ""), "Form": ("", ""), "HostCompiler": ("", ""), "Tool":
          "Language": ("LANGUAGE_", ""), "ColorMode": ("COLOR_", ""), "Stage": ("", ""), "Reason": ("", ""), "Missing": ("", "_MISSING"),
          "Field": ("FIELD_", ""), "AfterFailure": ("", ""), "CommandState": ("", ""), "PlanStatus": ("", ""), "Refused": ("", "")}
 OTHER_NAMES = {"PlanStatus.SUCCEEDED": "ALL_SUCCEEDED", "PlanStatus.FAILED": "ONE_FAILED"}
+# What has to name each call of the header, but for those that Python says in another way.
+NAMES_CALLS = ["bindings/c/zigrunk.map", "bindings/rust/sys/src/functions.rs", "bindings/python/zigrunk/__init__.py", "docs/EMBEDDING.md",
+               "man/zigrunk.h.3"]
+NOT_CALLED = {("bindings/python/zigrunk/__init__.py", "zigrunk_message")}
 # The header's numbers that Python says in another way: by None, or since its calls can't have them.
 NOT_IN_PYTHON = {"IN_GROUP", "NONE_MISSING", "NO_FIELD", "FIELD_KEEPS", "NOT_REFUSED"}
 
@@ -140,6 +146,12 @@ def words_of(path: str, table: str) -> dict[str, list[str]]:
     return {name.lower(): re.findall(r'"([^"]*)"', body) for name, body in re.findall(table, read(path), re.DOTALL)}
 
 
+def lacking(path: str, calls: Iterable[str]) -> list[str]:
+    """The calls that a file doesn't name. A page may shorten those behind a first one, as in `.._next`."""
+    names = set(re.findall(r"\bzigrunk_\w+|\.\._\w+", read(path)))
+    return [it for it in calls if not {it, f"..{it[it.rfind('_'):]}"} & names and (path, it) not in NOT_CALLED]
+
+
 def differences(got: dict[str, Types], header: dict[str, Types]) -> list[str]:
     found = [f"{call} isn't in the header" for call in got if call not in header]
     return found + [f"{call} has {got[call]}, and the header {header[call]}" for call in got if call in header and got[call] != header[call]]
@@ -153,6 +165,8 @@ def main() -> int:
     counts.case("the exports", differences(exports, header) + [f"{it} isn't exported" for it in header if it not in exports])
     counts.case("Rust's declarations", differences(in_rust("bindings/rust/sys/src/functions.rs"), header))
     counts.case("Python's declarations", differences(in_python(names), {it: without_direction(kinds) for it, kinds in header.items()}))
+    for path in NAMES_CALLS:
+        counts.case(path, [f"it lacks {it}" for it in lacking(path, header)])
     numbers, python = numbers_in_header(), numbers_in_python(names)
     counts.case("Python's numbers", [f"{member} is {number}, and ZIGRUNK_{name} {numbers.get(name, 'is missing')}"
                                      for member, (name, number) in python.items() if numbers.get(name) != number])

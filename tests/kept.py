@@ -64,15 +64,38 @@ def started(command: str, words: List[str], folder: str) -> "subprocess.Popen[st
     )
 
 
+def sum_of(rlib: str) -> str:
+    """Returns the sum that tells one build of a library from another, as the libraries above it note it."""
+    with open(f"{rlib}/format", "rb") as it:
+        return hashlib.sha256(it.read()).hexdigest()
+
+
+def is_kept(crate: Any) -> bool:
+    """Returns whether a library is kept, and over the builds of those below it that are kept: one of `rt ci` fits no others."""
+    if not os.path.isdir(crate.rlib):
+        return False
+    with open(f"{crate.rlib}/format", encoding="utf-8") as it:
+        over = dict(line.split()[1:] for line in it if line.startswith("over "))
+    return all(os.path.isdir(below.rlib) and over.get(below.name) in (None, sum_of(below.rlib)) for below in crate.below())
+
+
+def keep(made: str, rlib: str, room: str) -> None:
+    """Keeps a library, in place of another build of it, which goes into a folder that will be removed."""
+    if os.path.isdir(rlib):
+        os.rename(rlib, f"{room}/{os.path.basename(rlib)}.old")
+    os.makedirs(os.path.dirname(rlib), exist_ok=True)
+    os.rename(made, rlib)
+
+
 def build(crate: Any, jobs: int, say: Callable[[str], None]) -> bool:
     """Proves and builds a library, unless it is kept. The libraries below it are built. Returns whether it is there. A second run waits for
     a first that proves the same."""
-    if os.path.isdir(crate.rlib):
+    if is_kept(crate):
         return True
     os.makedirs(os.path.dirname(crate.rlib), exist_ok=True)
     with open(f"{os.path.dirname(crate.rlib)}/lock", "w", encoding="utf-8") as lock, tempfile.TemporaryDirectory(dir=FOLDER) as room:
         fcntl.flock(lock, fcntl.LOCK_EX)
-        if os.path.isdir(crate.rlib):
+        if is_kept(crate):
             return True
         say(f"proving {crate.name}, which is below and not kept")
         made = f"{room}/{crate.name}.rlib"
@@ -85,7 +108,7 @@ def build(crate: Any, jobs: int, say: Callable[[str], None]) -> bool:
         if key_of(kit(), crate) not in crate.rlib:
             say(f"{crate.name} isn't kept: its sources changed while it was proved")
             return False
-        os.rename(made, crate.rlib)
+        keep(made, crate.rlib, room)
     return True
 
 
@@ -95,7 +118,7 @@ def build_below(crates: List[Any], jobs: int, say: Callable[[str], None]) -> boo
     version, below = kit(), list(dict.fromkeys(it for crate in crates for it in crate.below()))
     for it in below:
         it.rlib = f"{FOLDER}/{key_of(version, it)}/{it.name}.rlib"
-    lacking = [it for it in below if not os.path.isdir(it.rlib)]
+    lacking = [it for it in below if not is_kept(it)]
     os.makedirs(FOLDER, exist_ok=True)
     # its first call sets a signal's handler, which only the main thread may
     rtlib.guarded()
@@ -112,7 +135,8 @@ def build_below(crates: List[Any], jobs: int, say: Callable[[str], None]) -> boo
 
 def take_from_rt_ci(top: str) -> int:
     """Copies each library that `rt ci` keeps on this machine, if it was made of these sources and of what is below them, into the kept
-    folder. It asks the kit's own code, which compares every file with the sum noted when it was proved. Returns how many are kept."""
+    folder, also in place of another build of it. It asks the kit's own code, which compares every file with the sum noted when it was
+    proved. Returns how many are kept."""
     rt = importlib.machinery.SourceFileLoader("rt_ci", os.path.realpath(shutil.which("rt") or "rt")).load_module()
     version, count = kit(), 0
     os.makedirs(FOLDER, exist_ok=True)
@@ -129,12 +153,11 @@ def take_from_rt_ci(top: str) -> int:
             if crate.is_program or not all(it.name in store.rlibs for it in crate.below()) or not store.give(crate, False, store.key(crate)):
                 continue
             store.is_built(crate)
-            to = f"{FOLDER}/{key_of(version, crate)}/{crate.name}.rlib"
-            if os.path.isdir(f"{crate.folder}/out/rlib/{crate.name}.rlib"):
+            to, made = f"{FOLDER}/{key_of(version, crate)}/{crate.name}.rlib", f"{crate.folder}/out/rlib/{crate.name}.rlib"
+            if os.path.isdir(made):
                 count += 1
-                if not os.path.isdir(to):
-                    os.makedirs(os.path.dirname(to), exist_ok=True)
-                    os.rename(f"{crate.folder}/out/rlib/{crate.name}.rlib", to)
+                if not os.path.isdir(to) or sum_of(to) != sum_of(made):
+                    keep(made, to, room)
         os.chdir(top)
     return count
 

@@ -2,6 +2,7 @@
 """Tries the wrong bodies, crates/NAME/must-fail/*.edit and crates/NAME/wrong-bodies/*.edit: the prover has to reject each.
 
 Usage: tests/must_fail.py [CRATE..]                   all crates, or those named; proves first the libraries below that aren't kept
+       tests/must_fail.py CRATE/NAME..                these wrong bodies alone
        tests/must_fail.py --right [CRATE..]           the control: the same functions with their right bodies, none of which may count as
                                                       rejected
        tests/must_fail.py --gate FOLDER LOG           beside an `rt ci` that runs in FOLDER and writes to LOG; there is a file
@@ -465,10 +466,13 @@ class Queue:
 def main(words: List[str]) -> int:
     folder, log = (words[1], words[2]) if words[:1] == ["--gate"] and len(words) == 3 else (TOP, "")
     right = words[:1] == ["--right"]
-    named = [] if log else words[right:]
-    with_edits = [it for it in os.listdir(f"{TOP}/crates") if wrong_bodies(it)]
-    crates = [it for it in rtlib.crates_below(os.path.realpath(folder)) if it.name in (named or with_edits)]
-    if not crates or set(named) - set(with_edits):
+    asked = [] if log else [it.removesuffix(".edit") for it in words[right:]]
+    all_bodies = {it: wrong_bodies(it, RightBody if right else WrongBody) for it in os.listdir(f"{TOP}/crates")}
+    # a crate that is asked for has all of its own
+    wanted = {crate: [it for it in found if not asked or {crate, it.name.removesuffix(".edit")} & {*asked}] for crate, found in all_bodies.items()}
+    crates = [it for it in rtlib.crates_below(os.path.realpath(folder)) if wanted.get(it.name)]
+    names = {name for crate, found in all_bodies.items() for it in found for name in (crate, it.name.removesuffix(".edit"))}
+    if not crates or {*asked} - names:
         print(__doc__, file=sys.stderr)
         return 2
     crates.sort(key=lambda it: len(it.below()), reverse=True)
@@ -486,7 +490,7 @@ def main(words: List[str]) -> int:
         print("a library below can't be proved", file=sys.stderr)
         return 2
     record = Record(RECORD)
-    bodies = chosen(crates, record) if log else {it.name: wrong_bodies(it.name, RightBody if right else WrongBody) for it in crates}
+    bodies = chosen(crates, record) if log else {it.name: wanted[it.name] for it in crates}
     queue = Queue([attempt for it in crates if bodies.get(it.name) for attempt in attempts_of(it, bodies[it.name])], log, say)
     with ThreadPoolExecutor(jobs) as lanes:
         for it in [lanes.submit(queue.work, bool(log) and it >= (jobs + 2) // 2) for it in range(jobs)]:

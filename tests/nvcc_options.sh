@@ -1,5 +1,5 @@
 #!/usr/bin/env bash
-# Prints each option that `nvcc --help` of the installed nvcc lists and that the table of crates/nvcc_words lacks. It fails if there is
+# Prints each option that `nvcc --help` of the installed nvcc lists and that the table of crates/nvcc_options lacks. It fails if there is
 # one, or if the help lists fewer than a hundred. The last line is 'N passed, M failed'.
 #
 #   tests/nvcc_options.sh [NVCC]

@@ -4,7 +4,7 @@
     tests/random_calls.py [--seed N] [--count N] [--first N] [--jobs N] [--scratch FOLDER] [--json FILE] [--list] [--nvcc PATH]
         [--ours PATH]
 
-The words of a call are drawn from nvcc's options, as crates/nvcc_words has them, with values from a small grammar: most are good, some
+The words of a call are drawn from nvcc's options, as crates/nvcc_options has them, with values from a small grammar: most are good, some
 are odd, and some name files, relative or not. A third of the calls ask for line information or debug code. Some words go into
 NVCC_PREPEND_FLAGS, NVCC_APPEND_FLAGS or an options file. The same seed draws the same calls, and each call depends on the seed and its own
 number alone: --first 7 --count 1 makes the seventh again. --list prints the calls and makes none.
