@@ -227,7 +227,7 @@ def normal(text: str, base: Path) -> str:
     text = re.sub(r"(BASE/tmp/|/tmp/)?tmpxft_[0-9a-f]+_[0-9a-f]+-\d+_?", "", text)
     text = re.sub(r"tmpxft_[0-9a-f]+_[0-9a-f]+", "TMPXFT", text)
     text = re.sub(r"-[0-9a-f]{6}\.\.lgenfe\.bc", "-N..lgenfe.bc", text)
-    text = re.sub(r"\b[0-9a-f]+_stdout\b", "N_stdout", text)
+    text = re.sub(r"\b[0-9a-f]+_(stdout|stderr)\b", r"N_\1", text)
     text = re.sub(r"Compile time = [0-9.]+ ms", "Compile time = N ms", text)
     return re.sub(r", [0-9.]+ , ms", ", N , ms", text)
 
