@@ -228,8 +228,8 @@ stand_ins() {
         ran 'for a link' gcc-c
         same 'the target of a link' "$(cat target)" target
         rm -f k.o && mkdir k.o
-        call -c k.cu -o k.o
-        same 'for a folder' "$([ "$status" != 0 ] && [ -d k.o ] && echo kept)" kept
+        call ZIGRUNK_EXPLAIN=1 -c k.cu -o k.o
+        same 'for a folder' "$(head -n 1 "$room/err")" "zigrunk-nvcc: nvcc itself: its output can't be written"
         rmdir k.o && mkfifo k.o
         call -c k.cu -o k.o
         ran 'for a pipe' gcc-c
@@ -237,8 +237,8 @@ stand_ins() {
         call -c k.cu -o k.o
         ran_none 'for a file with two names'
         same 'the other name' "$(cat first.o)" kept
-        call -c k.cu -o nofolder/k.o
-        same 'without a folder' "$([ "$status" != 0 ] && [ -s "$room/err" ] && echo told)" told
+        call ZIGRUNK_EXPLAIN=1 -c k.cu -o nofolder/k.o
+        same 'without a folder' "$(head -n 1 "$room/err")" "zigrunk-nvcc: nvcc itself: its output can't be written"
         end
     fi
     if case_of 'folders that cannot be written'; then
