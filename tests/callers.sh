@@ -97,9 +97,11 @@ misuses() {
 }
 
 # told_of_lot: what the program for C, which has the checks of the compiler, says of pairs of dry runs by lot. Some of both kinds are among them: those
-# that are planned, and those that aren't.
+# that are planned, and those that aren't. (A pair frees half a MB. By default, ASan keeps back 256 MB of what was freed last, and then each allocation
+# waits for memory that isn't in a processor's cache.)
 told_of_lot() {
-    "$scratch/misuses_c" "$room" < "$scratch/lot" > "$scratch/said_of_lot" && grep -q ' 0 0 0$' "$scratch/said_of_lot" &&
+    ASAN_OPTIONS=${ASAN_OPTIONS-quarantine_size_mb=4} "$scratch/misuses_c" "$room" < "$scratch/lot" > "$scratch/said_of_lot" &&
+        grep -q ' 0 0 0$' "$scratch/said_of_lot" &&
         [ "$(grep -vc ' 0 0 0$' "$scratch/said_of_lot")" -ge $((pairs / 2)) ] && [ "$(grep -c '' "$scratch/said_of_lot")" = "$pairs" ]
 }
 

@@ -35,12 +35,11 @@ def main() -> None:
     others = [(room / f"{name}.dry{run}").read_bytes() for name in ("two", "ptx") for run in (1, 2)]
     for number in range(count):
         changed = random.Random(f"{seed} {number}").choice([(0,), (1,), (0, 1)])
-        for run in (0, 1):
+        for run in changed:
             # (the same edit of both, where both are changed)
-            lot = random.Random(f"{seed} {number} edit")
-            text = mutated(right[run], others, lot) if run in changed else right[run]
+            text = mutated(right[run], others, random.Random(f"{seed} {number} edit"))
             (room / f"lot{number}.dry{run + 1}").write_bytes(text)
-        print(f"lot{number} t lot{number}.dry1 lot{number}.dry2 -")
+        print(f"lot{number} t", *(f"{f'lot{number}' if run in changed else 'one'}.dry{run + 1}" for run in (0, 1)), "-")
 
 
 if __name__ == "__main__":
