@@ -88,7 +88,7 @@ unpack() {
 # configure, build JOBS: what a CMake project does. Others have functions of these names in their file. The makefiles of CMake have no target
 # for an object that can be called from above, so objects.mk calls those below.
 # FindCUDA drops the variable for nvcc if the toolkit's folder isn't the one that it has noted. With Ninja, an object of it would wait for
-# hundreds of others, which its target links and which aren't CUDA's.
+# hundreds of others, which its target links and which aren't CUDA's. Ninja would remove the dependency files, which are compared too.
 configure() {
     local name=Ninja
     [ "$generator" != own ] || return 0
@@ -108,7 +108,7 @@ build() {
     if [ "$generator" = Ninja ]; then
         ninja -C build -t targets all |
             sed -n '/^\//d; s/^\(.*\): CUDA_COMPILER__.*/\1/p; s/^\(.*_generated_.*\.\(o\|fatbin\)\): CUSTOM.*/\1/p' | chosen |
-            (cd build && xargs ninja -k 0 -j "$1")
+            (cd build && xargs ninja -d keepdepfile -k 0 -j "$1")
     else
         make -C build -f objects.mk -k -j "$1"
     fi

@@ -55,7 +55,7 @@ def outputs(call: Call) -> list[str]:
     """Returns the files that a call's words name as its outputs."""
     words = call["words"]
     names = [words[at + 1] for at, word in enumerate(words[:-1]) if word in ("-o", "--output-file", "-MF")]
-    return [os.path.normpath(f"{call['directory']}/{name}") for name in names]
+    return [os.path.normpath(os.path.join(call["directory"], name)) for name in names]
 
 
 def read_file(path: str) -> bytes | None:
@@ -158,6 +158,10 @@ def compare(place: str, other: str, results: str, nvcc: str) -> None:
     for call in ours:
         for path in outputs(call):
             theirs_path = other + path.removeprefix(place)
+            if not os.path.exists(path) and not os.path.exists(theirs_path):
+                if compiles(call["words"]) and call["status"] == 0:
+                    problems.append(f"{path.removeprefix(place)} isn't there, so it can't be compared")
+                continue
             kind = kind_of_difference(read_file(path), read_file(theirs_path))
             if kind not in KNOWN:
                 own = again(place, other, call, path, nvcc)
