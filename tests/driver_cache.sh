@@ -728,6 +728,24 @@ real_calls() {
         same 'ptxas in another checkout' "$(grep -c ptxas <<< "$served")" 1
         end
     fi
+    if case_of 'nvcc: specs of gcc'; then
+        project
+        mkdir "$room/lib"
+        echo 'inline int sum(int a) { int s = 0; for (int i = 0; i < a; i++) s += i * i; return s; } int sums(int a) { return sum(a) + sum(a + 1); }' >> k.cu
+        for level in 1 3; do
+            for _ in 1 2; do
+                printf '%s\n' '*cc1plus:' "+ -O$level" '' > "$room/lib/specs"
+                made LIBRARY_PATH="$room/lib" -arch=sm_80 -Iinc -c k.cu -o k.o
+            done
+            same "misses with specs for -O$level" "$missed" ''
+        done
+        printf '%s\n' '*cc1plus:' '+ %:getenv(LEVEL 2)' '' > "$room/lib/specs"
+        for level in -O -finline-limit=; do
+            made LIBRARY_PATH="$room/lib" LEVEL="$level" -arch=sm_80 -Iinc -c k.cu -o k.o
+            same "host compile by specs that use variables" "$(grep -o gcc--S <<< "$served")" ''
+        done
+        end
+    fi
     if case_of 'nvcc: warnings'; then
         project
         echo 'int warns() { int never; return 0; } // a comment' >> k.cu
@@ -813,6 +831,17 @@ whole_calls() {
         twice -DNAME='"a name"' -UOTHER -forward-unknown-to-host-compiler -std=c++17 -x cu -rdc=true -isystem inc "${usual[@]}"
         end
     fi
+    if case_of "whole: the toolkit's headers, thrust and cub"; then
+        project
+        rm cuda_runtime.h
+        for headers in 'cuda_fp16.h vector' 'cub/block/block_reduce.cuh thrust/detail/raw_pointer_cast.h'; do
+            # shellcheck disable=SC2086 # several words
+            { printf '#include <%s>\n' $headers && cat k.cu; } > l.cu
+            touch -d '1 minute ago' l.cu
+            twice "${usual[@]/k.cu/l.cu}"
+        done
+        end
+    fi
     if case_of 'whole: words that builds have'; then
         project
         # nvcc gives a preprocessor the words of a macro one by one
@@ -831,6 +860,8 @@ whole_calls() {
                 sed -i "$edit" k.cu
             done
             sed -i 's/= 6;/= 4;/' k.cu
+            # shellcheck disable=SC2086
+            [[ $words == '-lineinfo -'[cf]* ]] || whole whole -Iinc $words k.cu -o k.o
         done
         end
     fi
@@ -946,9 +977,14 @@ whole_calls() {
         twice "${usual[@]}"
         rm b/more.h && echo 'inline int further() { return 6; }' > b/more.h
         twice "${usual[@]}"
+        # a copy is left out if it was last changed in the same second
+        printf '%s\n' '#pragma once' '#ifdef MORE' 'int more_than_once = 1;' '#endif' '#define MORE' > a/more.h
         cp a/more.h b/more.h && touch -d '1 minute ago' a/more.h b/more.h
-        whole '' "${usual[@]}"
-        whole '' "${usual[@]}"
+        twice "${usual[@]}"
+        touch -d '2 minutes ago' b/more.h
+        twice "${usual[@]}"
+        touch -r b/more.h a/more.h
+        twice "${usual[@]}"
         echo 'inline int further() { return 7; } int here = further();' > b/more.h
         whole '' "${usual[@]}"
         end
@@ -1010,6 +1046,148 @@ whole_calls() {
         whole whole "${usual[@]}"
         echo '#define SIZE 512' > early/size.h
         whole '' "${usual[@]}"
+        end
+    fi
+    if case_of 'whole: links to what is not there yet'; then
+        project
+        mkdir early far far/folder.h sub
+        ln -s ../far/size.h early/size.h
+        ln -s ../far/folder.h early/folder.h
+        ln -s ../nowhere sub/link
+        printf '%s\n' '#include "folder.h"' >> k.cu
+        echo '#define FOLDER 1' > inc/folder.h
+        # a folder that was last changed some time ago isn't looked into again
+        sleep 2.1
+        for what in 'far/size.h' 'nowhere/size.h' 'far/folder.h'; do
+            twice -Isub/link "${usual[@]}"
+            [ $what != far/folder.h ] || rmdir far/folder.h
+            mkdir -p "${what%/*}" && echo '#define SIZE 512' > $what
+            whole '' -Isub/link "${usual[@]}"
+            rm $what && rm -rf nowhere
+            sleep 2.1
+        done
+        end
+    fi
+    if case_of 'whole: a file for which a text asks'; then
+        project
+        mkdir src
+        # asked.h isn't read, and may be beside the source alone
+        printf '%s\n' '#define NAME "asked.h"' '#define HAS(x) __has_include(x)' '#define HAS_ANGLED(x) __has_include(<x>)' '#define HAS_ONE HAS("asked.h")' \
+            '#define CAT(a, b) a##b' '#define EMPTY' > inc/names.h
+        local words=('-DWORD="asked.h"' -arch=sm_80 -Iinc -c src/k.cu -o k.o)
+        # asks FOLDER LINE WORD..: a file appears in a folder for which a line asks
+        asks() {
+            local folder=$1 line=$2
+            shift 2
+            { printf '%s\n' '#include "names.h"' "#if $line" 'int more = 7;' '#endif' | tr '|' '\n' && cat k.cu; } > src/k.cu
+            touch -d '1 minute ago' src/k.cu
+            for _ in 1 2; do call "$@" "${words[@]}" && settle; done
+            echo '// nothing' > "$folder/asked.h"
+            whole '' "$@" "${words[@]}"
+        }
+        for line in '__has_include("asked.h")' '__has_inc\|lude(NAME)' 'HAS("asked.h")' 'HAS(NAME)' 'HAS(WORD)' HAS_ONE '__has_include EMPTY (NAME)' 'CAT(__has_, include)(NAME)'; do
+            asks src "$line"
+            rm src/asked.h
+        done
+        asks src WHOLE '-DWHOLE=__has_include("asked.h")'
+        rm src/asked.h
+        for line in '__has_include(<asked.h>)' 'HAS(<asked.h>)' 'HAS_ANGLED(asked.h)'; do
+            asks inc "$line"
+            rm inc/asked.h
+            whole '' "${words[@]}"
+            settle
+        done
+        mkdir early && printf '%s\n' '#if __has_include_next("size.h")' '#define SIZE 5' '#else' '#define SIZE 6' '#endif' > early/size.h
+        twice "${usual[@]}"
+        rm inc/size.h
+        whole '' "${usual[@]}"
+        end
+    fi
+    if case_of 'whole: names in odd directives'; then
+        project
+        for line in '#include "si\|ze.h"' '#inc\|lude "size.h"' '#/* x */include "size.h"' '# /*|*/ include "size.h"' '%:include "size.h"' '??=include "size.h"'; do
+            { tr '|' '\n' <<< "$line" && sed 1d k.cu; } > odd.cu
+            touch -d '1 minute ago' odd.cu
+            for _ in 1 2; do call -std=c++14 "${usual[@]/k.cu/odd.cu}" && settle; done
+            echo '#define SIZE 512' > size.h
+            whole '' -std=c++14 "${usual[@]/k.cu/odd.cu}"
+            rm size.h
+        done
+        end
+    fi
+    if case_of 'whole: products by their whole paths'; then
+        project
+        mv cuda_runtime.h inc
+        local words=(-arch=sm_80 -I"$PWD/inc" -MD -MF "$PWD/k.d" -c "$PWD/k.cu" -o "$PWD/k.o")
+        twice "${words[@]}"
+        mkdir "$room/other" && cp k.o k.d "$room/other" && rm k.o k.d
+        (cd "$room/other" && rm k.o k.d && call "${words[@]}")
+        same 'files there and in their place' "$(ls "$room/other") $(find k.o k.d 2>&1 | tr '\n' ' ')" ' k.o k.d '
+        end
+    fi
+    if case_of 'whole: what gcc consists of'; then
+        project
+        printf '%s\n' '#ifdef MORE' 'int more = MORE;' '#endif' >> k.cu
+        mkdir lib tools "$room/bin.1"
+        local variables=(LIBRARY_PATH="$PWD/lib" COMPILER_PATH="$PWD/tools" PATH="$room/bin.1:$PATH")
+        twice "${variables[@]}" "${usual[@]}"
+        printf '%s\n' '*cpp_unique_options:' '+ -DMORE=1' '' > lib/specs
+        whole '' "${variables[@]}" "${usual[@]}"
+        printf '%s\n' '*cpp_unique_options:' '+ -DMORE=2' '' > lib/specs
+        whole '' "${variables[@]}" "${usual[@]}"
+        rm lib/specs
+        twice "${variables[@]}" "${usual[@]}"
+        printf '#!/bin/sh\nexec %s -DMORE=3 "$@"\n' "$(gcc -print-prog-name=cc1plus)" > tools/cc1plus && chmod +x tools/cc1plus
+        whole '' "${variables[@]}" "${usual[@]}"
+        rm tools/cc1plus
+        whole whole "${variables[@]}" "${usual[@]}"
+        # a file of the name that isn't a program, and becomes one
+        printf '#!/bin/sh\nexec %s -DMORE=4 "$@"\n' "$(command -v gcc)" > "$room/bin.1/gcc"
+        for _ in 1 2; do settle && call "${variables[@]}" "${usual[@]}"; done
+        chmod +x "$room/bin.1/gcc"
+        whole '' "${variables[@]}" "${usual[@]}"
+        rm "$room/bin.1/gcc"
+        whole whole "${variables[@]}" "${usual[@]}"
+        end
+    fi
+    if case_of 'whole: a gcc of the same bytes elsewhere'; then
+        project
+        local own machine
+        own=$(dirname "$(gcc -print-prog-name=cc1plus)") machine=${own#*/lib/gcc/}
+        for number in 1 2; do
+            mkdir -p "$room/gcc.$number/bin" "$room/gcc.$number/lib/gcc/$machine/include"
+            ln -s "$own"/* "$room/gcc.$number/lib/gcc/$machine" 2> /dev/null
+            ln -s "$own"/include/* "$room/gcc.$number/lib/gcc/$machine/include"
+            cp "$(realpath "$(command -v gcc)")" "$room/gcc.$number/bin/gcc"
+            echo "int more = $number;" > "$room/gcc.$number/lib/gcc/$machine/include/more.h"
+        done
+        echo '#include <more.h>' >> k.cu
+        touch -d '1 minute ago' k.cu "$room"/gcc.?/lib/gcc/"$machine"/include/more.h
+        ln -s gcc.1 "$room/gcc"
+        twice -ccbin "$room/gcc/bin/gcc" "${usual[@]}"
+        ln -sfn gcc.2 "$room/gcc"
+        whole '' -ccbin "$room/gcc/bin/gcc" "${usual[@]}"
+        end
+    fi
+    if case_of 'whole: folders that are swapped while a call runs'; then
+        project
+        local words=(-arch=sm_80 -Ilink/inc -c k.cu -o k.o) begun
+        mkdir one two && cp -r inc one && cp -r inc two && echo '#define SIZE 512' > two/inc/size.h
+        for how in link link folder folder; do
+            rm -rf link "$room/cache"
+            if [ $how = link ]; then ln -s one link; else cp -r one link; fi
+            settle
+            call "${words[@]}" &
+            begun=$!
+            while kill -0 $begun 2> /dev/null && [ -z "$(find "$room/tmp" -name '*.cudafe1.cpp' -size +0)" ]; do :; done
+            if [ $how = link ]; then ln -sfn two link; else mv link old && mv two link && cp -r link two && rm -r old; fi
+            wait $begun
+            settle
+            call ZIGRUNK_CACHE= "${words[@]}"
+            mv k.o plain.o
+            call "${words[@]}"
+            same "product after a swap of a $how" "$(cmp k.o plain.o 2>&1)" ''
+        done
         end
     fi
     if case_of 'whole: what is never kept'; then

@@ -105,7 +105,9 @@ class Project:
             path = folder / name
             text = path.read_text(encoding="utf-8")
             text = text.replace("    if (threadIdx.x == 0) sums[blockIdx.x] = tile[0];\n", BRANCHES)
-            path.write_text(LIBRARIES + text + LIBRARY_CALLS if self.has_libraries else text, encoding="utf-8")
+            # nvcc finds no external name behind thrust's headers, takes the number of its process, and makes another object each time
+            named = f"int begins_{path.stem}() {{ return 1; }}\n"
+            path.write_text(named + LIBRARIES + text + LIBRARY_CALLS if self.has_libraries else text, encoding="utf-8")
 
     def line(self, compiler: list[str], folder: Path, source: str, call: Call) -> list[str]:
         """The words that compile a source, as CMake writes them."""

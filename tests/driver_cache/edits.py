@@ -1,11 +1,13 @@
 #!/usr/bin/env python3
 """Edits a small project at random, by a seed, and builds it after each edit by nvcc and by zigrunk-nvcc with its cache. The objects have to be alike,
-but for the names of temporary files. Some edits are not of sources: a killed call, damaged entries, another umask, a limit.
+but for the names of temporary files. Some edits are not of sources: a killed call, damaged entries, another umask, a limit. nvcc isn't asked again
+for what it has made of the same files, with their times, by the same words.
 
     tests/driver_cache/edits.py DRIVER [--seed N] [--count N]
 
 The last line is 'N passed, M failed'; the status is 1 if one failed. It needs nvcc and objcopy."""
 import argparse
+import hashlib
 import os
 import pathlib
 import random
@@ -13,16 +15,23 @@ import shutil
 import subprocess
 import sys
 import tempfile
+from concurrent.futures import ThreadPoolExecutor
 
 SMALL = pathlib.Path(__file__).resolve().parent.parent / "small"
 HEADER = """#pragma once
+#include <far.h>
+#if __has_include("asked.h")
+#define ASKED 1
+#else
+#define ASKED 0
+#endif
 // constants
 #define SIZE {size}
 #define OTHER {other}
 #define HERE {line}
 #define JOINED(a, b) a##b
 #define TEXT(x) #x
-inline int blocks(int count) {{ return (count + SIZE - 1){inside}/ {block}; }}
+inline int blocks(int count) {{ return (count + SIZE - 1 + ASKED + FAR){inside}/ {block}; }}
 {lines}template <typename F> __device__ int applied(F f, int value) {{ return f(value); }}
 """
 SOURCE = """#include "size.h"
@@ -53,7 +62,7 @@ INSIDE = ["", "", " ", "/**/", " /* x */", "\n", " // x\n", "\n\n  // /* x\n"]
 HERE = ["0", "HERE", "JOINED(HE, RE)", "JOINED(__LI, NE__)"]
 KINDS = ["comment", "lines", "lines", "header_lines", "header_lines", "header_line", "inside", "inside", "header_inside", "here", "line",
          "unused", "kernel", "newer", "older", "host", "size", "other", "block", "blank", "targets",
-         "words", "words", "umask", "early", "product", "touch", "touch", "touch", "back", "same_time"]
+         "words", "words", "umask", "early", "asked", "far", "linked", "product", "touch", "touch", "touch", "back", "same_time"]
 WORDS: list[list[str]] = [
     [], ["-O3"], ["-lineinfo"], ["-lineinfo"], ["-fatbin"], ["-fatbin", "-lineinfo"], ["-g"], ["-dc"], ["-DX=1"], ["-std=c++20"], ["-MD"],
     ["-Xcompiler", "-fPIC"], ["-Xcompiler", "-Wconversion"], ["-Xcompiler", "-Wall"], [], [], ["-DHERE_IS=__LINE__"],
@@ -78,7 +87,9 @@ class Project:
     def write(self) -> None:
         (self.folder / "inc").mkdir(exist_ok=True)
         (self.folder / "early").mkdir(exist_ok=True)
+        (self.folder / "far").mkdir(exist_ok=True)
         self.put("inc/size.h", HEADER.format(**self.header))
+        self.put("inc/far.h", "#define FAR 1\n")
         early = self.folder / "early/size.h"
         if self.early:
             early_header: Values = {**self.header, "size": 7}
@@ -136,6 +147,19 @@ class Project:
             self.umask = lot.choice([0o022, 0o077, 0o002])
         elif kind == "early":
             self.early = not self.early
+        elif kind in ("asked", "far"):
+            # early/far.h may be a link to the latter, and lead nowhere
+            path = self.folder / {"asked": "inc/asked.h", "far": "far/far.h"}[kind]
+            if path.exists():
+                path.unlink()
+            else:
+                path.write_text("#define FAR 2\n")
+        elif kind == "linked":
+            path = self.folder / "early/far.h"
+            if path.is_symlink():
+                path.unlink()
+            else:
+                path.symlink_to("../far/far.h")
         elif kind == "product":
             self.product = lot.choice(["{}.o", "{}.other.o"])
         elif kind == "touch":
@@ -154,6 +178,13 @@ class Project:
         targets = [word for target in self.targets for word in ("-gencode", f"arch=compute_{target},code=sm_{target}")]
         phase = [] if {"-dc", "-fatbin"} & set(self.words) else ["-c"]
         return [*targets, *self.words, "-Iearly", "-Iinc", *phase, f"{name}.cu", "-o", self.product.format(name)]
+
+    def state(self, name: str) -> str:
+        """What a call may depend on: its words, modes, and all files but other sources and products, with their times."""
+        files = [*sorted(path for path in self.folder.rglob("*.h") if path.exists()), self.folder / f"{name}.cu"]
+        parts = [repr((self.call(name), self.umask))]
+        parts += [f"{path} {path.stat().st_mtime_ns} {hashlib.sha256(path.read_bytes()).hexdigest()}" for path in files]
+        return hashlib.sha256("\n".join(parts).encode()).hexdigest()
 
 
 def damage(lot: random.Random, cache: pathlib.Path) -> None:
@@ -177,6 +208,7 @@ class Builds:
         (room / "bin").mkdir()
         os.symlink(driver, self.own)
         (room / "tmp").mkdir()
+        self.by_nvcc: dict[str, Build] = {}
         self.environment = {**os.environ, "TMPDIR": str(room / "tmp"), "ZIGRUNK_CACHE": str(self.cache), "ZIGRUNK_LOG": str(room / "log")}
 
     def start(self, program: str, project: Project, name: str) -> "subprocess.Popen[bytes]":
@@ -205,17 +237,27 @@ class Builds:
         made = product.read_bytes()
         if not made.startswith(b"\x7fELF"):
             return process.returncode, said, mode, made
-        subprocess.run(["objcopy", "--strip-unneeded", product, self.room / "stripped"], check=True)
-        return process.returncode, said, mode, (self.room / "stripped").read_bytes()
+        stripped = self.room / f"stripped.{name}"
+        subprocess.run(["objcopy", "--strip-unneeded", product, stripped], check=True)
+        return process.returncode, said, mode, stripped.read_bytes()
+
+    def wanted(self, project: Project) -> dict[str, Build]:
+        """What nvcc makes of each source."""
+        states = {name: project.state(name) for name in project.sources}
+        new = {state: name for name, state in states.items() if state not in self.by_nvcc}
+        with ThreadPoolExecutor(2) as threads:
+            self.by_nvcc |= zip(new, threads.map(lambda name: self.run("nvcc", project, name), new.values()))
+        return {name: self.by_nvcc[state] for name, state in states.items()}
 
     def problem(self, project: Project) -> str | None:
         """What is wrong with the builds of a project, if something is."""
-        for name in project.sources:
+        all_wanted = self.wanted(project)
+        for name, wanted in all_wanted.items():
             if self.lot.random() < 0.1:
                 self.kill(project, name, self.lot.random() / 2)
             if self.lot.random() < 0.1 and self.cache.exists():
                 damage(self.lot, self.cache)
-            wanted, made = self.run("nvcc", project, name), self.run(self.own, project, name)
+            made = self.run(self.own, project, name)
             for what, one, other in zip(("status", "messages", "mode", "object"), made, wanted):
                 if one != other:
                     return f"{what} of {name}.cu: {one!r:.200}, not {other!r:.200}, by {' '.join(project.call(name))}"

@@ -18,8 +18,8 @@ int main(int count, char **words) {
     char **shell = calloc((size_t)count + 4, sizeof *shell);
     if (shell == NULL || count < 1)
         return 2;
-    if (count == 2 && strncmp(words[1], option, sizeof option - 1) == 0) {
-        say_part(words[0], words[1] + sizeof option - 1);
+    if (strncmp(words[count - 1], option, sizeof option - 1) == 0) {
+        say_part(words[0], words[count - 1] + sizeof option - 1);
         return 0;
     }
     shell[0] = "sh", shell[1] = "-c", shell[2] = ". \"$STAND_IN\"";

@@ -139,7 +139,7 @@ fn keys(line: &Line, nvcc: &Path) -> [Digest; 2] {
 /// The key of a call: the processor, its nvcc, its words and its variables, and its folder if that counts.
 fn key(line: &Line, nvcc: &Path, folder: Option<&str>, variables: impl Iterator<Item = (OsString, OsString)>) -> Digest {
     let mut hasher = Hasher::default();
-    hasher.add(b"zigrunk call 4");
+    hasher.add(b"zigrunk call 5");
     hasher.add(instructions().as_bytes());
     hasher.add(folder.unwrap_or_default().as_bytes());
     hasher.add(nvcc.as_os_str().as_bytes());

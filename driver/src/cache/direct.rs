@@ -1,8 +1,8 @@
 //! Host compiles that are found without a preprocessor: by the texts that they read, if all headers are as they were.
 use crate::cache::digest::Digest;
-use crate::cache::entry::Rest;
+use crate::cache::entry::{Rest, put_number};
 use crate::cache::key::{self, Role, Text};
-use crate::cache::manifest::{Manifest, Seen, Vain};
+use crate::cache::manifest::{Manifest, Seen};
 use crate::cache::marked::contains;
 use crate::cache::recipe::Recipe;
 use crate::cache::source::{begins_raw_string, join_of};
@@ -19,15 +19,37 @@ pub struct Direct {
     key: Option<Digest>,
     /// That of its entry, by its preprocessed text.
     entry: Option<Digest>,
-    /// The headers that it would read, if it was found so.
-    pub found: Option<Manifest>,
+    /// What it would read, if it was found so.
+    pub found: Option<Found>,
+}
+
+/// What a compile depends on beside its own texts.
+#[derive(Clone, PartialEq, Eq, Debug, Default)]
+pub struct Found {
+    /// How many of the files it reads. It asks whether the others are there.
+    count: usize,
+    pub manifest: Manifest,
+}
+
+impl Found {
+    /// The headers that the compile reads.
+    pub fn read(&self) -> &[Seen] {
+        self.manifest.files.get(..self.count).unwrap_or(&self.manifest.files)
+    }
+
+    fn to_bytes(&self, entry: &Digest) -> Vec<u8> {
+        let mut bytes = entry.0.to_vec();
+        put_number(&mut bytes, self.count);
+        bytes.extend(self.manifest.to_bytes());
+        bytes
+    }
 }
 
 /// What the store has under the key of texts: the key of an entry, and the headers by which that holds.
-fn of_bytes(bytes: &[u8]) -> Option<(Digest, Manifest)> {
+fn of_bytes(bytes: &[u8]) -> Option<(Digest, Found)> {
     let mut rest = Rest(bytes);
-    let entry = rest.digest()?;
-    Some((entry, Manifest::of_bytes(rest.0)?))
+    let (entry, count) = (rest.digest()?, rest.number()?);
+    Some((entry, Found { count, manifest: Manifest::of_bytes(rest.0)? }))
 }
 
 /// The generated files that a compile reads: its own, cicc's stub file, which that includes, and the fatbin's, which the stub file includes.
@@ -99,12 +121,12 @@ impl Session<'_> {
     pub(super) fn take_directly(&mut self, task: usize, times: (f64, f64)) -> Option<Taken> {
         let key = self.direct_key(task)?;
         self.candidates.get_mut(&task)?.direct.key = Some(key);
-        let (entry, manifest) = of_bytes(&self.store.read(&key)?)?;
+        let (entry, found) = of_bytes(&self.store.read(&key)?)?;
         let candidate = self.candidates.get(&task)?;
-        let now = manifest.again(Path::new(&candidate.recipe.job.folder))?;
-        let entry = self.entry(&entry).filter(|_| now.digest(&key) == manifest.digest(&key))?;
+        let now = found.manifest.again(Path::new(&candidate.recipe.job.folder))?;
+        let entry = self.entry(&entry).filter(|_| now.digest(&key) == found.manifest.digest(&key))?;
         let taken = self.take(&candidate.recipe, &entry, times)?;
-        self.candidates.get_mut(&task)?.direct.found = Some(now);
+        self.candidates.get_mut(&task)?.direct.found = Some(Found { manifest: now, ..found });
         Some(taken)
     }
 
@@ -115,27 +137,28 @@ impl Session<'_> {
         }
     }
 
-    /// The files beside its own texts that a compile has read, by its preprocessed text. `None` if it isn't known to read all of them, or if
-    /// it may see its lines.
-    fn read_beside(&self, recipe: &Recipe, files: &[Seen]) -> Option<Vec<Seen>> {
+    /// The files beside its own texts that a compile has read, by its preprocessed text, and those for which it may ask. `None` if it isn't
+    /// known to read all of them, or if it may see its lines.
+    fn read_beside(&self, recipe: &Recipe, call: &Manifest, present: &BTreeSet<PathBuf>) -> Option<Found> {
         let (_, file) = recipe.question.as_ref()?;
         let written = self.known.found(file).filter(|written| !written.sees_lines)?;
         let entered = written.entered.as_ref()?.iter().map(PathBuf::as_path);
         let (own, others): (BTreeSet<&Path>, BTreeSet<&Path>) = entered.partition(|path| path.starts_with(self.tmp));
-        let read: Vec<Seen> = files.iter().filter(|seen| others.contains(seen.path.as_path())).cloned().collect();
+        let (read, beside): (Vec<&Seen>, Vec<&Seen>) = call.files.iter().partition(|seen| others.contains(seen.path.as_path()));
         let generated = generated(recipe)?;
-        let is_known = own.iter().all(|path| generated.iter().any(|file| file == path));
-        (is_known && read.len() == others.len()).then_some(read)
+        let is_known = own.iter().all(|path| generated.iter().any(|file| file == path)) && read.len() == others.len();
+        let asked = beside.into_iter().filter(|seen| present.contains(&seen.path));
+        let (count, files) = (read.len(), read.iter().copied().chain(asked).cloned().collect());
+        is_known.then(|| Found { count, manifest: Manifest { files, vain: call.vain.clone(), defines: None } })
     }
 
     /// Keeps what the call's compiles have read beside their own texts, so that they are found without a preprocessor. These files are among
     /// those of the whole call, and so are the places where any was sought in vain.
-    pub fn keep_directly(&self, cwd: &str, files: &[Seen], vain: &[Vain]) {
+    pub fn keep_directly(&self, cwd: &str, call: &Manifest, present: &BTreeSet<PathBuf>) {
         for candidate in self.candidates.values().filter(|candidate| candidate.recipe.job.folder == cwd) {
             let (Some(key), Some(entry)) = (candidate.direct.key, candidate.direct.entry) else { continue };
-            if let Some(files) = self.read_beside(&candidate.recipe, files) {
-                let manifest = Manifest { files, vain: vain.to_vec(), defines: None };
-                let _ = self.store.write(&key, &[&entry.0[..], &manifest.to_bytes()].concat());
+            if let Some(found) = self.read_beside(&candidate.recipe, call, present) {
+                let _ = self.store.write(&key, &found.to_bytes(&entry));
             }
         }
     }
@@ -144,6 +167,7 @@ impl Session<'_> {
 #[cfg(test)]
 mod tests {
     use super::*;
+    use crate::cache::manifest::Form;
 
     fn without(text: &str) -> String {
         String::from_utf8(without_device_code(text.into())).unwrap()
@@ -181,8 +205,11 @@ mod tests {
 
     #[test]
     fn what_is_kept_is_read_back() {
-        let bytes = [&Digest::of(b"a").0[..], &Manifest::default().to_bytes()].concat();
-        assert_eq!(of_bytes(&bytes), Some((Digest::of(b"a"), Manifest::default())));
+        let seen = |path: &str| Seen { path: path.into(), digest: Digest::of(b"a"), stamp: None, form: Form::Other };
+        let found = Found { count: 1, manifest: Manifest { files: vec![seen("a.h"), seen("b.h")], ..Manifest::default() } };
+        let bytes = found.to_bytes(&Digest::of(b"a"));
+        assert_eq!((found.read(), of_bytes(&bytes)), (&[seen("a.h")][..], Some((Digest::of(b"a"), found.clone()))));
+        assert_eq!(Found { count: 3, ..found.clone() }.read().len(), 2);
         assert!(of_bytes(&bytes[..bytes.len() - 1]).is_none() && of_bytes(&bytes[..20]).is_none());
     }
 }

@@ -1,7 +1,12 @@
 //! What a text may include, and where a preprocessor looks for it.
+use crate::cache::lines::behind_blanks;
 use crate::cache::marked::{contains, find};
+use crate::cache::source::{is_word, spliced, words_of};
 use std::collections::BTreeSet;
-use std::path::PathBuf;
+use std::path::{Path, PathBuf};
+
+/// By these a text asks whether there is a file.
+const QUESTIONS: [&[u8]; 3] = [b"__has_include", b"__has_include_next", b"__has_embed"];
 
 /// Names that a text may ask a preprocessor to find. Those in comments and in parts that are left out are among them.
 #[derive(Clone, PartialEq, Eq, Debug, Default)]
@@ -9,38 +14,62 @@ pub struct Names {
     /// Those in quotes are sought beside the text first.
     pub quoted: BTreeSet<Vec<u8>>,
     pub bracketed: BTreeSet<Vec<u8>>,
+    /// Those of both that stand in conditions and definitions. A text may ask whether there is such a file, and not read it.
+    pub asked: BTreeSet<Vec<u8>>,
     /// Whether it includes what a macro names.
     pub has_macros: bool,
     /// Whether it goes on behind the place where it was found.
     pub goes_on: bool,
     /// Whether it reads files, or asks for some, in a way of which nothing tells.
     pub is_odd: bool,
+    /// Macros by which a text may ask whether there is a file that isn't named in their definition.
+    pub askers: BTreeSet<Vec<u8>>,
 }
 
-/// The lines of directives, from their `#` or `%:` on, with those that a backslash joins to them.
+/// Whether a line that goes on behind this text may begin with a directive: only blanks are in front, and comments.
+fn may_begin(text: &[u8]) -> bool {
+    let is_blank = |byte: &u8| matches!(byte, b' ' | b'\t' | b'\r' | 0x0b | 0x0c | 0);
+    match text.iter().rposition(|byte| !is_blank(byte)) {
+        Some(last) => text[last] == b'\n' || text[..=last].ends_with(b"*/"),
+        None => true,
+    }
+}
+
+/// The lines of directives, from behind their `#` or `%:` on, with the lines to which a comment goes on. Lines are joined already.
 fn directives(text: &[u8]) -> impl Iterator<Item = &[u8]> {
-    let mut rest = text;
+    let mut at = 0;
     std::iter::from_fn(move || {
-        while let Some(place) = rest.iter().position(|&byte| byte == b'#' || byte == b'%') {
-            rest = &rest[place..];
-            let begin = if rest.starts_with(b"%:") { 2 } else { 1 };
-            let is_directive = rest[0] == b'#' || begin == 2;
-            rest = &rest[begin..];
-            if is_directive {
-                let line = &rest[..end_of_line(rest)];
-                rest = &rest[line.len()..];
-                return Some(line);
+        while let Some(place) = text[at..].iter().position(|&byte| byte == b'#' || byte == b'%') {
+            let begin = at + place;
+            let size = if text[begin..].starts_with(b"%:") { 2 } else { 1 };
+            at = begin + size;
+            if (text[begin] == b'#' || size == 2) && may_begin(&text[..begin]) {
+                let line = behind_blanks(&text[at..]);
+                return Some(&line[..end_of_line(line)]);
             }
         }
         None
     })
 }
 
-/// Where a line ends that may go on behind a backslash.
+/// Where a line ends at which no comment may be open.
 fn end_of_line(text: &[u8]) -> usize {
-    let goes_on = |end: usize| text[..end].trim_ascii_end().ends_with(b"\\");
-    let mut ends = text.iter().enumerate().filter(|(_, byte)| **byte == b'\n').map(|(place, _)| place);
-    ends.find(|&end| !goes_on(end)).unwrap_or(text.len())
+    let (mut is_open, mut place) = (false, 0);
+    while let Some(byte) = text.get(place) {
+        match (byte, text.get(place + 1)) {
+            (b'\n', _) if !is_open => return place,
+            (b'/', Some(b'*')) if !is_open => (is_open, place) = (true, place + 1),
+            (b'*', Some(b'/')) if is_open => (is_open, place) = (false, place + 1),
+            _ => {}
+        }
+        place += 1;
+    }
+    text.len()
+}
+
+/// The word with which a line begins.
+fn first_word(line: &[u8]) -> &[u8] {
+    &line[..line.iter().position(|&byte| !is_word(byte)).unwrap_or(line.len())]
 }
 
 fn is_plain(byte: u8) -> bool {
@@ -62,19 +91,106 @@ fn names_between(line: &[u8], open: u8, close: u8, is_include: bool) -> impl Ite
     std::iter::from_fn(name).enumerate().filter(counts).map(|(_, name)| name)
 }
 
-/// Whether a line asks whether there is a file that a macro names. A line that defines a macro doesn't ask.
-fn asks_by_macro(line: &[u8]) -> bool {
-    let mut rest = if line.starts_with(b"define") { b"" } else { line };
-    while let Some(place) = ["__has_include", "__has_embed"].iter().filter_map(|word| find(rest, word.as_bytes())).min() {
-        rest = rest[place..].trim_ascii_start();
-        let end = rest.iter().position(|&byte| !(byte.is_ascii_alphanumeric() || byte == b'_')).unwrap_or(rest.len());
-        rest = rest[end..].trim_ascii_start();
-        let operand = rest.strip_prefix(b"(").and_then(|operand| operand.trim_ascii_start().first());
-        if operand.is_some_and(|&byte| !matches!(byte, b'<' | b'"')) {
-            return true;
+/// How a directive uses a word.
+#[derive(Clone, Copy, PartialEq, Eq, Debug)]
+enum Use {
+    /// It asks whether the word is defined, or has a bracket and a name in the marks of such behind it.
+    Plain,
+    /// The same with a name in quotes, which is sought beside the text that asks.
+    Quoted,
+    Other,
+}
+
+/// How a line uses a word that stands between these parts of it.
+fn use_of(before: &[u8], behind: &[u8]) -> Use {
+    let before = before.trim_ascii_end();
+    let before = before.strip_suffix(b"(").unwrap_or(before).trim_ascii_end();
+    if before.ends_with(b"defined") {
+        return Use::Plain;
+    }
+    match behind.trim_ascii_start().strip_prefix(b"(").and_then(|operand| operand.trim_ascii_start().first()) {
+        Some(b'<') => Use::Plain,
+        Some(b'"') => Use::Quoted,
+        _ => Use::Other,
+    }
+}
+
+/// How a line uses any of some words.
+fn uses<'a>(line: &'a [u8], is_sought: impl Fn(&[u8]) -> bool + 'a) -> impl Iterator<Item = Use> + 'a {
+    let mut place = 0;
+    std::iter::from_fn(move || {
+        while place < line.len() {
+            let begin = place + line[place..].iter().position(|&byte| is_word(byte)).unwrap_or(line.len() - place);
+            let word = first_word(&line[begin..]);
+            place = begin + word.len();
+            if !word.is_empty() && is_sought(word) {
+                return Some(use_of(&line[..begin], &line[place..]));
+            }
+        }
+        None
+    })
+}
+
+/// What a line has to do with words by which texts ask for files.
+enum Asks {
+    Nothing,
+    /// It defines this macro by them.
+    By(Vec<u8>),
+    /// It asks for a file that a macro names, or may do so.
+    Oddly,
+}
+
+/// What a line has to do with such words: only conditions ask, and definitions lead there.
+fn asks(line: &[u8], is_sought: impl Fn(&[u8]) -> bool) -> Asks {
+    let word = first_word(line);
+    let rest = behind_blanks(&line[word.len()..]);
+    match word {
+        b"if" | b"elif" if uses(rest, &is_sought).any(|one| one == Use::Other) || has_part_of_question(rest) => Asks::Oddly,
+        b"define" => {
+            let name = first_word(rest);
+            let body = &rest[name.len()..];
+            // A name in the body of one with parameters may have a parameter in it.
+            let is_hidden = uses(body, &is_sought).any(|one| one != Use::Plain || body.starts_with(b"("));
+            // No condition may have these marks.
+            let is_condition = || !body.iter().any(|byte| matches!(byte, b'{' | b';'));
+            if is_hidden || (has_part_of_question(body) && is_condition()) { Asks::By(name.to_vec()) } else { Asks::Nothing }
+        }
+        _ => Asks::Nothing,
+    }
+}
+
+/// Whether a line has a word that may be put together with another one to one of those by which texts ask for files.
+fn has_part_of_question(line: &[u8]) -> bool {
+    (contains(line, b"__has_") || contains(line, b"_include")) && words_of(line).any(is_part_of_question)
+}
+
+/// Whether a word may be put together with another one to one of those by which texts ask for files.
+fn is_part_of_question(word: &[u8]) -> bool {
+    let is_part = |question: &&[u8]| {
+        let (is_begin, is_end) = (question.starts_with(word) && word.len() > 5, question.ends_with(word) && word.len() > 7);
+        (is_begin || is_end) && *word != **question
+    };
+    !QUESTIONS.contains(&word) && QUESTIONS.iter().any(is_part)
+}
+
+/// The macros that the lines of a text define by others by which texts ask for files. `None` if one asks for a file that a macro names.
+pub fn further_askers(text: &[u8], askers: &BTreeSet<Vec<u8>>) -> Option<BTreeSet<Vec<u8>>> {
+    let (mut found, text) = (BTreeSet::new(), spliced(text));
+    if askers.iter().any(|asker| contains(&text, asker)) {
+        for line in directives(&text) {
+            match asks(line, |word| askers.contains(word)) {
+                Asks::Nothing => {}
+                Asks::By(name) => drop(found.insert(name)),
+                Asks::Oddly => return None,
+            }
         }
     }
-    false
+    Some(found)
+}
+
+/// Whether what a command line defines may ask for a file.
+pub fn may_ask(definition: &[u8], askers: &BTreeSet<Vec<u8>>) -> bool {
+    words_of(definition).any(|word| QUESTIONS.contains(&word) || askers.contains(word) || is_part_of_question(word))
 }
 
 /// Whether a text may have a preprocessor compare the times of files, by `#pragma GCC dependency`, which it doesn't write.
@@ -93,19 +209,40 @@ fn compares_times(text: &[u8]) -> bool {
 
 /// The names that a text may ask for.
 pub fn names_in(text: &[u8]) -> Names {
-    let mut names = Names { is_odd: compares_times(text), ..Names::default() };
+    let text = &spliced(text.strip_prefix(b"\xef\xbb\xbf").unwrap_or(text))[..];
+    let has_trigraphs = contains(text, b"??=") || contains(text, b"??/");
+    let mut names = Names { is_odd: compares_times(text) || has_trigraphs, ..Names::default() };
     for line in directives(text) {
-        let line = line.trim_ascii_start();
-        let word = &line[..line.iter().position(|byte| !byte.is_ascii_alphabetic() && *byte != b'_').unwrap_or(line.len())];
+        let word = first_word(line);
         let is_include = matches!(word, b"include" | b"include_next" | b"import");
-        let operand = line[word.len()..].trim_ascii_start().first();
+        let operand = behind_blanks(&line[word.len()..]).first();
         names.has_macros |= is_include && !matches!(operand, Some(b'<' | b'"'));
         names.goes_on |= word == b"include_next" || contains(line, b"__has_include_next");
-        names.is_odd |= word == b"embed" || asks_by_macro(line);
-        names.quoted.extend(names_between(line, b'"', b'"', is_include).map(<[u8]>::to_vec));
-        names.bracketed.extend(names_between(line, b'<', b'>', is_include).map(<[u8]>::to_vec));
+        names.is_odd |= word == b"embed" || word == b"define" && contains(line, b"dependency");
+        if !is_include {
+            names.add_questions(line);
+        }
+        let quoted: Vec<_> = names_between(line, b'"', b'"', is_include).map(<[u8]>::to_vec).collect();
+        let bracketed: Vec<_> = names_between(line, b'<', b'>', is_include).map(<[u8]>::to_vec).collect();
+        let may_ask = matches!(word, b"if" | b"elif" | b"define");
+        names.asked.extend(quoted.iter().chain(&bracketed).filter(|_| may_ask).cloned());
+        names.quoted.extend(quoted);
+        names.bracketed.extend(bracketed);
     }
     names
+}
+
+impl Names {
+    /// Notes how a line asks for files.
+    fn add_questions(&mut self, line: &[u8]) {
+        if [&b"__has_"[..], b"_include"].iter().any(|part| contains(line, part)) {
+            match asks(line, |word| QUESTIONS.contains(&word)) {
+                Asks::Nothing => {}
+                Asks::By(name) => drop(self.askers.insert(name)),
+                Asks::Oddly => self.is_odd = true,
+            }
+        }
+    }
 }
 
 /// The folders where a preprocessor looks, as gcc says them with `-v`.
@@ -118,6 +255,26 @@ pub struct Folders {
     pub doubled: Vec<PathBuf>,
     /// Left out, since they aren't there.
     pub missing: Vec<PathBuf>,
+    /// Where the preprocessor's driver looks for the programs that it runs before it takes them from the path, and for its specs.
+    pub programs: Vec<PathBuf>,
+    pub libraries: Vec<PathBuf>,
+    /// For which machines it compiles, as x86_64-linux-gnu.
+    pub machine: String,
+}
+
+/// The folders of a line that gcc says with `-print-search-dirs`.
+fn listed(said: &str, kind: &str) -> Option<Vec<PathBuf>> {
+    let line = said.lines().find_map(|line| line.strip_prefix(kind)?.strip_prefix(": ="))?;
+    Some(line.split(':').filter(|folder| !folder.is_empty()).map(PathBuf::from).collect())
+}
+
+impl Folders {
+    /// These with those that gcc says with `-print-search-dirs`. `None` if it says none.
+    pub fn with_programs(self, said: &str) -> Option<Folders> {
+        let own = Path::new(said.lines().find_map(|line| line.strip_prefix("install: "))?);
+        let machine = own.parent()?.file_name()?.to_str()?.to_owned();
+        Some(Folders { programs: listed(said, "programs")?, libraries: listed(said, "libraries")?, machine, ..self })
+    }
 }
 
 fn ignored<'a>(line: &'a str, kind: &str) -> Option<&'a str> {
@@ -164,11 +321,16 @@ mod tests {
             ("#if __has_include(<a>) && __has_include(\"b\")\n#define NAME <c/d.h>\n#import <e>\n", "b|a c/d.h e"),
             ("#if A < B && C > D\n#endif\n", "|"),
             ("#include_next <a>", "|a"),
+            ("#include \"a\\\n.h\"\n#inc\\ \nlude <b c>\n", "a.h|b c"),
+            ("#/* x */include \"a b\"\n# /*\n*/ include/* y */<c d>\n", "a b|c d"),
+            ("char* s = \"#/*\";\n#include <a>\n/* */\n#include <b> /*\n*/\n#include \"c\"\n", "c|a b"),
             ("", "|"),
         ];
         for (text, wanted) in cases {
             assert_eq!(shown(text).0, wanted, "{text}");
         }
+        let asked = names_in(b"#include \"a\"\n#if __has_include(<b>)\n#define C \"c\"\n#error <d>\n").asked;
+        assert_eq!(asked, BTreeSet::from([b"b".to_vec(), b"c".to_vec()]));
     }
 
     #[test]
@@ -187,11 +349,51 @@ mod tests {
             ("_Pragma(\"GCC \\\n dependency \\\"data\\\"\")\n", [false, false, true]),
             ("#pragma GCC /* x */dependency \"data\"\n", [false, false, true]),
             ("// a dependency of GCC\n", [false; 3]),
+            ("#define D dependency \"data\"\n", [false, false, true]),
+            ("#if __has_include EMPTY (NAME)\n", [false, false, true]),
+            ("#if __has_inc\\\nlude(NAME)\n", [false, false, true]),
+            ("#if JOIN(__has_, include)(NAME)\n", [false, false, true]),
+            ("#if JOIN(_, _has_include)(NAME)\n", [false, false, true]),
+            ("??=include <a>\n", [false, false, true]),
+            ("#if defined(__has_include) // c\n#ifdef __has_include // c\n#endif\n", [false; 3]),
+            ("#/**/include NAME\n", [true, false, false]),
+            ("/* #5 */ #include NAME\n", [true, false, false]),
+            ("\u{feff}#include NAME\n", [true, false, false]),
+            ("a #include NAME\n#define A(x) #x #include\n", [false; 3]),
             ("#if __has_embed(NAME)\n", [false, false, true]),
         ];
         for (text, wanted) in cases {
             assert_eq!(shown(text).1, wanted, "{text}");
         }
+    }
+
+    #[test]
+    fn macros_may_ask() {
+        let list = |names: &BTreeSet<Vec<u8>>| names.iter().map(|name| String::from_utf8_lossy(name)).collect::<Vec<_>>().join(" ");
+        let cases = [
+            ("#define HAS(x) __has_include(x)\n#define NEXT __has_include_next\n", "HAS NEXT"),
+            ("#define HAS __has_include(<a>)\n#define Q __has_include(\"a\")\n#define IN(x) __has_include(<x>)\n", "IN Q"),
+            ("#define HAS defined(__has_include)\n#undef __has_include\n", ""),
+            ("#define HAS JOIN(__has_, include)\n#define IN(x) __has_##x\n#define TYPE(x) struct __has_##x { };\n", "HAS IN"),
+        ];
+        for (text, wanted) in cases {
+            assert_eq!(list(&names_in(text.as_bytes()).askers), wanted, "{text}");
+        }
+        let askers = BTreeSet::from([b"HAS".to_vec()]);
+        let cases = [
+            ("#if HAS(<a>) && HAS ( \"b\" )\n#endif // HAS\n#ifdef HAS\n", Some("")),
+            ("#define HAS(x) __has_include(x)\n#if defined(HAS) && !defined HAS\n", Some("")),
+            ("#define A HAS(<a>)\n#define B(x) HAS(x)\n#define C HAS(\"c\")\n", Some("B C")),
+            ("#if HAS(NAME)\n", None),
+            ("#if HAS\n", None),
+            ("#if H\\\nAS(NAME)\n", None),
+            ("#if HASS(NAME)\nHAS(NAME)\n#else // HAS(NAME)\n#endif\n", Some("")),
+        ];
+        for (text, wanted) in cases {
+            assert_eq!(further_askers(text.as_bytes(), &askers).map(|names| list(&names)).as_deref(), wanted, "{text}");
+        }
+        let cases = [("A=HAS(B)", true), ("A=__has_embed(B)", true), ("A=__has_", true), ("A=HASS", false), ("HAS_A", false)];
+        assert!(cases.iter().all(|(definition, wanted)| may_ask(definition.as_bytes(), &askers) == *wanted));
     }
 
     #[test]
@@ -203,8 +405,17 @@ mod tests {
             all: vec!["inc".into(), "/usr/a b".into()],
             doubled: vec!["./inc".into()],
             missing: vec!["/none".into()],
+            ..Folders::default()
         };
-        assert_eq!(folders(said), Some(wanted));
+        assert_eq!(folders(said), Some(wanted.clone()));
+        let lists = "install: /usr/lib/gcc/a-b/12/\nprograms: =/p/:/q/12/\nlibraries: =/l/:/l/../m/\n";
+        let whole = Folders {
+            programs: vec!["/p/".into(), "/q/12/".into()],
+            libraries: vec!["/l/".into(), "/l/../m/".into()],
+            machine: "a-b".into(),
+            ..wanted.clone()
+        };
+        assert_eq!((wanted.clone().with_programs(lists), wanted.with_programs("install: /g/a/12/\nprograms: =/p/\n")), (Some(whole), None));
         assert_eq!(folders("#include <...> search starts here:\n inc\n"), None);
         assert_eq!(folders("gcc: error"), None);
     }

@@ -29,7 +29,7 @@ pub fn without_definitions(layout: &[u8]) -> Vec<u8> {
 pub struct Macros<'a>(HashMap<&'a [u8], HashSet<&'a [u8]>>);
 
 /// A text behind blanks and comments.
-fn behind_blanks(mut text: &[u8]) -> &[u8] {
+pub fn behind_blanks(mut text: &[u8]) -> &[u8] {
     loop {
         text = text.trim_ascii_start();
         match text.strip_prefix(b"/*").map(|rest| find(rest, b"*/").map_or(&rest[rest.len()..], |end| &rest[end + 2..])) {

@@ -65,6 +65,8 @@ pub enum Form {
     Source(Layouts),
     /// A file that counts by the time of its last change, too.
     Dated,
+    /// A program that counts by where it is, too: by that it finds others.
+    Placed(PathBuf),
 }
 
 impl Form {
@@ -118,11 +120,16 @@ impl Seen {
     /// The same file as it is now.
     fn again(&self, cwd: &Path) -> Option<Seen> {
         let status = fs::metadata(cwd.join(&self.path)).ok()?;
-        if self.stamp.is_some_and(|stamp| stamp == Stamp::of(&status)) {
+        let place = if let Form::Placed(_) = self.form { Some(Form::Placed(fs::canonicalize(cwd.join(&self.path)).ok()?)) } else { None };
+        let is_in_place = place.as_ref().is_none_or(|place| *place == self.form);
+        if is_in_place && self.stamp.is_some_and(|stamp| stamp == Stamp::of(&status)) {
             return Some(self.clone());
         }
+        if let Some(form) = place {
+            return Some(Seen { form, ..Seen::now(&self.path, cwd)? });
+        }
         match self.form {
-            Form::Other | Form::Text => return Some(Seen { form: self.form.clone(), ..Seen::now(&self.path, cwd)? }),
+            Form::Other | Form::Text | Form::Placed(_) => return Some(Seen { form: self.form.clone(), ..Seen::now(&self.path, cwd)? }),
             Form::Dated => return Seen::dated(&self.path, cwd),
             Form::Source(_) => {}
         }
@@ -156,14 +163,14 @@ pub struct Vain {
 }
 
 impl Vain {
-    /// A folder that lacks some names, as it is now.
+    /// A folder that lacks some names, as it is now. It has no stamp if one of the names is a link's: what that leads to may come elsewhere.
     pub fn now(folder: &Path, lacks: Vec<Lacking>, cwd: &Path) -> Option<Vain> {
         let status = fs::metadata(cwd.join(folder)).ok()?;
-        let is_free = |lacking: &Lacking| {
-            let found = fs::metadata(cwd.join(folder).join(OsStr::from_bytes(&lacking.name)));
-            found.map_or(true, |found| lacking.may_be_folder && found.is_dir())
-        };
-        lacks.iter().all(is_free).then(|| Vain { folder: folder.to_owned(), lacks, stamp: Stamp::settled(&status) })
+        let path = |lacking: &Lacking| cwd.join(folder).join(OsStr::from_bytes(&lacking.name));
+        let is_free = |lacking: &Lacking| fs::metadata(path(lacking)).map_or(true, |found| lacking.may_be_folder && found.is_dir());
+        let is_link = |lacking: &Lacking| fs::symlink_metadata(path(lacking)).is_ok_and(|found| found.is_symlink());
+        let stamp = Stamp::settled(&status).filter(|_| !lacks.iter().any(is_link));
+        lacks.iter().all(is_free).then(|| Vain { folder: folder.to_owned(), lacks, stamp })
     }
 
     /// The same folder as it is now. `None` if it has one of the names.
@@ -207,6 +214,9 @@ impl Manifest {
         let mut alike = now.clone();
         let mut unsure = Vec::new();
         for (place, (earlier, seen)) in self.files.iter().zip(&mut alike.files).enumerate() {
+            if matches!(earlier.form, Form::Placed(_)) && earlier.form != seen.form {
+                return None;
+            }
             if earlier.digest == seen.digest {
                 continue;
             }
@@ -230,7 +240,7 @@ impl Manifest {
 
     /// Whether the lines of some sources may count. `None` if that isn't known.
     fn may_see_lines(&self, places: &[usize], defines: &[Vec<u8>], cwd: &Path) -> Option<bool> {
-        let files = self.files.iter().filter(|seen| seen.form != Form::Other);
+        let files = self.files.iter().filter(|seen| !matches!(seen.form, Form::Other | Form::Placed(_)));
         let texts: Vec<Vec<u8>> = files.map(|seen| content_of(&cwd.join(&seen.path)).ok()).collect::<Option<_>>()?;
         let definitions = texts.iter().map(|text| definitions_in(text)).collect::<Option<Vec<_>>>()?;
         let mut macros = Macros::default();
@@ -255,6 +265,9 @@ impl Manifest {
         for seen in &self.files {
             hasher.add(seen.path.as_os_str().as_bytes());
             hasher.update(&seen.digest.0);
+            if let Form::Placed(place) = &seen.form {
+                hasher.add(place.as_os_str().as_bytes());
+            }
         }
         for vain in &self.vain {
             hasher.add(vain.folder.as_os_str().as_bytes());
@@ -312,7 +325,11 @@ fn put_form(to: &mut Vec<u8>, form: &Form) {
         Form::Text => 1,
         Form::Source(_) => 2,
         Form::Dated => 3,
+        Form::Placed(_) => 4,
     });
+    if let Form::Placed(place) = form {
+        put_text(to, place.as_os_str().as_bytes());
+    }
     if let Form::Source(layouts) = form {
         to.extend(layouts.lined.0);
         put_number(to, usize::from(layouts.free.is_some()));
@@ -326,6 +343,7 @@ fn form(rest: &mut Rest<'_>) -> Option<Form> {
         [0] => Some(Form::Other),
         [1] => Some(Form::Text),
         [3] => Some(Form::Dated),
+        [4] => Some(Form::Placed(path(rest)?)),
         [2] => Some(Form::Source(Layouts { lined: rest.digest()?, free: rest.list(Rest::digest)?.pop(), is_free: rest.flag()? })),
         _ => None,
     }
@@ -388,6 +406,7 @@ mod tests {
         manifest.files[0].stamp = Some(Stamp([[1; 8], [2; 8], [3; 8], [4; 8], [5; 8], [6; 8], [255; 8]]));
         manifest.defines = Some(vec![b"A=1".to_vec(), Vec::new()]);
         manifest.files.push(Seen { form: Form::Dated, ..manifest.files[0].clone() });
+        manifest.files.push(Seen { form: Form::Placed("/b/gcc".into()), ..manifest.files[0].clone() });
         for text in ["int a;\n", "f(\n", "??"] {
             manifest.files.push(Seen { form: Form::of_source(text.as_bytes()), ..manifest.files[0].clone() });
         }
@@ -414,6 +433,30 @@ mod tests {
         assert_eq!(scratch.again(&manifest), None);
         fs::create_dir(scratch.0.join("k.cu")).unwrap();
         assert_eq!(scratch.again(&manifest), None);
+    }
+
+    #[test]
+    fn the_place_of_a_program_counts() {
+        let scratch = Scratch::new("placed");
+        let own = |name: &str| scratch.0.join(name);
+        for name in ["one", "two"] {
+            fs::create_dir(own(name)).unwrap();
+            fs::hard_link(own("k.cu"), own(name).join("gcc")).unwrap();
+        }
+        std::os::unix::fs::symlink("one", own("link")).unwrap();
+        let place = |folder: &str| Form::Placed(fs::canonicalize(own(folder)).unwrap().join("gcc"));
+        let seen = Seen { form: place("one"), ..Seen::now(Path::new("link/gcc"), &scratch.0).unwrap() };
+        let stamp = Some(Stamp::of(&fs::metadata(own("link/gcc")).unwrap()));
+        let manifest = Manifest { files: vec![Seen { stamp, ..seen }], ..Manifest::default() };
+        let first = scratch.again(&manifest);
+        assert_eq!(first, Some(manifest.digest(&Digest::of(b"call"))));
+        fs::remove_file(own("link")).unwrap();
+        std::os::unix::fs::symlink("two", own("link")).unwrap();
+        let now = manifest.again(&scratch.0).unwrap();
+        assert_eq!((&now.files[0].form, now.files[0].digest), (&place("two"), manifest.files[0].digest));
+        assert_ne!(scratch.again(&manifest), first);
+        let manifest = Manifest { defines: Some(Vec::new()), ..manifest };
+        assert_eq!(manifest.alike(&now, &scratch.0), None);
     }
 
     #[test]
@@ -547,6 +590,15 @@ mod tests {
         for (name, is_folder, wanted) in cases {
             assert_eq!(after(name, is_folder), wanted, "{name} {is_folder}");
         }
+        // A link that leads nowhere yet: nothing appears in its own folder when what it leads to does.
+        std::os::unix::fs::symlink("../far.h", scratch.0.join("inc/a.h")).unwrap();
+        let vain = manifest.again(&scratch.0).unwrap().vain.remove(0);
+        assert_eq!((&vain.lacks, vain.stamp), (&manifest.vain[0].lacks, None));
+        fs::create_dir(scratch.0.join("far.h")).unwrap();
+        assert!(manifest.again(&scratch.0).is_some(), "a folder may have the name");
+        fs::remove_dir(scratch.0.join("far.h")).unwrap();
+        fs::write(scratch.0.join("far.h"), "").unwrap();
+        assert_eq!(manifest.again(&scratch.0), None);
         fs::remove_dir_all(scratch.0.join("inc")).unwrap();
         assert_eq!(manifest.again(&scratch.0), None, "the folder is gone");
     }

@@ -4,9 +4,10 @@ use crate::cache::manifest::{Lacking, Vain, is_older};
 use std::collections::{BTreeMap, BTreeSet, HashMap, HashSet};
 use std::env;
 use std::ffi::{OsStr, OsString};
-use std::fs;
+use std::fs::{self, Metadata};
 use std::io::ErrorKind;
 use std::os::unix::ffi::OsStrExt;
+use std::os::unix::fs::MetadataExt;
 use std::path::{Path, PathBuf};
 use std::time::{Duration, SystemTime};
 
@@ -21,6 +22,13 @@ enum Place {
     Folder,
 }
 
+/// Whether the last change of any kind is some time before a moment.
+fn is_unchanged(status: &Metadata, moment: SystemTime) -> bool {
+    let changed = u64::try_from(status.ctime()).ok().zip(u32::try_from(status.ctime_nsec()).ok());
+    let changed = changed.map(|(seconds, part)| SystemTime::UNIX_EPOCH + Duration::new(seconds, part));
+    changed.is_some_and(|changed| moment.duration_since(changed).is_ok_and(|age| age > MARGIN))
+}
+
 /// The places of a call where something was sought.
 pub struct Search<'a> {
     /// From where paths are seen.
@@ -32,20 +40,60 @@ pub struct Search<'a> {
     known: HashMap<OsString, Place>,
     /// Where no file was, and whether a folder may be there.
     vain: HashMap<OsString, bool>,
-    /// The names that were sought, beside which folder, and whether the search went on.
-    sought: HashSet<(Option<OsString>, Vec<u8>, bool)>,
+    /// The names that were sought, beside which folder, and how.
+    sought: HashSet<(Option<OsString>, Vec<u8>, Way)>,
+    /// Files that count though nothing may have read them.
+    present: BTreeSet<PathBuf>,
+    /// Whether a folder was what it is when the call began.
+    ways: HashMap<OsString, bool>,
+}
+
+/// How a name is sought.
+#[derive(Clone, Copy, PartialEq, Eq, Hash, Debug, Default)]
+pub struct Way {
+    /// Whether the search goes on behind a file of the name.
+    goes_on: bool,
+    /// Whether it counts that there is a file, though it may not be read.
+    is_asked: bool,
 }
 
 impl<'a> Search<'a> {
     pub fn new(cwd: &'a Path, folders: &'a Folders, begun: SystemTime) -> Search<'a> {
         let vain = folders.missing.iter().map(|folder| (folder.clone().into_os_string(), false)).collect();
-        Search { cwd, folders, begun, known: HashMap::new(), vain, sought: HashSet::new() }
+        Search { cwd, folders, begun, known: HashMap::new(), vain, sought: HashSet::new(), present: BTreeSet::new(), ways: HashMap::new() }
+    }
+
+    /// Whether all folders and links on the way to a place were what they are when the call began. Of a folder that has got another name since
+    /// then only the time of its last change of any kind tells; what is made or removed in it changes two.
+    pub fn is_way_old(&mut self, folder: &Path) -> bool {
+        if let Some(known) = self.ways.get(folder.as_os_str()) {
+            return *known;
+        }
+        // (this also ends a circle)
+        self.ways.insert(folder.as_os_str().to_owned(), true);
+        let is_old = match fs::symlink_metadata(self.cwd.join(folder)) {
+            Ok(status) if status.is_symlink() => is_unchanged(&status, self.begun) && self.is_target_old(folder),
+            Ok(status) => (status.mtime(), status.mtime_nsec()) == (status.ctime(), status.ctime_nsec()) || is_unchanged(&status, self.begun),
+            Err(_) => true,
+        };
+        let above = if folder.as_os_str().is_empty() { Some(self.cwd) } else { folder.parent() };
+        let is_old = is_old && above.is_none_or(|above| self.is_way_old(above));
+        self.ways.insert(folder.as_os_str().to_owned(), is_old);
+        is_old
+    }
+
+    fn is_target_old(&mut self, link: &Path) -> bool {
+        let target = fs::read_link(self.cwd.join(link));
+        target.is_ok_and(|target| self.is_way_old(&link.parent().unwrap_or(Path::new("")).join(target)))
     }
 
     /// What is at a place. `None` if that isn't sure, or if a file there is so new that it may not have been there.
     fn place(&mut self, path: &Path) -> Option<Place> {
         if let Some(known) = self.known.get(path.as_os_str()) {
             return Some(*known);
+        }
+        if !path.parent().is_none_or(|folder| self.is_way_old(folder)) {
+            return None;
         }
         let place = match fs::metadata(self.cwd.join(path)) {
             Ok(status) if status.is_dir() => Place::Folder,
@@ -58,12 +106,18 @@ impl<'a> Search<'a> {
     }
 
     /// Notes where a name is sought in folders, up to the first that has it, or in all if the search goes on. `None` if that isn't sure.
-    fn seek_in<'b>(&mut self, folders: impl Iterator<Item = &'b Path>, name: &Path, goes_on: bool) -> Option<()> {
+    fn seek_in<'b>(&mut self, folders: impl Iterator<Item = &'b Path>, name: &Path, way: Way) -> Option<()> {
         for folder in folders {
             let path = folder.join(name);
             match self.place(&path)? {
-                Place::File if !goes_on => return Some(()),
-                Place::File => {}
+                Place::File => {
+                    if way.is_asked {
+                        self.present.insert(path);
+                    }
+                    if !way.goes_on {
+                        return Some(());
+                    }
+                }
                 Place::Nothing | Place::Folder => self.lacks(path),
             }
         }
@@ -71,34 +125,35 @@ impl<'a> Search<'a> {
     }
 
     /// Notes where a name is sought: beside a text first, if it is in quotes there.
-    fn seek(&mut self, beside: Option<&Path>, name: &[u8], goes_on: bool) -> Option<()> {
-        if !self.sought.insert((beside.map(|folder| folder.as_os_str().to_owned()), name.to_vec(), goes_on)) {
+    fn seek(&mut self, beside: Option<&Path>, name: &[u8], way: Way) -> Option<()> {
+        if !self.sought.insert((beside.map(|folder| folder.as_os_str().to_owned()), name.to_vec(), way)) {
             return Some(());
         }
         let (name, folders) = (Path::new(OsStr::from_bytes(name)), self.folders);
         let quoted = folders.quoted.iter().filter(|_| beside.is_some()).map(PathBuf::as_path);
-        self.seek_in(folders.doubled.iter().map(PathBuf::as_path), name, true)?;
-        self.seek_in(beside.into_iter().chain(quoted).chain(folders.all.iter().map(PathBuf::as_path)), name, goes_on)
+        self.seek_in(folders.doubled.iter().map(PathBuf::as_path), name, Way { goes_on: true, is_asked: true })?;
+        self.seek_in(beside.into_iter().chain(quoted).chain(folders.all.iter().map(PathBuf::as_path)), name, way)
     }
 
     /// Notes where the names of a text are sought. If macros name some, that may be any of these.
     pub fn seek_all(&mut self, text: &Path, names: &Names, any: &BTreeSet<Vec<u8>>) -> Option<()> {
         let beside = text.parent().unwrap_or(Path::new(""));
+        let way = |name: &Vec<u8>| Way { goes_on: names.goes_on, is_asked: names.asked.contains(name) };
         for name in &names.quoted {
-            self.seek(Some(beside), name, names.goes_on)?;
+            self.seek(Some(beside), name, way(name))?;
         }
         for name in &names.bracketed {
-            self.seek(None, name, names.goes_on)?;
+            self.seek(None, name, way(name))?;
         }
         for name in any.iter().filter(|_| names.has_macros) {
-            self.seek(Some(beside), name, names.goes_on)?;
+            self.seek(Some(beside), name, way(name))?;
         }
         Some(())
     }
 
     /// Notes where a name on the compiler's line is sought.
     pub fn seek_given(&mut self, name: &str) -> Option<()> {
-        self.seek(Some(Path::new("")), name.as_bytes(), false)
+        self.seek(Some(Path::new("")), name.as_bytes(), Way::default())
     }
 
     /// The files that were found, by the paths by which they were sought.
@@ -116,20 +171,25 @@ impl<'a> Search<'a> {
     pub fn seek_anywhere(&mut self, names: &BTreeSet<Vec<u8>>) -> Option<()> {
         let (quoted, all) = (self.folders.quoted.iter(), self.folders.all.iter());
         let folders: Vec<&Path> = quoted.chain(all).map(PathBuf::as_path).collect();
-        names.iter().try_for_each(|name| self.seek_in(folders.iter().copied(), Path::new(OsStr::from_bytes(name)), false))
+        names.iter().try_for_each(|name| self.seek_in(folders.iter().copied(), Path::new(OsStr::from_bytes(name)), Way::default()))
     }
 
-    /// Notes where a program is sought on a path of folders before its own.
+    /// The files that count though nothing may have read them: some text asks whether they are there.
+    pub fn present(&self) -> &BTreeSet<PathBuf> {
+        &self.present
+    }
+
+    /// Notes where a program is sought on a path of folders before its own. `None` if one of them has a file that isn't taken, as it may be later.
     pub fn seek_program(&mut self, program: &Path, path: &OsStr) -> Option<()> {
         let name = program.file_name()?;
-        for folder in env::split_paths(path) {
-            let place = folder.join(name);
-            if place == program {
-                break;
+        let places: Vec<PathBuf> = env::split_paths(path).map(|folder| folder.join(name)).collect();
+        // One that isn't on the path was named in another way.
+        let before = places.iter().position(|place| place == program).unwrap_or_default();
+        for place in &places[..before] {
+            if self.place(place)? == Place::File {
+                return None;
             }
-            if self.place(&place)? != Place::File {
-                self.lacks(place);
-            }
+            self.lacks(place.clone());
         }
         Some(())
     }
@@ -152,12 +212,15 @@ impl<'a> Search<'a> {
         }
     }
 
-    /// The folders in which something was sought in vain. `None` if that isn't sure.
-    pub fn vain(mut self) -> Option<Vec<Vain>> {
+    /// The folders in which something was sought in vain, beside what is known of that already. `None` if that isn't sure.
+    pub fn vain<'b>(mut self, known: impl Iterator<Item = &'b Vain>) -> Option<Vec<Vain>> {
         let mut lacks: BTreeMap<PathBuf, BTreeSet<Lacking>> = BTreeMap::new();
         for (path, may_be_folder) in std::mem::take(&mut self.vain) {
             let (folder, lacking) = self.reduced(Path::new(&path), may_be_folder)?;
             lacks.entry(folder).or_default().insert(lacking);
+        }
+        for vain in known {
+            lacks.entry(vain.folder.clone()).or_default().extend(vain.lacks.iter().cloned());
         }
         lacks.into_iter().map(|(folder, lacks)| Vain::now(&folder, lacks.into_iter().collect(), self.cwd)).collect()
     }
@@ -167,6 +230,7 @@ impl<'a> Search<'a> {
 mod tests {
     use super::*;
     use crate::cache::includes::names_in;
+    use std::thread;
 
     /// A folder for a test, which goes with it.
     struct Scratch(PathBuf);
@@ -188,7 +252,7 @@ mod tests {
             let mut search = Search::new(&self.0, folders, SystemTime::now() + Duration::from_secs(9));
             seek(&mut search)?;
             let shown = |lacking: &Lacking| format!(" {}{}", String::from_utf8_lossy(&lacking.name), if lacking.may_be_folder { "/" } else { "" });
-            let vain = search.vain()?.into_iter();
+            let vain = search.vain([].iter())?.into_iter();
             Some(vain.map(|vain| format!("{}:{}", vain.folder.display(), vain.lacks.iter().map(shown).collect::<String>())).collect())
         }
     }
@@ -201,7 +265,7 @@ mod tests {
 
     fn folders(quoted: &[&str], all: &[&str], doubled: &[&str], missing: &[&str]) -> Folders {
         let list = |names: &[&str]| names.iter().map(PathBuf::from).collect();
-        Folders { quoted: list(quoted), all: list(all), doubled: list(doubled), missing: list(missing) }
+        Folders { quoted: list(quoted), all: list(all), doubled: list(doubled), missing: list(missing), ..Folders::default() }
     }
 
     #[test]
@@ -231,8 +295,9 @@ mod tests {
         let scratch = Scratch::new("doubled", &["one/a.h", "two/b.h", "three/c.h"]);
         let folders = folders(&[], &["one", "two", "three"], &["link"], &[]);
         std::os::unix::fs::symlink("one", scratch.0.join("link")).unwrap();
-        let vain = scratch
-            .vain(&folders, |search| search.seek_anywhere(&search.names_of(Path::new("two/b.h"))).and_then(|()| search.seek(None, b"b.h", false)));
+        let vain = scratch.vain(&folders, |search| {
+            search.seek_anywhere(&search.names_of(Path::new("two/b.h"))).and_then(|()| search.seek(None, b"b.h", Way::default()))
+        });
         assert_eq!(vain.unwrap(), ["link: b.h/", "one: b.h/"]);
     }
 
@@ -251,6 +316,56 @@ mod tests {
         let path = env::join_paths([own("a"), own("missing"), own("b"), own("c")]).unwrap();
         let vain = scratch.vain(&folders(&[], &[], &[], &[]), |search| search.seek_program(&own("b").join("gcc"), &path)).unwrap();
         assert_eq!(vain, [format!("{}: missing", scratch.0.display()), format!("{}: gcc/", own("a").display())]);
+        let taken = scratch.vain(&folders(&[], &[], &[], &[]), |search| search.seek_program(&own("c").join("other"), &path));
+        assert_eq!(taken, None, "another file is before it, which may be made a program");
+        let elsewhere = scratch.vain(&folders(&[], &[], &[], &[]), |search| search.seek_program(&own("d").join("other"), &path));
+        assert_eq!(elsewhere, Some(vec![]));
+    }
+
+    #[test]
+    fn what_was_another_folder_makes_it_unsure() {
+        let scratch = Scratch::new("swapped", &["one/a.h", "two/a.h", "three/sub/a.h"]);
+        let own = |name: &str| scratch.0.join(name);
+        std::os::unix::fs::symlink("one", own("link")).unwrap();
+        std::os::unix::fs::symlink("link", own("links")).unwrap();
+        thread::sleep(2 * MARGIN);
+        let (begun, folders) = (SystemTime::now(), folders(&[], &[], &[], &[]));
+        let is_old = |name: &str| Search::new(&scratch.0, &folders, begun).is_way_old(Path::new(name));
+        let all = ["one", "two", "three/sub", "link", "links", "missing", ""];
+        assert_eq!(all.map(is_old), [true; 7]);
+        fs::write(own("two/b.h"), "").unwrap();
+        assert!(is_old("two"), "what is made in a folder leaves it what it is");
+        fs::remove_file(own("link")).unwrap();
+        std::os::unix::fs::symlink("two", own("link")).unwrap();
+        fs::rename(own("one"), own("kept")).unwrap();
+        fs::rename(own("kept"), own("one")).unwrap();
+        fs::rename(own("three"), own("four")).unwrap();
+        assert_eq!(
+            [&all[..], &["four/sub"]].concat().into_iter().map(is_old).collect::<Vec<_>>(),
+            [false, true, true, false, false, true, true, false]
+        );
+        let mut search = Search::new(&scratch.0, &folders, begun);
+        assert_eq!((search.place(Path::new("one/a.h")), search.place(Path::new("two/a.h"))), (None, Some(Place::File)));
+    }
+
+    #[test]
+    fn a_file_counts_for_which_a_text_asks() {
+        let scratch = Scratch::new("asked", &["one/a.h", "two/a.h", "two/b.h", "link/b.h"]);
+        let folders = folders(&[], &["one", "two"], &["link"], &[]);
+        let present = |text: &str| {
+            let mut search = Search::new(&scratch.0, &folders, SystemTime::now() + Duration::from_secs(9));
+            search.seek_all(Path::new("k.cu"), &names_in(text.as_bytes()), &BTreeSet::new()).unwrap();
+            search.present().iter().map(|path| path.to_string_lossy().into_owned()).collect::<Vec<_>>()
+        };
+        let cases = [
+            ("#include <a.h>\n", vec![]),
+            ("#if __has_include(<a.h>)\n", vec!["one/a.h"]),
+            ("#if __has_include_next(<a.h>)\n", vec!["one/a.h", "two/a.h"]),
+            ("#include <b.h>\n", vec!["link/b.h"]),
+        ];
+        for (text, wanted) in cases {
+            assert_eq!(present(text), wanted, "{text}");
+        }
     }
 
     #[test]
@@ -258,7 +373,7 @@ mod tests {
         let scratch = Scratch::new("new", &["one/a.h"]);
         let folders = folders(&[], &["one"], &[], &[]);
         let mut search = Search::new(&scratch.0, &folders, SystemTime::now());
-        assert_eq!((search.seek(None, b"a.h", false), search.seek(None, b"b.h", false)), (None, Some(())));
-        assert_eq!(search.seek(None, "a".repeat(300).as_bytes(), false), None, "a name that is too long");
+        assert_eq!((search.seek(None, b"a.h", Way::default()), search.seek(None, b"b.h", Way::default())), (None, Some(())));
+        assert_eq!(search.seek(None, "a".repeat(300).as_bytes(), Way::default()), None, "a name that is too long");
     }
 }

@@ -18,7 +18,7 @@ fn may_be_letter(byte: u8) -> bool {
 }
 
 /// Whether a byte belongs to identifiers and numbers.
-fn is_word(byte: u8) -> bool {
+pub fn is_word(byte: u8) -> bool {
     byte.is_ascii_alphanumeric() || byte == b'_' || may_be_letter(byte)
 }
 

@@ -3,9 +3,11 @@
 //! A file that the user's folder knows by its place, its size, its times and its number isn't read again. That trusts the file system: the
 //! time of a file's last change of any kind can't be set, so a file of the same size and time with other contents is another.
 use crate::cache::digest::{Digest, Hasher};
+use crate::cache::marked::contains;
 use crate::cache::place;
 use crate::cache::store::{Store, digest_of};
 use crate::programs;
+use crate::streams::content_of;
 use crate::system;
 use std::collections::BTreeMap;
 use std::ffi::{OsStr, OsString};
@@ -109,14 +111,21 @@ fn is_program(file: &mut File) -> bool {
 /// How a compiler runs: the program, its folder and its environment.
 type Compiler = (PathBuf, PathBuf, Vec<(OsString, OsString)>);
 
+/// What a compiler consists of beside its own program: those that it runs, and its specs.
+#[derive(Clone, Default)]
+struct Parts {
+    programs: Vec<PathBuf>,
+    specs: Vec<PathBuf>,
+}
+
 /// The tools of a call's commands.
 pub struct Tools {
     /// Where digests of files are kept: the user's folder if it can be written, else the cache.
     stores: Vec<Store>,
     /// Those that were looked at.
     known: BTreeMap<PathBuf, Option<Digest>>,
-    /// The programs that compilers run.
-    parts: Vec<(Compiler, Vec<PathBuf>)>,
+    /// What compilers consist of beside their own programs.
+    parts: Vec<(Compiler, Parts)>,
 }
 
 /// A tool, and where it runs.
@@ -132,13 +141,15 @@ impl Run<'_> {
         self.environment.iter().rev().find(|variable| variable.0 == name).map(|variable| variable.1.as_os_str())
     }
 
-    /// The path of a program that gcc runs.
-    fn part(&self, name: &str) -> Option<PathBuf> {
+    /// The path of a program that gcc runs, and the files by which gcc does otherwise than it would by itself.
+    fn part(&self, name: &str) -> Option<(PathBuf, Vec<PathBuf>)> {
         let mut gcc = Command::new(self.program);
-        gcc.arg(format!("-print-prog-name={name}")).current_dir(self.folder).env_clear().envs(self.environment.iter().cloned());
-        let said = gcc.stdin(Stdio::null()).stderr(Stdio::null()).output().ok().filter(|said| said.status.success())?;
+        gcc.args(["-v", &format!("-print-prog-name={name}")]).current_dir(self.folder).env_clear().envs(self.environment.iter().cloned());
+        let said = gcc.env("LC_ALL", "C").stdin(Stdio::null()).output().ok().filter(|said| said.status.success())?;
         let line = said.stdout.strip_suffix(b"\n").filter(|line| !line.is_empty())?;
-        programs::find(OsStr::from_bytes(line), self.variable("PATH").unwrap_or_default(), self.folder)
+        let specs = said.stderr.split(|&byte| byte == b'\n').filter_map(|line| line.strip_prefix(b"Reading specs from "));
+        let specs = specs.map(|file| self.folder.join(OsStr::from_bytes(file))).collect();
+        Some((programs::find(OsStr::from_bytes(line), self.variable("PATH").unwrap_or_default(), self.folder)?, specs))
     }
 
     /// The libm that the loader may give a tool: cicc has it compute constants.
@@ -227,13 +238,19 @@ impl Tools {
         digest
     }
 
-    /// The compiler proper and the assembler that gcc runs.
-    fn parts(&mut self, run: &Run<'_>) -> Option<Vec<PathBuf>> {
+    /// The compiler proper and the assembler that gcc runs, and its specs. `None` if these may use variables.
+    fn parts(&mut self, run: &Run<'_>) -> Option<Parts> {
         let compiler = (run.program.to_owned(), run.folder.to_owned(), run.environment.to_vec());
         if let Some((_, parts)) = self.parts.iter().find(|(other, _)| *other == compiler) {
             return Some(parts.clone());
         }
-        let parts: Vec<PathBuf> = ["cc1plus", "as"].into_iter().map(|part| run.part(part)).collect::<Option<_>>()?;
+        let (own, specs) = run.part("cc1plus")?;
+        let (assembler, _) = run.part("as")?;
+        let uses_variables = |file: &PathBuf| content_of(file).map_or(true, |text| contains(&text, b"getenv"));
+        let parts = Parts { programs: vec![own, assembler], specs };
+        if parts.specs.iter().any(uses_variables) {
+            return None;
+        }
         self.parts.push((compiler, parts.clone()));
         Some(parts)
     }
@@ -243,17 +260,20 @@ impl Tools {
         self.known.iter().filter_map(|(path, digest)| Some((path.as_path(), (*digest)?)))
     }
 
-    /// The digest of all that a tool consists of: the program; for gcc also cc1plus and the assembler that it runs, for cicc the files of
-    /// its libraries. `None` if that isn't known.
+    /// The digest of all that a tool consists of: the program; for gcc also cc1plus, the assembler that it runs and its specs, for cicc
+    /// the files of its libraries. `None` if that isn't known.
     pub fn identity(&mut self, run: &Run<'_>) -> Option<Digest> {
         if run.kind == Kind::Host && is_disguised(run.program) {
             return None;
         }
         let mut hasher = Hasher::default();
         hasher.update(&self.known(run.program, true)?.0);
-        let parts = if run.kind == Kind::Host { self.parts(run)? } else { Vec::new() };
-        for part in parts {
+        let parts = if run.kind == Kind::Host { self.parts(run)? } else { Parts::default() };
+        for part in parts.programs {
             hasher.update(&self.known(&part, true)?.0);
+        }
+        for file in parts.specs {
+            hasher.update(&self.known(&file, false)?.0);
         }
         let libraries = if run.kind == Kind::Cicc { run.libraries()? } else { Vec::new() };
         for library in libraries {
@@ -411,7 +431,7 @@ mod tests {
         let run = |environment: &[(OsString, OsString)]| {
             let gcc = programs::find("gcc".as_ref(), &env::var_os("PATH").unwrap(), Path::new("/")).unwrap();
             let run = Run { kind: Kind::Host, program: &gcc, folder: Path::new("/"), environment };
-            ["cc1", "as"].map(|name| run.part(name))
+            ["cc1", "as"].map(|name| run.part(name).map(|(part, _)| part))
         };
         let scratch = Scratch::new("gcc");
         let other = scratch.put("bin/as", "\x7fELF");

@@ -1,6 +1,7 @@
 //! Keeps a whole call: finds out what was read for it, and where something was sought in vain.
 use crate::cache::ahead::Asked;
 use crate::cache::calls::{self, Answer, Product};
+use crate::cache::direct::Found;
 use crate::cache::host_text::files_of_ptx;
 use crate::cache::includes::{self, Folders};
 use crate::cache::manifest::{Form, Manifest, Seen, Stamp, is_older};
@@ -62,20 +63,26 @@ fn variable(job: &Job, name: &str) -> OsString {
     given.map_or_else(|| env::var_os(name).unwrap_or_default(), |(_, value)| value.clone().unwrap_or_default().into())
 }
 
-/// The folders where a preprocessor looks for what it includes: gcc says them itself.
-fn folders_of(job: &Job) -> Option<Folders> {
-    let (program, words) = job.words.split_first()?;
-    let mut gcc = Command::new(program);
+/// What gcc says of itself as a job, in English: on its standard output and error.
+fn said_by(job: &Job, words: &[String]) -> Option<[String; 2]> {
+    let mut gcc = Command::new(job.words.first()?);
     for (name, value) in &job.variables {
         match value {
             Some(value) => gcc.env(name, value),
             None => gcc.env_remove(name),
         };
     }
-    gcc.args(words::search_words(words)).args(["-v", "-E", "-x", "c++", "/dev/null", "-o", "/dev/null"]);
-    gcc.current_dir(&job.folder).env("LC_ALL", "C").stdin(Stdio::null()).stdout(Stdio::null());
+    gcc.args(words).current_dir(&job.folder).env("LC_ALL", "C").stdin(Stdio::null());
     let said = gcc.output().ok().filter(|said| said.status.success())?;
-    includes::folders(std::str::from_utf8(&said.stderr).ok()?)
+    Some([String::from_utf8(said.stdout).ok()?, String::from_utf8(said.stderr).ok()?])
+}
+
+/// The folders where a preprocessor looks for what it includes, and its driver for programs and specs: gcc says them itself.
+fn folders_of(job: &Job) -> Option<Folders> {
+    let asked = ["-v", "-E", "-x", "c++", "/dev/null", "-o", "/dev/null"].map(String::from);
+    let [_, errors] = said_by(job, &[words::search_words(&job.words), asked.to_vec()].concat())?;
+    let [lists, _] = said_by(job, &["-print-search-dirs".into()])?;
+    includes::folders(&errors)?.with_programs(&lists)
 }
 
 /// By what the folders differ where preprocessors look.
@@ -111,6 +118,12 @@ fn parts_of_nvcc(nvcc: &Path) -> Option<(Vec<PathBuf>, BTreeSet<PathBuf>)> {
     None
 }
 
+/// Whether a program finds others, and headers, by where it is.
+fn finds_others(program: &Path) -> bool {
+    let name = program.file_name().and_then(OsStr::to_str).unwrap_or_default();
+    name == "nvcc" || Kind::of(name) == Some(Kind::Host)
+}
+
 /// What of a call was gathered.
 struct Gathered<'a> {
     search: Search<'a>,
@@ -139,26 +152,35 @@ impl Gathered<'_> {
     fn add(&mut self, seen: Seen, cwd: &Path) -> Option<()> {
         let status = fs::metadata(cwd.join(&seen.path)).ok()?;
         let is_same = seen.stamp.is_none_or(|stamp| stamp == Stamp::of(&status));
-        if !is_same || !is_older(&status, self.begun, MARGIN) {
+        let is_way_old = seen.path.parent().is_none_or(|folder| self.search.is_way_old(folder));
+        if !is_same || !is_way_old || !is_older(&status, self.begun, MARGIN) {
             return None;
         }
         self.seen.insert(seen.path.clone(), seen);
         Some(())
     }
 
-    /// Notes further paths to files that gcc may have read only once. `None` if there is a copy of one: gcc leaves that out if both were
-    /// last changed in the same second.
+    /// Notes the files for which a text asks, though it may not read them.
+    fn add_present(&mut self, cwd: &Path) -> Option<()> {
+        let present: Vec<PathBuf> = self.search.present().iter().filter(|path| !self.seen.contains_key(*path)).cloned().collect();
+        present.iter().try_for_each(|path| self.add(Seen::with_text(path, cwd)?.0, cwd))
+    }
+
+    /// Notes further paths to files that gcc may have read only once. Of a copy of such a file, and of that, times count too: gcc leaves it out
+    /// if both were last changed in the same second.
     fn add_copies(&mut self, once: &BTreeSet<PathBuf>, cwd: &Path) -> Option<()> {
         let mut sizes: HashMap<u64, Vec<_>> = HashMap::new();
         let found: BTreeSet<PathBuf> = self.search.found().filter(|path| !self.seen.contains_key(*path)).map(Path::to_owned).collect();
         for path in once.iter().chain(&found) {
             let status = fs::metadata(cwd.join(path)).ok()?;
-            let (file, same_size) = ((status.dev(), status.ino()), sizes.entry(status.len()).or_default());
-            let alike: Vec<_> = same_size.iter().filter(|(other, _)| once.contains(other)).collect();
-            if alike.iter().any(|(_, other)| *other == file) {
+            let (file, same_size): (_, &mut Vec<(PathBuf, _)>) = ((status.dev(), status.ino()), sizes.entry(status.len()).or_default());
+            let alike = || same_size.iter().filter(|(other, _)| once.contains(other));
+            let is_copy = |other: &Path| content_of(&cwd.join(path)).ok() == content_of(&cwd.join(other)).ok();
+            if alike().any(|(_, other)| *other == file) {
                 self.add(Seen::with_text(path, cwd)?.0, cwd)?;
-            } else if alike.iter().any(|(other, _)| content_of(&cwd.join(path)).ok() == content_of(&cwd.join(other)).ok()) {
-                return None;
+            } else if let Some((other, _)) = alike().find(|(other, _)| is_copy(other)) {
+                self.add(Seen::dated(path, cwd)?, cwd)?;
+                self.add(Seen::dated(other, cwd)?, cwd)?;
             }
             same_size.push((path.clone(), file));
         }
@@ -177,13 +199,14 @@ impl Session<'_> {
         let search = Search::new(call.cwd(), &folders, call.begun);
         let mut gathered = Gathered { search, begun: call.begun, seen: BTreeMap::new(), sees_lines: false };
         self.gather_files(call, &mut gathered)?;
-        self.gather_programs(call, &nvcc, &mut gathered)?;
+        self.gather_programs(call, &nvcc, &folders, &mut gathered)?;
         self.gather_named(call.cwd(), &mut gathered)?;
         let defines = self.defines(call).filter(|_| !gathered.sees_lines);
-        let direct: Vec<Manifest> = self.candidates.values().filter_map(|candidate| candidate.direct.found.clone()).collect();
-        let vain = gathered.search.vain()?.into_iter().chain(direct.into_iter().flat_map(|found| found.vain));
-        let manifest = Manifest { files: gathered.seen.into_values().collect(), vain: vain.collect(), defines };
-        self.keep_directly(&call.line.cwd, &manifest.files, &manifest.vain);
+        let present = gathered.search.present().clone();
+        let direct = self.candidates.values().filter_map(|candidate| candidate.direct.found.as_ref());
+        let vain = gathered.search.vain(direct.flat_map(|found| &found.manifest.vain))?;
+        let manifest = Manifest { files: gathered.seen.into_values().collect(), vain, defines };
+        self.keep_directly(&call.line.cwd, &manifest, &present);
         let answer = self.answer(call)?;
         calls::keep(self.store, call.line, &nvcc, self.folder_counts(call), &manifest, &answer);
         Some(())
@@ -260,7 +283,7 @@ impl Session<'_> {
     fn gather_files(&mut self, call: &Finished<'_>, gathered: &mut Gathered<'_>) -> Option<()> {
         let mut files: BTreeSet<PathBuf> = BTreeSet::new();
         let found = self.candidates.values().filter_map(|candidate| candidate.direct.found.as_ref());
-        files.extend(found.flat_map(|found| &found.files).map(|seen| seen.path.clone()));
+        files.extend(found.flat_map(Found::read).map(|seen| seen.path.clone()));
         let texts: Vec<PathBuf> = self.preprocessors(call).map(|(_, text)| text).filter(|text| !self.is_direct(text)).collect();
         for text in &texts {
             let written = self.known.written(text).filter(|written| !written.tells_time)?;
@@ -272,6 +295,7 @@ impl Session<'_> {
         }
         files.extend(call.commands.iter().filter(|command| command.preprocesses).flat_map(|command| &command.reads).map(PathBuf::from));
         files.retain(|file| !file.starts_with(self.tmp));
+        self.asks_for_known(call, &files)?;
         let (mut once, mut has_import) = (BTreeSet::new(), false);
         let any: BTreeSet<Vec<u8>> = files.iter().flat_map(|file| gathered.search.names_of(file)).collect();
         for file in &files {
@@ -282,7 +306,29 @@ impl Session<'_> {
             once.extend(scanned.has_once.then(|| file.clone()));
         }
         gathered.search.seek_anywhere(&any)?;
+        gathered.add_present(call.cwd())?;
         gathered.add_copies(if has_import { &files } else { &once }, call.cwd())
+    }
+
+    /// `Some` if all is known of the files for which preprocessors ask, and which they may not read: no macro names one.
+    fn asks_for_known(&mut self, call: &Finished<'_>, files: &BTreeSet<PathBuf>) -> Option<()> {
+        let mut askers: BTreeSet<Vec<u8>> = BTreeSet::new();
+        for file in files {
+            askers.extend(self.known.scanned(file, call.cwd())?.names.askers.iter().cloned());
+        }
+        let texts =
+            if askers.is_empty() { Vec::new() } else { files.iter().map(|file| content_of(&call.cwd().join(file)).ok()).collect::<Option<_>>()? };
+        let mut count = 0;
+        while count < askers.len() {
+            count = askers.len();
+            for text in &texts {
+                let further = includes::further_askers(text, &askers)?;
+                askers.extend(further);
+            }
+        }
+        let may_ask = |definition: &str| includes::may_ask(definition.as_bytes(), &askers);
+        let is_known = !self.preprocessors(call).flat_map(|(job, _)| words::defined(&job.words)).any(may_ask);
+        is_known.then_some(())
     }
 
     /// Notes the files that PTX names for debuggers: ptxas writes the size of each, and when it was changed.
@@ -301,7 +347,7 @@ impl Session<'_> {
     }
 
     /// Notes which programs nvcc has run, and where they were sought.
-    fn gather_programs(&mut self, call: &Finished<'_>, nvcc: &Path, gathered: &mut Gathered<'_>) -> Option<()> {
+    fn gather_programs(&mut self, call: &Finished<'_>, nvcc: &Path, folders: &Folders, gathered: &mut Gathered<'_>) -> Option<()> {
         let (parts, profiles) = parts_of_nvcc(nvcc)?;
         for (place, part) in parts.iter().enumerate() {
             self.tools.known(part, place + 1 == parts.len())?;
@@ -314,10 +360,11 @@ impl Session<'_> {
             self.tools.known(Path::new(&command.program), true)?;
             gathered.search.seek_program(Path::new(&command.program), &variable(&task.job, "PATH"))?;
         }
-        self.gather_parts(call, gathered)?;
+        self.gather_parts(call, folders, gathered)?;
         for (path, digest) in self.tools.all() {
             let stamp = fs::metadata(path).ok().as_ref().and_then(Stamp::settled);
-            gathered.add(Seen { path: path.to_owned(), digest, stamp, form: Form::Other }, call.cwd())?;
+            let form = if finds_others(path) { Form::Placed(fs::canonicalize(path).ok()?) } else { Form::Other };
+            gathered.add(Seen { path: path.to_owned(), digest, stamp, form }, call.cwd())?;
         }
         Some(())
     }
@@ -338,21 +385,20 @@ impl Session<'_> {
         (!calls::names_free_variable(&text)).then(|| self.gather_if_there(path, gathered))?
     }
 
-    /// Notes where gcc looks for its assembler and its specs before it finds them.
-    fn gather_parts(&mut self, call: &Finished<'_>, gathered: &mut Gathered<'_>) -> Option<()> {
+    /// Notes where gcc looks for the programs that it runs, and for its specs: some places it may leave out.
+    fn gather_parts(&mut self, call: &Finished<'_>, folders: &Folders, gathered: &mut Gathered<'_>) -> Option<()> {
         let path = call.of_plan().find(|(_, _, command)| command.preprocesses).map(|(_, task, _)| variable(&task.job, "PATH"))?;
         let parts: Vec<PathBuf> = self.tools.all().map(|(path, _)| path.to_owned()).collect();
-        for part in &parts {
-            match part.file_name().and_then(OsStr::to_str) {
-                Some("as") => gathered.search.seek_program(part, &path)?,
-                Some("cc1plus") => {
-                    self.gather_if_there(part.with_file_name("as"), gathered)?;
-                    self.gather_text_if_there(part.with_file_name("specs"), gathered)?;
-                }
-                _ => {}
+        for part in parts.iter().filter(|part| part.file_name().is_some_and(|name| name == "as")) {
+            if !folders.programs.iter().any(|folder| folder.join("as") == *part) {
+                gathered.search.seek_program(part, &path)?;
             }
         }
-        Some(())
+        // Some have the machine's name in front of it, as x86_64-linux-gnu-as.
+        let names = ["as", "cc1plus", &format!("{}-as", folders.machine)].map(String::from);
+        let places = folders.programs.iter().flat_map(|folder| names.iter().map(|name| folder.join(name)));
+        places.into_iter().try_for_each(|place| self.gather_if_there(place, gathered))?;
+        folders.libraries.iter().try_for_each(|folder| self.gather_text_if_there(folder.join("specs"), gathered))
     }
 
     /// Whether a product may have the call's folder in it: debugging information has it, and the module id has a source's whole path.
@@ -360,7 +406,12 @@ impl Session<'_> {
         let preprocessors = call.commands.iter().filter(|command| command.preprocesses);
         let mut words = preprocessors.flat_map(|command| &command.words);
         let has_names = self.candidates.values().any(|candidate| candidate.recipe.directory.is_empty());
-        has_names || words.any(|word| !word.starts_with('-') && !word.starts_with('/') && call.cwd().join(word).is_file())
+        // A word may name a product, or the folder for it, by its whole path.
+        let texts = || call.line.words.iter().chain(call.line.variables.iter().map(|(_, value)| value));
+        let mut products = self.products.iter().chain(&call.rule).map(|product| product.path.to_string_lossy());
+        let is_named = products.any(|product| texts().any(|text| text.contains(&*product)));
+        let names_folder = texts().any(|text| ["odir", "output-directory"].iter().any(|option| text.contains(option)));
+        has_names || is_named || names_folder || words.any(|word| !word.starts_with('-') && !word.starts_with('/') && call.cwd().join(word).is_file())
     }
 
     /// What the call has made and said. `None` if that has the name of its directory.
@@ -482,7 +533,7 @@ mod tests {
                 let is_known = session.gather_named(call.cwd(), &mut gathered).is_some();
                 let files: Vec<(String, Form)> =
                     gathered.seen.into_values().map(|seen| (seen.path.to_string_lossy().into_owned(), seen.form)).collect();
-                (is_known, files, gathered.search.vain().map(|vain| vain.iter().map(|vain| vain.lacks.len()).sum::<usize>()))
+                (is_known, files, gathered.search.vain([].iter()).map(|vain| vain.iter().map(|vain| vain.lacks.len()).sum::<usize>()))
             })
         };
         assert_eq!(gathered(), (true, vec![(path("k.cu"), Form::Dated)], Some(1)));
@@ -529,10 +580,10 @@ mod tests {
                 let folders = Folders::default();
                 let search = Search::new(call.cwd(), &folders, call.begun);
                 let mut gathered = Gathered { search, begun: call.begun, seen: BTreeMap::new(), sees_lines: false };
-                session.gather_files(call, &mut gathered).map(|()| gathered.seen.len())
+                session.gather_files(call, &mut gathered).map(|()| gathered.seen.values().filter(|seen| seen.form == Form::Dated).count())
             })
         };
-        assert_eq!([["a.h", "b.h"], ["c.h", "d.h"], ["a.h", "copy.h"]].map(gathers), [Some(2), Some(2), None]);
+        assert_eq!([["a.h", "b.h"], ["c.h", "d.h"], ["a.h", "copy.h"]].map(gathers), [Some(0), Some(0), Some(2)]);
         fs::remove_dir_all(room).unwrap();
     }
 
