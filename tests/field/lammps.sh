@@ -4,4 +4,4 @@ within cmake
 patch cmake/Modules/Packages/GPU.cmake "s/\"-arch=\${GPU_ARCH}\"/\"$(gencode)\"/"
 edit lib/gpu/lal_atom.cu 's/xt\.x=x\[i\];/xt.x=2*x[i];/'
 settings -DPKG_GPU=ON -DGPU_API=cuda -DBUILD_MPI=OFF -DBUILD_OMP=OFF -DWITH_JPEG=OFF -DWITH_PNG=OFF -DWITH_GZIP=OFF -DWITH_FFMPEG=OFF \
-    -DCUDA_CUDA_LIBRARY="$toolkit/lib64/libcudart.so"
+    -DCMAKE_DISABLE_FIND_PACKAGE_MPI=ON -DCUDA_CUDA_LIBRARY="$toolkit/lib64/libcudart.so"
