@@ -7,12 +7,11 @@ use crate::machine::Job;
 use crate::planner::{PlannedCommand, list_of};
 use crate::run::Task;
 use crate::settings::Settings;
-use crate::streams::content_of;
+use crate::streams::{content_of, write_file};
 use crate::tasks::{OWN, program_of};
 use early_starts::renamed;
 use rattle_std::alloc::Global;
 use std::env;
-use std::fs;
 use std::io;
 use std::path::{Path, PathBuf};
 
@@ -56,7 +55,7 @@ impl HeadStart {
     ///
     /// Why nvcc makes the call.
     pub fn write(&self) -> Result<(), String> {
-        let written = if self.has_one_name { self.content().and_then(|content| fs::write(&self.withheld, content)) } else { Ok(()) };
+        let written = if self.has_one_name { self.content().and_then(|content| write_file(&self.withheld, content)) } else { Ok(()) };
         written.map_err(|_| "a stub file is missing, or there is no room for it".into())
     }
 }
@@ -132,6 +131,7 @@ pub fn allow(tasks: &mut [Task], commands: &[PlannedCommand], tmp: &str) {
 mod tests {
     use super::*;
     use crate::planner::Early;
+    use std::fs;
 
     fn command(words: &str, needs: &[usize], reads: &[&str], writes: &[&str]) -> PlannedCommand {
         let (program, words) = words.split_once(' ').unwrap();

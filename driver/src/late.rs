@@ -2,12 +2,11 @@
 use crate::planner::{self, PlannedCommand};
 use crate::run::Done;
 use crate::settings::Settings;
-use crate::streams::content_of;
+use crate::streams::{content_of, write_file};
 use crate::tasks::{OWN, program_of};
 use late_fatbins::{Places, assembler_text, compiler_needs, placeholder, split_compile};
 use rattle_std::alloc::Global;
 use std::env;
-use std::fs;
 use std::path::PathBuf;
 use texts::text::Text;
 
@@ -31,7 +30,7 @@ impl Include {
         let text = content_of(&self.from).map_err(|_| "fatbinary's file is missing")?;
         let text = assembler_text(Global, self.is_linked, &text).map_err(|_| "out of memory")?;
         let text = text.ok_or("fatbinary's file has another form")?;
-        fs::write(&self.to, text.as_slice()).map_err(|_| "no room for temporary files".into())
+        write_file(&self.to, text.as_slice()).map_err(|_| "no room for temporary files".into())
     }
 }
 
@@ -90,7 +89,7 @@ pub fn begin_early(commands: &mut Vec<PlannedCommand>, tmp: &str) -> Option<Incl
     let compile = PlannedCommand { words: compiler, needs: needs.as_slice().to_vec(), writes: vec![text_file], cacheable: false, ..last.clone() };
     assemble.needs.push(before.len());
     let text = placeholder(Global, split.is_linked, &to).ok()??;
-    fs::write(split.read.as_str(), text.as_bytes()).ok()?;
+    write_file(split.read.as_str(), text.as_bytes()).ok()?;
     commands.pop();
     commands.last_mut()?.words = fatbinary;
     commands.extend([compile, assemble]);
@@ -108,6 +107,7 @@ mod tests {
     use super::*;
     use crate::machine::Ended;
     use crate::system::Status;
+    use std::fs;
 
     fn command(words: &str, writes: &[&str]) -> PlannedCommand {
         let (program, words) = words.split_once(' ').unwrap();

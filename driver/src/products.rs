@@ -1,5 +1,5 @@
 //! The files of a call that stay.
-use crate::streams::write_all;
+use crate::streams::{write_all, write_file};
 use crate::tasks::OWN;
 use std::fs;
 use std::path::Path;
@@ -25,7 +25,7 @@ pub fn keep(tmp: &Path, keep_dir: &Path, begun: SystemTime) {
             continue;
         }
         if let Some(text) = fs::read_to_string(&from).ok().and_then(|text| with_kept_name(&text, &from)) {
-            let _ = fs::write(&from, text);
+            let _ = write_file(&from, text);
         }
         if fs::rename(&from, &to).is_ok() {
             continue;

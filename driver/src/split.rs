@@ -14,6 +14,7 @@ use crate::products;
 use crate::rule::{Refusals, RuleMaker};
 use crate::run::{self, Done, Stopped, Task};
 use crate::settings::Settings;
+use crate::streams::write_file;
 use crate::tasks::{self, Surroundings};
 use crate::voice::{End, Habits, Say, Voice};
 use dry_run_pairs::runs_devices_first;
@@ -324,7 +325,7 @@ fn name_stubs(tmp: &str, folder: &str) {
     for entry in fs::read_dir(tmp).into_iter().flatten().flatten() {
         let is_stub = entry.file_name().to_str().is_some_and(|name| name.ends_with(".cudafe1.stub.c"));
         if let Some(text) = is_stub.then(|| fs::read_to_string(entry.path()).ok()).flatten() {
-            let _ = fs::write(entry.path(), text.replacen(&format!("\n# 1 \"{tmp}/"), &format!("\n# 1 \"{folder}"), 1));
+            let _ = write_file(entry.path(), text.replacen(&format!("\n# 1 \"{tmp}/"), &format!("\n# 1 \"{folder}"), 1));
         }
     }
 }

@@ -70,6 +70,15 @@ pub fn write_all(mut file: &File, text: &[u8]) -> io::Result<()> {
     Ok(())
 }
 
+/// Writes a whole text to the file of a path, in place of what is there.
+///
+/// # Errors
+///
+/// Those of opening and writing.
+pub fn write_file(path: impl AsRef<Path>, text: impl AsRef<[u8]>) -> io::Result<()> {
+    write_all(&File::create(path)?, text.as_ref())
+}
+
 /// Writes a text to a standard stream: 1 for output, 2 for messages.
 ///
 /// # Errors

@@ -1,7 +1,8 @@
 //! A file whose readers wait until its content is there.
+use crate::streams::write_all;
 use crate::system;
 use std::fs::{self, File};
-use std::io::{self, Write};
+use std::io;
 use std::os::fd::AsFd;
 use std::path::Path;
 use std::time::{Duration, Instant};
@@ -39,7 +40,7 @@ impl Withheld {
 
     /// Writes the content. Says whether nobody has opened the file before: not if the disk is full, or if the kernel may have lost patience.
     pub fn write(&mut self, content: &[u8]) -> bool {
-        self.file.write_all(content).is_ok() && self.begun.elapsed() < self.longest
+        write_all(&self.file, content).is_ok() && self.begun.elapsed() < self.longest
     }
 
     /// Lets readers go on. Says whether none had to until now.
