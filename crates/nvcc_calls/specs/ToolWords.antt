@@ -1,5 +1,6 @@
 -- Whether a word for one of nvcc's tools may name a file. Several commands may get the word: they'd write the file side by side, and
--- a relative name may mean another file to each. So nvcc makes the call unless each option is known, or has no value.
+-- a relative name may mean another file to each. An option without a value may take the command's next word as one. So nvcc makes the
+-- call unless each option is known.
 use Rattle.std.specs.Prelude.{◌≡◌, ℕ, List, [], ◌∷◌, Bool, true, false, not, ◌==◌, ◌&&◌, ◌||◌, nat_eq, nat_le, if◌then◌else◌, refl, codes, bytes_eq}
 use Rattle.std.specs.Borrow.{Bor}
 use Rattle.std.specs.List.{list_any, starts_with, slice_split}
@@ -23,9 +24,10 @@ abbrev pub valued_options : List (List ℕ)
 valued_options =
     spaced "abi= allow-expensive-optimizations= compress= compress-all= compress-mode= def-load-cache= def-store-cache= diag_default= diag_error= diag_once= diag_remark= diag_suppress= diag_warning= dlcm= dscm= error_limit= flcm= fmad= force-load-cache= force-store-cache= fscm= ftz= inline-threshold= maxrregcount= opt= opt-level= prec_div= prec_sqrt= register-usage-level= split-compile= unroll-threshold="
 
--- short options whose value, a file, may follow at once
-abbrev pub short_file_options : List (List ℕ)
-short_file_options = spaced "L X o"
+-- options of the tools that take no value
+abbrev pub switches : List (List ℕ)
+switches =
+    spaced "O0 O1 O2 O3 O4 Werror compress-all disable-optimizer-constants disable-optimizer-consts disable-warnings display_error_number dont-merge-basicblocks no-bb-merge no_display_error_number no_warnings no_wrap_diagnostics opt-fp-atomics optimize-float-atomics preserve-relocs promote_warnings remarks ret-end return-at-end sp-bounds-check suppress-debug-info suppress-double-demote-warning suppress-stack-size-warning v verbose w warn-double-usage warn-lmem-usage warn-on-double-precision-use warn-on-local-memory-usage warn-on-spills warn-spills warning-as-error"
 
 -- a tool's options stand between commas and blanks
 abbrev pub is_between : ℕ → Bool
@@ -38,21 +40,19 @@ is_odd byte = nat_le byte 31 || byte == 34 || byte == 39 || byte == 92
 abbrev pub has_value : List ℕ → Bool
 has_value name = list_any (λ byte. byte == 61) name
 
--- an option without its dashes. With `--pch`, cudafe++ keeps precompiled headers
-abbrev pub long_names_file : List ℕ → Bool
-long_names_file name = if has_value name then not (begins_with_one valued_options name) else bytes_eq name (codes "pch")
+-- an option's name, without the second of its dashes
+abbrev pub name_of : List ℕ → List ℕ
+name_of [] = []
+name_of (byte ∷ name) = if byte == 45 then name else byte ∷ name
 
--- an option without its first dash
-abbrev pub option_names_file : List ℕ → Bool
-option_names_file [] = false
-option_names_file (byte ∷ name) =
-    if byte == 45 then long_names_file name
-    else long_names_file (byte ∷ name) || not (has_value (byte ∷ name)) && begins_with_one short_file_options (byte ∷ name)
+-- an option without its dashes that is known to name no file
+abbrev pub is_known : List ℕ → Bool
+is_known name = if has_value name then begins_with_one valued_options name else list_any (bytes_eq name) switches
 
 -- what doesn't begin with a dash is an input, or the value of the option before it
 abbrev pub part_names_file : List ℕ → Bool
 part_names_file [] = false
-part_names_file (byte ∷ option) = not (byte == 45) || option_names_file option
+part_names_file (byte ∷ option) = not (byte == 45) || not (is_known (name_of option))
 
 abbrev pub value_names_file : List ℕ → Bool
 value_names_file value = list_any is_odd value || list_any part_names_file (slice_split is_between value)
@@ -72,6 +72,9 @@ options_in_a_file = refl
 
 pub kept_headers : may_name_file (codes "--cudafe-options=--pch") ≡ true
 kept_headers = refl
+
+pub the_next_word_as_a_file : may_name_file (codes "-Xcudafe=--error_output") ≡ true
+the_next_word_as_a_file = refl
 
 pub another_fatbin : may_name_file (codes "-Xfatbin=--create=x") ≡ true
 another_fatbin = refl

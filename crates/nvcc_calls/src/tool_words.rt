@@ -1,6 +1,6 @@
 //! Whether a word for one of nvcc's tools may name a file.
 
-ghost use Rattle.std.specs.Prelude.{◌≡◌, map, nat_eq, option_copied};
+ghost use Rattle.std.specs.Prelude.{◌≡◌, bytes_eq, map, nat_eq, option_copied};
 ghost use Rattle.std.specs.List.{list_any, slice_split, starts_with};
 ghost use Rattle.texts.specs.Lists.{is_some_and, rest_after};
 ghost use Rattle.nvcc_calls.specs.ToolWords as spec;
@@ -60,11 +60,49 @@ fn valued_options() -> &'static [&'static str]
     ]
 }
 
-// Short options whose value, a file, may follow at once.
-fn short_file_options() -> &'static [&'static str]
-    ensures { map spec.shown result.now ≡ spec.short_file_options }
+// Options of the tools that take no value.
+fn switches() -> &'static [&'static str]
+    ensures { map spec.shown result.now ≡ spec.switches }
 {
-    &["L", "X", "o"]
+    &[
+        "O0",
+        "O1",
+        "O2",
+        "O3",
+        "O4",
+        "Werror",
+        "compress-all",
+        "disable-optimizer-constants",
+        "disable-optimizer-consts",
+        "disable-warnings",
+        "display_error_number",
+        "dont-merge-basicblocks",
+        "no-bb-merge",
+        "no_display_error_number",
+        "no_warnings",
+        "no_wrap_diagnostics",
+        "opt-fp-atomics",
+        "optimize-float-atomics",
+        "preserve-relocs",
+        "promote_warnings",
+        "remarks",
+        "ret-end",
+        "return-at-end",
+        "sp-bounds-check",
+        "suppress-debug-info",
+        "suppress-double-demote-warning",
+        "suppress-stack-size-warning",
+        "v",
+        "verbose",
+        "w",
+        "warn-double-usage",
+        "warn-lmem-usage",
+        "warn-on-double-precision-use",
+        "warn-on-local-memory-usage",
+        "warn-on-spills",
+        "warn-spills",
+        "warning-as-error",
+    ]
 }
 
 // Whether a text begins with one of some others.
@@ -73,6 +111,18 @@ fn begins_with_one(beginnings: &[&str], text: &[u8]) -> bool
 {
     for beginning in beginnings {
         if text.starts_with(beginning.as_bytes()) {
+            return true;
+        }
+    }
+    false
+}
+
+// Whether a name is one of some others.
+fn is_among(names: &[&str], name: &[u8]) -> bool
+    ensures { result ≡ list_any (bytes_eq name.now) (map spec.shown names.now) }
+{
+    for other in names {
+        if name == other.as_bytes() {
             return true;
         }
     }
@@ -103,28 +153,24 @@ fn has_value(name: &[u8]) -> bool
     name.contains(&b'=')
 }
 
-// Whether an option without its dashes may name a file.
-fn long_names_file(name: &[u8]) -> bool
-    ensures { result ≡ spec.long_names_file name.now }
+// An option's name, which may have a second dash before it.
+fn name_of(option: &[u8]) -> &[u8]
+    ensures { result.now ≡ spec.name_of option.now }
 {
-    if has_value(name) {
-        !begins_with_one(valued_options(), name)
-    } else {
-        name == b"pch".as_slice()
+    match option {
+        [b'-', name @ ..] => name,
+        _ => option,
     }
 }
 
-// Whether an option without its first dash may.
-fn option_names_file(option: &[u8]) -> bool
-    ensures { result ≡ spec.option_names_file option.now }
+// Whether an option without its dashes is known to name no file.
+fn is_known(name: &[u8]) -> bool
+    ensures { result ≡ spec.is_known name.now }
 {
-    match option {
-        [] => false,
-        [b'-', name @ ..] => long_names_file(name),
-        _ => {
-            long_names_file(option)
-                || (!has_value(option) && begins_with_one(short_file_options(), option))
-        }
+    if has_value(name) {
+        begins_with_one(valued_options(), name)
+    } else {
+        is_among(switches(), name)
     }
 }
 
@@ -134,7 +180,7 @@ fn part_names_file(part: &[u8]) -> bool
 {
     match part {
         [] => false,
-        [b'-', option @ ..] => option_names_file(option),
+        [b'-', option @ ..] => !is_known(name_of(option)),
         _ => true,
     }
 }
