@@ -20,7 +20,7 @@ from runner import Counts
 
 MISTAKES = ["another literal", "another operator", "a statement left out", "an arm left out", "two statements exchanged", "two arms exchanged"]
 # What no export of libzigrunk calls.
-ABOVE = set("cudaplan zigrunk zigrunk_c programs program_calls plan_runners plan_graphs plan_makeflow schedules dry_run_pairs".split())
+ABOVE = set("cudaplan zigrunk zigrunk_c programs program_calls cuda_plans plan_graphs plan_makeflow schedules dry_run_pairs".split())
 # Optimizing would take most of the time.
 QUICK = {"CARGO_NET_OFFLINE": "true", "CARGO_PROFILE_RELEASE_OPT_LEVEL": "1"}
 

@@ -14,11 +14,11 @@ use c_texts::{ListAnswer, Outcome, Range, Refused, Status, or_refused, write_lis
 use compilers::arguments::{CompilerArguments, ParsedArguments};
 use compilers::command::CompileCommandImpl;
 use compilers::compiler::{CCompilerImpl, Places};
-use cuda_plans::nvcc::Nvcc;
 use device_lines::cicc::Cicc;
 use device_lines::cudafe::CudaFE;
 use device_lines::ptxas::Ptxas;
 use host_lines::nvhpc::Nvhpc;
+use nvcc_commands::Nvcc;
 use std::alloc::{AllocError, Global};
 use texts::fault::Fault;
 use texts::text::Text;

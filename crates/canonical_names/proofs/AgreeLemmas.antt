@@ -7,7 +7,7 @@ use Rattle.command_lines.specs.CommandLines.{CommandLine, words_of_command}
 use Rattle.canonical_names.specs.Generated.{head_of, core_of, class_of, class_of_name, generated_name}
 use Rattle.canonical_names.specs.Renaming.{canonical_name, seen_after_word, seen_after, names_of_run}
 use Rattle.texts.specs.Lists.{with_name}
-use Rattle.canonical_names.specs.Shadow.{appearances}
+use Rattle.canonical_names.specs.Appearances.{appearances}
 use Rattle.canonical_names.specs.Alike.{core_through, word_through, command_through, IsRenaming}
 use Rattle.canonical_names.specs.CanonicalNames.{AreSuffixes, command_by_all, OneCanonicalRun}
 use Rattle.canonical_names.proofs.CanonicalLemmas.{run-all, no-member, head-member, tail-member, member-cases, find-only, different-names, folder_and_class-stay}

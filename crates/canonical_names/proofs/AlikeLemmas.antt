@@ -9,7 +9,7 @@ use Rattle.command_lines.specs.CommandLines.{CommandLine, words_of_command}
 use Rattle.canonical_names.specs.Generated.{core_of, class_of, class_of_name, begins_with_dash, generated_name}
 use Rattle.canonical_names.specs.Renaming.{canonical_file, rank, seen_after_word, seen_after, names_of_run}
 use Rattle.texts.specs.Lists.{with_name}
-use Rattle.canonical_names.specs.Shadow.{appearances}
+use Rattle.canonical_names.specs.Appearances.{appearances}
 use Rattle.canonical_names.specs.Alike.{core_through, word_through, command_through, IsRenaming}
 use Rattle.canonical_names.specs.CanonicalNames.{AreSuffixes, core_by_all, word_by_all, command_by_all, AlikeRunsAgree}
 use Rattle.canonical_names.proofs.CanonicalLemmas.{head-member, tail-member, find-found, find-only, two-ends, ends-split}

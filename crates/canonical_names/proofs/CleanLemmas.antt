@@ -6,7 +6,7 @@ use Rattle.command_lines.specs.CommandLines.{CommandLine, words_of_command}
 use Rattle.canonical_names.specs.Generated.{head_of, core_of, class_of, generated_name}
 use Rattle.canonical_names.specs.Renaming.{seen_after_word, seen_after, names_of_run, renamed_word, renamed_words, renamed_after}
 use Rattle.texts.specs.Lists.{with_name}
-use Rattle.canonical_names.specs.Shadow.{appearances}
+use Rattle.canonical_names.specs.Appearances.{appearances}
 use Rattle.canonical_names.specs.Alike.{holds, is_clean_word}
 use Rattle.canonical_names.specs.CanonicalNames.{core_by_all, word_by_all, command_by_all, CleanRunIsAMap}
 use Rattle.canonical_names.proofs.RankLemmas.{add, fold-append, words-names, run-names, fold-front, rank-stable}

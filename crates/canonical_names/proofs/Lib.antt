@@ -3,13 +3,10 @@ pub mod AgreeLemmas
 pub mod AlikeLemmas
 pub mod CanonicalLemmas
 pub mod CleanLemmas
-pub mod FileLemmas
 pub mod NeedLemmas
 pub mod OnceLemmas
 pub mod RankLemmas
 pub mod RewriteLemmas
-pub mod ShadowLemmas
-pub mod ShadowRankLemmas
 pub mod SuffixLemmas
 pub mod CountedLemmas
 pub mod DotLemmas

@@ -7,7 +7,7 @@ use Rattle.command_lines.specs.CommandLines.{CommandLine, words_of_command}
 use Rattle.canonical_names.specs.Generated.{generated_name}
 use Rattle.canonical_names.specs.Renaming.{rank, seen_after_word, seen_after}
 use Rattle.texts.specs.Lists.{with_name}
-use Rattle.canonical_names.specs.Shadow.{appearances}
+use Rattle.canonical_names.specs.Appearances.{appearances}
 use Rattle.canonical_names.specs.CanonicalNames.{before_name, RankCountsNames}
 
 -- equality of texts, by the test

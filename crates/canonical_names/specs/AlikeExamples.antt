@@ -1,4 +1,4 @@
--- Runs that are clean, alike or shadows, and runs that aren't, worked out by hand.
+-- Runs that are clean or alike, and runs that aren't, worked out by hand.
 use Rattle.std.proofs.Common.{◌≡◌, ℕ, ◌++◌, List, [], ◌∷◌, true, false, drop, get_or, Option, None, refl, sym, ap, ◌∙◌, eqb, codes, slice_index, Contains}
 use Rattle.std.proofs.lemmas.Bool.{false≢true}
 use Rattle.std.proofs.lemmas.List.Elements.{All-from_recursion, All-contains}
@@ -7,8 +7,7 @@ use Rattle.command_lines.specs.CommandLines.{CommandLine}
 use Rattle.canonical_names.specs.Generated.{standard_suffixes, class_of_name}
 use Rattle.canonical_names.specs.Renaming.{names_of_run}
 use Rattle.canonical_names.specs.Alike.{is_clean, Alike}
-use Rattle.canonical_names.specs.Shadow.{is_shadow}
-use Rattle.command_lines.specs.OneKernel.{one_kernel_commands, one_kernel_elsewhere_commands, one_kernel_in_temporary_commands}
+use Rattle.command_lines.specs.OneKernel.{one_kernel_commands, one_kernel_elsewhere_commands}
 
 -- a run of one command with these words
 abbrev pub run_with : List (List ℕ) → List CommandLine
@@ -67,15 +66,6 @@ abbrev pub OtherPatternIsNotAlike : Type 0
 OtherPatternIsNotAlike =
     ¬ Alike standard_suffixes (run_with (codes "a.cudafe1.c" ∷ codes "b.cudafe1.c" ∷ codes "a.cudafe1.c" ∷ []))
     (run_with (codes "a.cudafe1.c" ∷ codes "b.cudafe1.c" ∷ codes "b.cudafe1.c" ∷ []))
-
--- the same run in the folder `/t` shadows the one-kernel dry run; a run doesn't shadow itself
-abbrev pub OneKernelHasAShadow : Type 0
-OneKernelHasAShadow =
-    (is_shadow standard_suffixes one_kernel_commands one_kernel_in_temporary_commands (codes "/t") ≡ true) ×
-    (is_shadow standard_suffixes one_kernel_commands one_kernel_commands (codes "/t") ≡ false)
-
-pub one_kernel_has_a_shadow : OneKernelHasAShadow
-one_kernel_has_a_shadow = (refl, refl)
 
 -- the patterns of the two runs, word by word
 core_at : ℕ → List (ℕ × List ℕ × List (List ℕ × Option (List ℕ) × List ℕ)) → List ℕ

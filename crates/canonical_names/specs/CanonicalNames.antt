@@ -7,7 +7,7 @@ use Rattle.canonical_names.specs.Generated.{standard_suffixes, head_of, core_of,
 use Rattle.canonical_names.specs.Renaming.{names_of_run, rank, canonical_in, canonical_name, with_words, renamed_word, renamed}
 use Rattle.texts.specs.Lists.{with_name}
 use Rattle.canonical_names.specs.Alike.{holds, is_clean, Alike}
-use Rattle.canonical_names.specs.Shadow.{appearances}
+use Rattle.canonical_names.specs.Appearances.{appearances}
 
 -- what the laws ask of a list of suffixes: none is an end of another, none contains `/`, and that of cicc's input is among
 -- them

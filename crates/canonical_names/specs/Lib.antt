@@ -1,5 +1,6 @@
 pub mod Alike
 pub mod AlikeExamples
+pub mod Appearances
 pub mod CanonicalNames
 pub mod Counted
 pub mod FurtherSuffixes
@@ -8,7 +9,5 @@ pub mod References
 pub mod Renaming
 pub mod RenamingExamples
 pub mod RenamingNeeds
-pub mod Shadow
 pub mod Shown
-pub mod StepShadow
 pub mod SuffixRule

@@ -7,7 +7,7 @@ ghost use Rattle.command_lines.specs.CommandLines.{line_seen};
 ghost use Rattle.canonical_names.specs.Alike as spec;
 ghost use Rattle.canonical_names.specs.Generated as generated;
 ghost use Rattle.canonical_names.specs.Renaming.{names_of_run};
-ghost use Rattle.canonical_names.specs.Shadow.{appearances};
+ghost use Rattle.canonical_names.specs.Appearances.{appearances};
 
 use crate::references::holds;
 use crate::suffixes::Suffixes;

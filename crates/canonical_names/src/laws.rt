@@ -1,11 +1,10 @@
 //! Laws of canonical names, and examples worked out by hand.
 
 ghost use Rattle.texts.specs.Equality.{TellsEqual};
-ghost use Rattle.canonical_names.specs.AlikeExamples.{OneKernelIsClean, ReferenceIsNotClean, OneKernelIsAlike, OtherPatternIsNotAlike, OneKernelHasAShadow};
+ghost use Rattle.canonical_names.specs.AlikeExamples.{OneKernelIsClean, ReferenceIsNotClean, OneKernelIsAlike, OtherPatternIsNotAlike};
 ghost use Rattle.canonical_names.specs.CanonicalNames.{StandardAreSuffixes, DifferentNames, FolderAndClassStay, OtherWordsStay, RankCountsNames, CleanRunIsAMap, AlikeRunsAgree, OneCanonicalRun, RenamedOnceForAll};
 ghost use Rattle.canonical_names.specs.RenamingNeeds.{Agree, AreAlikeFirstUnclean, AreAlikeSecondUnclean, AreCleanByAnyMap, AreCleanInOtherFolders, OneRunIsAlikeFirstUnclean, OneRunIsAlikeSecondUnclean, EveryRunIsRenamedOnce};
 ghost use Rattle.canonical_names.specs.RenamingExamples.{LongestReferenceFirst, EarlyReferenceStays, OneMarkIsLeft, FolderStaysAsAPath, FolderLosesItsDot, FirstNameComesAgain, SecondNameComesAgain, OneKernelIsRenamed, EveryCommandCounts, BeginningIsTakenForTheName, SourceFileIsRenamed};
-ghost use Rattle.canonical_names.specs.StepShadow.{ShadowIsStepShadow, StepNamesKeepRank, PlainOutputsStayApart, OneKernelHasStepShadows};
 ghost use Rattle.canonical_names.specs.SuffixRule.{AcceptedAreSuffixes};
 
 use crate::suffixes::Suffixes;
@@ -18,16 +17,6 @@ pub fn equality()
 /// Every list of suffixes that `Suffixes::new` accepts has what the laws of canonical names ask for.
 pub fn accepted_suffixes()
     ensures { AcceptedAreSuffixes }
-{}
-
-/// A run that passes `is_shadow` passes `is_step_shadow` (`implied`), and not the other way round (`worked`).
-/// If a run passes, an input of cicc and the same one in the folder have the same rank (`ranks`), and of the
-/// second run's plain outputs only such an input gets a canonical file name of that suffix (`outputs`).
-pub fn step_shadows()
-    ensures implied { ShadowIsStepShadow }
-    ensures ranks { StepNamesKeepRank }
-    ensures outputs { PlainOutputsStayApart }
-    ensures worked { OneKernelHasStepShadows }
 {}
 
 /// Examples: what the words of some commands are renamed to, by the definitions.
@@ -45,13 +34,12 @@ pub fn worked_renamings()
     ensures source_file_is_renamed { SourceFileIsRenamed }
 {}
 
-/// Examples: which runs are clean, alike or shadows, by the definitions.
+/// Examples: which runs are clean or alike, by the definitions.
 pub fn worked_likeness()
     ensures one_kernel_is_clean { OneKernelIsClean }
     ensures reference_is_not_clean { ReferenceIsNotClean }
     ensures one_kernel_is_alike { OneKernelIsAlike }
     ensures other_pattern_is_not_alike { OtherPatternIsNotAlike }
-    ensures one_kernel_has_a_shadow { OneKernelHasAShadow }
 {}
 
 /// Laws of the canonical names of every run, for every list of suffixes of which none is an end of another

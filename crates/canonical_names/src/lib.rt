@@ -7,7 +7,6 @@ pub mod laws;
 mod references;
 mod remap;
 mod renames;
-mod shadow;
 mod suffixes;
 mod words;
 
@@ -15,5 +14,5 @@ pub use clean::is_clean;
 pub use further_suffixes::{all_suffixes, all_texts};
 pub use remap::{remap_commands, remap_generated_filenames};
 pub use renames::Renames;
-pub use shadow::{is_shadow, is_step_shadow};
 pub use suffixes::{Suffixes, is_suffix};
+pub use words::begins_with_dash;

@@ -261,8 +261,8 @@ impl Suffixes {
 }
 
 impl Suffixes {
-    // The name in a generated word: its core.
-    pub(crate) fn generated_name<'a>(&self, word: &'a str) -> Option<&'a str>
+    /// The name in a generated word: its core.
+    pub fn generated_name<'a>(&self, word: &'a str) -> Option<&'a str>
         ensures { option_copied result ≡ generated.generated_name self.now word.now }
     {
         let name = core(word);

@@ -32,8 +32,8 @@ pub(crate) fn core(word: &str) -> &str
     rest
 }
 
-// Whether a text begins with `-`.
-pub(crate) fn begins_with_dash(text: &str) -> bool
+/// Whether a text begins with `-`.
+pub fn begins_with_dash(text: &str) -> bool
     ensures { result ≡ spec.begins_with_dash text.now }
 {
     text.as_bytes().starts_with(b"-")

@@ -10,5 +10,4 @@ pub mod PlanNeedLemmas
 pub mod PlanningLemmas
 pub mod PutLemmas
 pub mod RisingLemmas
-pub mod ShadowLawLemmas
 pub mod WordLemmas

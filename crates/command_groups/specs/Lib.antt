@@ -20,11 +20,7 @@ pub mod PlanOfBytes
 pub mod PlanOfBytesExamples
 pub mod PlanWithin
 pub mod PlanWithinExamples
-pub mod Selection
-pub mod SelectionExamples
 pub mod SettingView
-pub mod ShadowExamples
-pub mod ShadowLaws
 pub mod Stage
 pub mod StageView
 pub mod WordPlace

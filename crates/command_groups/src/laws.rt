@@ -8,9 +8,6 @@ ghost use Rattle.command_groups.specs.PlanNeeds.{PlansAgreeFirstUnclean, PlansAg
 ghost use Rattle.command_groups.specs.PlanOfBytesExamples.{OneKernelFromBytes, OtherNamesFromBytes, TemporaryNamesFromBytes, KeptNamesFromBytes, NothingFromBytes, HostCodeFromBytes, OtherNamesAreAlike, SecondRunIsBad, FirstRunIsBad, SecondPtxasFromBytes, SupersededCiccFromBytes, StepWithoutCiccFromBytes, OutputWithASlashFromBytes, NamelessFromBytes};
 ghost use Rattle.command_groups.specs.PlanWithinExamples.{EachRunHasTheLimit, FirstRunIsTooLong, SecondRunIsTooLong, FirstRunDecides};
 ghost use Rattle.command_groups.specs.PlanExamples.{OneKernelPlan, NamesInAFolder, NamesAsTheyAre, EmptyRuns, HostCodeAlone, ReopenedGroup, SecondPtxas, SupersededCicc, StepMakesNoPtx, SharedPtx, PreprocessesForMsvc, CompilesForGcc, CiccLosesOneWord, CiccKeepsItsWords, NotForCuda, ProgramWithoutAStem, StepWithoutAnOutput, StepWithoutAFileName, OutputWithASlash, SecondGroupIsJoined, MergedByLineAndRun, FoldedEnvironment, MarkedTwice};
-ghost use Rattle.command_groups.specs.SelectionExamples as selections;
-ghost use Rattle.command_groups.specs.ShadowLaws.{ShadowsStandTogether, StepShadowsStandTogether};
-ghost use Rattle.command_groups.specs.ShadowExamples as shadows;
 
 pub use plans::laws::equality;
 
@@ -41,24 +38,6 @@ pub fn fates()
 pub fn plans()
     ensures alike_pairs { AlikePairsHaveOnePlan }
     ensures alike_texts { AlikeTextsHaveOnePlan }
-{}
-
-/// A law of shadow runs, for every list of suffixes that may be handed in: if the second of two clean
-/// runs shadows the first in the folder of temporary files, which is absolute, then a cicc command of
-/// the first run and the step that makes its input are both in the device group of that input's
-/// canonical name (`stand_together`).
-///
-/// The input is the first of cicc's words that ends as an input does. It contains no `/` and doesn't
-/// begin with `-`. Exactly one preprocess step of the second run writes it in that folder, and that
-/// step has an earlier line.
-pub fn shadow()
-    ensures stand_together { ShadowsStandTogether }
-{}
-
-/// The law of `shadow`, of runs of which the second shadows the first as far as the inputs of cicc
-/// go: it asks less, and `shadow` follows from it.
-pub fn step_shadow()
-    ensures stand_together { StepShadowsStandTogether }
 {}
 
 /// What two dry runs are planned as, with a keep directory or without.
@@ -142,29 +121,4 @@ pub fn plans_need()
     ensures folder { PlansAgreeInOtherFolders → ⊥ }
     ensures no_keep_directory { PlansAgreeWithKeepDirectory → ⊥ }
     ensures variables { PlansAgreeWithAnyVariables → ⊥ }
-{}
-
-/// Shadow runs worked out by hand. In two of them cicc and its step share a group: the one-kernel dry
-/// run with cudafe++'s stub file bare in the second run (`one_kernel`), and a cicc and its step alone
-/// (`earlier_step`), which meet all premises of `shadow` (`feeds`). In the others they don't: the step
-/// has a later line (`later_step`), two steps make the input (`two_steps`), or the input has a folder
-/// (`folder`).
-pub fn worked_shadows()
-    ensures one_kernel { shadows.OneKernelStandsTogether }
-    ensures earlier_step { shadows.EarlierStepStandsTogether }
-    ensures feeds { shadows.EarlierStepFeedsCicc }
-    ensures later_step { shadows.LaterStepStandsApart }
-    ensures two_steps { shadows.TwoStepsStandApart }
-    ensures folder { shadows.FolderStandsApart }
-{}
-
-/// What is selected of dry runs, and the environment behind them, by the definitions.
-pub fn worked_selections()
-    ensures one_of_one_kernel { selections.OneOfOneKernel }
-    ensures folded_behind_one_kernel { selections.FoldedBehindOneKernel }
-    ensures all_names_count { selections.AllNamesCount }
-    ensures names_stay { selections.NamesStay }
-    ensures nothing_is_selected { selections.NothingIsSelected }
-    ensures later_line_sets_too { selections.LaterLineSetsToo }
-    ensures bad_run_is_refused { selections.BadRunIsRefused }
 {}

@@ -9,10 +9,10 @@ pub mod laws;
 mod merged_commands;
 mod openings;
 mod plan;
-mod selection;
 mod setting;
 mod stage;
 
+pub use environment::with_variables;
 pub use plan::{
     group_nvcc_subcommands_by_compilation_stage,
     group_nvcc_subcommands_by_compilation_stage_within, plan_of_parsed, plan_with_origins,
@@ -22,5 +22,4 @@ pub use plans::{
     Dropped, DroppedCommands, Groups, NvccGeneratedSubcommand, Origin, Origins, Plan,
     PlanWithOrigins, Reason,
 };
-pub use selection::select_nvcc_subcommands;
 pub use setting::CallToPlan;

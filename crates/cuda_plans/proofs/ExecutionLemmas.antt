@@ -1,10 +1,10 @@
 -- What a run says of the planning before it.
-use Rattle.std.proofs.Common.{◌≡◌, ℕ, List, [], refl, sym, subst, Result, Ok, Err, IsErrAnd, append-nil, arith}
+use Rattle.std.proofs.Common.{◌≡◌, ℕ, List, [], sym, subst, Result, Ok, Err, IsErrAnd, append-nil, arith}
 use Rattle.texts.specs.declared.fault.Fault.{Fault}
 use Rattle.texts.specs.declared.status.Output.{Output}
 use Rattle.texts.specs.Fault.{UnlessMemory}
 use Rattle.plans.specs.declared.plan.Plan.{Plan}
-use Rattle.plan_runners.specs.Schedule.{AccountEntry, Gains, RunsAs, ExecutesAs, due_steps}
+use Rattle.cuda_plans.specs.Schedule.{AccountEntry, Gains, RunsAs, ExecutesAs}
 
 -- a refusal of the planning, before anything ran
 refused-planning : (fault : Fault) (planned : Result Plan Fault) (parallel : ℕ) → UnlessMemory {T = Plan} (Err fault) planned → ExecutesAs planned parallel [] (Err fault)

@@ -5,7 +5,7 @@ use Rattle.dry_runs.specs.DryRun.{LookUp}
 use Rattle.plans.specs.declared.plan.Plan.{Plan}
 use Rattle.command_groups.specs.Plan.{PlanSetting}
 use Rattle.command_groups.specs.PlanOfBytes.{planning_of}
-use Rattle.cuda_plans.specs.declared.nvcc.command.NvccCompileCommand.{NvccCompileCommand}
+use Rattle.nvcc_commands.specs.declared.command.NvccCompileCommand.{NvccCompileCommand}
 
 -- what a call is planned for
 abbrev pub setting_of : NvccCompileCommand → PlanSetting

@@ -3,13 +3,13 @@ use Rattle.std.proofs.Common.{◌≡◌, ℕ, ◌*◌, List, [], ◌∷◌, ◌+
 use Rattle.compilers.specs.declared.command.Cacheable.TheVariants.{Yes, No}
 use Rattle.texts.specs.declared.fault.Fault.TheVariants.{Process}
 use Rattle.plans.specs.declared.plan.NvccGeneratedSubcommand.{NvccGeneratedSubcommand}
-use Rattle.plan_runners.specs.declared.runner.Answer.{Answer}
-use Rattle.plan_runners.specs.declared.runner.Answer.TheVariants.{Ran, Failed}
+use Rattle.cuda_plans.specs.declared.runner.Answer.{Answer}
+use Rattle.cuda_plans.specs.declared.runner.Answer.TheVariants.{Ran, Failed}
 use Rattle.command_lines.specs.CommandLines.{CommandLine}
-use Rattle.plan_runners.specs.Outcome.{output_with}
+use Rattle.cuda_plans.specs.Outcome.{output_with}
 use Rattle.command_lines.specs.OneKernel.{at}
 use Rattle.command_groups.specs.PlanExamples.{runs, compiles, plan_of_both, plan_with}
-use Rattle.plan_runners.specs.Schedule.{AccountEntry, IsWhole, outcome_of, chunk_of}
+use Rattle.cuda_plans.specs.Schedule.{AccountEntry, IsWhole, outcome_of, chunk_of}
 
 -- three kernels: three preprocess steps, three runs of cicc, and host code
 abbrev pub three_kernels : List CommandLine

@@ -1,23 +1,29 @@
-//! Laws of whole calls, and schedules worked out by hand, which the definitions compute. The laws of the crates below are
-//! exported here too.
+//! Laws of whole calls, of shadow runs and of outputs, and examples worked out by hand, which the definitions compute. The laws of
+//! the crates below are exported here too.
 
 ghost use Rattle.command_groups.specs.PlanLaws.{AlikeTextsHaveOnePlan, ReadableRunsArePlanned, PlannedRunsAreReadable, FirstRunIsRefused, SecondRunIsRefused, PlannedCommandsHaveOneFate};
+ghost use Rattle.cuda_plans.specs.OutcomeLaws.{AggregationIsAssociative, EmptySuccessIsNeutralFirst, EmptySuccessIsNeutralLast};
 ghost use Rattle.cuda_plans.specs.ScheduleExamples as examples;
+ghost use Rattle.cuda_plans.specs.SelectionExamples as selections;
+ghost use Rattle.cuda_plans.specs.ShadowExamples as shadows;
+ghost use Rattle.cuda_plans.specs.ShadowLaws.{ShadowsStandTogether, StepShadowsStandTogether};
+ghost use Rattle.cuda_plans.specs.StepShadow.{ShadowIsStepShadow, StepNamesKeepRank, PlainOutputsStayApart, OneKernelHasStepShadows};
 ghost use Rattle.device_lines.specs.Reread.{CiccLinesReread, PtxasLinesReread, CudaFELinesReread};
+ghost use Rattle.texts.specs.Equality.{TellsEqual};
 
+use crate::runner::{Answer, Place};
 pub use canonical_names::laws::{
-    canonical_names, renaming, renaming_needs, step_shadows, worked_likeness, worked_renamings,
+    canonical_names, renaming, renaming_needs, worked_likeness, worked_renamings,
 };
 pub use command_groups::laws::{
-    equality as plan_equality, fates, merge, planning, plans, plans_need, shadow, step_shadow,
-    worked_plans, worked_plans_from_bytes, worked_selections, worked_shadows,
+    equality as plan_equality, fates, merge, planning, plans, plans_need, worked_plans,
+    worked_plans_from_bytes,
 };
 pub use device_lines::laws::{
     equality as device_equality, reread, rereading_needs, worked_lines, worked_rereadings,
 };
 pub use dry_runs::laws::{equality as dry_run_equality, worked_runs};
 pub use host_lines::laws::equality as host_equality;
-pub use plan_runners::laws::{equality, joined_outputs};
 pub use texts::laws::equality as text_equality;
 
 /// The planning theorem: two dry runs yield a plan exactly when both can be read; each selected command
@@ -60,4 +66,73 @@ pub fn worked_schedules()
     ensures first_failure_is_kept { examples.FirstFailureIsKept }
     ensures all_succeed { examples.AllSucceed }
     ensures failure_of_a_success { examples.FailureOfASuccess }
+{}
+
+/// `==` on places and on answers compares all that they hold: it says whether two values are equal.
+pub fn equality()
+    ensures place { TellsEqual ⟦<Place as PartialEq>⟧.eq }
+    ensures answer { TellsEqual ⟦<Answer as PartialEq>⟧.eq }
+{
+    texts::laws::equality();
+}
+
+/// How outputs are joined doesn't depend on brackets, and an empty success changes nothing.
+pub fn joined_outputs()
+    ensures associative { AggregationIsAssociative }
+    ensures empty_success_first { EmptySuccessIsNeutralFirst }
+    ensures empty_success_last { EmptySuccessIsNeutralLast }
+{}
+
+/// A run that passes `is_shadow` passes `is_step_shadow` (`implied`), and not the other way round (`worked`, and `one_kernel`).
+/// If a run passes, an input of cicc and the same one in the folder have the same rank (`ranks`), and of the
+/// second run's plain outputs only such an input gets a canonical file name of that suffix (`outputs`).
+pub fn step_shadows()
+    ensures implied { ShadowIsStepShadow }
+    ensures ranks { StepNamesKeepRank }
+    ensures outputs { PlainOutputsStayApart }
+    ensures worked { OneKernelHasStepShadows }
+    ensures one_kernel { shadows.OneKernelHasAShadow }
+{}
+
+/// A law of shadow runs, for every list of suffixes that may be handed in: if the second of two clean
+/// runs shadows the first in the folder of temporary files, which is absolute, then a cicc command of
+/// the first run and the step that makes its input are both in the device group of that input's
+/// canonical name (`stand_together`).
+///
+/// The input is the first of cicc's words that ends as an input does. It contains no `/` and doesn't
+/// begin with `-`. Exactly one preprocess step of the second run writes it in that folder, and that
+/// step has an earlier line.
+pub fn shadow()
+    ensures stand_together { ShadowsStandTogether }
+{}
+
+/// The law of `shadow`, of runs of which the second shadows the first as far as the inputs of cicc
+/// go: it asks less, and `shadow` follows from it.
+pub fn step_shadow()
+    ensures stand_together { StepShadowsStandTogether }
+{}
+
+/// Shadow runs worked out by hand. In two of them cicc and its step share a group: the one-kernel dry
+/// run with cudafe++'s stub file bare in the second run (`one_kernel`), and a cicc and its step alone
+/// (`earlier_step`), which meet all premises of `shadow` (`feeds`). In the others they don't: the step
+/// has a later line (`later_step`), two steps make the input (`two_steps`), or the input has a folder
+/// (`folder`).
+pub fn worked_shadows()
+    ensures one_kernel { shadows.OneKernelStandsTogether }
+    ensures earlier_step { shadows.EarlierStepStandsTogether }
+    ensures feeds { shadows.EarlierStepFeedsCicc }
+    ensures later_step { shadows.LaterStepStandsApart }
+    ensures two_steps { shadows.TwoStepsStandApart }
+    ensures folder { shadows.FolderStandsApart }
+{}
+
+/// What is selected of dry runs, and the environment behind them, by the definitions.
+pub fn worked_selections()
+    ensures one_of_one_kernel { selections.OneOfOneKernel }
+    ensures folded_behind_one_kernel { selections.FoldedBehindOneKernel }
+    ensures all_names_count { selections.AllNamesCount }
+    ensures names_stay { selections.NamesStay }
+    ensures nothing_is_selected { selections.NothingIsSelected }
+    ensures later_line_sets_too { selections.LaterLineSetsToo }
+    ensures bad_run_is_refused { selections.BadRunIsRefused }
 {}

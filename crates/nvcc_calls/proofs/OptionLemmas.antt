@@ -7,8 +7,8 @@ use Rattle.texts.specs.Results.{and_then}
 use Rattle.compilers.specs.declared.arguments.ParsedArguments.{ParsedArguments}
 use Rattle.compilers.specs.declared.command.SingleCompileCommand.{SingleCompileCommand}
 use Rattle.compilers.specs.Compiler.{Reading}
-use Rattle.cuda_plans.specs.declared.nvcc.command.NvccCompileCommand.{NvccCompileCommand}
-use Rattle.cuda_plans.specs.Nvcc.{nvcc_reading}
+use Rattle.nvcc_commands.specs.declared.command.NvccCompileCommand.{NvccCompileCommand}
+use Rattle.nvcc_commands.specs.Nvcc.{nvcc_reading}
 use Rattle.host_lines.specs.NvccEnvironment.{prepended_name, appended_name, with_added_words}
 use Rattle.nvcc_words.specs.declared.asked.Asked.{Asked}
 use Rattle.nvcc_options.specs.declared.reason.Reason.{Reason}

@@ -5,8 +5,8 @@ use Rattle.texts.specs.declared.fault.Fault.{Fault}
 use Rattle.texts.specs.Rows.{spaced}
 use Rattle.compilers.specs.Compiler.{Reading, accepted, cannot_cache, not_compilation}
 use Rattle.compilers.specs.declared.arguments.ParsedArguments.{ParsedArguments}
-use Rattle.cuda_plans.specs.declared.nvcc.command.NvccCompileCommand.{NvccCompileCommand}
-use Rattle.cuda_plans.specs.Nvcc.{nvcc_reading}
+use Rattle.nvcc_commands.specs.declared.command.NvccCompileCommand.{NvccCompileCommand}
+use Rattle.nvcc_commands.specs.Nvcc.{nvcc_reading}
 use Rattle.nvcc_words.specs.declared.asked.Asked.{Asked}
 use Rattle.nvcc_words.specs.declared.call.Call.{Call}
 use Rattle.nvcc_options.specs.declared.reason.Reason.{Reason}

@@ -2,7 +2,7 @@
 use Rattle.std.specs.Prelude.{◌≡◌, ℕ, List, [], ◌∷◌, map, Bool, true, false, not, ◌==◌, ◌&&◌, ◌||◌, nat_eq, nat_le, Option, Some, None, refl, codes, bytes_eq}
 use Rattle.std.specs.List.{list_any, list_all, starts_with}
 use Rattle.std.specs.Option.{option_or}
-use Rattle.texts.specs.Extension.{last_part, extension_of, with_extension}
+use Rattle.texts.specs.Extension.{last_part, with_extension}
 use Rattle.texts.specs.ObjectFlags.{makes_objects}
 use Rattle.texts.specs.Rows.{spaced}
 use Rattle.canonical_names.specs.Alike.{holds}

@@ -1,5 +1,5 @@
 -- How many commands run at once.
-use Rattle.std.specs.Prelude.{◌≡◌, ℕ, List, [], ◌∷◌, length, Bool, true, false, ◌||◌, ◌==◌, if◌then◌else◌, Option, Some, None, codes, refl, option_and_then}
+use Rattle.std.specs.Prelude.{◌≡◌, ℕ, List, [], ◌∷◌, length, Bool, false, ◌||◌, ◌==◌, if◌then◌else◌, Option, Some, None, codes, refl, option_and_then}
 use Rattle.texts.specs.Numeral.{numeral}
 use Rattle.texts.specs.Variables.{first_value}
 use Rattle.canonical_names.specs.Alike.{holds}

@@ -1,7 +1,7 @@
 -- What is claimed of split lines.
 use Rattle.std.specs.Prelude.{◌≡◌, ℕ, List, [], Ok}
-use Rattle.cuda_plans.specs.declared.nvcc.command.NvccCompileCommand.{NvccCompileCommand}
-use Rattle.cuda_plans.specs.NvccCommand.{dry_runs}
+use Rattle.nvcc_commands.specs.declared.command.NvccCompileCommand.{NvccCompileCommand}
+use Rattle.nvcc_commands.specs.NvccCommand.{dry_runs}
 use Rattle.host_lines.specs.NvccEnvironment.{with_added_words}
 use Rattle.nvcc_words.specs.declared.asked.Asked.{Asked}
 use Rattle.nvcc_words.specs.Asked.{asked_of}

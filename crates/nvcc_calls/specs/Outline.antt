@@ -13,8 +13,8 @@ use Rattle.compilers.specs.declared.command.SingleCompileCommand.{SingleCompileC
 use Rattle.compilers.specs.declared.compiler.NvccHostCompiler.TheVariants.{Gcc}
 use Rattle.compilers.specs.declared.compiler.Places.{Places}
 use Rattle.compilers.specs.Arguments.{plain_arguments}
-use Rattle.cuda_plans.specs.declared.nvcc.command.NvccCompileCommand.{NvccCompileCommand}
-use Rattle.cuda_plans.specs.NvccCommand.{dry_runs, nvcc_written}
+use Rattle.nvcc_commands.specs.declared.command.NvccCompileCommand.{NvccCompileCommand}
+use Rattle.nvcc_commands.specs.NvccCommand.{dry_runs, nvcc_written}
 use Rattle.host_lines.specs.KeepThreads.{keep_of, threads_of}
 use Rattle.host_lines.specs.Preprocess.{nvcc_preprocess}
 use Rattle.nvcc_calls.specs.declared.outline.Outline.{Outline}

@@ -1,7 +1,7 @@
 -- Whether a word for one of nvcc's tools may name a file. Several commands may get the word: they'd write the file side by side, and
 -- a relative name may mean another file to each. An option without a value may take the command's next word as one. So nvcc makes the
 -- call unless each option is known.
-use Rattle.std.specs.Prelude.{◌≡◌, ℕ, List, [], ◌∷◌, Bool, true, false, not, ◌==◌, ◌&&◌, ◌||◌, nat_eq, nat_le, if◌then◌else◌, refl, codes, bytes_eq}
+use Rattle.std.specs.Prelude.{◌≡◌, ℕ, List, [], ◌∷◌, Bool, true, false, not, ◌==◌, ◌||◌, nat_eq, nat_le, if◌then◌else◌, refl, codes, bytes_eq}
 use Rattle.std.specs.Borrow.{Bor}
 use Rattle.std.specs.List.{list_any, starts_with, slice_split}
 use Rattle.texts.specs.Lists.{is_some_and, rest_after}

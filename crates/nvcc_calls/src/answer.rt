@@ -13,7 +13,7 @@ use crate::hazard::hazard_of;
 use crate::outline::{Outline, command, outline_of};
 use compilers::arguments::{CompilerArguments, ParsedArguments};
 use compilers::compiler::CCompilerImpl;
-use cuda_plans::nvcc::Nvcc;
+use nvcc_commands::Nvcc;
 use nvcc_lines::NvccCall;
 use nvcc_options::Reason;
 use nvcc_words::{Asked, Call, Verdict, read_line};

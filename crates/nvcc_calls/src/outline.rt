@@ -10,7 +10,7 @@ use crate::jobs::{number_of_jobs, threads_asked};
 use compilers::arguments::ParsedArguments;
 use compilers::command::SingleCompileCommand;
 use compilers::compiler::{CCompilerImpl, Places};
-use cuda_plans::nvcc::{Nvcc, NvccCompileCommand, take_keep, take_threads};
+use nvcc_commands::{Nvcc, NvccCompileCommand, take_keep, take_threads};
 use nvcc_lines::NvccCall;
 use std::alloc::{AllocError, Global};
 use texts::fault::Fault;

@@ -1,4 +1,4 @@
-//! What is asked of an nvcc line.
+//! Calls that read an nvcc line: the line, and the directories that it depends on.
 
 /// A call that reads an nvcc line.
 #[derive(Debug, Drop)]

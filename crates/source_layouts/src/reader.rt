@@ -19,7 +19,7 @@ pub(crate) struct Reader {
     state: State,
     // The bytes of the word or comment that has begun, if one has.
     token: Vec<u8>,
-    // What stands for the line ends of that comment.
+    // The line ends of that comment, as the layout writes them.
     ends: Vec<u8>,
     // The byte before in a directive, without joined lines.
     last: u8,
@@ -145,7 +145,7 @@ impl Reader {
         Ok(())
     }
 
-    // Begins a token: one blank stands for all that are in front of it.
+    // Begins a token, after one blank for all blanks before it.
     fn start(&mut self, state: State, byte: u8) -> Result<(), AllocError>
         ensures { OnOk result (self.new ≡ spec.start state byte self.old) }
     {

@@ -6,7 +6,7 @@ use Rattle.cuda_plans.specs.declared.compiler.NvccHostCompiler.{NvccHostCompiler
 use Rattle.cuda_plans.specs.declared.compiler.Places.{Places}
 use Rattle.cuda_plans.specs.declared.fault.Fault.{Fault}
 use Rattle.cuda_plans.specs.Compiler.{Reading, accepted, cannot_cache, not_compilation}
-use Rattle.cuda_plans.specs.declared.nvcc.command.NvccCompileCommand.{NvccCompileCommand}
+use Rattle.cuda_plans.specs.declared.nvcc.NvccCompileCommand.{NvccCompileCommand}
 use Rattle.cuda_plans.specs.NvccCommand.{dry_runs, nvcc_written}
 
 -- the dry runs of a command, or the refusal to write it

@@ -9,6 +9,7 @@ ghost use Rattle.test_callers.specs.Runs as spec;
 
 use cuda_plans::bytes::Bytes;
 use cuda_plans::dry_run::{Suffixes, Which};
+use cuda_plans::execution::execute;
 use cuda_plans::fault::Fault;
 use cuda_plans::nvcc::NvccCompileCommand;
 use cuda_plans::plan::NvccGeneratedSubcommand;
@@ -71,6 +72,6 @@ pub fn commands_to_start<W: Which>(
         started: Vec::new(alloc),
     };
     let suffixes = Suffixes::standard();
-    call.execute(alloc, dry1, dry2, which, &mut recorder, &suffixes)?;
+    execute(alloc, call, dry1, dry2, which, &mut recorder, &suffixes)?;
     Ok(recorder)
 }

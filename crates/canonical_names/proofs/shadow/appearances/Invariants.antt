@@ -1,8 +1,0 @@
-use Rattle.std.proofs.Common.{◌≡◌, ◌++◌, map, drop}
-use Rattle.command_lines.specs.CommandLines.{line_seen}
-use Rattle.canonical_names.specs.Shadow as spec
-use Rattle.canonical_names.specs.Shown.{name_shown}
-use Rattle.canonical_names.proofs.shadow.appearances.Given as goal
-
-abbrev pub invariant-loop-command : goal.invariant-loop-command
-invariant-loop-command l = map name_shown l.names.items ++ spec.appearances l.suffixes (map line_seen (drop l.command-index l.commands)) ≡ spec.appearances l.suffixes (map line_seen l.commands)

@@ -1,0 +1,3 @@
+pub mod Nvcc
+pub mod NvccCommand
+pub mod NvccExamples

@@ -1,3 +1,0 @@
-pub mod OutcomeLemmas
-pub mod RunningLemmas
-pub mod ScheduleLemmas

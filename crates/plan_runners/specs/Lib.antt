@@ -1,4 +1,0 @@
-pub mod Outcome
-pub mod OutcomeLaws
-pub mod Running
-pub mod Schedule
