@@ -1,5 +1,5 @@
 //! What preprocessed text says of files beside it.
-use crate::cache::marked::{contains, find};
+use crate::cache::marked::{contains, find, pairs};
 use std::collections::BTreeSet;
 
 /// By these an assembler reads further files.
@@ -86,7 +86,9 @@ fn name_in(line: &[u8]) -> Option<&[u8]> {
 
 /// The files that a preprocessor has entered, by its text's line markers. `None` if a name is quoted in a way that may mean another.
 pub fn files_entered(text: &[u8]) -> Option<BTreeSet<&[u8]>> {
-    let markers = text.split(|&byte| byte == b'\n').filter(|line| line.starts_with(b"# ") && line.get(2).is_some_and(u8::is_ascii_digit));
+    let begins = pairs(text, b'#', b' ', 1).filter(|&place| place == 0 || text[place - 1] == b'\n');
+    let lines = begins.map(|place| text[place..].split(|&byte| byte == b'\n').next().unwrap_or_default());
+    let markers = lines.filter(|line| line.get(2).is_some_and(u8::is_ascii_digit));
     let enters = |line: &&[u8]| line.iter().rposition(|&byte| byte == b'"').is_some_and(|end| line[end + 1..].starts_with(b" 1"));
     let names: BTreeSet<&[u8]> = markers.filter(enters).filter_map(between_quotes).collect();
     names.iter().all(|name| !name.contains(&b'\\')).then(|| names.into_iter().filter(|name| !name.starts_with(b"<")).collect())
@@ -96,10 +98,9 @@ pub fn files_entered(text: &[u8]) -> Option<BTreeSet<&[u8]>> {
 pub fn tells_time(text: &[u8]) -> bool {
     let is_digit = |place: usize| text.get(place).is_some_and(u8::is_ascii_digit);
     let are_digits = |begin: usize, count: usize| (begin..begin + count).all(is_digit);
-    let is_time = |place: usize| place >= 2 && are_digits(place - 2, 2) && are_digits(place + 1, 2) && text.get(place + 3) == Some(&b':');
-    let is_year = |place: usize| place >= 8 && are_digits(place - 4, 4) && text[place - 5] == b' ' && is_digit(place - 6) && text[place - 8] == b' ';
-    let tells = |(place, byte): (usize, &u8)| (*byte == b':' && is_time(place)) || (*byte == b'"' && is_year(place));
-    text.iter().enumerate().any(tells)
+    let is_time = |place: usize| place >= 2 && are_digits(place - 2, 2) && are_digits(place + 1, 2);
+    let is_year = |place: usize| place >= 8 && are_digits(place - 4, 4) && is_digit(place - 6) && text[place - 8] == b' ';
+    pairs(text, b':', b':', 3).any(is_time) || pairs(text, b' ', b'"', 5).any(|place| is_year(place + 5))
 }
 
 /// Whether a text sees its lines, as its definition says, which is only asked where one of the words is for which it looks.

@@ -1,4 +1,5 @@
 //! What a source text is made of: its layout, its words, and its lines as they are joined.
+use crate::cache::marked::pairs;
 use rattle_std::alloc::Global;
 use rattle_std::vec::Vec as List;
 use std::borrow::Cow;
@@ -39,20 +40,36 @@ pub fn begins_raw_string(before: &[u8]) -> bool {
     RAW_PREFIXES.contains(&&before[begin..])
 }
 
+/// Whether a byte may stand between a backslash and the end of the line that it joins to the next.
+fn is_blank(byte: u8) -> bool {
+    matches!(byte, b' ' | b'\t' | b'\r' | 0x0b | 0x0c | 0)
+}
+
 /// Where a line has the backslash by which it is joined to the next, if it is: only blanks are behind that.
 pub fn join_of(line: &[u8]) -> Option<usize> {
-    let is_blank = |byte: &u8| matches!(byte, b' ' | b'\t' | b'\r' | 0x0b | 0x0c | 0);
-    line.iter().rposition(|byte| !is_blank(byte)).filter(|&place| line[place] == b'\\')
+    line.iter().rposition(|&byte| !is_blank(byte)).filter(|&place| line[place] == b'\\')
+}
+
+/// The ends of lines that are joined to the next: where the backslash is, and where the next line begins.
+fn joins(text: &[u8]) -> impl Iterator<Item = (usize, usize)> {
+    pairs(text, b'\\', b'\\', 0).filter_map(|place| {
+        let end = place + 1 + text[place + 1..].iter().position(|&byte| !is_blank(byte))?;
+        (text[end] == b'\n').then_some((place, end + 1))
+    })
 }
 
 /// A text without the ends of lines that are joined to the next.
 pub fn spliced(text: &[u8]) -> Cow<'_, [u8]> {
-    let lines = || text.split_inclusive(|&byte| byte == b'\n');
-    let end_of = |line: &[u8]| line.strip_suffix(b"\n").and_then(join_of).unwrap_or(line.len());
-    if lines().all(|line| end_of(line) == line.len()) {
+    let (mut out, mut from) = (Vec::new(), 0);
+    for (place, next) in joins(text) {
+        out.extend_from_slice(&text[from..place]);
+        from = next;
+    }
+    if from == 0 {
         return Cow::Borrowed(text);
     }
-    Cow::Owned(lines().flat_map(|line| &line[..end_of(line)]).copied().collect())
+    out.extend_from_slice(&text[from..]);
+    Cow::Owned(out)
 }
 
 #[cfg(test)]
@@ -185,7 +202,8 @@ mod tests {
     #[test]
     fn joined_lines_are_joined() {
         assert_eq!(&spliced(b"a \\\nb\\ \t\nc\nd\\x\n\\")[..], b"a bc\nd\\x\n\\");
-        assert_eq!(spliced(b"a\nb"), Cow::Borrowed(b"a\nb"));
+        assert_eq!(&spliced(b"a\\ \\\\\n\\\n\\\r\n\\\n")[..], b"a\\ \\");
+        assert_eq!(spliced(b"a\nb\\"), Cow::Borrowed(b"a\nb\\"));
     }
 
     #[test]
