@@ -4,12 +4,11 @@ use Rattle.plans.specs.declared.origins.Origin.{Origin}
 use Rattle.plans.specs.declared.origins.PlanWithOrigins.{PlanWithOrigins}
 use Rattle.plans.specs.declared.plan.Dropped.{Dropped}
 use Rattle.plans.specs.declared.plan.NvccGeneratedSubcommand.{NvccGeneratedSubcommand}
-use Rattle.command_files.specs.Numbered.{of_group, of_groups}
 use Rattle.c_texts.proofs.TextLemmas.{ranges-length, texts-then, count-then}
 use Rattle.c_plans.specs.declared.record.CommandRecord.{CommandRecord}
 use Rattle.c_plans.specs.declared.record.GroupRecord.{GroupRecord}
 use Rattle.c_texts.specs.Outcomes.{Outcome, of_texts, with_texts}
-use Rattle.c_plans.specs.Records.{Entry, Recorded, Shared, Variables, command_entry, dropped_entry, own_texts, shared_first, shared_of, variable_texts, variables_at, texts_of, record_at, records_at, group_record, groups_at, records_of, with_entry, with_entries, with_groups, without_records}
+use Rattle.c_plans.specs.Records.{Entry, Recorded, Shared, Variables, command_entry, dropped_entry, own_texts, shared_first, shared_of, variable_texts, variables_at, texts_of, record_at, records_at, group_record, groups_at, records_of, with_entry, with_entries, with_groups, without_records, of_group, of_groups}
 
 -- ---- records
 

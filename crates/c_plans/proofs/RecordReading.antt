@@ -11,9 +11,8 @@ use Rattle.plans.specs.declared.plan.Dropped.{Dropped}
 use Rattle.plans.specs.declared.plan.NvccGeneratedSubcommand.{NvccGeneratedSubcommand}
 use Rattle.plans.specs.declared.plan.Reason.{Reason}
 use Rattle.plan_json.specs.Json.{origin_at}
-use Rattle.command_files.specs.Numbered.{of_group, of_groups}
 use Rattle.c_texts.specs.declared.memory.Range.{Range}
-use Rattle.c_plans.specs.Records.{Entry, Shared, Variables, are_same, shared_by, shared_first, shared_of, variables_at, reason_number, cacheable_number, command_entry, dropped_entry, entries_of, variable_texts, texts_of, record_at, records_at, groups_at, records_of}
+use Rattle.c_plans.specs.Records.{Entry, Shared, Variables, are_same, shared_by, shared_first, shared_of, variables_at, reason_number, cacheable_number, command_entry, dropped_entry, entries_of, variable_texts, texts_of, record_at, records_at, groups_at, records_of, of_group, of_groups}
 use Rattle.c_plans.specs.RecordsRead.{part, pairs_of, entry_in, cacheable_of, reason_of, command_of, dropped_of, origin_of, plan_of, plan_in, HasOrigins}
 use Rattle.c_texts.proofs.RangeLemmas.{cut_behind}
 use Rattle.c_plans.proofs.RecordLemmas.{group-length}

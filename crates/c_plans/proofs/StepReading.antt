@@ -1,7 +1,8 @@
 -- What the records of a plan's commands say.
 use Rattle.std.proofs.Common.{◌≡◌, ◌++◌, ◌+◌, ◌∷◌, [], ℕ, List, Bool, ◌==◌, map, length, take, drop, refl, sym, ap, subst, ◌∙◌, arith, length-append, append_assoc, flat_map}
 use Rattle.command_files.specs.PlanNeeds.{preprocesses}
-use Rattle.plans.specs.declared.plan.NvccGeneratedSubcommand.{NvccGeneratedSubcommand}
+use Rattle.plans.specs.Listed.{Listed}
+use Rattle.command_files.specs.Numbered.{numbered}
 use Rattle.plans.specs.declared.program.Program.{Program}
 use Rattle.plans.specs.Programs.{program_at}
 use Rattle.c_texts.proofs.RangeLemmas.{cut_behind}
@@ -9,7 +10,7 @@ use Rattle.c_texts.proofs.TextLemmas.{ranges-length, texts-then}
 use Rattle.c_texts.specs.Memory.{cut}
 use Rattle.c_texts.specs.Outcomes.{Outcome, of_texts, with_texts}
 use Rattle.c_plans.proofs.RecordReading.{all-read, part-behind, plan-is}
-use Rattle.c_plans.specs.Steps.{Extra, Known, extra_of, extras_from, file_texts, missing_of, step_at, steps_at}
+use Rattle.c_plans.specs.Steps.{Extra, Known, extra_of, file_texts, missing_of, step_at, steps_at}
 use Rattle.c_plans.specs.StepLaws.{StepsReadBack, PlansReadBack, extra_in}
 
 -- ---- commands are read back
@@ -45,14 +46,15 @@ one-read before rest numbers more e complete =
     }
 
 module _ (known : Known) where
-  extras-read : (before : List (List ℕ)) (numbers : List ℕ) (id : ℕ) (commands : List NvccGeneratedSubcommand) →
-      map (extra_in (before ++ flat_map file_texts (extras_from known id commands)) (numbers ++ flat_map (λ e. e.needs) (extras_from known id commands)))
-      (steps_at (length before) (length numbers) (extras_from known id commands)) ≡
-      extras_from known id commands
+  extras-read : (before : List (List ℕ)) (numbers : List ℕ) (id : ℕ) (commands : List Listed) →
+      map (extra_in (before ++ flat_map file_texts (numbered (extra_of known) id commands)) (numbers ++ flat_map (λ e. e.needs) (numbered (extra_of known) id commands)))
+      (steps_at (length before) (length numbers) (numbered (extra_of known) id commands)) ≡
+      numbered (extra_of known) id commands
   extras-read before numbers id [] = refl
-  extras-read before numbers id (c ∷ commands) =
-      let e : Extra = extra_of known id c in
-      let left : List Extra = extras_from known (id + 1) commands in
+  extras-read before numbers id (l ∷ commands) =
+      let c = l.command in
+      let e : Extra = extra_of known id l in
+      let left : List Extra = numbered (extra_of known) (id + 1) commands in
       let texts = flat_map file_texts left in
       let more = flat_map (λ e. e.needs) left in
       let all = before ++ (file_texts e ++ texts) in

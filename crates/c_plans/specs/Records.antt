@@ -9,7 +9,6 @@ use Rattle.plans.specs.declared.plan.NvccGeneratedSubcommand.{NvccGeneratedSubco
 use Rattle.plans.specs.declared.plan.Reason.{Reason}
 use Rattle.plans.specs.declared.plan.Reason.TheVariants.{NotCuda, NoCiccGroup, NoPtxasGroup, Superseded}
 use Rattle.plan_json.specs.Json.{origin_at}
-use Rattle.command_files.specs.Numbered.{of_groups}
 use Rattle.texts.specs.Variables.{pair_of}
 use Rattle.c_texts.specs.declared.memory.Range.{Range}
 use Rattle.c_plans.specs.declared.record.CommandRecord.{CommandRecord}
@@ -115,6 +114,16 @@ dropped_entry groups d =
       cacheable = 0;
       shared = None;
     }
+
+-- the commands of a group from a number on, each described by its number and that of its group, and those of groups
+module _ {X : Type 0} (described : ℕ → ℕ → NvccGeneratedSubcommand → X) where
+  abbrev pub of_group : ℕ → ℕ → List NvccGeneratedSubcommand → List X
+  of_group number group [] = []
+  of_group number group (c ∷ commands) = described number group c ∷ of_group (number + 1) group commands
+
+  abbrev pub of_groups : ℕ → ℕ → List (List NvccGeneratedSubcommand) → List X
+  of_groups number group [] = []
+  of_groups number group (commands ∷ groups) = of_group number group commands ++ of_groups (number + length commands) (group + 1) groups
 
 -- all commands of a plan: those of the groups in plan order, then the dropped ones
 abbrev pub entries_of : PlanWithOrigins → List Entry

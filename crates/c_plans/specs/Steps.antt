@@ -2,11 +2,13 @@
 use Rattle.std.specs.Prelude.{ℕ, ◌+◌, List, [], ◌∷◌, ◌++◌, Bool, true, false, if◌then◌else◌, get_or, length, map, vec_items, flat_map, Result, Ok, Err}
 use Rattle.command_files.specs.declared.files.CommandFiles.{CommandFiles}
 use Rattle.command_files.specs.CommandFiles.{files_of_words}
+use Rattle.command_files.specs.Numbered.{numbered}
 use Rattle.command_files.specs.Order.{needs_at}
 use Rattle.command_files.specs.PlanNeeds.{plan_files, plan_needs, preprocesses}
 use Rattle.plans.specs.declared.origins.PlanWithOrigins.{PlanWithOrigins}
 use Rattle.plans.specs.declared.plan.NvccGeneratedSubcommand.{NvccGeneratedSubcommand}
 use Rattle.plans.specs.declared.plan.Plan.{Plan}
+use Rattle.plans.specs.Listed.{Listed, listed}
 use Rattle.plans.specs.declared.program.Program.{Program}
 use Rattle.plans.specs.declared.program.Program.TheVariants.{Cicc, Ptxas, Cudafe, Fatbinary, Nvlink, Other}
 use Rattle.plans.specs.Programs.{program_at}
@@ -68,21 +70,12 @@ extra_with needs files c =
     record { needs = needs; files = files; tool = tool_number program; missing = missing_of program files.complete (preprocesses c.args) }
 
 -- the command with a number
-abbrev pub extra_of : Known → ℕ → NvccGeneratedSubcommand → Extra
-extra_of known id c = extra_with (needs_at known.needs id) (files_of_command known.files id c) c
-
--- commands from a number on
-abbrev pub extras_from : Known → ℕ → List NvccGeneratedSubcommand → List Extra
-extras_from known id [] = []
-extras_from known id (c ∷ commands) = extra_of known id c ∷ extras_from known (id + 1) commands
-
--- the commands of groups, in order
-abbrev pub commands_of : List (List NvccGeneratedSubcommand) → List NvccGeneratedSubcommand
-commands_of groups = flat_map (λ group. group) groups
+abbrev pub extra_of : Known → ℕ → Listed → Extra
+extra_of known id l = extra_with (needs_at known.needs id) (files_of_command known.files id l.command) l.command
 
 -- the commands of a plan's groups, in plan order: their files and needs are those of `command_files`, as in the JSON form
 abbrev pub extras_of : Plan → List Extra
-extras_of plan = extras_from (record { needs = plan_needs plan; files = plan_files plan }) 0 (commands_of plan.groups)
+extras_of plan = numbered (extra_of (record { needs = plan_needs plan; files = plan_files plan })) 0 (listed plan.groups)
 
 -- the texts of a command's files
 abbrev pub file_texts : Extra → List (List ℕ)

@@ -4,7 +4,6 @@ ghost use Rattle.std.specs.Prelude.{◌≡◌, ◌-◌, ◌∷◌, [], List, ℕ
 ghost use Rattle.texts.specs.Variables.{pair_of};
 ghost use Rattle.plans.specs.declared.origins.Origin.{Origin};
 ghost use Rattle.plan_json.specs.Json.{origin_at};
-ghost use Rattle.command_files.specs.Numbered.{of_group, of_groups};
 ghost use Rattle.c_texts.specs.Outcomes.{of_texts};
 ghost use Rattle.c_plans.specs.Records as spec;
 
@@ -134,7 +133,7 @@ fn push_commands(
     commands: &[NvccGeneratedSubcommand],
 ) -> Result<(), AllocError>
     ensures { OnOk result (recorded.new
-        ≡ spec.with_entries recorded.old (of_group (spec.command_entry origins.now (spec.shared_seen shared.entry)) (length recorded.old.1.1) group commands.now)) }
+        ≡ spec.with_entries recorded.old (spec.of_group (spec.command_entry origins.now (spec.shared_seen shared.entry)) (length recorded.old.1.1) group commands.now)) }
 {
     for command in commands {
         let origin = origin_of(origins, recorded.commands_count());
@@ -153,7 +152,7 @@ fn push_group(
 ) -> Result<(), AllocError>
     ensures { OnOk result (recorded.new
         ≡ spec.with_groups recorded.old (spec.group_record last group (length recorded.old.1.1) commands.now ∷ [])
-        (of_group (spec.command_entry origins.now (spec.shared_seen shared.entry)) (length recorded.old.1.1) group commands.now)) }
+        (spec.of_group (spec.command_entry origins.now (spec.shared_seen shared.entry)) (length recorded.old.1.1) group commands.now)) }
 {
     let record = GroupRecord {
         commands: Range {
@@ -182,7 +181,7 @@ fn push_groups(
     ensures { OnOk result (recorded.new
         ≡ spec.with_groups recorded.old
         (spec.groups_at (length groups.now - 1) 0 (length recorded.old.1.1) (map vec_items groups.now))
-        (of_groups (spec.command_entry origins.now (spec.shared_seen shared.entry)) (length recorded.old.1.1) 0 (map vec_items groups.now))) }
+        (spec.of_groups (spec.command_entry origins.now (spec.shared_seen shared.entry)) (length recorded.old.1.1) 0 (map vec_items groups.now))) }
 {
     let last = groups.len().saturating_sub(1);
     for (group, commands) in groups.iter().enumerate() {

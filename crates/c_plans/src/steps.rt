@@ -1,7 +1,9 @@
 //! A plan as records, with what each command reads, writes and needs.
 
-ghost use Rattle.std.specs.Prelude.{◌≡◌, IfOk, OnOk, length, map, vec_items};
+ghost use Rattle.std.specs.Prelude.{◌≡◌, IfOk, OnOk, map, vec_items};
+ghost use Rattle.command_files.specs.Numbered.{numbered};
 ghost use Rattle.command_files.specs.Order.{needs_at as needs_of};
+ghost use Rattle.plans.specs.Listed.{listed};
 ghost use Rattle.c_plans.specs.Records as records;
 ghost use Rattle.c_plans.specs.Steps as spec;
 
@@ -9,7 +11,7 @@ use crate::plan_entries::records_of;
 use crate::stepped::{Extra, Stepped};
 use c_texts::tool_number;
 use command_files::{CommandFiles, files_and_needs, files_of, preprocesses};
-use plans::{NvccGeneratedSubcommand, PlanWithOrigins, Program};
+use plans::{ListedCommand, NvccGeneratedSubcommand, PlanWithOrigins, Program};
 use std::alloc::{AllocError, Global};
 
 /// What is known of all commands of a plan.
@@ -67,50 +69,38 @@ fn push_with(
     stepped.push(extra)
 }
 
-// Adds a command of a plan. Its files are known, so its words aren't read again.
+// Adds the command with a number. Its files are known, so its words aren't read again.
 fn push_command(
     alloc: Global,
     stepped: &mut Stepped,
     known: Known<'_>,
-    command: &NvccGeneratedSubcommand,
+    id: usize,
+    listed: &ListedCommand<'_>,
 ) -> Result<(), AllocError>
-    ensures { OnOk result (stepped.new ≡ spec.with_extra stepped.old (spec.extra_of (spec.known_seen known.entry) (length stepped.old.steps) command.now)) }
+    ensures { OnOk result (stepped.new ≡ spec.with_extra stepped.old (spec.extra_of (spec.known_seen known.entry) id listed.now)) }
 {
-    let id = stepped.count();
     let needs = needs_at(known.needs, id);
     match known.files.get(id) {
-        Some(files) => push_with(stepped, needs, files, command),
-        None => push_with(stepped, needs, &files_of(alloc, command)?, command),
+        Some(files) => push_with(stepped, needs, files, listed.command),
+        None => push_with(
+            stepped,
+            needs,
+            &files_of(alloc, listed.command)?,
+            listed.command,
+        ),
     }
 }
 
-fn push_group(
+fn push_commands(
     alloc: Global,
     stepped: &mut Stepped,
     known: Known<'_>,
-    commands: &[NvccGeneratedSubcommand],
+    commands: &[ListedCommand<'_>],
 ) -> Result<(), AllocError>
-    ensures { OnOk result (stepped.new
-        ≡ spec.with_extras stepped.old (spec.extras_from (spec.known_seen known.entry) (length stepped.old.steps) commands.now)) }
+    ensures { OnOk result (stepped.new ≡ spec.with_extras stepped.old (numbered (spec.extra_of (spec.known_seen known.entry)) 0 commands.now)) }
 {
-    for command in commands {
-        push_command(alloc, stepped, known, command)?;
-    }
-    Ok(())
-}
-
-fn push_groups(
-    alloc: Global,
-    stepped: &mut Stepped,
-    known: Known<'_>,
-    groups: &[Vec<NvccGeneratedSubcommand>],
-) -> Result<(), AllocError>
-    ensures { OnOk result (stepped.new
-        ≡ spec.with_extras stepped.old
-        (spec.extras_from (spec.known_seen known.entry) (length stepped.old.steps) (spec.commands_of (map vec_items groups.now)))) }
-{
-    for commands in groups {
-        push_group(alloc, stepped, known, commands.as_slice())?;
+    for (id, listed) in commands.iter().enumerate() {
+        push_command(alloc, stepped, known, id, listed)?;
     }
     Ok(())
 }
@@ -121,11 +111,12 @@ fn with_steps(
     known: Known<'_>,
 ) -> Result<Stepped, AllocError>
     ensures { IfOk result (λ stepped. stepped ≡ spec.with_extras (spec.of_recorded (records.records_of planned.now))
-        (spec.extras_from (spec.known_seen known.entry) 0 (spec.commands_of planned.now.plan.groups))) }
+        (numbered (spec.extra_of (spec.known_seen known.entry)) 0 (listed planned.now.plan.groups))) }
 {
+    let commands = planned.plan.groups.listed(alloc)?;
     let recorded = records_of(alloc, planned)?;
     let mut stepped = Stepped::of_recorded(alloc, recorded);
-    match push_groups(alloc, &mut stepped, known, planned.plan.groups.as_slice()) {
+    match push_commands(alloc, &mut stepped, known, commands.as_slice()) {
         Ok(()) => Ok(stepped),
         Err(fault) => {
             // Dropped by a call: see "Explicit drops" in docs/ARCHITECTURE.md.

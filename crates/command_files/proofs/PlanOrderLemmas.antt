@@ -2,16 +2,18 @@
 use Rattle.std.proofs.Common.{◌≡◌, ℕ, zero, suc, ◌+◌, ◌-◌, ◌<◌, List, [], ◌∷◌, ◌++◌, Bool, true, false, cond, ◌||◌, ◌==◌, map, length, get_or, refl, sym, ap, ◌∙◌, arith}
 use Rattle.std.specs.List.{list_all}
 use Rattle.std.proofs.lemmas.Bool.{false≢true, and_parts, eqb-true, eq-eqb, lt-ltb, ltb-true}
+use Rattle.std.proofs.lemmas.List.{map-append}
 use Rattle.std.proofs.lemmas.List.Folds.{list_all-append}
 use Rattle.std.proofs.lemmas.List.Sorted.{IsPermutation-refl}
 use Rattle.plans.specs.declared.plan.NvccGeneratedSubcommand.{NvccGeneratedSubcommand}
 use Rattle.plans.specs.declared.plan.Plan.{Plan}
+use Rattle.plans.specs.Listed.{Listed, listed_group, listed_from}
 use Rattle.command_files.specs.declared.steps.Role.{Role}
 use Rattle.command_files.specs.declared.steps.Role.TheVariants as roles
 use Rattle.command_files.specs.declared.steps.Step.{Step}
 use Rattle.command_files.specs.Files.{Files, must_follow}
 use Rattle.command_files.specs.Order.{needs_by, needs_at, is_in, are_ordered, files_at, Effect, AllStayWithin, Hold}
-use Rattle.command_files.specs.PlanNeeds.{record_of, role_of, step_of, steps_from, plan_steps, plan_records, plan_needs, role_needs, step_needs}
+use Rattle.command_files.specs.PlanNeeds.{record_of, role_of, step_in, plan_steps, plan_records, plan_needs, role_needs, step_needs}
 use Rattle.command_files.specs.PlanOrders.{is_final, is_recorded, FinalHasOnePlace, OthersStayWithin, PlanOrdersAgree, PlanRunsAgree, PlanOrderIsOne, RecordsSuffice}
 use Rattle.command_files.proofs.NeedLemmas.{length-needs_behind, needs_each, all_from, own_order_ready}
 use Rattle.command_files.proofs.OrderLemmas.{in_either, in_first, in_second, in_both, fails, in_range, orders_agree, runs_agree}
@@ -61,19 +63,19 @@ is_last count group = cond (group == 0) false (count - group == 1)
 final_by_group : (count group : ℕ) (compiles : Bool) → is_final (role_of count group compiles) ≡ is_last count group
 final_by_group count group compiles = grind arith
 
-last_group : (count group : ℕ) (commands : List NvccGeneratedSubcommand) → is_last count group ≡ true → all_final (map (step_of count group) commands) ≡ true
-last_group count group [] e = refl
-last_group count group (c ∷ cs) e = simp (in_both, final_by_group, (last_group count group cs e))
+last_group : (count group place : ℕ) (commands : List NvccGeneratedSubcommand) → is_last count group ≡ true → all_final (map (step_in count) (listed_group group place commands)) ≡ true
+last_group count group place [] e = refl
+last_group count group place (c ∷ cs) e = simp (in_both, final_by_group, (last_group count group (place + 1) cs e))
 
-final_last_in : (count group : ℕ) (commands : List NvccGeneratedSubcommand) (rest : List Step) → (is_last count group ≡ true → all_final rest ≡ true) → FinalLast rest → FinalLast (map (step_of count group) commands ++ rest)
-final_last_in count group [] rest behind h = h
-final_last_in count group (c ∷ cs) rest behind h = grind (arith, final_by_group, list_all-append, in_both, last_group, (final_last_in count group cs rest behind h))
+final_last_in : (count group place : ℕ) (commands : List NvccGeneratedSubcommand) (rest : List Listed) → (is_last count group ≡ true → all_final (map (step_in count) rest) ≡ true) → FinalLast (map (step_in count) rest) → FinalLast (map (step_in count) (listed_group group place commands ++ rest))
+final_last_in count group place [] rest behind h = h
+final_last_in count group place (c ∷ cs) rest behind h = grind (arith, final_by_group, map-append, list_all-append, in_both, last_group, (final_last_in count group (place + 1) cs rest behind h))
 
-none_behind : (count group : ℕ) (groups : List (List NvccGeneratedSubcommand)) → group + suc (length groups) ≡ count → is_last count group ≡ true → all_final (steps_from count (group + 1) groups) ≡ true
+none_behind : (count group : ℕ) (groups : List (List NvccGeneratedSubcommand)) → group + suc (length groups) ≡ count → is_last count group ≡ true → all_final (map (step_in count) (listed_from (group + 1) groups)) ≡ true
 none_behind count group [] e last = refl
 none_behind count group (g ∷ gs) e last = grind (arith, eqb-true)
 
-final_last : (count group : ℕ) (groups : List (List NvccGeneratedSubcommand)) → group + length groups ≡ count → FinalLast (steps_from count group groups)
+final_last : (count group : ℕ) (groups : List (List NvccGeneratedSubcommand)) → group + length groups ≡ count → FinalLast (map (step_in count) (listed_from group groups))
 final_last count group [] e = tt
 final_last count group (g ∷ gs) e = grind (arith, final_last_in, none_behind, (final_last count (group + 1) gs (omega arith)))
 

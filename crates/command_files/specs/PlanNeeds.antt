@@ -5,6 +5,7 @@ use Rattle.texts.specs.Rows.{spaced}
 use Rattle.compilers.specs.declared.command.Cacheable.TheVariants.{Yes}
 use Rattle.plans.specs.declared.plan.NvccGeneratedSubcommand.{NvccGeneratedSubcommand}
 use Rattle.plans.specs.declared.plan.Plan.{Plan}
+use Rattle.plans.specs.Listed.{Listed, listed}
 use Rattle.command_files.specs.declared.files.CommandFiles.{CommandFiles}
 use Rattle.plans.specs.declared.program.Program.{Program}
 use Rattle.plans.specs.declared.program.Program.TheVariants as programs
@@ -45,13 +46,12 @@ step_of count group c = record {
   preprocesses = preprocesses c.args;
 }
 
--- the commands of groups from a number on, and those of a plan, in plan order
-abbrev pub steps_from : ℕ → ℕ → List (List NvccGeneratedSubcommand) → List Step
-steps_from count group [] = []
-steps_from count group (commands ∷ groups) = map (step_of count group) commands ++ steps_from count (group + 1) groups
+-- the commands of a plan, in plan order
+abbrev pub step_in : ℕ → Listed → Step
+step_in count l = step_of count l.group l.command
 
 abbrev pub plan_steps : Plan → List Step
-plan_steps plan = steps_from (length plan.groups) 0 plan.groups
+plan_steps plan = map (step_in (length plan.groups)) (listed plan.groups)
 
 -- the files of each command
 abbrev pub plan_files : Plan → List CommandFiles

@@ -1,6 +1,6 @@
 //! The commands of a plan, as what their needs depend on.
 
-ghost use Rattle.std.specs.Prelude.{◌≡◌, ◌++◌, IfOk, OnOk, length, map, string_bytes, vec_items};
+ghost use Rattle.std.specs.Prelude.{◌≡◌, IfOk, map, string_bytes};
 ghost use Rattle.command_files.specs.PlanNeeds as spec;
 
 use crate::files::{CommandFiles, files_by};
@@ -87,41 +87,17 @@ fn step_of(
     })
 }
 
-// Puts the commands of a group last.
-fn push_steps(
-    alloc: Global,
-    steps: &mut Vec<Step>,
-    count: usize,
-    group: usize,
-    commands: &[NvccGeneratedSubcommand],
-) -> Result<(), AllocError>
-    ensures { OnOk result (steps.new.items ≡ steps.old.items ++ map (spec.step_of count group) commands.now) }
-{
-    for command in commands {
-        steps.push(step_of(alloc, count, group, command)?)?;
-    }
-    Ok(())
-}
-
-// The commands of groups, in plan order.
-fn steps_of_groups(
-    alloc: Global,
-    groups: &[Vec<NvccGeneratedSubcommand>],
-) -> Result<Vec<Step>, AllocError>
-    ensures { IfOk result (λ steps. steps.items ≡ spec.steps_from (length groups.now) 0 (map vec_items groups.now)) }
-{
-    let mut steps = Vec::new(alloc);
-    for (group, commands) in groups.iter().enumerate() {
-        push_steps(alloc, &mut steps, groups.len(), group, commands.as_slice())?;
-    }
-    Ok(steps)
-}
-
 /// The commands of a plan, in plan order.
 pub fn steps_of(alloc: Global, plan: &Plan) -> Result<Vec<Step>, AllocError>
     ensures { IfOk result (λ steps. steps.items ≡ spec.plan_steps plan.now) }
 {
-    steps_of_groups(alloc, plan.groups.as_slice())
+    let count = plan.groups.as_slice().len();
+    let commands = plan.groups.listed(alloc)?;
+    let mut steps = Vec::with_capacity(alloc, commands.len())?;
+    for listed in &commands {
+        steps.push(step_of(alloc, count, listed.group, listed.command)?)?;
+    }
+    Ok(steps)
 }
 
 /// The files of commands, in their order.

@@ -2,17 +2,19 @@
 use Rattle.std.proofs.Common.{◌≡◌, inl, inr, ℕ, zero, suc, ◌+◌, ◌-◌, Bool, true, false, cond, ◌&&◌, ◌==◌, List, [], ◌∷◌, ◌++◌, Some, None, refl, ap, sym, subst, ◌∙◌, map, length, get_or, append_assoc, append-nil, length-append, unwrap_or, bytes_eq, codes, arith}
 use Rattle.std.specs.Option.{is_some, option_and_then}
 use Rattle.std.proofs.lemmas.Bool.{false≢true, and_parts, eq-eqb, eqb-true}
+use Rattle.std.proofs.lemmas.List.{map-append}
 use Rattle.std.proofs.lemmas.Option.{option_and_then_some}
 use Rattle.std.proofs.lemmas.Slice.Eq.{bytes_eq-Decides}
 use Rattle.texts.proofs.EqualityLemmas.{lists}
 use Rattle.texts.specs.Equality.{words_eq}
 use Rattle.texts.specs.Path.{joined}
 use Rattle.plans.specs.declared.plan.NvccGeneratedSubcommand.{NvccGeneratedSubcommand}
+use Rattle.plans.specs.Listed.{listed_group, listed_from, listed}
 use Rattle.command_files.specs.declared.files.CommandFiles.{CommandFiles}
 use Rattle.command_files.specs.declared.steps.Role.{Role as PlanRole}
 use Rattle.command_files.specs.declared.steps.Role.TheVariants as roles
 use Rattle.command_files.specs.declared.steps.Step.{Step}
-use Rattle.command_files.specs.PlanNeeds.{is_host_compiler, role_of, step_of, steps_from, preprocesses}
+use Rattle.command_files.specs.PlanNeeds.{is_host_compiler, role_of, step_of, step_in, preprocesses}
 use Rattle.plans.specs.Programs.{program_at}
 use Rattle.command_files.proofs.OrderLemmas.{fails}
 use Rattle.early_starts.specs.Overlaps.{files_of}
@@ -121,13 +123,13 @@ halves-touch places fatbinary compile s e =
 
 -- Plans.
 
-steps-append : (count group : ℕ) (groups : List (List NvccGeneratedSubcommand)) (last : List NvccGeneratedSubcommand)
-    → steps_from count group (groups ++ last ∷ []) ≡ steps_from count group groups ++ map (step_of count (group + length groups)) last
-steps-append count group [] last = let same : group ≡ group + zero = omega arith in append-nil (map (step_of count group) last) ∙ ap (λ n. map (step_of count n) last) same
-steps-append count group (g ∷ gs) last =
+listed-append : (group : ℕ) (groups : List (List NvccGeneratedSubcommand)) (last : List NvccGeneratedSubcommand)
+    → listed_from group (groups ++ last ∷ []) ≡ listed_from group groups ++ listed_group (group + length groups) 0 last
+listed-append group [] last = let same : group ≡ group + zero = omega arith in append-nil (listed_group group 0 last) ∙ ap (λ n. listed_group n 0 last) same
+listed-append group (g ∷ gs) last =
     let same : (group + 1) + length gs ≡ group + suc (length gs) = omega arith in
-    ap (λ rest. map (step_of count group) g ++ rest) (steps-append count (group + 1) gs last ∙ ap (λ n. steps_from count (group + 1) gs ++ map (step_of count n) last) same)
-    ∙ sym (append_assoc (map (step_of count group) g) (steps_from count (group + 1) gs) (map (step_of count (group + suc (length gs))) last))
+    ap (λ rest. listed_group group 0 g ++ rest) (listed-append (group + 1) gs last ∙ ap (λ n. listed_from (group + 1) gs ++ listed_group n 0 last) same)
+    ∙ sym (append_assoc (listed_group group 0 g) (listed_from (group + 1) gs) (listed_group (group + suc (length gs)) 0 last))
 
 last-is-final : (count before : ℕ) (compiles : Bool) → count ≡ suc before + 1 → role_of count (suc before) compiles ≡ roles.Final
 last-is-final count before compiles e =
@@ -148,7 +150,9 @@ ends-plan plan first groups fatbinary compile e =
     let count : ℕ = length plan.groups in
     let number : 0 + suc (length groups) ≡ suc (length groups) = omega arith in
     let size : count ≡ suc (length groups) + 1 = ap length e ∙ length-append (first ∷ groups) ((fatbinary ∷ compile ∷ []) ∷ []) in
-    ap (steps_from count 0) e
-    ∙ steps-append count 0 (first ∷ groups) (fatbinary ∷ compile ∷ [])
-    ∙ ap (λ n. steps_from count 0 (first ∷ groups) ++ map (step_of count n) (fatbinary ∷ compile ∷ [])) number
-    ∙ (λ i. steps_from count 0 (first ∷ groups) ++ final-steps count (length groups) fatbinary size i ∷ final-steps count (length groups) compile size i ∷ [])
+    let front : List Step = map (step_in count) (listed (first ∷ groups)) in
+    ap (λ gs. map (step_in count) (listed gs)) e
+    ∙ ap (map (step_in count)) (listed-append 0 (first ∷ groups) (fatbinary ∷ compile ∷ []))
+    ∙ map-append (step_in count) (listed (first ∷ groups)) (listed_group (0 + suc (length groups)) 0 (fatbinary ∷ compile ∷ []))
+    ∙ ap (λ n. front ++ map (step_in count) (listed_group n 0 (fatbinary ∷ compile ∷ []))) number
+    ∙ (λ i. front ++ final-steps count (length groups) fatbinary size i ∷ final-steps count (length groups) compile size i ∷ [])

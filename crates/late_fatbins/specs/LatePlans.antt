@@ -3,12 +3,13 @@ use Rattle.std.specs.Prelude.{◌≡◌, ℕ, ◌+◌, ◌<◌, ◌==◌, List, 
 use Rattle.std.specs.List.{range_with_len}
 use Rattle.plans.specs.declared.plan.NvccGeneratedSubcommand.{NvccGeneratedSubcommand}
 use Rattle.plans.specs.declared.plan.Plan.{Plan}
+use Rattle.plans.specs.Listed.{listed}
 use Rattle.command_files.specs.declared.files.CommandFiles.{CommandFiles}
 use Rattle.command_files.specs.declared.steps.Role.TheVariants as roles
 use Rattle.command_files.specs.declared.steps.Step.{Step}
 use Rattle.command_files.specs.Files.{Files, must_follow}
 use Rattle.command_files.specs.Order.{needs_by, needs_at, own_order, is_in, IsOrder, IsRun, Contents, Effect, contents_after, AllStayWithin, DoesTheSame, Hold}
-use Rattle.command_files.specs.PlanNeeds.{record_of, preprocesses, step_needs, plan_steps, steps_from}
+use Rattle.command_files.specs.PlanNeeds.{record_of, preprocesses, step_needs, step_in, plan_steps}
 use Rattle.early_starts.specs.Overlaps.{files_of}
 use Rattle.late_fatbins.specs.declared.split.Places.{Places}
 use Rattle.late_fatbins.specs.declared.split.Split.{Split}
@@ -52,7 +53,7 @@ abbrev pub EndsPlan : Type 0
 EndsPlan =
     (plan : Plan) (first : List NvccGeneratedSubcommand) (groups : List (List NvccGeneratedSubcommand)) (fatbinary compile : NvccGeneratedSubcommand)
     → plan.groups ≡ (first ∷ groups) ++ (fatbinary ∷ compile ∷ []) ∷ []
-    → plan_steps plan ≡ whole_steps (steps_from (length plan.groups) 0 (first ∷ groups)) fatbinary compile
+    → plan_steps plan ≡ whole_steps (map (step_in (length plan.groups)) (listed (first ∷ groups))) fatbinary compile
 
 -- Words, records and needs.
 

@@ -5,8 +5,9 @@ use Rattle.std.proofs.lemmas.Slice.Eq.{bytes_eq-Decides}
 use Rattle.texts.specs.Path.{joined}
 use Rattle.texts.proofs.EqualityLemmas.{lists, bools}
 use Rattle.plans.specs.declared.plan.NvccGeneratedSubcommand.{NvccGeneratedSubcommand}
+use Rattle.plans.specs.Listed.{Listed, listed_group, listed_from, listed}
 use Rattle.command_files.specs.declared.files.CommandFiles.{CommandFiles}
-use Rattle.command_files.specs.PlanNeeds.{preprocesses, step_of, steps_from}
+use Rattle.command_files.specs.PlanNeeds.{preprocesses, step_of, step_in}
 use Rattle.placed_commands.specs.PlacedWords.{is_file, placed_from, placed_words}
 use Rattle.placed_commands.specs.PlacedCommands.{files_of, moved, are_same, has_record, placed_tool, placed_command}
 use Rattle.placed_commands.specs.Laws.{KeepsCount, ChangesEnds, KeepsSteps, KeepsPlanSteps}
@@ -79,15 +80,17 @@ keeps-steps tmp cwd c count group =
       | false ↦ λ _. refl
     ] refl
 
--- the commands of a group, and of groups from a number on
-group-steps : (tmp cwd : List ℕ) (count group : ℕ) (cs : List NvccGeneratedSubcommand) → map (step_of count group) (map (placed_command tmp cwd) cs) ≡ map (step_of count group) cs
-group-steps tmp cwd count group [] = refl
-group-steps tmp cwd count group (c ∷ cs) = λ i. keeps-steps tmp cwd c count group i ∷ group-steps tmp cwd count group cs i
+-- the commands of a group in front of others, and of groups from a number on
+group-steps : (tmp cwd : List ℕ) (count group place : ℕ) (cs : List NvccGeneratedSubcommand) (placed others : List Listed) → map (step_in count) placed ≡ map (step_in count) others →
+    map (step_in count) (listed_group group place (map (placed_command tmp cwd) cs) ++ placed) ≡ map (step_in count) (listed_group group place cs ++ others)
+group-steps tmp cwd count group place [] placed others e = e
+group-steps tmp cwd count group place (c ∷ cs) placed others e =
+    λ i. keeps-steps tmp cwd c count group i ∷ group-steps tmp cwd count group (place + 1) cs placed others e i
 
-groups-steps : (tmp cwd : List ℕ) (count group : ℕ) (groups : List (List NvccGeneratedSubcommand)) → steps_from count group (map (map (placed_command tmp cwd)) groups) ≡ steps_from count group groups
+groups-steps : (tmp cwd : List ℕ) (count group : ℕ) (groups : List (List NvccGeneratedSubcommand)) →
+    map (step_in count) (listed_from group (map (map (placed_command tmp cwd)) groups)) ≡ map (step_in count) (listed_from group groups)
 groups-steps tmp cwd count group [] = refl
-groups-steps tmp cwd count group (cs ∷ groups) =
-    λ i. group-steps tmp cwd count group cs i ++ groups-steps tmp cwd count (group + 1) groups i
+groups-steps tmp cwd count group (cs ∷ groups) = group-steps tmp cwd count group 0 cs _ _ (groups-steps tmp cwd count (group + 1) groups)
 
 groups-count : (tmp cwd : List ℕ) (groups : List (List NvccGeneratedSubcommand)) → length (map (map (placed_command tmp cwd)) groups) ≡ length groups
 groups-count tmp cwd [] = refl
@@ -95,5 +98,5 @@ groups-count tmp cwd (cs ∷ groups) = ap suc (groups-count tmp cwd groups)
 
 pub keeps-plan-steps : KeepsPlanSteps
 keeps-plan-steps tmp cwd plan =
-    ap (λ n. steps_from n 0 (map (map (placed_command tmp cwd)) plan.groups)) (groups-count tmp cwd plan.groups)
+    ap (λ n. map (step_in n) (listed (map (map (placed_command tmp cwd)) plan.groups))) (groups-count tmp cwd plan.groups)
     ∙ groups-steps tmp cwd (length plan.groups) 0 plan.groups

@@ -1,7 +1,6 @@
 -- What is written for Ninja is read as the edges of the plan.
-use Rattle.std.proofs.Common.{ℕ, suc, ◌<◌, ◌+◌, List, [], ◌∷◌, ◌++◌, ◌≡◌, refl, sym, ap, ◌∙◌, subst, append_assoc, append-nil, map, length, drop, Bool, true, false, not, ◌&&◌, eqb, eqb-true, eq-eqb, ne_eqb, Some, None, Result, Ok, codes, encode_utf8_all, arith, IsUtf8, chars}
+use Rattle.std.proofs.Common.{ℕ, ◌<◌, ◌+◌, List, [], ◌∷◌, ◌++◌, ◌≡◌, refl, sym, ap, ◌∙◌, subst, append_assoc, append-nil, map, drop, Bool, true, false, not, ◌&&◌, eqb, eqb-true, eq-eqb, ne_eqb, Some, None, Result, Ok, codes, encode_utf8_all, arith, IsUtf8, chars}
 use Rattle.std.specs.List.{AllByRecursion, flat_map, list_all}
-use Rattle.std.proofs.lemmas.List.{get_or_at, get_or-drop, drop-drop, length_push, length-append}
 use Rattle.std.proofs.lemmas.Bool.{false≢true, and_parts, and_from, not-true, cond_both, eqb-false}
 use Rattle.std.proofs.lemmas.Int.Digits.{all_below_base_digits_of}
 use Rattle.std.proofs.lemmas.Str.{encodes-chars, inside_one, encode_ascii, IsUtf8-append}
@@ -19,12 +18,14 @@ use Rattle.plans.specs.declared.plan.Plan.{Plan}
 use Rattle.plan_scripts.specs.declared.refusal.Refusal.{Refusal}
 use Rattle.plan_scripts.specs.declared.format.Format.TheVariants.{Ninja}
 use Rattle.plan_scripts.specs.CommandText.{assignment, env_words, command_text}
-use Rattle.plan_scripts.specs.Judging.{holds_text, holds_variables, holds_command, judged_command, judged_group, judged_groups, and_then}
+use Rattle.plan_scripts.specs.Judging.{holds_text, holds_variables, holds_command, judged_command, judged_commands, and_then}
 use Rattle.plan_scripts.specs.Script.{unless_refused}
 use Rattle.plans.specs.Reasons.{reason_name}
-use Rattle.plan_exports.specs.Graph.{escaped, stamp, stamp_below, stamp_path, runner, touch, edge_command, edge_line, edge, places_in, places_from, plan_places, place_at, stamp_at, stamps_at, edges_from as written_edges, group_edges, comment, head, graph, holds_dropped, judged_rest, ninja_answer}
+use Rattle.plan_exports.specs.Graph.{escaped, stamp, stamp_below, stamp_path, runner, touch, edge_command, edge_line, edge, plan_places, place_at, stamp_at, stamps_at, edges_from as written_edges, plan_edges, comment, head, graph, holds_dropped, judged_rest, ninja_answer}
 use Rattle.plan_scripts.specs.ReadBack.{IsOfTexts}
-use Rattle.plan_exports.specs.ReadGraph.{parts_at, behind, Edge, path_of, head_behind, edges_from, edges_of, path_at, edges_at, plan_commands, plan_edges, IsDroppedText}
+use Rattle.plan_exports.specs.ReadGraph.{parts_at, behind, Edge, path_of, head_behind, edges_from, edges_of, path_at, edge_at, edges_of_plan, IsDroppedText}
+use Rattle.plans.specs.Listed.{Listed, listed}
+use Rattle.command_files.specs.Numbered.{numbered}
 use Rattle.command_files.specs.Order.{needs_at}
 use Rattle.command_files.specs.PlanNeeds.{plan_needs}
 use Rattle.texts.proofs.NumeralLemmas.{utf8-numeral}
@@ -248,20 +249,13 @@ pub any-edge-read : (tmp output needs text rest : List ℕ) (paths : List (List 
     ≡ Some (record { output = path_of tmp output; needs = paths; command = text } ∷ es)
 any-edge-read tmp output needs text rest paths es newline colon are line found = grind (arith, lacks-append, edge-lines, parts-past, line-escaped, head-read, value_reads_back)
 
--- the edge of a command by its place
-abbrev edge_of : List ℕ → List (ℕ × ℕ) → ℕ → ℕ → List ℕ → NvccGeneratedSubcommand → Edge
-edge_of tmp places group place numbers c = record {
-  output = stamp_path tmp group place;
-  needs = map (path_at tmp places) numbers;
-  command = edge_command tmp group place c;
-}
-
-edge-read : (tmp : List ℕ) (places : List (ℕ × ℕ)) (group place : ℕ) (numbers : List ℕ) (c : NvccGeneratedSubcommand) (rest : List ℕ) (es : List Edge) →
-    IsLine tmp → IsOfTexts c → holds_command Ninja c ≡ true → edges_from tmp None (parts_at 10 rest) ≡ Some es →
-    edges_from tmp None (parts_at 10 (edge tmp group place (stamps_at places numbers) c ++ rest)) ≡ Some (edge_of tmp places group place numbers c ∷ es)
-edge-read tmp places group place numbers c rest es is are h found =
-    any-edge-read tmp (stamp_text group place) (stamps_at places numbers) (edge_command tmp group place c) rest (map (path_at tmp places) numbers) es
-    (stamp-no_newline group place) (stamp-no_colon group place) (needs-stamps tmp places numbers) (line-edge tmp group place c is are h) found
+edge-read : (tmp : List ℕ) (places : List (ℕ × ℕ)) (needs : List (List ℕ)) (n : ℕ) (l : Listed) (rest : List ℕ) (es : List Edge) →
+    IsLine tmp → IsOfTexts l.command → holds_command Ninja l.command ≡ true → edges_from tmp None (parts_at 10 rest) ≡ Some es →
+    edges_from tmp None (parts_at 10 (edge tmp (stamps_at places (needs_at needs n)) l ++ rest)) ≡ Some (edge_at tmp places needs n l ∷ es)
+edge-read tmp places needs n l rest es is are h found =
+    let numbers = needs_at needs n in
+    any-edge-read tmp (stamp_text l.group l.place) (stamps_at places numbers) (edge_command tmp l.group l.place l.command) rest (map (path_at tmp places) numbers) es
+    (stamp-no_newline l.group l.place) (stamp-no_colon l.group l.place) (needs-stamps tmp places numbers) (line-edge tmp l.group l.place l.command is are h) found
 
 pub held-command : (c : NvccGeneratedSubcommand) (b : Bool) → holds_command Ninja c ≡ b → judged_command Ninja c ≡ Ok tt → holds_command Ninja c ≡ true
 held-command c b e h = grind arith
@@ -269,72 +263,17 @@ held-command c b e h = grind arith
 pub then-both : (one next : Result (Unit {0}) Refusal) → and_then one next ≡ Ok tt → (one ≡ Ok tt) × (next ≡ Ok tt)
 then-both one next h = grind arith
 
--- the edges of a group's commands, and of groups, by their places
-abbrev group_edges_of : List ℕ → List (ℕ × ℕ) → ℕ → ℕ → List (List ℕ) → List NvccGeneratedSubcommand → List Edge
-group_edges_of tmp places group place needs [] = []
-group_edges_of tmp places group place needs (c ∷ commands) =
-    edge_of tmp places group place (needs_at needs place) c ∷ group_edges_of tmp places group (place + 1) needs commands
-
-abbrev all_edges_of : List ℕ → List (ℕ × ℕ) → ℕ → List (List ℕ) → List (List NvccGeneratedSubcommand) → List Edge
-all_edges_of tmp places group needs [] = []
-all_edges_of tmp places group needs (commands ∷ groups) =
-    group_edges_of tmp places group 0 needs commands ++ all_edges_of tmp places (group + 1) (drop (length commands) needs) groups
-
-group-read : (tmp : List ℕ) (places : List (ℕ × ℕ)) (group place : ℕ) (needs : List (List ℕ)) (commands : List NvccGeneratedSubcommand) (rest : List ℕ) (es : List Edge) →
-    IsLine tmp → AllByRecursion IsOfTexts commands → judged_group Ninja commands ≡ Ok tt → edges_from tmp None (parts_at 10 rest) ≡ Some es →
-    edges_from tmp None (parts_at 10 (written_edges tmp places group place needs commands ++ rest)) ≡ Some (group_edges_of tmp places group place needs commands ++ es)
-group-read tmp places group place needs [] rest es is are h found = found
-group-read tmp places group place needs (c ∷ commands) rest es is are h found =
-    let judged = then-both (judged_command Ninja c) (judged_group Ninja commands) h in
-    let numbers = needs_at needs place in
-    let more = written_edges tmp places group (place + 1) needs commands in
-    ap (λ t. edges_from tmp None (parts_at 10 t)) (append_assoc (edge tmp group place (stamps_at places numbers) c) more rest)
-    ∙ edge-read tmp places group place numbers c (more ++ rest) (group_edges_of tmp places group (place + 1) needs commands ++ es) is are.0 (held-command c (holds_command Ninja c) refl judged.0)
-    (group-read tmp places group (place + 1) needs commands rest es is are.1 judged.1 found)
-
-groups-read : (tmp : List ℕ) (places : List (ℕ × ℕ)) (group : ℕ) (needs : List (List ℕ)) (groups : List (List NvccGeneratedSubcommand)) (rest : List ℕ) (es : List Edge) →
-    IsLine tmp → AllByRecursion (AllByRecursion IsOfTexts) groups → judged_groups Ninja groups ≡ Ok tt → edges_from tmp None (parts_at 10 rest) ≡ Some es →
-    edges_from tmp None (parts_at 10 (group_edges tmp places group needs groups ++ rest)) ≡ Some (all_edges_of tmp places group needs groups ++ es)
-groups-read tmp places group needs [] rest es is are h found = found
-groups-read tmp places group needs (commands ∷ groups) rest es is are h found =
-    grind (arith, append_assoc, group-read, then-both, (groups-read tmp places (group + 1) (drop (length commands) needs) groups rest es is are.1))
-
--- ---- the same edges by the numbers of commands
-
-group-numbered : (tmp : List ℕ) (places : List (ℕ × ℕ)) (needs : List (List ℕ)) (group place n : ℕ) (commands : List NvccGeneratedSubcommand) (front more : List (ℕ × ℕ)) →
-    places ≡ front ++ (places_in group place commands ++ more) → length front ≡ n + place →
-    group_edges_of tmp places group place (drop n needs) commands ≡ edges_at tmp places needs (n + place) commands
-group-numbered tmp places needs group place n [] front more are long = refl
-group-numbered tmp places needs group place n (c ∷ commands) front more are long =
-    grind (arith, get_or_at, append_assoc, length_push, get_or-drop, (group-numbered tmp places needs group (place + 1) n commands (front ++ (group, place) ∷ []) more))
-
-edges-append : (tmp : List ℕ) (places : List (ℕ × ℕ)) (needs : List (List ℕ)) (n : ℕ) (xs ys : List NvccGeneratedSubcommand) →
-    edges_at tmp places needs n (xs ++ ys) ≡ edges_at tmp places needs n xs ++ edges_at tmp places needs (n + length xs) ys
-edges-append tmp places needs n [] ys = ap (λ m. edges_at tmp places needs m ys) (omega arith)
-edges-append tmp places needs n (x ∷ xs) ys = grind (arith, (edges-append tmp places needs (n + 1) xs ys))
-
-length-places : (group place : ℕ) (commands : List NvccGeneratedSubcommand) → length (places_in group place commands) ≡ length commands
-length-places group place [] = refl
-length-places group place (c ∷ commands) = ap suc (length-places group (place + 1) commands)
-
-all-numbered : (tmp : List ℕ) (places : List (ℕ × ℕ)) (needs : List (List ℕ)) (group n : ℕ) (groups : List (List NvccGeneratedSubcommand)) (front : List (ℕ × ℕ)) →
-    places ≡ front ++ places_from group groups → length front ≡ n →
-    all_edges_of tmp places group (drop n needs) groups ≡ edges_at tmp places needs n (flat_map (λ commands. commands) groups)
-all-numbered tmp places needs group n [] front are long = refl
-all-numbered tmp places needs group n (commands ∷ groups) front are long =
-    let here = places_in group 0 commands in
-    let later = places_from (group + 1) groups in
-    let none : n + 0 ≡ n = omega arith in
-    let first : group_edges_of tmp places group 0 (drop n needs) commands ≡ edges_at tmp places needs n commands =
-    group-numbered tmp places needs group 0 n commands front later are (long ∙ sym none) ∙ ap (λ m. edges_at tmp places needs m commands) none in
-    let next : places ≡ (front ++ here) ++ later = are ∙ sym (append_assoc front here later) in
-    let longer : length (front ++ here) ≡ n + length commands = length-append front here ∙ omega (arith, long, length-places group 0 commands) in
-    let rest : all_edges_of tmp places (group + 1) (drop (length commands) (drop n needs)) groups ≡ edges_at tmp places needs (n + length commands) (flat_map (λ cs. cs) groups) =
-    ap (λ ns. all_edges_of tmp places (group + 1) ns groups) (drop-drop (length commands) n needs)
-    ∙ all-numbered tmp places needs (group + 1) (n + length commands) groups (front ++ here) next longer in
-    ap (λ es. es ++ all_edges_of tmp places (group + 1) (drop (length commands) (drop n needs)) groups) first
-    ∙ ap (λ es. edges_at tmp places needs n commands ++ es) rest
-    ∙ sym (edges-append tmp places needs n commands (flat_map (λ cs. cs) groups))
+-- the edges of commands, before further lines
+commands-read : (tmp : List ℕ) (places : List (ℕ × ℕ)) (needs : List (List ℕ)) (n : ℕ) (commands : List Listed) (rest : List ℕ) (es : List Edge) →
+    IsLine tmp → AllByRecursion (λ l. IsOfTexts l.command) commands → judged_commands Ninja commands ≡ Ok tt → edges_from tmp None (parts_at 10 rest) ≡ Some es →
+    edges_from tmp None (parts_at 10 (written_edges tmp places needs n commands ++ rest)) ≡ Some (numbered (edge_at tmp places needs) n commands ++ es)
+commands-read tmp places needs n [] rest es is are h found = found
+commands-read tmp places needs n (l ∷ commands) rest es is are h found =
+    let judged = then-both (judged_command Ninja l.command) (judged_commands Ninja commands) h in
+    let more = written_edges tmp places needs (n + 1) commands in
+    ap (λ t. edges_from tmp None (parts_at 10 t)) (append_assoc (edge tmp (stamps_at places (needs_at needs n)) l) more rest)
+    ∙ edge-read tmp places needs n l (more ++ rest) (numbered (edge_at tmp places needs) (n + 1) commands ++ es) is are.0 (held-command l.command (holds_command Ninja l.command) refl judged.0)
+    (commands-read tmp places needs (n + 1) commands rest es is are.1 judged.1 found)
 
 -- ---- comments
 
@@ -372,19 +311,16 @@ head-lines : (tmp rest : List ℕ) → IsLine tmp → parts_at 10 (head tmp ++ r
 head-lines tmp rest is = simp (append_assoc, parts-past, lacks-append, line-escaped)
 
 -- the edges of a plan's commands, and the comments behind them
-pub plan-reads : (tmp : List ℕ) (plan : Plan) → IsLine tmp → AllByRecursion (AllByRecursion IsOfTexts) plan.groups → AllByRecursion IsDroppedText plan.dropped →
-    judged_groups Ninja plan.groups ≡ Ok tt → list_all holds_dropped plan.dropped ≡ true →
-    edges_from tmp None (parts_at 10 (group_edges tmp (plan_places plan) 0 (plan_needs plan) plan.groups ++ flat_map comment plan.dropped))
-    ≡ Some (edges_at tmp (plan_places plan) (plan_needs plan) 0 (plan_commands plan))
-plan-reads tmp plan is groups dropped judged held =
-    let places = plan_places plan in
-    let needs = plan_needs plan in
-    groups-read tmp places 0 needs plan.groups (flat_map comment plan.dropped) [] is groups judged (comments-read tmp plan.dropped dropped held)
-    ∙ ap Some (append-nil (all_edges_of tmp places 0 needs plan.groups) ∙ all-numbered tmp places needs 0 0 plan.groups [] refl refl)
+pub plan-reads : (tmp : List ℕ) (plan : Plan) → IsLine tmp → AllByRecursion (λ l. IsOfTexts l.command) (listed plan.groups) → AllByRecursion IsDroppedText plan.dropped →
+    judged_commands Ninja (listed plan.groups) ≡ Ok tt → list_all holds_dropped plan.dropped ≡ true →
+    edges_from tmp None (parts_at 10 (plan_edges tmp plan ++ flat_map comment plan.dropped)) ≡ Some (edges_of_plan tmp plan)
+plan-reads tmp plan is commands dropped judged held =
+    commands-read tmp (plan_places plan) (plan_needs plan) 0 (listed plan.groups) (flat_map comment plan.dropped) [] is commands judged (comments-read tmp plan.dropped dropped held)
+    ∙ ap Some (append-nil (edges_of_plan tmp plan))
 
-graph-reads : (tmp : List ℕ) (plan : Plan) → IsLine tmp → AllByRecursion (AllByRecursion IsOfTexts) plan.groups → AllByRecursion IsDroppedText plan.dropped →
-    judged_groups Ninja plan.groups ≡ Ok tt → list_all holds_dropped plan.dropped ≡ true → edges_of (graph tmp plan) ≡ Some (plan_edges tmp plan)
-graph-reads tmp plan is groups dropped judged held = grind (arith, head-lines, value_reads_back, plan-reads)
+graph-reads : (tmp : List ℕ) (plan : Plan) → IsLine tmp → AllByRecursion (λ l. IsOfTexts l.command) (listed plan.groups) → AllByRecursion IsDroppedText plan.dropped →
+    judged_commands Ninja (listed plan.groups) ≡ Ok tt → list_all holds_dropped plan.dropped ≡ true → edges_of (graph tmp plan) ≡ Some (edges_of_plan tmp plan)
+graph-reads tmp plan is commands dropped judged held = grind (arith, head-lines, value_reads_back, plan-reads)
 
 pub held-rest : (tmp : List ℕ) (dropped : List Dropped) (b : Bool) → (holds_text Ninja tmp && list_all holds_dropped dropped) ≡ b → judged_rest tmp dropped ≡ Ok tt → (holds_text Ninja tmp && list_all holds_dropped dropped) ≡ true
 held-rest tmp dropped b e h = grind arith
@@ -392,6 +328,6 @@ held-rest tmp dropped b e h = grind arith
 pub unrefused : (verdict : Result (Unit {0}) Refusal) (made text : List ℕ) → unless_refused verdict made ≡ Ok text → (verdict ≡ Ok tt) × (made ≡ text)
 unrefused verdict made text h = grind arith
 
-pub graph_reads_back : (tmp : List ℕ) (plan : Plan) (text : List ℕ) → IsUtf8 tmp → AllByRecursion (AllByRecursion IsOfTexts) plan.groups → AllByRecursion IsDroppedText plan.dropped →
-    ninja_answer tmp plan ≡ Ok text → edges_of text ≡ Some (plan_edges tmp plan)
-graph_reads_back tmp plan text is groups dropped h = grind (arith, unrefused, then-both, and_parts, held-rest, graph-reads, held-text)
+pub graph_reads_back : (tmp : List ℕ) (plan : Plan) (text : List ℕ) → IsUtf8 tmp → AllByRecursion (λ l. IsOfTexts l.command) (listed plan.groups) → AllByRecursion IsDroppedText plan.dropped →
+    ninja_answer tmp plan ≡ Ok text → edges_of text ≡ Some (edges_of_plan tmp plan)
+graph_reads_back tmp plan text is commands dropped h = grind (arith, unrefused, then-both, and_parts, held-rest, graph-reads, held-text)

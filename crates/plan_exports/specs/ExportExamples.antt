@@ -4,11 +4,11 @@ use Rattle.std.specs.Str.{chars, is_utf8}
 use Rattle.command_files.specs.PlanNeeds.{fatbin_plan}
 use Rattle.plan_scripts.specs.ScriptExamples.{cicc}
 use Rattle.plan_exports.specs.Graph.{edge}
-use Rattle.plan_exports.specs.ReadGraph.{Edge, plan_edges}
+use Rattle.plan_exports.specs.ReadGraph.{Edge, edges_of_plan}
 
 abbrev pub EdgeOfCicc : Type 0
 EdgeOfCicc =
-    edge (codes "/t") 1 0 (codes " ${tmp}/zigrunk.0.1") cicc
+    edge (codes "/t") (codes " ${tmp}/zigrunk.0.1") (record { group = 1; place = 0; command = cicc })
     ≡ codes "build ${tmp}/zigrunk.1.0: run ${tmp}/zigrunk.0.1\n  line = ( cd /t && env 'K=v w' $${ZIGRUNK_RUNNER-} $${ZIGRUNK_LAUNCHER-} /b/cicc 'a$$b' ) && touch /t/zigrunk.1.0\n"
 
 pub edge_of_cicc : EdgeOfCicc
@@ -21,7 +21,7 @@ ends_of e = (e.output, e.needs)
 
 abbrev pub EdgesOfFatbin : Type 0
 EdgesOfFatbin =
-    map ends_of (plan_edges (codes "/t") fatbin_plan)
+    map ends_of (edges_of_plan (codes "/t") fatbin_plan)
     ≡ (codes "/t/zigrunk.1.0", [])
     ∷ (codes "/t/zigrunk.1.1", codes "/t/zigrunk.1.0" ∷ [])
     ∷ (codes "/t/zigrunk.1.2", codes "/t/zigrunk.1.1" ∷ [])

@@ -1,5 +1,5 @@
 -- A plan as a Ninja file.
-use Rattle.std.specs.Prelude.{ℕ, Bool, ◌+◌, List, [], ◌∷◌, ◌++◌, length, drop, get_or, ◌==◌, ◌&&◌, if◌then◌else◌, codes, encode_utf8_all, Result, Ok, Err, chars}
+use Rattle.std.specs.Prelude.{ℕ, Bool, ◌+◌, List, [], ◌∷◌, ◌++◌, map, get_or, ◌==◌, ◌&&◌, if◌then◌else◌, codes, encode_utf8_all, Result, Ok, Err, chars}
 use Rattle.std.specs.List.{flat_map, list_all}
 use Rattle.compilers.specs.declared.command.Cacheable.{Cacheable}
 use Rattle.compilers.specs.declared.command.Cacheable.TheVariants.{Yes, No}
@@ -8,13 +8,14 @@ use Rattle.shell_words.specs.Shell.Quoting.{written}
 use Rattle.plans.specs.declared.plan.NvccGeneratedSubcommand.{NvccGeneratedSubcommand}
 use Rattle.plans.specs.declared.plan.Dropped.{Dropped}
 use Rattle.plans.specs.declared.plan.Plan.{Plan}
+use Rattle.plans.specs.Listed.{Listed, listed}
 use Rattle.plans.specs.Reasons.{reason_name}
 use Rattle.command_files.specs.Order.{needs_at}
 use Rattle.command_files.specs.PlanNeeds.{plan_needs}
 use Rattle.plan_scripts.specs.declared.refusal.Refusal.{Refusal}
 use Rattle.plan_scripts.specs.declared.refusal.Refusal.TheVariants.{Unheld}
 use Rattle.plan_scripts.specs.declared.format.Format.TheVariants.{Ninja}
-use Rattle.plan_scripts.specs.Judging.{holds_text, and_then, judged_groups}
+use Rattle.plan_scripts.specs.Judging.{holds_text, and_then, judged_commands}
 use Rattle.plan_scripts.specs.CommandText.{command_text}
 use Rattle.plan_scripts.specs.Script.{unless_refused}
 
@@ -56,21 +57,16 @@ abbrev pub edge_line : List ℕ → List ℕ
 edge_line text = codes "\n  line = " ++ (escaped text ++ 10 ∷ [])
 
 -- an edge: its stamp, the stamps that it needs, and what it runs
-abbrev pub edge : List ℕ → ℕ → ℕ → List ℕ → NvccGeneratedSubcommand → List ℕ
-edge tmp group place needs c =
-    codes "build" ++ (stamp_below group place ++ (codes ": run" ++ (needs ++ edge_line (edge_command tmp group place c))))
+abbrev pub edge : List ℕ → List ℕ → Listed → List ℕ
+edge tmp needs l =
+    codes "build" ++ (stamp_below l.group l.place ++ (codes ": run" ++ (needs ++ edge_line (edge_command tmp l.group l.place l.command))))
 
 -- where each command is, in plan order: the number of its group, and its place there
-abbrev pub places_in : ℕ → ℕ → List NvccGeneratedSubcommand → List (ℕ × ℕ)
-places_in group place [] = []
-places_in group place (c ∷ commands) = (group, place) ∷ places_in group (place + 1) commands
-
-abbrev pub places_from : ℕ → List (List NvccGeneratedSubcommand) → List (ℕ × ℕ)
-places_from group [] = []
-places_from group (commands ∷ groups) = places_in group 0 commands ++ places_from (group + 1) groups
+abbrev pub places_of : List Listed → List (ℕ × ℕ)
+places_of commands = map (λ l. (l.group, l.place)) commands
 
 abbrev pub plan_places : Plan → List (ℕ × ℕ)
-plan_places plan = places_from 0 plan.groups
+plan_places plan = places_of (listed plan.groups)
 
 -- where the command with a number is. Each command has a place
 abbrev pub place_at : List (ℕ × ℕ) → ℕ → ℕ × ℕ
@@ -83,17 +79,14 @@ stamp_at places n = stamp_below (place_at places n).0 (place_at places n).1
 abbrev pub stamps_at : List (ℕ × ℕ) → List ℕ → List ℕ
 stamps_at places numbers = flat_map (stamp_at places) numbers
 
--- the edges of a group's commands from a place on, given what the group's commands need
-abbrev pub edges_from : List ℕ → List (ℕ × ℕ) → ℕ → ℕ → List (List ℕ) → List NvccGeneratedSubcommand → List ℕ
-edges_from tmp places group place needs [] = []
-edges_from tmp places group place needs (c ∷ commands) =
-    edge tmp group place (stamps_at places (needs_at needs place)) c ++ edges_from tmp places group (place + 1) needs commands
+-- the edges of commands from a number on, given what each command needs
+abbrev pub edges_from : List ℕ → List (ℕ × ℕ) → List (List ℕ) → ℕ → List Listed → List ℕ
+edges_from tmp places needs number [] = []
+edges_from tmp places needs number (l ∷ commands) =
+    edge tmp (stamps_at places (needs_at needs number)) l ++ edges_from tmp places needs (number + 1) commands
 
--- the edges of groups from a number on, given what their commands need
-abbrev pub group_edges : List ℕ → List (ℕ × ℕ) → ℕ → List (List ℕ) → List (List NvccGeneratedSubcommand) → List ℕ
-group_edges tmp places group needs [] = []
-group_edges tmp places group needs (commands ∷ groups) =
-    edges_from tmp places group 0 needs commands ++ group_edges tmp places (group + 1) (drop (length commands) needs) groups
+abbrev pub plan_edges : List ℕ → Plan → List ℕ
+plan_edges tmp plan = edges_from tmp (plan_places plan) (plan_needs plan) 0 (listed plan.groups)
 
 -- the reason and the words of a dropped command
 abbrev pub comment_words : Dropped → List ℕ
@@ -114,7 +107,7 @@ head tmp = codes "tmp = " ++ (escaped tmp ++ rule)
 
 -- the Ninja file of a plan
 abbrev pub graph : List ℕ → Plan → List ℕ
-graph tmp plan = head tmp ++ (group_edges tmp (plan_places plan) 0 (plan_needs plan) plan.groups ++ flat_map comment plan.dropped)
+graph tmp plan = head tmp ++ (plan_edges tmp plan ++ flat_map comment plan.dropped)
 
 -- ---- what a Ninja file can't represent
 
@@ -128,4 +121,4 @@ judged_rest tmp dropped = if holds_text Ninja tmp && list_all holds_dropped drop
 
 -- the Ninja file of a plan, or why there is none
 abbrev pub ninja_answer : List ℕ → Plan → Result (List ℕ) Refusal
-ninja_answer tmp plan = unless_refused (and_then (judged_rest tmp plan.dropped) (judged_groups Ninja plan.groups)) (graph tmp plan)
+ninja_answer tmp plan = unless_refused (and_then (judged_rest tmp plan.dropped) (judged_commands Ninja (listed plan.groups))) (graph tmp plan)

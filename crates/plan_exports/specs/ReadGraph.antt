@@ -1,10 +1,11 @@
 -- What Ninja reads in a written file: its edges.
-use Rattle.std.specs.Prelude.{◌≡◌, ℕ, ◌+◌, List, [], ◌∷◌, ◌++◌, map, drop, ◌==◌, if◌then◌else◌, Option, Some, None, Ok, codes, refl, option_map}
-use Rattle.std.specs.List.{AllByRecursion, flat_map}
+use Rattle.std.specs.Prelude.{◌≡◌, ℕ, List, [], ◌∷◌, ◌++◌, map, drop, ◌==◌, if◌then◌else◌, Option, Some, None, Ok, codes, refl, option_map}
+use Rattle.std.specs.List.{AllByRecursion}
 use Rattle.std.specs.Str.{IsUtf8, chars}
-use Rattle.plans.specs.declared.plan.NvccGeneratedSubcommand.{NvccGeneratedSubcommand}
 use Rattle.plans.specs.declared.plan.Dropped.{Dropped}
 use Rattle.plans.specs.declared.plan.Plan.{Plan}
+use Rattle.plans.specs.Listed.{Listed, listed}
+use Rattle.command_files.specs.Numbered.{numbered}
 use Rattle.command_files.specs.Order.{needs_at}
 use Rattle.command_files.specs.PlanNeeds.{plan_needs}
 use Rattle.plan_exports.specs.Graph.{stamp_path, edge_command, plan_places, place_at, ninja_answer}
@@ -93,24 +94,16 @@ path_at tmp places n = stamp_path tmp (place_at places n).0 (place_at places n).
 
 -- The edge of the command with a number: it makes the command's stamp, and it needs the stamps of the commands that the
 -- command needs.
-abbrev pub edge_at : List ℕ → List (ℕ × ℕ) → List (List ℕ) → ℕ → NvccGeneratedSubcommand → Edge
-edge_at tmp places needs n c = record {
-  output = path_at tmp places n;
+abbrev pub edge_at : List ℕ → List (ℕ × ℕ) → List (List ℕ) → ℕ → Listed → Edge
+edge_at tmp places needs n l = record {
+  output = stamp_path tmp l.group l.place;
   needs = map (path_at tmp places) (needs_at needs n);
-  command = edge_command tmp (place_at places n).0 (place_at places n).1 c;
+  command = edge_command tmp l.group l.place l.command;
 }
 
--- the edges of commands from a number on
-abbrev pub edges_at : List ℕ → List (ℕ × ℕ) → List (List ℕ) → ℕ → List NvccGeneratedSubcommand → List Edge
-edges_at tmp places needs n [] = []
-edges_at tmp places needs n (c ∷ commands) = edge_at tmp places needs n c ∷ edges_at tmp places needs (n + 1) commands
-
--- the commands of a plan in plan order, and their edges
-abbrev pub plan_commands : Plan → List NvccGeneratedSubcommand
-plan_commands plan = flat_map (λ group. group) plan.groups
-
-abbrev pub plan_edges : List ℕ → Plan → List Edge
-plan_edges tmp plan = edges_at tmp (plan_places plan) (plan_needs plan) 0 (plan_commands plan)
+-- the edges of a plan's commands
+abbrev pub edges_of_plan : List ℕ → Plan → List Edge
+edges_of_plan tmp plan = numbered (edge_at tmp (plan_places plan) (plan_needs plan)) 0 (listed plan.groups)
 
 -- all texts of a dropped command are UTF-8
 pub record IsDroppedText (d : Dropped) : Type 0 where
@@ -121,8 +114,8 @@ pub record IsDroppedText (d : Dropped) : Type 0 where
 abbrev pub GraphsReadBack : Type 0
 GraphsReadBack =
     (tmp : List ℕ) (plan : Plan) (text : List ℕ) →
-    IsUtf8 tmp → AllByRecursion (AllByRecursion IsOfTexts) plan.groups → AllByRecursion IsDroppedText plan.dropped →
-    ninja_answer tmp plan ≡ Ok text → edges_of text ≡ Some (plan_edges tmp plan)
+    IsUtf8 tmp → AllByRecursion (λ l. IsOfTexts l.command) (listed plan.groups) → AllByRecursion IsDroppedText plan.dropped →
+    ninja_answer tmp plan ≡ Ok text → edges_of text ≡ Some (edges_of_plan tmp plan)
 
 -- ---- Worked examples.
 

@@ -1,16 +1,15 @@
 //! A plan as a Ninja file.
 
-ghost use Rattle.std.specs.Prelude.{◌≡◌, ◌<◌, ◌++◌, IfOk, IfSome, MatchOption, OnOk, codes, length, map, drop, string_bytes, vec_items};
+ghost use Rattle.std.specs.Prelude.{◌≡◌, ◌<◌, ◌++◌, IfOk, IfSome, MatchOption, OnOk, codes, length, map, string_bytes, vec_items};
 ghost use Rattle.std.specs.List.{flat_map, list_all};
 ghost use Rattle.command_files.specs.Order.{needs_at};
-ghost use Rattle.command_files.specs.PlanNeeds.{plan_needs};
 ghost use Rattle.plan_scripts.specs.Answers.{Answers};
 ghost use Rattle.plan_exports.specs.Graph as spec;
 
 use command_files::needs;
 use compilers::command::Cacheable;
-use plan_scripts::{Format, Refusal, holds_text, holds_words, judge_groups, push_command};
-use plans::{Dropped, NvccGeneratedSubcommand, Plan};
+use plan_scripts::{Format, Refusal, holds_text, holds_words, judge_commands, push_command};
+use plans::{Dropped, ListedCommand, NvccGeneratedSubcommand, Plan};
 use shell_words::push_quoted;
 use std::alloc::{AllocError, Global};
 use texts::decimal::push_number;
@@ -136,40 +135,26 @@ fn push_edge(
     alloc: Global,
     text: &mut String,
     tmp: &str,
-    at: (usize, usize),
     needs: &str,
-    command: &NvccGeneratedSubcommand,
+    listed: &ListedCommand<'_>,
 ) -> Result<(), AllocError>
-    ensures { OnOk result (string_bytes text.new ≡ string_bytes text.old ++ spec.edge tmp.now at.0 at.1 needs.now command.now) }
+    ensures { OnOk result (string_bytes text.new ≡ string_bytes text.old ++ spec.edge tmp.now needs.now listed.now) }
 {
-    let line = edge_command(alloc, tmp, at, command)?;
+    let at = (listed.group, listed.place);
+    let line = edge_command(alloc, tmp, at, listed.command)?;
     push_edge_text(alloc, text, at, needs, line.as_str())
 }
 
-// Adds the places of a group's commands.
-fn push_places(
-    places: &mut Vec<(usize, usize)>,
-    group: usize,
-    commands: &[NvccGeneratedSubcommand],
-) -> Result<(), AllocError>
-    ensures { OnOk result (places.new.items ≡ places.old.items ++ spec.places_in group 0 commands.now) }
-{
-    for (place, _command) in commands.iter().enumerate() {
-        places.push((group, place))?;
-    }
-    Ok(())
-}
-
-// Where each command of groups is, in plan order.
+// Where each of these commands is.
 fn places_of(
     alloc: Global,
-    groups: &[Vec<NvccGeneratedSubcommand>],
+    commands: &[ListedCommand<'_>],
 ) -> Result<Vec<(usize, usize)>, AllocError>
-    ensures { IfOk result (λ places. places.items ≡ spec.places_from 0 (map vec_items groups.now)) }
+    ensures { IfOk result (λ places. places.items ≡ spec.places_of commands.now) }
 {
     let mut places = Vec::new(alloc);
-    for (group, commands) in groups.iter().enumerate() {
-        push_places(&mut places, group, commands.as_slice())?;
+    for listed in commands {
+        places.push((listed.group, listed.place))?;
     }
     Ok(places)
 }
@@ -212,83 +197,51 @@ fn stamps_at(
     Ok(text)
 }
 
-// What the command at a place needs, in a list of what commands need. Each command has its needs there.
-fn needs_at(needs: &[Vec<usize>], place: usize) -> &[usize]
-    ensures { result.now ≡ needs_at (map vec_items needs.now) place }
+// What the command with a number needs. Each command has its needs.
+fn needs_at(needs: &[Vec<usize>], number: usize) -> &[usize]
+    ensures { result.now ≡ needs_at (map vec_items needs.now) number }
 {
-    match needs.get(place) {
+    match needs.get(number) {
         Some(numbers) => numbers.as_slice(),
         None => &[],
     }
 }
 
-// Adds the edges of a group's commands, given what they need.
+// Adds the edges of commands, given what they need.
 fn push_edges(
     alloc: Global,
     text: &mut String,
     tmp: &str,
     places: &[(usize, usize)],
-    group: usize,
     needs: &[Vec<usize>],
-    commands: &[NvccGeneratedSubcommand],
+    commands: &[ListedCommand<'_>],
 ) -> Result<(), AllocError>
     ensures { OnOk result (string_bytes text.new ≡ string_bytes text.old
-        ++ spec.edges_from tmp.now places.now group 0 (map vec_items needs.now) commands.now) }
+        ++ spec.edges_from tmp.now places.now (map vec_items needs.now) 0 commands.now) }
 {
-    for (place, command) in commands.iter().enumerate() {
-        let numbers = needs_at(needs, place);
+    for (number, listed) in commands.iter().enumerate() {
+        let numbers = needs_at(needs, number);
         let stamps = stamps_at(alloc, places, numbers)?;
-        let at = (group, place);
-        push_edge(alloc, text, tmp, at, stamps.as_str(), command)?;
+        push_edge(alloc, text, tmp, stamps.as_str(), listed)?;
     }
     Ok(())
 }
 
-// The needs of all commands but the first `count`.
-fn needs_behind(needs: &[Vec<usize>], count: usize) -> &[Vec<usize>]
-    ensures { map vec_items result.now ≡ drop count (map vec_items needs.now) }
+// Adds the edges of a plan's commands.
+fn push_plan(alloc: Global, text: &mut String, tmp: &str, plan: &Plan) -> Result<(), AllocError>
+    ensures { OnOk result (string_bytes text.new ≡ string_bytes text.old ++ spec.plan_edges tmp.now plan.now) }
 {
-    if count < needs.len() {
-        &needs[count..]
-    } else {
-        &[]
-    }
-}
-
-// Adds the edges of groups, given what their commands need.
-fn push_groups(
-    alloc: Global,
-    text: &mut String,
-    tmp: &str,
-    places: &[(usize, usize)],
-    needs: &[Vec<usize>],
-    groups: &[Vec<NvccGeneratedSubcommand>],
-) -> Result<(), AllocError>
-    ensures { OnOk result (string_bytes text.new ≡ string_bytes text.old
-        ++ spec.group_edges tmp.now places.now 0 (map vec_items needs.now) (map vec_items groups.now)) }
-{
-    let mut rest = needs;
-    for (group, commands) in groups.iter().enumerate() {
-        push_edges(alloc, text, tmp, places, group, rest, commands.as_slice())?;
-        rest = needs_behind(rest, commands.len());
-    }
-    Ok(())
-}
-
-// Adds the edges of a plan's commands, given their places.
-fn push_plan(
-    alloc: Global,
-    text: &mut String,
-    tmp: &str,
-    places: &[(usize, usize)],
-    plan: &Plan,
-) -> Result<(), AllocError>
-    ensures { OnOk result (string_bytes text.new ≡ string_bytes text.old
-        ++ spec.group_edges tmp.now places.now 0 (plan_needs plan.now) plan.now.groups) }
-{
+    let commands = plan.groups.listed(alloc)?;
+    let places = places_of(alloc, commands.as_slice())?;
     let needs = needs(alloc, plan)?;
-    let groups = plan.groups.as_slice();
-    push_groups(alloc, text, tmp, places, needs.as_slice(), groups)
+    push_edges(
+        alloc,
+        text,
+        tmp,
+        places.as_slice(),
+        needs.as_slice(),
+        commands.as_slice(),
+    )
 }
 
 // Adds the reason and the words of a dropped command.
@@ -345,8 +298,7 @@ fn graph(alloc: Global, tmp: &str, plan: &Plan) -> Result<String, AllocError>
 {
     let mut text = String::new(alloc);
     push_head(&mut text, tmp)?;
-    let places = places_of(alloc, plan.groups.as_slice())?;
-    push_plan(alloc, &mut text, tmp, places.as_slice(), plan)?;
+    push_plan(alloc, &mut text, tmp, plan)?;
     push_comments(alloc, &mut text, plan.dropped.as_slice())?;
     Ok(text)
 }
@@ -395,6 +347,7 @@ pub fn ninja_file(alloc: Global, tmp: &str, plan: &Plan) -> Result<String, Refus
     ensures { Answers result (spec.ninja_answer tmp.now plan.now) }
 {
     judge_rest(tmp, plan.dropped.as_slice())?;
-    judge_groups(Format::Ninja, plan.groups.as_slice())?;
+    let commands = plan.groups.listed(alloc)?;
+    judge_commands(Format::Ninja, commands.as_slice())?;
     Ok(graph(alloc, tmp, plan)?)
 }

@@ -2,14 +2,14 @@
 use Rattle.std.specs.Prelude.{ℕ, ◌+◌, ◌-◌, List, [], ◌∷◌, ◌++◌, length, ◌==◌, if◌then◌else◌, unwrap_or, codes, encode_utf8_all, flat_map, chars}
 use Rattle.texts.specs.Numeral.{numeral}
 use Rattle.texts.specs.Path.{file_name_of}
-use Rattle.plans.specs.declared.plan.NvccGeneratedSubcommand.{NvccGeneratedSubcommand}
 use Rattle.plans.specs.declared.plan.Dropped.{Dropped}
 use Rattle.plans.specs.declared.plan.Plan.{Plan}
+use Rattle.plans.specs.Listed.{Listed, listed}
 use Rattle.plans.specs.Reasons.{reason_name}
 use Rattle.command_files.specs.declared.files.CommandFiles.{CommandFiles}
 use Rattle.command_files.specs.CommandFiles.{files_of_words}
 use Rattle.command_files.specs.PlanNeeds.{plan_needs}
-use Rattle.command_files.specs.Numbered.{of_groups}
+use Rattle.command_files.specs.Numbered.{numbered}
 
 -- a character of a quoted text. In one, `"`, a backslash and `&` have to be escaped, and NUL shows as a backslash and 0
 abbrev pub shown_char : ℕ → List ℕ
@@ -54,9 +54,16 @@ box count group = codes "  subgraph cluster_" ++ (numeral group ++ titled count 
 abbrev pub node : ℕ → List ℕ → CommandFiles → List ℕ
 node number exe files = numeral number ++ (codes " [label=\"" ++ (label exe files ++ codes "\"] }\n"))
 
--- the line of a command, by its number and that of its group
-abbrev pub node_line : ℕ → ℕ → ℕ → NvccGeneratedSubcommand → List ℕ
-node_line count number group c = box count group ++ node number c.exe (files_of_words c.exe c.args c.cwd)
+-- the line of a command with a number
+abbrev pub node_line : ℕ → ℕ → Listed → List ℕ
+node_line count number l = box count l.group ++ node number l.command.exe (files_of_words l.command.exe l.command.args l.command.cwd)
+
+-- the lines of a plan's commands
+abbrev pub lines_from : ℕ → ℕ → List Listed → List ℕ
+lines_from count number commands = flat_map (λ line. line) (numbered (node_line count) number commands)
+
+abbrev pub lines : Plan → List ℕ
+lines plan = lines_from (length plan.groups) 0 (listed plan.groups)
 
 -- an edge from a command to one that needs it: the ends are numbers
 abbrev pub arrow : ℕ → List ℕ
@@ -91,6 +98,4 @@ abbrev pub rest : Plan → List ℕ
 rest plan = edges_from 0 (plan_needs plan) ++ (dropped_from 0 plan.dropped ++ codes "}\n")
 
 abbrev pub picture : Plan → List ℕ
-picture plan =
-    codes "digraph plan {\n  node [shape=box]\n"
-    ++ (flat_map (λ line. line) (of_groups (node_line (length plan.groups)) 0 0 plan.groups) ++ rest plan)
+picture plan = codes "digraph plan {\n  node [shape=box]\n" ++ (lines plan ++ rest plan)

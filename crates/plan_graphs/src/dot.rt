@@ -1,15 +1,13 @@
 //! A plan as a graph that Graphviz draws.
 
-ghost use Rattle.std.specs.Prelude.{◌≡◌, ◌+◌, ◌++◌, ◌∷◌, [], IfOk, OnOk, encode_utf8_all, length, map, string_bytes, vec_items, flat_map};
+ghost use Rattle.std.specs.Prelude.{◌≡◌, ◌++◌, IfOk, OnOk, encode_utf8_all, length, map, string_bytes, vec_items, flat_map};
 ghost use Rattle.plan_graphs.specs.Dot as spec;
-ghost use Rattle.command_files.specs.Numbered.{of_group, of_groups};
 
 use command_files::{CommandFiles, files_of, needs};
-use plans::{Dropped, NvccGeneratedSubcommand, Plan};
+use plans::{Dropped, ListedCommand, Plan};
 use std::alloc::{AllocError, Global};
 use texts::decimal::push_number;
 use texts::text::file_name;
-use texts::words::Words;
 
 // Adds a character inside quotes.
 fn push_shown_char(text: &mut String, c: char) -> Result<(), AllocError>
@@ -128,90 +126,31 @@ fn push_node(
     text.push_str("\"] }\n")
 }
 
-// The line of the command numbered `number`, in the group numbered `group` of `count`.
-fn node_line(
+// Adds the line of the command numbered `number`, in a group of `count`.
+fn push_line(
     alloc: Global,
+    text: &mut String,
     count: usize,
     number: usize,
-    group: usize,
-    command: &NvccGeneratedSubcommand,
-) -> Result<String, AllocError>
-    ensures { IfOk result (λ line. string_bytes line ≡ spec.node_line count number group command.now) }
-{
-    let mut line = String::new(alloc);
-    push_box(alloc, &mut line, count, group)?;
-    let files = files_of(alloc, command)?;
-    let pushed = push_node(alloc, &mut line, number, command.exe.as_str(), &files);
-    // Dropped by a call: see "Explicit drops" in docs/ARCHITECTURE.md.
-    drop(files);
-    pushed?;
-    Ok(line)
-}
-
-// Adds the line of a command to those of the commands before it.
-fn add_node(
-    alloc: Global,
-    nodes: &mut Words,
-    count: usize,
-    group: usize,
-    command: &NvccGeneratedSubcommand,
+    listed: &ListedCommand<'_>,
 ) -> Result<(), AllocError>
-    ensures nodes { OnOk result (nodes.new ≡ nodes.old ++ spec.node_line count (length nodes.old) group command.now ∷ []) }
-    ensures length { OnOk result (length nodes.new ≡ length nodes.old + 1) }
+    ensures { OnOk result (string_bytes text.new ≡ string_bytes text.old ++ spec.node_line count number listed.now) }
 {
-    let line = node_line(alloc, count, nodes.len(), group, command)?;
-    nodes.push(line)
-}
-
-// Adds the lines of a group's commands.
-fn add_group(
-    alloc: Global,
-    nodes: &mut Words,
-    count: usize,
-    group: usize,
-    commands: &[NvccGeneratedSubcommand],
-) -> Result<(), AllocError>
-    ensures nodes { OnOk result (nodes.new ≡ nodes.old ++ of_group (spec.node_line count) (length nodes.old) group commands.now) }
-    ensures length { OnOk result (length nodes.new ≡ length nodes.old + length commands.now) }
-{
-    for command in commands {
-        add_node(alloc, nodes, count, group, command)?;
-    }
-    Ok(())
-}
-
-// The lines of the commands of groups.
-fn nodes_of(alloc: Global, groups: &[Vec<NvccGeneratedSubcommand>]) -> Result<Words, AllocError>
-    ensures { IfOk result (λ nodes. nodes ≡ of_groups (spec.node_line (length groups.now)) 0 0 (map vec_items groups.now)) }
-{
-    let mut nodes = Words::new(alloc);
-    for (group, commands) in groups.iter().enumerate() {
-        add_group(alloc, &mut nodes, groups.len(), group, commands.as_slice())?;
-    }
-    Ok(nodes)
-}
-
-// Adds lines.
-fn push_lines(text: &mut String, lines: &[String]) -> Result<(), AllocError>
-    ensures { OnOk result (string_bytes text.new ≡ string_bytes text.old ++ flat_map (λ line. line) (map string_bytes lines.now)) }
-{
-    for line in lines {
-        text.push_str(line.as_str())?;
-    }
-    Ok(())
+    push_box(alloc, text, count, listed.group)?;
+    let files = files_of(alloc, listed.command)?;
+    push_node(alloc, text, number, listed.command.exe.as_str(), &files)
 }
 
 // Adds the lines of a plan's commands.
-fn push_nodes(
-    alloc: Global,
-    text: &mut String,
-    groups: &[Vec<NvccGeneratedSubcommand>],
-) -> Result<(), AllocError>
-    ensures { OnOk result (string_bytes text.new ≡ string_bytes text.old
-        ++ flat_map (λ line. line) (of_groups (spec.node_line (length groups.now)) 0 0 (map vec_items groups.now))) }
+fn push_lines(alloc: Global, text: &mut String, plan: &Plan) -> Result<(), AllocError>
+    ensures { OnOk result (string_bytes text.new ≡ string_bytes text.old ++ spec.lines plan.now) }
 {
-    let nodes = nodes_of(alloc, groups)?;
-    push_lines(text, nodes.as_slice())
+    let count = plan.groups.as_slice().len();
+    let commands = plan.groups.listed(alloc)?;
+    for (number, listed) in commands.iter().enumerate() {
+        push_line(alloc, text, count, number, listed)?;
+    }
+    Ok(())
 }
 
 // Adds what points to the later end of an edge.
@@ -318,7 +257,7 @@ pub fn dot_text(alloc: Global, plan: &Plan) -> Result<String, AllocError>
     ensures { IfOk result (λ text. string_bytes text ≡ spec.picture plan.now) }
 {
     let mut text = String::from_str(alloc, "digraph plan {\n  node [shape=box]\n")?;
-    push_nodes(alloc, &mut text, plan.groups.as_slice())?;
+    push_lines(alloc, &mut text, plan)?;
     push_rest(alloc, &mut text, plan)?;
     Ok(text)
 }

@@ -1,7 +1,8 @@
 -- A database has no float and nests no deeper than a text that is read may.
-use Rattle.std.proofs.Common.{◌≡◌, ℕ, ◌+◌, ◌≤◌, List, [], ◌∷◌, ◌++◌, ◌||◌, map, length, Bool, true, false, cond, Some, refl, sym, subst, arith, ◌==◌, flat_map}
+use Rattle.std.proofs.Common.{◌≡◌, ℕ, ◌-◌, ◌≤◌, List, [], ◌∷◌, ◌++◌, ◌||◌, map, length, Bool, true, false, cond, Some, refl, sym, subst, arith, ◌==◌, flat_map}
 use Rattle.plans.specs.declared.plan.NvccGeneratedSubcommand.{NvccGeneratedSubcommand}
 use Rattle.plans.specs.declared.plan.Plan.{Plan}
+use Rattle.plans.specs.Listed.{Listed, listed}
 use Rattle.command_files.specs.declared.files.CommandFiles.{CommandFiles}
 use Rattle.command_files.specs.CommandFiles.{files_of_words}
 use Rattle.serde_json.specs.Data.{Data, string, depth, items_depth}
@@ -9,7 +10,7 @@ use Rattle.serde_json.specs.View.{items_of}
 use Rattle.serde_json.specs.Read.{read, max_depth}
 use Rattle.serde_json.specs.Written.{has_float, items_have_float, compact_text}
 use Rattle.plan_json.specs.ClangWords.{line_for_clang}
-use Rattle.plan_json.specs.Compdb.{record_data, records_by, records_of, records_from, database}
+use Rattle.plan_json.specs.Compdb.{record_data, records_by, records_of, database}
 use Rattle.std.proofs.lemmas.Bool.{false≢true}
 use Rattle.json_values.proofs.ValueLemmas.{items_within, neither, texts_float_free}
 
@@ -57,21 +58,18 @@ plain_command c files = either files.complete
     either true = nothing_plain
     either false = plain_records c files.reads
 
-plain_group : (commands : List NvccGeneratedSubcommand) → Plain (flat_map records_of commands)
-plain_group [] = nothing_plain
-plain_group (c ∷ commands) = plain_joined (records_of c) (flat_map records_of commands) (plain_command c (files_of_words c.exe c.args c.cwd)) (plain_group commands)
+plain_unless : (last : Bool) (c : NvccGeneratedSubcommand) (files : CommandFiles) → Plain (cond last [] (records_by files c))
+plain_unless true c files = nothing_plain
+plain_unless false c files = plain_command c files
 
-plain_unless : (last : Bool) (commands : List NvccGeneratedSubcommand) → Plain (cond last [] (flat_map records_of commands))
-plain_unless true commands = nothing_plain
-plain_unless false commands = plain_group commands
+plain_all : (count : ℕ) (commands : List Listed) → Plain (flat_map (records_of count) commands)
+plain_all count [] = nothing_plain
+plain_all count (l ∷ commands) =
+    let c = l.command in
+    plain_joined (records_of count l) (flat_map (records_of count) commands) (plain_unless (count - l.group == 1) c (files_of_words c.exe c.args c.cwd)) (plain_all count commands)
 
-plain_from : (count group : ℕ) (groups : List (List NvccGeneratedSubcommand)) → Plain (records_from count group groups)
-plain_from count group [] = nothing_plain
-plain_from count group (commands ∷ groups) =
-    plain_joined (cond (group + 1 == count) [] (flat_map records_of commands)) (records_from count (group + 1) groups) (plain_unless (group + 1 == count) commands) (plain_from count (group + 1) groups)
-
-database_plain : (plan : Plan) → Plain (records_from (length plan.groups) 0 plan.groups)
-database_plain plan = plain_from (length plan.groups) 0 plan.groups
+database_plain : (plan : Plan) → Plain (flat_map (records_of (length plan.groups)) (listed plan.groups))
+database_plain plan = plain_all (length plan.groups) (listed plan.groups)
 
 -- what is written of a value with a plan's database
 pub database_text : (plan : Plan) (d : Data) (text : List ℕ) → d ≡ database plan → (has_float d ≡ false → text ≡ compact_text d) → text ≡ compact_text (database plan)
@@ -80,5 +78,5 @@ database_text plan d text same written =
 
 pub database_reads_back : (plan : Plan) (d : Data) (text : List ℕ) → d ≡ database plan → (depth d ≤ max_depth → read text ≡ Some d) → read text ≡ Some (database plan)
 database_reads_back plan d text same written =
-    let within : items_depth (items_of (records_from (length plan.groups) 0 plan.groups)) ≤ 2 = (database_plain plan).within in
+    let within : items_depth (items_of (flat_map (records_of (length plan.groups)) (listed plan.groups))) ≤ 2 = (database_plain plan).within in
     grind arith

@@ -1,8 +1,9 @@
 -- A plan's data has no float and nests no deeper than a text that is read may.
-use Rattle.std.proofs.Common.{◌≡◌, ℕ, ◌+◌, ◌≤◌, List, [], ◌∷◌, ◌++◌, length, false, Some, refl, arith}
+use Rattle.std.proofs.Common.{◌≡◌, ℕ, ◌+◌, ◌≤◌, List, [], ◌∷◌, false, Some, refl, arith}
 use Rattle.plans.specs.declared.origins.Origin.{Origin}
 use Rattle.plans.specs.declared.plan.NvccGeneratedSubcommand.{NvccGeneratedSubcommand}
 use Rattle.plans.specs.declared.plan.Dropped.{Dropped}
+use Rattle.plans.specs.Listed.{Listed, listed}
 use Rattle.command_files.specs.declared.files.CommandFiles.{CommandFiles}
 use Rattle.command_files.specs.CommandFiles.{files_of_words}
 use Rattle.command_files.specs.Order.{needs_at}
@@ -10,7 +11,7 @@ use Rattle.serde_json.specs.Data.{Data, string, depth, items_depth}
 use Rattle.serde_json.specs.View.{items_of}
 use Rattle.serde_json.specs.Read.{read, max_depth}
 use Rattle.serde_json.specs.Written.{has_float, items_have_float, compact_text}
-use Rattle.command_files.specs.Numbered.{of_group, of_groups}
+use Rattle.command_files.specs.Numbered.{numbered}
 use Rattle.json_values.specs.Values.{count_data}
 use Rattle.json_values.proofs.ValueLemmas.{items_within, neither, items_float_free, texts_float_free}
 use Rattle.plan_json.specs.Json.{counts_data, variable_data, variables_data, command_data, Known, origin_at, command_at, dropped_data, Described, known_of, data_of}
@@ -27,25 +28,22 @@ command_within id group origin needs files c =
       items_within 0 string (λ x. omega arith) files.may_write,
     )
 
-group_within : (known : Known) (id group : ℕ) (commands : List NvccGeneratedSubcommand) (rest : List Data) → items_depth (items_of rest) ≤ 3 → items_depth (items_of (of_group (command_at known) id group commands ++ rest)) ≤ 3
-group_within known id group [] rest h = h
-group_within known id group (c ∷ commands) rest h =
+commands_within : (known : Known) (id : ℕ) (commands : List Listed) → items_depth (items_of (numbered (command_at known) id commands)) ≤ 3
+commands_within known id [] = omega arith
+commands_within known id (l ∷ commands) =
+    let c = l.command in
     omega (
       arith,
-      command_within id group (origin_at known.origins id) (needs_at known.needs id) (files_of_words c.exe c.args c.cwd) c,
-      group_within known (id + 1) group commands rest h,
+      command_within id l.group (origin_at known.origins id) (needs_at known.needs id) (files_of_words c.exe c.args c.cwd) c,
+      commands_within known (id + 1) commands,
     )
-
-groups_within : (known : Known) (id group : ℕ) (groups : List (List NvccGeneratedSubcommand)) → items_depth (items_of (of_groups (command_at known) id group groups)) ≤ 3
-groups_within known id group [] = omega arith
-groups_within known id group (commands ∷ groups) = grind (arith, group_within, (groups_within known (id + length commands) (group + 1) groups))
 
 dropped_within : (d : Dropped) → depth (dropped_data d) ≤ 3
 dropped_within d = omega (arith, items_within 0 string (λ x. omega arith) d.args)
 
 pub plan_within : (d : Described) → depth (data_of d) ≤ max_depth
 plan_within d =
-    omega (arith, groups_within (known_of d.planned) 0 0 d.planned.plan.groups, items_within 3 dropped_data dropped_within d.planned.plan.dropped)
+    omega (arith, commands_within (known_of d.planned) 0 (listed d.planned.plan.groups), items_within 3 dropped_data dropped_within d.planned.plan.dropped)
 
 counts_float_free : (counts : List ℕ) → has_float (counts_data counts) ≡ false
 counts_float_free counts = items_float_free count_data (λ x. refl) counts
@@ -56,16 +54,12 @@ variables_float_free variables = items_float_free variable_data (λ x. refl) var
 command_float_free : (id group : ℕ) (origin : Origin) (needs : List ℕ) (files : CommandFiles) (c : NvccGeneratedSubcommand) → has_float (command_data id group origin needs files c) ≡ false
 command_float_free id group origin needs files c = simp (neither, texts_float_free, variables_float_free, counts_float_free)
 
-group_float_free : (known : Known) (id group : ℕ) (commands : List NvccGeneratedSubcommand) (rest : List Data) → items_have_float (items_of rest) ≡ false → items_have_float (items_of (of_group (command_at known) id group commands ++ rest)) ≡ false
-group_float_free known id group [] rest h = h
-group_float_free known id group (c ∷ commands) rest h = simp (neither, command_float_free, (group_float_free known (id + 1) group commands rest h))
-
-groups_float_free : (known : Known) (id group : ℕ) (groups : List (List NvccGeneratedSubcommand)) → items_have_float (items_of (of_groups (command_at known) id group groups)) ≡ false
-groups_float_free known id group [] = refl
-groups_float_free known id group (commands ∷ groups) = simp (group_float_free, (groups_float_free known (id + length commands) (group + 1) groups))
+commands_float_free : (known : Known) (id : ℕ) (commands : List Listed) → items_have_float (items_of (numbered (command_at known) id commands)) ≡ false
+commands_float_free known id [] = refl
+commands_float_free known id (l ∷ commands) = simp (neither, command_float_free, (commands_float_free known (id + 1) commands))
 
 pub plan_float_free : (d : Described) → has_float (data_of d) ≡ false
-plan_float_free d = simp (neither, groups_float_free, items_float_free)
+plan_float_free d = simp (neither, commands_float_free, items_float_free)
 
 -- what is written of a value with a plan's data
 pub exact_text : (plan : Described) (d : Data) (text : List ℕ) → d ≡ data_of plan → (has_float d ≡ false → text ≡ compact_text d) → text ≡ compact_text (data_of plan)

@@ -1,6 +1,6 @@
 -- A plan is read back from its data.
 use Rattle.std.proofs.Common.{◌≡◌, ℕ, suc, zero, ◌+◌, ◌-◌, ◌<◌, ◌^◌, ◌==◌, List, [], ◌∷◌, ◌++◌, map, length, drop, Bool, true, false, refl, sym, ap, ◌∙◌, arith, eq-eqb, codes, add-one, filter, if◌then◌else◌, bytes_eq}
-use Rattle.std.specs.List.{AllByRecursion, flat_map}
+use Rattle.std.specs.List.{AllByRecursion}
 use Rattle.compilers.specs.declared.command.Cacheable.{Cacheable}
 use Rattle.compilers.specs.declared.command.Cacheable.TheVariants.{Yes, No}
 use Rattle.plans.specs.declared.origins.Origin.{Origin}
@@ -8,11 +8,12 @@ use Rattle.plans.specs.declared.plan.NvccGeneratedSubcommand.{NvccGeneratedSubco
 use Rattle.plans.specs.declared.plan.Dropped.{Dropped}
 use Rattle.plans.specs.declared.plan.Reason.{Reason}
 use Rattle.plans.specs.declared.plan.Reason.TheVariants.{NotCuda, NoCiccGroup, NoPtxasGroup, Superseded}
+use Rattle.plans.specs.Listed.{Listed, listed_group, listed_from}
 use Rattle.plans.specs.Reasons.{reason_name}
 use Rattle.serde_json.specs.Data.{Num, unsigned, negative, float, Data, null, boolean, number, string, array, object, Items, no_items, item, Members, no_members, member}
 use Rattle.serde_json.specs.View.{items_of}
 use Rattle.plan_json.specs.Json.{variable_data, is_cacheable, from_one, Known, origin_at, command_at, dropped_data, Described, data_of}
-use Rattle.command_files.specs.Numbered.{of_group, of_groups}
+use Rattle.command_files.specs.Numbered.{numbered}
 use Rattle.plan_json.specs.OneToOne.{IsDescribed}
 
 -- ---- what is read of data
@@ -89,8 +90,8 @@ command_in d = record {
   cacheable = cacheable_of (bool_in (field 1 d));
 }
 
-abbrev group_in : Data → ℕ
-group_in d = count_in (field 6 d)
+abbrev listed_in : Data → ℕ × NvccGeneratedSubcommand
+listed_in d = (count_in (field 6 d), command_in d)
 
 abbrev origin_in : Data → Origin
 origin_in d = record { line = count_in (field 8 d) - 1; run = count_in (field 12 d) }
@@ -112,43 +113,51 @@ variables_are (p ∷ variables) = ap (λ t. p ∷ t) (variables_are variables)
 cacheable_is : (c : Cacheable) → cacheable_of (is_cacheable c) ≡ c
 cacheable_is c = grind arith
 
-command_is : (known : Known) (id group : ℕ) (c : NvccGeneratedSubcommand) → command_in (command_at known id group c) ≡ c
-command_is known id group c = λ i. record { exe = c.exe; args = texts_are c.args i; cwd = c.cwd; env_vars = variables_are c.env_vars i; cacheable = cacheable_is c.cacheable i }
+command_is : (known : Known) (id : ℕ) (l : Listed) → command_in (command_at known id l) ≡ l.command
+command_is known id l = let c = l.command in λ i. record { exe = c.exe; args = texts_are c.args i; cwd = c.cwd; env_vars = variables_are c.env_vars i; cacheable = cacheable_is c.cacheable i }
 
 -- ---- groups
 
-abbrev is_of : ℕ → Data → Bool
-is_of group d = group_in d == group
+abbrev with_group : Listed → ℕ × NvccGeneratedSubcommand
+with_group l = (l.group, l.command)
 
-abbrev groups_in : ℕ → ℕ → List Data → List (List NvccGeneratedSubcommand)
-groups_in zero group ds = []
-groups_in (suc n) group ds = map command_in (filter (is_of group) ds) ∷ groups_in n (group + 1) (drop (length (filter (is_of group) ds)) ds)
+commands_are : (known : Known) (id : ℕ) (commands : List Listed) → map listed_in (numbered (command_at known) id commands) ≡ map with_group commands
+commands_are known id [] = refl
+commands_are known id (l ∷ commands) = λ i. (l.group, command_is known id l i) ∷ commands_are known (id + 1) commands i
 
-module _ (known : Known) where
-  commands_are : (id group : ℕ) (commands : List NvccGeneratedSubcommand) → map command_in (of_group (command_at known) id group commands) ≡ commands
-  commands_are id group [] = refl
-  commands_are id group (c ∷ commands) = λ i. command_is known id group c i ∷ commands_are (id + 1) group commands i
+abbrev is_of : ℕ → ℕ × NvccGeneratedSubcommand → Bool
+is_of group c = c.0 == group
 
-  skipped : (id group other : ℕ) (commands : List NvccGeneratedSubcommand) (rest : List Data) → group < other → filter (is_of group) (of_group (command_at known) id other commands ++ rest) ≡ filter (is_of group) rest
-  skipped id group other [] rest h = refl
-  skipped id group other (c ∷ commands) rest h = grind (arith, (skipped (id + 1) group other commands rest h))
+abbrev groups_in : ℕ → ℕ → List (ℕ × NvccGeneratedSubcommand) → List (List NvccGeneratedSubcommand)
+groups_in zero group cs = []
+groups_in (suc n) group cs = map (λ c. c.1) (filter (is_of group) cs) ∷ groups_in n (group + 1) (drop (length (filter (is_of group) cs)) cs)
 
-  none_later : (id group other : ℕ) (groups : List (List NvccGeneratedSubcommand)) → group < other → filter (is_of group) (of_groups (command_at known) id other groups) ≡ []
-  none_later id group other [] h = refl
-  none_later id group other (commands ∷ groups) h = simp (skipped, (none_later (id + length commands) group (other + 1) groups (omega (arith, h))))
+skipped : (group other place : ℕ) (commands : List NvccGeneratedSubcommand) (rest : List Listed) → group < other →
+    filter (is_of group) (map with_group (listed_group other place commands ++ rest)) ≡ filter (is_of group) (map with_group rest)
+skipped group other place [] rest h = refl
+skipped group other place (c ∷ commands) rest h = grind (arith, (skipped group other (place + 1) commands rest h))
 
-  first_are : (id next group : ℕ) (commands : List NvccGeneratedSubcommand) (groups : List (List NvccGeneratedSubcommand)) →
-      filter (is_of group) (of_group (command_at known) id group commands ++ of_groups (command_at known) next (group + 1) groups) ≡ of_group (command_at known) id group commands
-  first_are id next group [] groups = none_later next group (group + 1) groups (omega arith)
-  first_are id next group (c ∷ commands) groups = simp (eq-eqb, (first_are (id + 1) next group commands groups))
+none_later : (group other : ℕ) (groups : List (List NvccGeneratedSubcommand)) → group < other → filter (is_of group) (map with_group (listed_from other groups)) ≡ []
+none_later group other [] h = refl
+none_later group other (commands ∷ groups) h = simp (skipped, (none_later group (other + 1) groups (omega (arith, h))))
 
-  dropped_first : {X : Type 0} (xs ys : List X) → drop (length xs) (xs ++ ys) ≡ ys
-  dropped_first [] ys = refl
-  dropped_first (x ∷ xs) ys = dropped_first xs ys
+first_are : (group place : ℕ) (commands : List NvccGeneratedSubcommand) (groups : List (List NvccGeneratedSubcommand)) →
+    filter (is_of group) (map with_group (listed_group group place commands ++ listed_from (group + 1) groups)) ≡ map with_group (listed_group group place commands)
+first_are group place [] groups = none_later group (group + 1) groups (omega arith)
+first_are group place (c ∷ commands) groups = simp (eq-eqb, (first_are group (place + 1) commands groups))
 
-  groups_are : (id group : ℕ) (groups : List (List NvccGeneratedSubcommand)) → groups_in (length groups) group (of_groups (command_at known) id group groups) ≡ groups
-  groups_are id group [] = refl
-  groups_are id group (commands ∷ groups) = grind (arith, first_are, commands_are, dropped_first, (groups_are (id + length commands) (group + 1) groups))
+own_commands : (group place : ℕ) (commands : List NvccGeneratedSubcommand) → map (λ c. c.1) (map with_group (listed_group group place commands)) ≡ commands
+own_commands group place [] = refl
+own_commands group place (c ∷ commands) = ap (λ t. c ∷ t) (own_commands group (place + 1) commands)
+
+past_first : (group place : ℕ) (commands : List NvccGeneratedSubcommand) (rest : List Listed) →
+    drop (length (map with_group (listed_group group place commands))) (map with_group (listed_group group place commands ++ rest)) ≡ map with_group rest
+past_first group place [] rest = refl
+past_first group place (c ∷ commands) rest = past_first group (place + 1) commands rest
+
+groups_are : (group : ℕ) (groups : List (List NvccGeneratedSubcommand)) → groups_in (length groups) group (map with_group (listed_from group groups)) ≡ groups
+groups_are group [] = refl
+groups_are group (commands ∷ groups) = grind (arith, first_are, own_commands, past_first, (groups_are (group + 1) groups))
 
 -- ---- origins
 
@@ -168,43 +177,22 @@ abbrev origins_from : List Origin → ℕ → ℕ → List Origin
 origins_from origins zero id = []
 origins_from origins (suc n) id = origin_at origins id ∷ origins_from origins n (suc id)
 
-past_first : (o : Origin) (origins : List Origin) (n id : ℕ) → origins_from (o ∷ origins) n (suc id) ≡ origins_from origins n id
-past_first o origins zero id = refl
-past_first o origins (suc n) id = ap (λ t. origin_at origins id ∷ t) (past_first o origins n (suc id))
+past_origin : (o : Origin) (origins : List Origin) (n id : ℕ) → origins_from (o ∷ origins) n (suc id) ≡ origins_from origins n id
+past_origin o origins zero id = refl
+past_origin o origins (suc n) id = ap (λ t. origin_at origins id ∷ t) (past_origin o origins n (suc id))
 
 all_origins : (origins : List Origin) → origins_from origins (length origins) 0 ≡ origins
 all_origins [] = refl
-all_origins (o ∷ origins) = ap (λ t. o ∷ t) (past_first o origins (length origins) 0 ∙ all_origins origins)
+all_origins (o ∷ origins) = ap (λ t. o ∷ t) (past_origin o origins (length origins) 0 ∙ all_origins origins)
 
 module _ (known : Known) (all : AllByRecursion Fits known.origins) where
-  origin_is : (id group : ℕ) (c : NvccGeneratedSubcommand) → origin_in (command_at known id group c) ≡ origin_at known.origins id
-  origin_is id group c = λ i. record { line = line_is (origin_at known.origins id).line (fit_at known.origins id all) i; run = (origin_at known.origins id).run }
+  origin_is : (id : ℕ) (l : Listed) → origin_in (command_at known id l) ≡ origin_at known.origins id
+  origin_is id l = λ i. record { line = line_is (origin_at known.origins id).line (fit_at known.origins id all) i; run = (origin_at known.origins id).run }
 
-  group_origins : (id group : ℕ) (commands : List NvccGeneratedSubcommand) (rest : List Data) →
-      map origin_in (of_group (command_at known) id group commands ++ rest) ≡ origins_from known.origins (length commands) id ++ map origin_in rest
-  group_origins id group [] rest = refl
-  group_origins id group (c ∷ commands) rest =
-      (λ i. origin_is id group c i ∷ group_origins (id + 1) group commands rest i)
-      ∙ ap (λ n. origin_at known.origins id ∷ (origins_from known.origins (length commands) n ++ map origin_in rest)) (add-one id)
-
-  joined_origins : (n m id : ℕ) → origins_from known.origins n id ++ origins_from known.origins m (id + n) ≡ origins_from known.origins (n + m) id
-  joined_origins zero m id = grind arith
-  joined_origins (suc n) m id =
-      let more : suc (n + m) ≡ suc n + m = omega arith in
-      grind (arith, (joined_origins n m (suc id)))
-
-  origins_are : (id group : ℕ) (groups : List (List NvccGeneratedSubcommand)) →
-      map origin_in (of_groups (command_at known) id group groups) ≡ origins_from known.origins (length (flat_map (λ g. g) groups)) id
-  origins_are id group [] = refl
-  origins_are id group (commands ∷ groups) =
-      group_origins id group commands (of_groups (command_at known) (id + length commands) (group + 1) groups)
-      ∙ ap (λ t. origins_from known.origins (length commands) id ++ t) (origins_are (id + length commands) (group + 1) groups)
-      ∙ joined_origins (length commands) (length (flat_map (λ g. g) groups)) id
-      ∙ ap (λ n. origins_from known.origins n id) (sym (long commands (flat_map (λ g. g) groups)))
-    where
-      long : {X : Type 0} (xs ys : List X) → length (xs ++ ys) ≡ length xs + length ys
-      long [] ys = omega arith
-      long (x ∷ xs) ys = omega (arith, long xs ys)
+  origins_are : (id : ℕ) (commands : List Listed) → map origin_in (numbered (command_at known) id commands) ≡ origins_from known.origins (length commands) id
+  origins_are id [] = refl
+  origins_are id (l ∷ commands) =
+      (λ i. origin_is id l i ∷ origins_are (id + 1) commands i) ∙ ap (λ n. origin_at known.origins id ∷ origins_from known.origins (length commands) n) (add-one id)
 
 -- ---- dropped commands
 
@@ -238,13 +226,13 @@ described_in d = record {
   tmp = text_in (field 5 d);
   flag = text_in (field 3 d);
   planned = record {
-    plan = record { groups = groups_in (count_in (field 4 d)) 0 (items_in (field 0 d)); dropped = map dropped_in (items_in (field 2 d)) };
+    plan = record { groups = groups_in (count_in (field 4 d)) 0 (map listed_in (items_in (field 0 d))); dropped = map dropped_in (items_in (field 2 d)) };
     origins = map origin_in (items_in (field 0 d));
   };
 }
 
 described_is : (d : Described) → IsDescribed d → described_in (data_of d) ≡ d
-described_is d is = grind (arith, list_is, groups_are, origins_are, all_origins, dropped_are)
+described_is d is = grind (arith, list_is, commands_are, groups_are, origins_are, all_origins, dropped_are)
 
 pub data_is_one_to_one : (one other : Described) → IsDescribed one → IsDescribed other → data_of one ≡ data_of other → one ≡ other
 data_is_one_to_one one other is are same = sym (described_is one is) ∙ ap described_in same ∙ described_is other are

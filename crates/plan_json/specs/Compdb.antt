@@ -1,7 +1,8 @@
 -- The commands of a plan that compile its source, as a compilation database.
-use Rattle.std.specs.Prelude.{ℕ, ◌+◌, List, [], ◌∷◌, ◌++◌, map, length, ◌==◌, if◌then◌else◌, codes, flat_map}
+use Rattle.std.specs.Prelude.{ℕ, ◌-◌, List, [], map, length, ◌==◌, if◌then◌else◌, codes, flat_map}
 use Rattle.plans.specs.declared.plan.NvccGeneratedSubcommand.{NvccGeneratedSubcommand}
 use Rattle.plans.specs.declared.plan.Plan.{Plan}
+use Rattle.plans.specs.Listed.{Listed, listed}
 use Rattle.command_files.specs.declared.files.CommandFiles.{CommandFiles}
 use Rattle.command_files.specs.CommandFiles.{files_of_words}
 use Rattle.plan_json.specs.ClangWords.{line_for_clang}
@@ -20,16 +21,12 @@ record_data c file =
 abbrev pub records_by : CommandFiles → NvccGeneratedSubcommand → List Data
 records_by files c = if files.complete then [] else map (record_data c) files.reads
 
-abbrev pub records_of : NvccGeneratedSubcommand → List Data
-records_of c = records_by (files_of_words c.exe c.args c.cwd) c
-
--- The records of these groups, the first of which has the number `group`, of `count` in all. The host compilers of all groups but the last preprocess the source; in
--- the last one they compile what cudafe++ wrote.
-abbrev pub records_from : ℕ → ℕ → List (List NvccGeneratedSubcommand) → List Data
-records_from count group [] = []
-records_from count group (commands ∷ groups) =
-    (if group + 1 == count then [] else flat_map records_of commands) ++ records_from count (group + 1) groups
+-- The same of a command of a plan with `count` groups. The host compilers of all groups but the last preprocess the source; in the last
+-- one they compile what cudafe++ wrote.
+abbrev pub records_of : ℕ → Listed → List Data
+records_of count l =
+    if count - l.group == 1 then [] else records_by (files_of_words l.command.exe l.command.args l.command.cwd) l.command
 
 -- the database of a plan
 abbrev pub database : Plan → Data
-database plan = array (items_of (records_from (length plan.groups) 0 plan.groups))
+database plan = array (items_of (flat_map (records_of (length plan.groups)) (listed plan.groups)))

@@ -6,12 +6,13 @@ use Rattle.plans.specs.declared.origins.Origin.{Origin}
 use Rattle.plans.specs.declared.origins.PlanWithOrigins.{PlanWithOrigins}
 use Rattle.plans.specs.declared.plan.NvccGeneratedSubcommand.{NvccGeneratedSubcommand}
 use Rattle.plans.specs.declared.plan.Dropped.{Dropped}
+use Rattle.plans.specs.Listed.{Listed, listed}
 use Rattle.plans.specs.Reasons.{reason_name}
 use Rattle.command_files.specs.declared.files.CommandFiles.{CommandFiles}
 use Rattle.command_files.specs.CommandFiles.{files_of_words}
 use Rattle.command_files.specs.Order.{needs_at}
 use Rattle.command_files.specs.PlanNeeds.{plan_needs}
-use Rattle.command_files.specs.Numbered.{of_groups}
+use Rattle.command_files.specs.Numbered.{numbered}
 use Rattle.json_values.specs.Values.{texts_data, count_data}
 use Rattle.serde_json.specs.Data.{Data, boolean, string, array, object, no_items, item, no_members, member}
 use Rattle.serde_json.specs.View.{items_of}
@@ -65,10 +66,10 @@ pub record Known : Type 0 where
 abbrev pub origin_at : List Origin → ℕ → Origin
 origin_at origins id = get_or origins id (record { line = 0; run = 0 })
 
--- a command by its number and that of its group
-abbrev pub command_at : Known → ℕ → ℕ → NvccGeneratedSubcommand → Data
-command_at known id group c =
-    command_data id group (origin_at known.origins id) (needs_at known.needs id) (files_of_words c.exe c.args c.cwd) c
+-- the command with a number
+abbrev pub command_at : Known → ℕ → Listed → Data
+command_at known id l =
+    command_data id l.group (origin_at known.origins id) (needs_at known.needs id) (files_of_words l.command.exe l.command.args l.command.cwd) l.command
 
 -- a dropped command
 abbrev pub dropped_data : Dropped → Data
@@ -93,10 +94,13 @@ pub record Described : Type 0 where
 abbrev pub known_of : PlanWithOrigins → Known
 known_of planned = record { origins = planned.origins; needs = plan_needs planned.plan }
 
+abbrev pub commands_data : PlanWithOrigins → Data
+commands_data planned = array (items_of (numbered (command_at (known_of planned)) 0 (listed planned.plan.groups)))
+
 -- The data of a plan. Its commands are numbered in plan order; how many groups there are is said because a group may be empty.
 abbrev pub data_of : Described → Data
 data_of d =
-    object (member (codes "commands") (array (items_of (of_groups (command_at (known_of d.planned)) 0 0 d.planned.plan.groups)))
+    object (member (codes "commands") (commands_data d.planned)
     (member (codes "cwd") (string d.cwd)
     (member (codes "dropped") (all_dropped_data d.planned.plan.dropped)
     (member (codes "flag") (string d.flag)

@@ -11,5 +11,5 @@ cicc = record { exe = codes "/b/cicc"; args = codes "a$b" ∷ []; cwd = codes "/
 -- It is in the second group. cicc needs more words than that to be read, so its files are unknown.
 abbrev pub JsonOfCicc : Type 0
 JsonOfCicc =
-    compact_text (command_at (record { origins = record { line = 6; run = 1 } ∷ []; needs = (1 ∷ 2 ∷ []) ∷ [] }) 0 1 cicc)
+    compact_text (command_at (record { origins = record { line = 6; run = 1 } ∷ []; needs = (1 ∷ 2 ∷ []) ∷ [] }) 0 (record { group = 1; place = 0; command = cicc }))
     ≡ codes "{\"args\":[\"a$b\"],\"cacheable\":true,\"complete\":false,\"cwd\":\"/t\",\"env\":[[\"K\",\"v w\"]],\"exe\":\"/b/cicc\",\"group\":1,\"id\":0,\"line\":7,\"may_write\":[],\"needs\":[1,2],\"reads\":[],\"run\":1,\"writes\":[]}"

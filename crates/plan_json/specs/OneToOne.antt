@@ -1,11 +1,12 @@
 -- A plan's data says all of the plan.
 use Rattle.std.specs.Prelude.{◌≡◌, ◌<◌, ◌-◌, ◌^◌, length}
-use Rattle.std.specs.List.{AllByRecursion, flat_map}
+use Rattle.std.specs.List.{AllByRecursion}
+use Rattle.plans.specs.Listed.{listed}
 use Rattle.plan_json.specs.Json.{Described, data_of}
 
 -- a plan that has an origin for each command, and whose lines are below the greatest number that there is
 pub record IsDescribed (d : Described) : Type 0 where
-  pub origins : length d.planned.origins ≡ length (flat_map (λ group. group) d.planned.plan.groups)
+  pub origins : length d.planned.origins ≡ length (listed d.planned.plan.groups)
   pub lines : AllByRecursion (λ o. o.line < 2 ^ 64 - 1) d.planned.origins
   pub dropped : AllByRecursion (λ c. c.line < 2 ^ 64 - 1) d.planned.plan.dropped
 

@@ -1,16 +1,15 @@
 //! The commands of a plan that compile its source, as a compilation database.
 
-ghost use Rattle.std.specs.Prelude.{◌≡◌, ◌+◌, ◌++◌, ◌∷◌, ◌==◌, [], if◌then◌else◌, IfOk, OnOk, Some, length, map, string_bytes, vec_items, flat_map};
-ghost use Rattle.serde_json.specs.Data.{array};
+ghost use Rattle.std.specs.Prelude.{◌≡◌, ◌++◌, ◌∷◌, [], IfOk, OnOk, Some, map, string_bytes};
 ghost use Rattle.serde_json.specs.Read.{read};
-ghost use Rattle.serde_json.specs.View.{items_of, view};
+ghost use Rattle.serde_json.specs.View.{view};
 ghost use Rattle.serde_json.specs.Written.{compact_text};
 ghost use Rattle.plan_json.specs.Compdb as spec;
 
 use crate::clang_words::line_for_clang;
 use command_files::{CommandFiles, files_of};
 use json_values::{put_text, put_texts};
-use plans::{NvccGeneratedSubcommand, Plan};
+use plans::{ListedCommand, NvccGeneratedSubcommand, Plan};
 use serde_json::{Map, Value, push};
 use std::alloc::{AllocError, Global};
 
@@ -72,67 +71,33 @@ fn push_by(
     push_files(alloc, list, command, files.reads.as_slice())
 }
 
-// Adds the records of a command.
-fn push_command(
+// Adds the records of a command, unless it is in the last of `count` groups.
+fn push_listed(
     alloc: Global,
     list: &mut Vec<Value>,
-    command: &NvccGeneratedSubcommand,
+    count: usize,
+    listed: &ListedCommand<'_>,
 ) -> Result<(), AllocError>
-    ensures { OnOk result (map view list.new.items ≡ map view list.old.items ++ spec.records_of command.now) }
+    ensures { OnOk result (map view list.new.items ≡ map view list.old.items ++ spec.records_of count listed.now) }
 {
-    let files = files_of(alloc, command)?;
-    push_by(alloc, list, command, &files)
-}
-
-// Adds the records of a group's commands.
-fn push_group(
-    alloc: Global,
-    list: &mut Vec<Value>,
-    commands: &[NvccGeneratedSubcommand],
-) -> Result<(), AllocError>
-    ensures { OnOk result (map view list.new.items ≡ map view list.old.items ++ flat_map spec.records_of commands.now) }
-{
-    for command in commands {
-        push_command(alloc, list, command)?;
-    }
-    Ok(())
-}
-
-// Adds the records of a group, unless it is the last.
-fn push_unless_last(
-    alloc: Global,
-    list: &mut Vec<Value>,
-    last: bool,
-    commands: &[NvccGeneratedSubcommand],
-) -> Result<(), AllocError>
-    ensures { OnOk result (map view list.new.items ≡ map view list.old.items ++ (if last then [] else flat_map spec.records_of commands.now)) }
-{
-    if last {
+    if count.saturating_sub(listed.group) == 1 {
         return Ok(());
     }
-    push_group(alloc, list, commands)
-}
-
-// The list of the records of groups.
-fn records_value(
-    alloc: Global,
-    groups: &[Vec<NvccGeneratedSubcommand>],
-) -> Result<Value, AllocError>
-    ensures { IfOk result (λ v. view v ≡ array (items_of (spec.records_from (length groups.now) 0 (map vec_items groups.now)))) }
-{
-    let mut list = Vec::new(alloc);
-    for (group, commands) in groups.iter().enumerate() {
-        let last = group + 1 == groups.len();
-        push_unless_last(alloc, &mut list, last, commands.as_slice())?;
-    }
-    Ok(Value::Array(list))
+    let files = files_of(alloc, listed.command)?;
+    push_by(alloc, list, listed.command, &files)
 }
 
 // The database of a plan.
 fn database_value(alloc: Global, plan: &Plan) -> Result<Value, AllocError>
     ensures { IfOk result (λ v. view v ≡ spec.database plan.now) }
 {
-    records_value(alloc, plan.groups.as_slice())
+    let count = plan.groups.as_slice().len();
+    let commands = plan.groups.listed(alloc)?;
+    let mut list = Vec::new(alloc);
+    for listed in &commands {
+        push_listed(alloc, &mut list, count, listed)?;
+    }
+    Ok(Value::Array(list))
 }
 
 /// The commands of a plan that compile its source, as `compile_commands.json`, without spaces: a list of records with `arguments`

@@ -10,12 +10,12 @@ ghost use Rattle.plans.specs.Reasons.{reason_name};
 ghost use Rattle.command_files.specs.Order.{needs_at};
 ghost use Rattle.json_values.specs.Values.{count_data, texts_data};
 ghost use Rattle.plan_json.specs.Json as spec;
-ghost use Rattle.command_files.specs.Numbered.{of_group, of_groups};
+ghost use Rattle.command_files.specs.Numbered.{numbered};
 
 use command_files::{CommandFiles, files_of, needs};
 use compilers::command::Cacheable;
 use json_values::{push_text, put_text, put_texts, texts_value};
-use plans::{Dropped, NvccGeneratedSubcommand, Origin, PlanWithOrigins};
+use plans::{Dropped, ListedCommand, NvccGeneratedSubcommand, Origin, PlanWithOrigins};
 use serde_json::{Map, Value, push, put};
 use std::alloc::{AllocError, Global};
 
@@ -218,93 +218,53 @@ fn needs_at(needs: &[Vec<usize>], id: usize) -> &[usize]
 fn described_value(
     alloc: Global,
     id: usize,
-    group: usize,
     origins: &[Origin],
     needs: &[Vec<usize>],
-    command: &NvccGeneratedSubcommand,
+    listed: &ListedCommand<'_>,
 ) -> Result<Value, AllocError>
     ensures { IfOk result (λ v. view v
-        ≡ spec.command_at (record { origins = origins.now; needs = map vec_items needs.now }) id group command.now) }
+        ≡ spec.command_at (record { origins = origins.now; needs = map vec_items needs.now }) id listed.now) }
 {
-    let files = files_of(alloc, command)?;
+    let files = files_of(alloc, listed.command)?;
     command_value(
         alloc,
         id,
-        group,
+        listed.group,
         origin_at(origins, id),
         needs_at(needs, id),
         &files,
-        command,
+        listed.command,
     )
 }
 
-// Adds a command with its number to the list of those before it.
-fn push_numbered(
-    alloc: Global,
-    list: &mut Vec<Value>,
-    id: usize,
-    group: usize,
-    origins: &[Origin],
-    needs: &[Vec<usize>],
-    command: &NvccGeneratedSubcommand,
-) -> Result<(), AllocError>
-    ensures { OnOk result (map view list.new.items ≡ map view list.old.items
-        ++ spec.command_at (record { origins = origins.now; needs = map vec_items needs.now }) id group command.now ∷ []) }
-{
-    push(
-        list,
-        described_value(alloc, id, group, origins, needs, command)?,
-    )
-}
-
-// Adds a command to the list of those before it.
+// Adds the command with a number to the list of those before it.
 fn push_command(
     alloc: Global,
     list: &mut Vec<Value>,
+    id: usize,
     origins: &[Origin],
     needs: &[Vec<usize>],
-    group: usize,
-    command: &NvccGeneratedSubcommand,
+    listed: &ListedCommand<'_>,
 ) -> Result<(), AllocError>
     ensures { OnOk result (map view list.new.items ≡ map view list.old.items
-        ++ spec.command_at (record { origins = origins.now; needs = map vec_items needs.now }) (length list.old.items) group command.now ∷ []) }
+        ++ spec.command_at (record { origins = origins.now; needs = map vec_items needs.now }) id listed.now ∷ []) }
 {
-    let id = list.len();
-    push_numbered(alloc, list, id, group, origins, needs, command)
+    push(list, described_value(alloc, id, origins, needs, listed)?)
 }
 
-// Adds the commands of a group.
-fn push_group(
-    alloc: Global,
-    list: &mut Vec<Value>,
-    origins: &[Origin],
-    needs: &[Vec<usize>],
-    group: usize,
-    commands: &[NvccGeneratedSubcommand],
-) -> Result<(), AllocError>
-    ensures commands { OnOk result (map view list.new.items ≡ map view list.old.items
-        ++ of_group (spec.command_at (record { origins = origins.now; needs = map vec_items needs.now })) (length list.old.items) group commands.now) }
-    ensures length { OnOk result (length list.new.items ≡ length list.old.items + length commands.now) }
-{
-    for command in commands {
-        push_command(alloc, list, origins, needs, group, command)?;
-    }
-    Ok(())
-}
-
-// A list of the commands of groups.
+// A list of commands.
 fn commands_value(
     alloc: Global,
     origins: &[Origin],
     needs: &[Vec<usize>],
-    groups: &[Vec<NvccGeneratedSubcommand>],
+    commands: &[ListedCommand<'_>],
 ) -> Result<Value, AllocError>
     ensures { IfOk result (λ v. view v
-        ≡ array (items_of (of_groups (spec.command_at (record { origins = origins.now; needs = map vec_items needs.now })) 0 0 (map vec_items groups.now)))) }
+        ≡ array (items_of (numbered (spec.command_at (record { origins = origins.now; needs = map vec_items needs.now })) 0 commands.now))) }
 {
     let mut list = Vec::new(alloc);
-    for (group, commands) in groups.iter().enumerate() {
-        push_group(alloc, &mut list, origins, needs, group, commands.as_slice())?;
+    for (id, listed) in commands.iter().enumerate() {
+        push_command(alloc, &mut list, id, origins, needs, listed)?;
     }
     Ok(Value::Array(list))
 }
@@ -364,16 +324,17 @@ fn put_commands(
     planned: &PlanWithOrigins,
 ) -> Result<(), AllocError>
     ensures { OnOk result (members_view members.new.entries
-        ≡ with_member (codes "commands") (array (items_of (of_groups (spec.command_at (spec.known_of planned.now)) 0 0 planned.now.plan.groups))) (members_view members.old.entries)) }
+        ≡ with_member (codes "commands") (spec.commands_data planned.now) (members_view members.old.entries)) }
 {
+    let commands = planned.plan.groups.listed(alloc)?;
     let needed = needs(alloc, &planned.plan)?;
-    let commands = commands_value(
+    let value = commands_value(
         alloc,
         planned.origins.as_slice(),
         needed.as_slice(),
-        planned.plan.groups.as_slice(),
+        commands.as_slice(),
     )?;
-    put(members, alloc, "commands", commands)
+    put(members, alloc, "commands", value)
 }
 
 // Adds to an object the groups' number, and the dropped commands.

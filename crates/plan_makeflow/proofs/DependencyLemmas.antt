@@ -1,30 +1,30 @@
 -- Rules wait as commands need each other, and name the files that commands hand on.
 use Rattle.std.proofs.Common.{◌≡◌, ℕ, zero, suc, ◌+◌, ◌<◌, List, [], ◌∷◌, ◌++◌, Bool, true, false, cond, not, ◌&&◌, ◌==◌, nat_eq, Option, Some, None, map, length, get_or, refl, sym, ap, subst, ◌∙◌, arith, codes, option_and_then, bytes_eq}
 use Rattle.std.specs.Bool.{one_answer}
-use Rattle.std.specs.List.{flat_map, starts_with}
+use Rattle.std.specs.List.{starts_with}
 use Rattle.std.proofs.lemmas.Bool.{false≢true, and_parts, eqb-true, eq-eqb, ltb-true, lt-ltb}
-use Rattle.std.proofs.lemmas.List.{length-append, append_cancel_left}
+use Rattle.std.proofs.lemmas.List.{append_cancel_left}
 use Rattle.std.proofs.lemmas.List.Folds.{list_any-append}
 use Rattle.std.proofs.lemmas.Slice.Eq.{bytes_eq-Decides}
 use Rattle.texts.specs.Lists.{rest_after}
 use Rattle.texts.specs.Numeral.{numeral}
 use Rattle.texts.proofs.NumeralLemmas.{numeral-same}
-use Rattle.plans.specs.declared.plan.NvccGeneratedSubcommand.{NvccGeneratedSubcommand}
 use Rattle.plans.specs.declared.plan.Plan.{Plan}
+use Rattle.plans.specs.Listed.{Listed}
 use Rattle.command_files.specs.declared.steps.Role.TheVariants as roles
 use Rattle.command_files.specs.declared.steps.Step.{Step}
 use Rattle.command_files.specs.CommandFiles.{unknown_files}
 use Rattle.command_files.specs.Files.{is_among, share}
-use Rattle.command_files.specs.Numbered.{of_group, of_groups}
+use Rattle.command_files.specs.Numbered.{numbered}
 use Rattle.command_files.specs.Order.{is_in, needs_at}
-use Rattle.command_files.specs.PlanNeeds.{steps_from, step_needs, plan_steps, plan_files, plan_needs}
+use Rattle.command_files.specs.PlanNeeds.{step_needs, plan_steps, plan_files, plan_needs}
 use Rattle.command_files.proofs.OrderLemmas.{in_either, in_first, in_second, in_both}
 use Rattle.command_files.proofs.NeedLemmas.{needs_each, needs_earlier}
 use Rattle.plan_makeflow.specs.declared.facts.Side.{Side}
 use Rattle.plan_makeflow.specs.declared.facts.Side.TheVariants.{Made, Passed}
 use Rattle.plan_makeflow.specs.Names.{stamp, is_plain, plain_name, name_in}
 use Rattle.plan_makeflow.specs.Writers.{writers_of}
-use Rattle.plan_makeflow.specs.Rules.{Rule, Known, known_of, files_at, by_one, is_named, listed, names_of, targets, sources, is_word, are_named, is_cacheable, has_all_named, can_move, rule_at, rule_in, rules}
+use Rattle.plan_makeflow.specs.Rules.{Rule, Known, known_of, files_at, by_one, is_named, name_alone, names_of, targets, sources, is_word, are_named, is_cacheable, has_all_named, can_move, rule_in, rules}
 use Rattle.plan_makeflow.specs.Dependencies.{no_rule, rule_numbered, files_of, waits_for, IsMade, IsHandedOn, HasItsFiles}
 
 -- ---- names
@@ -99,7 +99,7 @@ record Named (side : Side) (known : Known) (n : ℕ) (paths : List (List ℕ)) (
 named_by : (side : Side) (known : Known) (n : ℕ) (paths : List (List ℕ)) (name : List ℕ) → is_among (names_of side known n paths) name ≡ true → Named side known n paths name
 named_by side known n [] name e = absurd (false≢true e)
 named_by side known n (path ∷ paths) name e =
-    let here = cond (is_named side known n path) (listed (name_in known.tmp path)) [] in
+    let here = cond (is_named side known n path) (name_alone (name_in known.tmp path)) [] in
     in_either (is_among here name) (is_among (names_of side known n paths) name)
     (λ k.
     let found = one (is_named side known n path) (name_in known.tmp path) k in
@@ -109,7 +109,7 @@ named_by side known n (path ∷ paths) name e =
     record { path = found.path; among = in_second (bytes_eq found.path path) (is_among paths found.path) found.among; named = found.named; name_is = found.name_is })
     (sym (list_any-append (bytes_eq name) here (names_of side known n paths)) ∙ e)
   where
-    one : (b : Bool) (o : Option (List ℕ)) → is_among (cond b (listed o) []) name ≡ true → (b ≡ true) × (o ≡ Some name)
+    one : (b : Bool) (o : Option (List ℕ)) → is_among (cond b (name_alone o) []) name ≡ true → (b ≡ true) × (o ≡ Some name)
     one true (Some text) k = (refl, ap Some (sym (same_bytes name text (in_either (bytes_eq name text) false (λ h. h) (λ h. absurd (false≢true h)) k))))
     one true None k = absurd (false≢true k)
     one false o k = absurd (false≢true k)
@@ -118,15 +118,15 @@ names_it : (side : Side) (known : Known) (n : ℕ) (paths : List (List ℕ)) (pa
     is_among paths path ≡ true → is_named side known n path ≡ true → name_in known.tmp path ≡ Some name → is_among (names_of side known n paths) name ≡ true
 names_it side known n [] path name e named is = absurd (false≢true e)
 names_it side known n (p ∷ paths) path name e named is =
-    let here = cond (is_named side known n p) (listed (name_in known.tmp p)) [] in
+    let here = cond (is_named side known n p) (name_alone (name_in known.tmp p)) [] in
     list_any-append (bytes_eq name) here (names_of side known n paths)
     ∙ in_either (bytes_eq path p) (is_among paths path)
     (λ k. in_first (is_among here name) (is_among (names_of side known n paths) name) (at p (sym (same_bytes path p k))))
     (λ k. in_second (is_among here name) (is_among (names_of side known n paths) name) (names_it side known n paths path name k named is)) e
   where
-    at : (q : List ℕ) → q ≡ path → is_among (cond (is_named side known n q) (listed (name_in known.tmp q)) []) name ≡ true
+    at : (q : List ℕ) → q ≡ path → is_among (cond (is_named side known n q) (name_alone (name_in known.tmp q)) []) name ≡ true
     at q same =
-        subst (λ r. is_among (cond (is_named side known n r) (listed (name_in known.tmp r)) []) name ≡ true) (sym same)
+        subst (λ r. is_among (cond (is_named side known n r) (name_alone (name_in known.tmp r)) []) name ≡ true) (sym same)
         (rw (named, is) (in_first (bytes_eq name name) false (own_bytes name name refl)))
 
 -- the stamps of commands
@@ -225,52 +225,30 @@ needs_writer plan m n path before within writes reads = grind (arith, nothing_st
 
 -- ---- rules by their numbers
 
-abbrev numbered : Known → ℕ → List NvccGeneratedSubcommand → List Rule
-numbered known n [] = []
-numbered known n (c ∷ commands) = rule_at known n c ∷ numbered known (n + 1) commands
-
-group_numbered : (known : Known) (n group : ℕ) (commands : List NvccGeneratedSubcommand) → of_group (rule_in known) n group commands ≡ numbered known n commands
-group_numbered known n group [] = refl
-group_numbered known n group (c ∷ commands) = ap (λ rs. rule_at known n c ∷ rs) (group_numbered known (n + 1) group commands)
-
-numbered_append : (known : Known) (n : ℕ) (some others : List NvccGeneratedSubcommand) → numbered known n (some ++ others) ≡ numbered known n some ++ numbered known (n + length some) others
-numbered_append known n [] others = ap (λ k. numbered known k others) (omega arith)
-numbered_append known n (c ∷ some) others = grind (arith, (numbered_append known (n + 1) some others))
-
-groups_numbered : (known : Known) (n group : ℕ) (groups : List (List NvccGeneratedSubcommand)) → of_groups (rule_in known) n group groups ≡ numbered known n (flat_map (λ commands. commands) groups)
-groups_numbered known n group [] = refl
-groups_numbered known n group (commands ∷ groups) =
-    (λ i. group_numbered known n group commands i ++ groups_numbered known (n + length commands) (group + 1) groups i)
-    ∙ sym (numbered_append known n commands (flat_map (λ cs. cs) groups))
-
-length_numbered : (known : Known) (n : ℕ) (commands : List NvccGeneratedSubcommand) → length (numbered known n commands) ≡ length commands
-length_numbered known n [] = refl
-length_numbered known n (c ∷ commands) = ap suc (length_numbered known (n + 1) commands)
+length_numbered : {A X : Type 0} (f : ℕ → A → X) (n : ℕ) (xs : List A) → length (numbered f n xs) ≡ length xs
+length_numbered f n [] = refl
+length_numbered f n (x ∷ xs) = ap suc (length_numbered f (n + 1) xs)
 
 length_mapped : {X Y : Type 0} (f : X → Y) (xs : List X) → length (map f xs) ≡ length xs
 length_mapped f [] = refl
 length_mapped f (x ∷ xs) = ap suc (length_mapped f xs)
 
-length_steps : (count group : ℕ) (groups : List (List NvccGeneratedSubcommand)) → length (steps_from count group groups) ≡ length (flat_map (λ commands. commands) groups)
-length_steps count group [] = refl
-length_steps count group (commands ∷ groups) = simp (length-append, length_mapped, (length_steps count (group + 1) groups))
-
 record At (known : Known) (n : ℕ) (r : Rule) : Type 0 where
-  command : NvccGeneratedSubcommand
-  is : r ≡ rule_at known n command
+  item : Listed
+  is : r ≡ rule_in known n item
 
-numbered_at : (known : Known) (n i : ℕ) (commands : List NvccGeneratedSubcommand) → i < length commands → At known (n + i) (get_or (numbered known n commands) i no_rule)
+numbered_at : (known : Known) (n i : ℕ) (commands : List Listed) → i < length commands → At known (n + i) (get_or (numbered (rule_in known) n commands) i no_rule)
 numbered_at known n i [] h = absurd (omega arith)
-numbered_at known n zero (c ∷ commands) h = record { command = c; is = ap (λ k. rule_at known k c) (omega arith) }
+numbered_at known n zero (c ∷ commands) h = record { item = c; is = ap (λ k. rule_in known k c) (omega arith) }
 numbered_at known n (suc i) (c ∷ commands) h = grind (arith, (numbered_at known (n + 1) i commands (omega arith)))
 
 pub rules_counted : (tmp : List ℕ) (plan : Plan) → length (rules tmp plan) ≡ length (plan_steps plan)
-rules_counted tmp plan = simp (groups_numbered, length_numbered, length_steps)
+rules_counted tmp plan = simp (length_numbered, length_mapped)
 
 rule_found : (tmp : List ℕ) (plan : Plan) (n : ℕ) → n < length (plan_steps plan) → At (known_of tmp plan) n (rule_numbered tmp plan n)
 rule_found tmp plan n h =
     let here : 0 + n ≡ n = omega arith in
-    grind (arith, groups_numbered, numbered_at, length_steps)
+    grind (arith, numbered_at, length_mapped)
 
 targets_are : (tmp : List ℕ) (plan : Plan) (n : ℕ) → n < length (plan_steps plan) → (rule_numbered tmp plan n).targets ≡ targets (known_of tmp plan) n
 targets_are tmp plan n h = ap (λ r. r.targets) (rule_found tmp plan n h).is
@@ -393,7 +371,7 @@ pub others_have_files : (tmp : List ℕ) (plan : Plan) (n : ℕ) → n < length 
 others_have_files tmp plan n within e =
     let known = known_of tmp plan in
     let found = rule_found tmp plan n within in
-    let c = found.command in
+    let c = found.item.command in
     let files = files_of plan n in
     let moves : can_move known n c ≡ true = not_false (can_move known n c) (sym (ap (λ r. r.is_local) found.is) ∙ e) in
     let first = and_parts (is_cacheable c.cacheable) (bytes_eq tmp c.cwd && has_all_named known n c.args files) moves in

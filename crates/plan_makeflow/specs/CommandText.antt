@@ -4,6 +4,7 @@ use Rattle.std.specs.List.{list_any}
 use Rattle.shell_words.specs.Shell.Quoting.{written}
 use Rattle.plans.specs.declared.plan.NvccGeneratedSubcommand.{NvccGeneratedSubcommand}
 use Rattle.plans.specs.declared.plan.Plan.{Plan}
+use Rattle.plans.specs.Listed.{listed}
 use Rattle.plan_scripts.specs.CommandText.{assignment}
 use Rattle.plan_scripts.specs.CommandText as scripts
 
@@ -21,4 +22,4 @@ abbrev pub is_long : NvccGeneratedSubcommand → Bool
 is_long c = nat_lt 65000 (length (command_text false c))
 
 abbrev pub has_long_command : Plan → Bool
-has_long_command plan = list_any (list_any is_long) plan.groups
+has_long_command plan = list_any (λ l. is_long l.command) (listed plan.groups)

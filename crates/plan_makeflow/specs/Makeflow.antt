@@ -5,10 +5,11 @@ use Rattle.serde_json.specs.Read.{read}
 use Rattle.serde_json.specs.View.{items_of}
 use Rattle.serde_json.specs.Written.{compact_text}
 use Rattle.plans.specs.declared.plan.Plan.{Plan}
+use Rattle.plans.specs.Listed.{listed}
 use Rattle.plan_scripts.specs.declared.refusal.Refusal.{Refusal}
 use Rattle.plan_scripts.specs.declared.refusal.Refusal.TheVariants.{LongCommand}
 use Rattle.plan_scripts.specs.declared.format.Format.TheVariants as formats
-use Rattle.plan_scripts.specs.Judging.{judged_groups}
+use Rattle.plan_scripts.specs.Judging.{judged_commands}
 use Rattle.plan_scripts.specs.Script.{unless_refused}
 use Rattle.json_values.specs.Values.{texts_data}
 use Rattle.plan_makeflow.specs.CommandText.{has_long_command}
@@ -35,7 +36,7 @@ makeflow_text tmp plan = compact_text (makeflow_data tmp plan) ++ 10 ∷ []
 -- runs the commands, can't represent each.
 abbrev pub makeflow_answer : List ℕ → Plan → Result (List ℕ) Refusal
 makeflow_answer tmp plan =
-    if has_long_command plan then Err LongCommand else unless_refused (judged_groups formats.Makeflow plan.groups) (makeflow_text tmp plan)
+    if has_long_command plan then Err LongCommand else unless_refused (judged_commands formats.Makeflow (listed plan.groups)) (makeflow_text tmp plan)
 
 -- a text is JSON and a newline, and a reader of the JSON gets this data
 pub record ReadsAs (text : List ℕ) (data_read : Data) : Type 0 where

@@ -6,10 +6,11 @@ use Rattle.compilers.specs.declared.command.Cacheable.{Cacheable}
 use Rattle.compilers.specs.declared.command.Cacheable.TheVariants.{Yes, No}
 use Rattle.plans.specs.declared.plan.NvccGeneratedSubcommand.{NvccGeneratedSubcommand}
 use Rattle.plans.specs.declared.plan.Plan.{Plan}
+use Rattle.plans.specs.Listed.{Listed, listed}
 use Rattle.command_files.specs.declared.files.CommandFiles.{CommandFiles}
 use Rattle.command_files.specs.CommandFiles.{unknown_files}
 use Rattle.command_files.specs.Files.{is_among}
-use Rattle.command_files.specs.Numbered.{of_groups}
+use Rattle.command_files.specs.Numbered.{numbered}
 use Rattle.command_files.specs.Order.{needs_at}
 use Rattle.command_files.specs.PlanNeeds.{plan_files, plan_needs}
 use Rattle.command_files.specs.Touched.{Numbers}
@@ -61,14 +62,14 @@ abbrev pub is_named : Side → Known → ℕ → List ℕ → Bool
 is_named side known number path = by_one side known number path (known.writers path)
 
 -- the names of such files
-abbrev pub listed : Option (List ℕ) → List (List ℕ)
-listed None = []
-listed (Some name) = name ∷ []
+abbrev pub name_alone : Option (List ℕ) → List (List ℕ)
+name_alone None = []
+name_alone (Some name) = name ∷ []
 
 abbrev pub names_of : Side → Known → ℕ → List (List ℕ) → List (List ℕ)
 names_of side known number [] = []
 names_of side known number (path ∷ paths) =
-    (if is_named side known number path then listed (name_in known.tmp path) else []) ++ names_of side known number paths
+    (if is_named side known number path then name_alone (name_in known.tmp path) else []) ++ names_of side known number paths
 
 -- what a command's rule makes, and what it needs: the stamps of the commands that the command needs, and the files passed to it
 abbrev pub targets : Known → ℕ → List (List ℕ)
@@ -119,8 +120,8 @@ abbrev pub rule_at : Known → ℕ → NvccGeneratedSubcommand → Rule
 rule_at known number c = rule_of known number (can_move known number c) c
 
 -- the rules of a plan, in plan order. They don't depend on the groups
-abbrev pub rule_in : Known → ℕ → ℕ → NvccGeneratedSubcommand → Rule
-rule_in known number group c = rule_at known number c
+abbrev pub rule_in : Known → ℕ → Listed → Rule
+rule_in known number l = rule_at known number l.command
 
 abbrev pub rules : List ℕ → Plan → List Rule
-rules tmp plan = of_groups (rule_in (known_of tmp plan)) 0 0 plan.groups
+rules tmp plan = numbered (rule_in (known_of tmp plan)) 0 (listed plan.groups)

@@ -1,7 +1,6 @@
 //! The text of a command, as a shell runs it for a rule.
 
-ghost use Rattle.std.specs.Prelude.{◌≡◌, ◌++◌, ◌∷◌, IfOk, OnOk, codes, map, string_bytes, vec_items};
-ghost use Rattle.std.specs.List.{list_any};
+ghost use Rattle.std.specs.Prelude.{◌≡◌, ◌++◌, ◌∷◌, IfOk, OnOk, codes, string_bytes};
 ghost use Rattle.shell_words.specs.Shell.Quoting.{written};
 ghost use Rattle.plan_makeflow.specs.CommandText as spec;
 
@@ -57,33 +56,15 @@ fn is_long(alloc: Global, command: &NvccGeneratedSubcommand) -> Result<bool, All
     Ok(MOST_BYTES < text.len())
 }
 
-// Whether a group has such a command.
-fn has_long(alloc: Global, commands: &[NvccGeneratedSubcommand]) -> Result<bool, AllocError>
-    ensures { IfOk result (λ long. long ≡ list_any spec.is_long commands.now) }
-{
-    for command in commands {
-        if is_long(alloc, command)? {
-            return Ok(true);
-        }
-    }
-    Ok(false)
-}
-
-// Whether groups have such a command.
-fn have_long(alloc: Global, groups: &[Vec<NvccGeneratedSubcommand>]) -> Result<bool, AllocError>
-    ensures { IfOk result (λ long. long ≡ list_any (list_any spec.is_long) (map vec_items groups.now)) }
-{
-    for commands in groups {
-        if has_long(alloc, commands.as_slice())? {
-            return Ok(true);
-        }
-    }
-    Ok(false)
-}
-
 /// Whether a plan has a command that Makeflow doesn't read.
 pub fn has_long_command(alloc: Global, plan: &Plan) -> Result<bool, AllocError>
     ensures { IfOk result (λ long. long ≡ spec.has_long_command plan.now) }
 {
-    have_long(alloc, plan.groups.as_slice())
+    let commands = plan.groups.listed(alloc)?;
+    for listed in &commands {
+        if is_long(alloc, listed.command)? {
+            return Ok(true);
+        }
+    }
+    Ok(false)
 }

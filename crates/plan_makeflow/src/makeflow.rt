@@ -1,14 +1,14 @@
 //! A plan as a Makeflow file.
 
-ghost use Rattle.std.specs.Prelude.{◌≡◌, ◌+◌, ◌++◌, ◌∷◌, [], IfOk, OnOk, Some, length, map, string_bytes, vec_items};
+ghost use Rattle.std.specs.Prelude.{◌≡◌, ◌++◌, ◌∷◌, [], IfOk, OnOk, Some, map, string_bytes};
 ghost use Rattle.serde_json.specs.Data.{array};
 ghost use Rattle.serde_json.specs.Read.{read};
 ghost use Rattle.serde_json.specs.View.{items_of, view};
 ghost use Rattle.serde_json.specs.Written.{compact_text};
-ghost use Rattle.command_files.specs.Numbered.{of_group, of_groups};
+ghost use Rattle.command_files.specs.Numbered.{numbered};
 ghost use Rattle.plan_scripts.specs.Answers.{Answers};
 ghost use Rattle.plan_makeflow.specs.Makeflow as spec;
-ghost use Rattle.plan_makeflow.specs.Rules.{rule_at, rule_in, rules, seen};
+ghost use Rattle.plan_makeflow.specs.Rules.{rule_in, rules, seen};
 
 use crate::command::has_long_command;
 use crate::facts::Facts;
@@ -16,66 +16,35 @@ use crate::rules::rule_value;
 use crate::writers::writers_of;
 use command_files::files_and_needs;
 use json_values::put_text;
-use plan_scripts::{Format, Refusal, judge_groups};
-use plans::{NvccGeneratedSubcommand, Plan};
+use plan_scripts::{Format, Refusal, judge_commands};
+use plans::{ListedCommand, Plan};
 use serde_json::{Map, Value, push, put};
 use std::alloc::{AllocError, Global};
 
-// Adds the rule of a command with its number.
-fn push_numbered(
-    alloc: Global,
-    list: &mut Vec<Value>,
-    facts: &Facts<'_>,
-    number: usize,
-    command: &NvccGeneratedSubcommand,
-) -> Result<(), AllocError>
-    ensures { OnOk result (map view list.new.items ≡ map view list.old.items ++ spec.rule_data (rule_at (seen facts.now) number command.now) ∷ []) }
-{
-    push(list, rule_value(alloc, facts, number, command)?)
-}
-
-// Adds the rule of a command to those of the commands before it.
+// Adds the rule of the command with a number.
 fn push_rule(
     alloc: Global,
     list: &mut Vec<Value>,
     facts: &Facts<'_>,
-    command: &NvccGeneratedSubcommand,
+    number: usize,
+    listed: &ListedCommand<'_>,
 ) -> Result<(), AllocError>
-    ensures { OnOk result (map view list.new.items ≡ map view list.old.items ++ spec.rule_data (rule_at (seen facts.now) (length list.old.items) command.now) ∷ []) }
+    ensures { OnOk result (map view list.new.items ≡ map view list.old.items ++ spec.rule_data (rule_in (seen facts.now) number listed.now) ∷ []) }
 {
-    let number = list.len();
-    push_numbered(alloc, list, facts, number, command)
+    push(list, rule_value(alloc, facts, number, listed.command)?)
 }
 
-// Adds the rules of a group's commands.
-fn push_group(
-    alloc: Global,
-    list: &mut Vec<Value>,
-    facts: &Facts<'_>,
-    group: usize,
-    commands: &[NvccGeneratedSubcommand],
-) -> Result<(), AllocError>
-    ensures rules { OnOk result (map view list.new.items
-        ≡ map view list.old.items ++ map spec.rule_data (of_group (rule_in (seen facts.now)) (length list.old.items) group commands.now)) }
-    ensures length { OnOk result (length list.new.items ≡ length list.old.items + length commands.now) }
-{
-    for command in commands {
-        push_rule(alloc, list, facts, command)?;
-    }
-    Ok(())
-}
-
-// A list of the rules of groups.
-fn groups_value(
+// A list of the rules of commands.
+fn commands_value(
     alloc: Global,
     facts: &Facts<'_>,
-    groups: &[Vec<NvccGeneratedSubcommand>],
+    commands: &[ListedCommand<'_>],
 ) -> Result<Value, AllocError>
-    ensures { IfOk result (λ v. view v ≡ array (items_of (map spec.rule_data (of_groups (rule_in (seen facts.now)) 0 0 (map vec_items groups.now))))) }
+    ensures { IfOk result (λ v. view v ≡ array (items_of (map spec.rule_data (numbered (rule_in (seen facts.now)) 0 commands.now)))) }
 {
     let mut list = Vec::new(alloc);
-    for (group, commands) in groups.iter().enumerate() {
-        push_group(alloc, &mut list, facts, group, commands.as_slice())?;
+    for (number, listed) in commands.iter().enumerate() {
+        push_rule(alloc, &mut list, facts, number, listed)?;
     }
     Ok(Value::Array(list))
 }
@@ -84,6 +53,7 @@ fn groups_value(
 fn rules_value(alloc: Global, tmp: &str, plan: &Plan) -> Result<Value, AllocError>
     ensures { IfOk result (λ v. view v ≡ array (items_of (map spec.rule_data (rules tmp.now plan.now)))) }
 {
+    let commands = plan.groups.listed(alloc)?;
     let both = files_and_needs(alloc, plan)?;
     let writers = writers_of(alloc, both.files.as_slice())?;
     let facts = Facts {
@@ -92,7 +62,7 @@ fn rules_value(alloc: Global, tmp: &str, plan: &Plan) -> Result<Value, AllocErro
         writers: &writers,
         needs: both.needs.as_slice(),
     };
-    groups_value(alloc, &facts, plan.groups.as_slice())
+    commands_value(alloc, &facts, commands.as_slice())
 }
 
 // The object of a plan.
@@ -147,6 +117,7 @@ pub fn makeflow_file(alloc: Global, tmp: &str, plan: &Plan) -> Result<String, Re
     if has_long_command(alloc, plan)? {
         return Err(Refusal::LongCommand);
     }
-    judge_groups(Format::Makeflow, plan.groups.as_slice())?;
+    let commands = plan.groups.listed(alloc)?;
+    judge_commands(Format::Makeflow, commands.as_slice())?;
     Ok(file_text(alloc, tmp, plan)?)
 }

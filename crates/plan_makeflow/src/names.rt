@@ -120,7 +120,7 @@ fn is_named(side: Side, facts: &Facts<'_>, number: usize, path: &str) -> bool
 
 // Adds the name of a file, if Work Queue can carry one of that name.
 fn push_name(alloc: Global, names: &mut Words, tmp: &str, path: &str) -> Result<(), AllocError>
-    ensures { OnOk result (names.new ≡ names.old ++ rules.listed (spec.name_in tmp.now path.now)) }
+    ensures { OnOk result (names.new ≡ names.old ++ rules.name_alone (spec.name_in tmp.now path.now)) }
 {
     match name_in(tmp, path) {
         None => Ok(()),

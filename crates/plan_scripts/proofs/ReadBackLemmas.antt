@@ -6,10 +6,10 @@ use Rattle.shell_words.specs.Posix.{Token, Word, Operator, Place, Between, step,
 use Rattle.shell_words.specs.Shell.Quoting.{written}
 use Rattle.shell_words.proofs.PosixLemmas.{reading, quoted_before}
 use Rattle.plans.specs.declared.plan.NvccGeneratedSubcommand.{NvccGeneratedSubcommand}
-use Rattle.plans.specs.declared.plan.Plan.{Plan}
+use Rattle.plans.specs.Listed.{Listed}
 use Rattle.plan_scripts.specs.CommandText.{assignment, env_words, command_text}
-use Rattle.plan_scripts.specs.Script.{command_line, group_lines, groups_lines, script}
-use Rattle.plan_scripts.specs.ReadBack.{IsOfTexts, shell_tokens, word_tokens, command_tokens, in_front, line_tokens}
+use Rattle.plan_scripts.specs.Script.{command_line, lines}
+use Rattle.plan_scripts.specs.ReadBack.{IsOfTexts, shell_tokens, word_tokens, command_tokens, in_front, line_tokens, ScriptsReadBack}
 use Rattle.plan_scripts.proofs.TextLemmas.{written_chars, plain_chars, assignments_utf8}
 
 -- ---- characters
@@ -154,18 +154,13 @@ line_before c rest ts are found =
     ∙ text_then [] c (10 ∷ rest) (Operator (codes "\n") ∷ ts) tt are (ap tokens (plain_chars (10 ∷ []) rest refl refl) ∙ reads_newline (chars rest) ts found)
     ∙ ap Some (sym (append_assoc (command_tokens [] c) (Operator (codes "\n") ∷ []) ts))
 
-group_before : (group : List NvccGeneratedSubcommand) (rest : List ℕ) (ts : List Token) → AllByRecursion IsOfTexts group → shell_tokens rest ≡ Some ts → shell_tokens (group_lines group ++ rest) ≡ Some (flat_map line_tokens group ++ ts)
-group_before [] rest ts are found = found
-group_before (c ∷ group) rest ts are found =
-    grind (arith, append_assoc, line_before, (group_before group rest ts are.1 found))
+lines_read : (commands : List Listed) → AllByRecursion (λ l. IsOfTexts l.command) commands → shell_tokens (lines commands) ≡ Some (flat_map (λ l. line_tokens l.command) commands)
+lines_read [] are = nothing_reads
+lines_read (l ∷ commands) are =
+    line_before l.command (lines commands) (flat_map (λ l. line_tokens l.command) commands) are.0 (lines_read commands are.1)
 
-groups_read : (groups : List (List NvccGeneratedSubcommand)) → AllByRecursion (AllByRecursion IsOfTexts) groups → shell_tokens (groups_lines groups) ≡ Some (flat_map (flat_map line_tokens) groups)
-groups_read [] are = nothing_reads
-groups_read (group ∷ groups) are = group_before group (groups_lines groups) (flat_map (flat_map line_tokens) groups) are.0 (groups_read groups are.1)
-
-pub script_reads_back : (plan : Plan) → AllByRecursion (AllByRecursion IsOfTexts) plan.groups →
-    shell_tokens (script plan) ≡ Some (Word (codes "set") ∷ Word (codes "-e") ∷ Operator (codes "\n") ∷ flat_map (flat_map line_tokens) plan.groups)
+pub script_reads_back : ScriptsReadBack
 unfolding lib.Utf8.encode
-script_reads_back plan are =
-    ap tokens (plain_chars (codes "set -e\n") (groups_lines plan.groups) refl refl)
-    ∙ reads_set (chars (groups_lines plan.groups)) (flat_map (flat_map line_tokens) plan.groups) (groups_read plan.groups are)
+script_reads_back commands are =
+    ap tokens (plain_chars (codes "set -e\n") (lines commands) refl refl)
+    ∙ reads_set (chars (lines commands)) (flat_map (λ l. line_tokens l.command) commands) (lines_read commands are)

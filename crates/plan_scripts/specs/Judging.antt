@@ -3,6 +3,7 @@ use Rattle.std.specs.Prelude.{ℕ, List, [], ◌∷◌, Bool, true, false, ◌==
 use Rattle.std.specs.List.{list_all}
 use Rattle.texts.specs.Path.{lacks}
 use Rattle.plans.specs.declared.plan.NvccGeneratedSubcommand.{NvccGeneratedSubcommand}
+use Rattle.plans.specs.Listed.{Listed}
 use Rattle.plan_scripts.specs.declared.refusal.Refusal.{Refusal}
 use Rattle.plan_scripts.specs.declared.refusal.Refusal.TheVariants.{Unheld, VariableName, Program}
 use Rattle.plan_scripts.specs.declared.format.Format.{Format}
@@ -51,12 +52,7 @@ abbrev pub and_then : Result (Unit {0}) Refusal → Result (Unit {0}) Refusal �
 and_then (Ok _) next = next
 and_then (Err refusal) next = Err refusal
 
--- the first refusal of a group's commands
-abbrev pub judged_group : Format → List NvccGeneratedSubcommand → Result (Unit {0}) Refusal
-judged_group format [] = Ok tt
-judged_group format (c ∷ commands) = and_then (judged_command format c) (judged_group format commands)
-
--- the first refusal of a plan's commands
-abbrev pub judged_groups : Format → List (List NvccGeneratedSubcommand) → Result (Unit {0}) Refusal
-judged_groups format [] = Ok tt
-judged_groups format (group ∷ groups) = and_then (judged_group format group) (judged_groups format groups)
+-- the first refusal of commands
+abbrev pub judged_commands : Format → List Listed → Result (Unit {0}) Refusal
+judged_commands format [] = Ok tt
+judged_commands format (l ∷ commands) = and_then (judged_command format l.command) (judged_commands format commands)

@@ -5,7 +5,7 @@ use Rattle.std.specs.List.{AllByRecursion, flat_map}
 use Rattle.shell_words.specs.Posix.{Token, Word, Operator, tokens}
 use Rattle.shell_words.specs.Shell.Quoting.{written}
 use Rattle.plans.specs.declared.plan.NvccGeneratedSubcommand.{NvccGeneratedSubcommand}
-use Rattle.plans.specs.declared.plan.Plan.{Plan}
+use Rattle.plans.specs.Listed.{Listed}
 use Rattle.plan_scripts.specs.CommandText.{command_text, env_words}
 use Rattle.plan_scripts.specs.Script.{script}
 
@@ -46,5 +46,5 @@ line_tokens c = command_tokens [] c ++ Operator (codes "\n") ∷ []
 -- a script is `set -e` and then each command, in order
 abbrev pub ScriptsReadBack : Type 0
 ScriptsReadBack =
-    (plan : Plan) → AllByRecursion (AllByRecursion IsOfTexts) plan.groups →
-    shell_tokens (script plan) ≡ Some (Word (codes "set") ∷ Word (codes "-e") ∷ Operator (codes "\n") ∷ flat_map (flat_map line_tokens) plan.groups)
+    (commands : List Listed) → AllByRecursion (λ l. IsOfTexts l.command) commands →
+    shell_tokens (script commands) ≡ Some (Word (codes "set") ∷ Word (codes "-e") ∷ Operator (codes "\n") ∷ flat_map (λ l. line_tokens l.command) commands)

@@ -2,25 +2,23 @@
 use Rattle.std.specs.Prelude.{ℕ, List, [], ◌∷◌, ◌++◌, codes, Result, Ok, Err, flat_map}
 use Rattle.plans.specs.declared.plan.NvccGeneratedSubcommand.{NvccGeneratedSubcommand}
 use Rattle.plans.specs.declared.plan.Plan.{Plan}
+use Rattle.plans.specs.Listed.{Listed, listed}
 use Rattle.plan_scripts.specs.declared.refusal.Refusal.{Refusal}
 use Rattle.plan_scripts.specs.declared.format.Format.TheVariants.{Shell}
-use Rattle.plan_scripts.specs.Judging.{judged_groups}
+use Rattle.plan_scripts.specs.Judging.{judged_commands}
 use Rattle.plan_scripts.specs.CommandText.{command_text}
 
 -- a command's line
 abbrev pub command_line : NvccGeneratedSubcommand → List ℕ
 command_line c = command_text [] c ++ 10 ∷ []
 
--- the lines of a group, and of groups, in order
-abbrev pub group_lines : List NvccGeneratedSubcommand → List ℕ
-group_lines group = flat_map command_line group
+-- the lines of commands, in order
+abbrev pub lines : List Listed → List ℕ
+lines commands = flat_map (λ l. command_line l.command) commands
 
-abbrev pub groups_lines : List (List NvccGeneratedSubcommand) → List ℕ
-groups_lines groups = flat_map group_lines groups
-
--- the script. It stops at the first command that fails
-abbrev pub script : Plan → List ℕ
-script plan = codes "set -e\n" ++ groups_lines plan.groups
+-- the script of commands. It stops at the first one that fails
+abbrev pub script : List Listed → List ℕ
+script commands = codes "set -e\n" ++ lines commands
 
 -- a text, unless there is a refusal
 abbrev pub unless_refused : Result (Unit {0}) Refusal → List ℕ → Result (List ℕ) Refusal
@@ -29,4 +27,4 @@ unless_refused (Err refusal) text = Err refusal
 
 -- the script of a plan, or why there is none
 abbrev pub shell_answer : Plan → Result (List ℕ) Refusal
-shell_answer plan = unless_refused (judged_groups Shell plan.groups) (script plan)
+shell_answer plan = unless_refused (judged_commands Shell (listed plan.groups)) (script (listed plan.groups))

@@ -4,9 +4,10 @@ use Rattle.std.specs.Str.{chars, is_utf8}
 use Rattle.compilers.specs.declared.command.Cacheable.TheVariants.{Yes}
 use Rattle.shell_words.specs.Posix.{Word, Operator}
 use Rattle.plans.specs.declared.plan.NvccGeneratedSubcommand.{NvccGeneratedSubcommand}
+use Rattle.plans.specs.Listed.{listed}
 use Rattle.plan_scripts.specs.declared.format.Format.TheVariants.{Shell, Ninja}
 use Rattle.plan_scripts.specs.declared.refusal.Refusal.TheVariants.{Unheld, VariableName}
-use Rattle.plan_scripts.specs.Judging.{judged_command, judged_groups}
+use Rattle.plan_scripts.specs.Judging.{judged_command, judged_commands}
 use Rattle.plan_scripts.specs.Script.{command_line}
 use Rattle.plan_scripts.specs.ReadBack.{shell_tokens}
 
@@ -50,7 +51,7 @@ pub newline_held : NewlineHeld
 newline_held = refl
 
 abbrev pub NewlineRefused : Type 0
-NewlineRefused = judged_groups Ninja ((cicc_with (codes "K") (codes "a\nb") ∷ []) ∷ []) ≡ Err Unheld
+NewlineRefused = judged_commands Ninja (listed ((cicc_with (codes "K") (codes "a\nb") ∷ []) ∷ [])) ≡ Err Unheld
 
 pub newline_refused : NewlineRefused
 newline_refused = refl

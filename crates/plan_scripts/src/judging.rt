@@ -1,6 +1,6 @@
 //! Whether a format can represent a plan, if a shell runs its commands.
 
-ghost use Rattle.std.specs.Prelude.{◌≡◌, map, string_bytes, vec_items};
+ghost use Rattle.std.specs.Prelude.{◌≡◌, map, string_bytes};
 ghost use Rattle.std.specs.List.{list_all};
 ghost use Rattle.texts.specs.Path.{lacks};
 ghost use Rattle.texts.specs.Variables.{pair_of};
@@ -8,7 +8,7 @@ ghost use Rattle.plan_scripts.specs.Judging as spec;
 
 use crate::format::Format;
 use crate::refusal::Refusal;
-use plans::NvccGeneratedSubcommand;
+use plans::{ListedCommand, NvccGeneratedSubcommand};
 
 // Whether a format can represent a byte.
 fn holds(format: Format, byte: u8) -> bool
@@ -118,22 +118,12 @@ fn judge_command(format: Format, command: &NvccGeneratedSubcommand) -> Result<()
     Ok(())
 }
 
-// The first refusal of a group's commands.
-fn judge_group(format: Format, group: &[NvccGeneratedSubcommand]) -> Result<(), Refusal>
-    ensures { result ≡ spec.judged_group format group.now }
+/// The first refusal of commands.
+pub fn judge_commands(format: Format, commands: &[ListedCommand<'_>]) -> Result<(), Refusal>
+    ensures { result ≡ spec.judged_commands format commands.now }
 {
-    for command in group {
-        judge_command(format, command)?;
-    }
-    Ok(())
-}
-
-/// The first refusal of the commands of groups.
-pub fn judge_groups(format: Format, groups: &[Vec<NvccGeneratedSubcommand>]) -> Result<(), Refusal>
-    ensures { result ≡ spec.judged_groups format (map vec_items groups.now) }
-{
-    for group in groups {
-        judge_group(format, group.as_slice())?;
+    for listed in commands {
+        judge_command(format, listed.command)?;
     }
     Ok(())
 }

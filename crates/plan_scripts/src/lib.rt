@@ -10,6 +10,6 @@ mod shell;
 
 pub use command::{assignments, push_command};
 pub use format::Format;
-pub use judging::{holds_text, holds_words, judge_groups};
+pub use judging::{holds_text, holds_words, judge_commands};
 pub use refusal::Refusal;
 pub use shell::shell_script;

@@ -1,14 +1,14 @@
 //! A plan as a shell script.
 
-ghost use Rattle.std.specs.Prelude.{◌≡◌, ◌++◌, IfOk, OnOk, map, string_bytes, vec_items};
+ghost use Rattle.std.specs.Prelude.{◌≡◌, ◌++◌, IfOk, OnOk, string_bytes};
 ghost use Rattle.plan_scripts.specs.Answers.{Answers};
 ghost use Rattle.plan_scripts.specs.Script as spec;
 
 use crate::command::push_command;
 use crate::format::Format;
-use crate::judging::judge_groups;
+use crate::judging::judge_commands;
 use crate::refusal::Refusal;
-use plans::{NvccGeneratedSubcommand, Plan};
+use plans::{ListedCommand, NvccGeneratedSubcommand, Plan};
 use std::alloc::{AllocError, Global};
 
 // Adds the line of a command.
@@ -23,41 +23,14 @@ fn push_line(
     text.push_str("\n")
 }
 
-// Adds the lines of a group.
-fn push_group(
-    alloc: Global,
-    text: &mut String,
-    group: &[NvccGeneratedSubcommand],
-) -> Result<(), AllocError>
-    ensures { OnOk result (string_bytes text.new ≡ string_bytes text.old ++ spec.group_lines group.now) }
+// The script of commands.
+fn script(alloc: Global, commands: &[ListedCommand<'_>]) -> Result<String, AllocError>
+    ensures { IfOk result (λ text. string_bytes text ≡ spec.script commands.now) }
 {
-    for command in group {
-        push_line(alloc, text, command)?;
+    let mut text = String::from_str(alloc, "set -e\n")?;
+    for listed in commands {
+        push_line(alloc, &mut text, listed.command)?;
     }
-    Ok(())
-}
-
-// Adds the lines of groups.
-fn push_groups(
-    alloc: Global,
-    text: &mut String,
-    groups: &[Vec<NvccGeneratedSubcommand>],
-) -> Result<(), AllocError>
-    ensures { OnOk result (string_bytes text.new ≡ string_bytes text.old ++ spec.groups_lines (map vec_items groups.now)) }
-{
-    for group in groups {
-        push_group(alloc, text, group.as_slice())?;
-    }
-    Ok(())
-}
-
-// The script of a plan.
-fn script(alloc: Global, plan: &Plan) -> Result<String, AllocError>
-    ensures { IfOk result (λ text. string_bytes text ≡ spec.script plan.now) }
-{
-    let mut text = String::new(alloc);
-    text.push_str("set -e\n")?;
-    push_groups(alloc, &mut text, plan.groups.as_slice())?;
     Ok(text)
 }
 
@@ -71,6 +44,7 @@ fn script(alloc: Global, plan: &Plan) -> Result<String, AllocError>
 pub fn shell_script(alloc: Global, plan: &Plan) -> Result<String, Refusal>
     ensures { Answers result (spec.shell_answer plan.now) }
 {
-    judge_groups(Format::Shell, plan.groups.as_slice())?;
-    Ok(script(alloc, plan)?)
+    let commands = plan.groups.listed(alloc)?;
+    judge_commands(Format::Shell, commands.as_slice())?;
+    Ok(script(alloc, commands.as_slice())?)
 }

@@ -1,2 +1,3 @@
+pub mod Listed
 pub mod Programs
 pub mod Reasons

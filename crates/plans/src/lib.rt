@@ -2,10 +2,12 @@
 #![tactic(auto)]
 
 pub mod laws;
+mod listed;
 mod origins;
 mod plan;
 mod program;
 
+pub use listed::ListedCommand;
 pub use origins::{Origin, Origins, PlanWithOrigins};
 pub use plan::{Dropped, DroppedCommands, Groups, NvccGeneratedSubcommand, Plan, Reason};
 pub use program::Program;

@@ -1,8 +1,7 @@
 use Rattle.std.proofs.Common.{ℕ, ◌+◌, List, ◌∷◌, [], length, drop, sym, ap, ◌∙◌, length-append}
-use Rattle.command_files.specs.Numbered.{of_group}
 use Rattle.plan_json.specs.Json.{origin_at}
 use Rattle.texts.proofs.PushedLemmas.{next-left}
-use Rattle.c_plans.specs.Records.{Entry, command_entry, shared_seen, record_at, with_entry, with_entries}
+use Rattle.c_plans.specs.Records.{Entry, command_entry, shared_seen, record_at, with_entry, with_entries, of_group}
 use Rattle.c_plans.proofs.RecordLemmas.{entry-then}
 use Rattle.c_plans.proofs.plan_entries.push_commands.Goals as goal
 

@@ -1,6 +1,5 @@
 use Rattle.std.proofs.Common.{◌≡◌, drop, length}
-use Rattle.command_files.specs.Numbered.{of_group}
-use Rattle.c_plans.specs.Records.{command_entry, shared_seen, with_entries}
+use Rattle.c_plans.specs.Records.{command_entry, shared_seen, with_entries, of_group}
 use Rattle.c_plans.proofs.plan_entries.push_commands.Given as goal
 
 -- the records so far, and behind them those of the commands that are left, are all

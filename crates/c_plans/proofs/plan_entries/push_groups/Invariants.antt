@@ -1,6 +1,5 @@
 use Rattle.std.proofs.Common.{◌≡◌, drop, length, map, vec_items}
-use Rattle.command_files.specs.Numbered.{of_groups}
-use Rattle.c_plans.specs.Records.{command_entry, shared_seen, groups_at, with_groups}
+use Rattle.c_plans.specs.Records.{command_entry, shared_seen, groups_at, with_groups, of_groups}
 use Rattle.c_plans.proofs.plan_entries.push_groups.Given as goal
 
 -- the records so far, and behind them those of the groups that are left, are all

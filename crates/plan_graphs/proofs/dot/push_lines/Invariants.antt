@@ -1,6 +1,6 @@
-use Rattle.std.proofs.Common.{◌≡◌, ◌++◌, string_bytes, map, drop, flat_map}
+use Rattle.std.proofs.Common.{◌≡◌, ◌++◌, string_bytes, drop}
+use Rattle.plan_graphs.specs.Dot.{lines_from, lines}
 use Rattle.plan_graphs.proofs.dot.push_lines.Given as goal
 
-abbrev pub invariant-loop-line : goal.invariant-loop-line
-invariant-loop-line l =
-    string_bytes l.text ++ flat_map (λ line. line) (map string_bytes (drop l.line-index l.lines)) ≡ string_bytes l.fn.text ++ flat_map (λ line. line) (map string_bytes l.lines)
+abbrev pub invariant-loop-number : goal.invariant-loop-number
+invariant-loop-number l = string_bytes l.text ++ lines_from l.count l.number (drop l.number l.listed-items) ≡ string_bytes l.fn.text ++ lines l.fn.plan

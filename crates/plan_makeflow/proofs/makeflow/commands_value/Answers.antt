@@ -1,0 +1,24 @@
+use Rattle.std.proofs.Common.{◌+◌, ◌++◌, [], ◌∷◌, map, drop, sym, ap, ◌∙◌, append-nil, drop_of_length-le, arith}
+use Rattle.std.proofs.lemmas.Grind.{common_steps}
+use Rattle.serde_json.proofs.Views.{view-Array}
+use Rattle.serde_json.specs.View.{view}
+use Rattle.command_files.specs.Numbered.{numbered}
+use Rattle.texts.proofs.PushedLemmas.{pushed-items, next-left}
+use Rattle.plan_makeflow.specs.Makeflow.{rule_data}
+use Rattle.plan_makeflow.specs.Rules.{seen, rule_in}
+use Rattle.plan_makeflow.proofs.makeflow.commands_value.Goals as goal
+
+pub loop-number-preserved : goal.loop-number-preserved
+loop-number-preserved c =
+    let n = c.loop-number.number in
+    let commands = c.args.commands.now in
+    let rule = rule_in (seen c.args.facts.now) in
+    let item = c.index-commands-number.result in
+    let before = map view c.loop-number.list.items in
+    let rest = map rule_data (numbered rule (n + 1) (drop (n + 1) commands)) in
+    pushed-items before (rule_data (rule n item) ∷ []) (map view c.push_rule.new.list.items) rest c.in_ok-push_rule.ensures
+    ∙ ap (λ cs. before ++ map rule_data (numbered rule n cs)) (sym (next-left commands n item c.loop-number-test.true c.index-commands-number.is))
+    ∙ c.loop-number.invariant
+
+pub returns : goal.returns
+returns c = grind (arith, common_steps, view-Array, append-nil, drop_of_length-le)
