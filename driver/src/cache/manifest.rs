@@ -204,7 +204,7 @@ impl Vain {
 pub struct Manifest {
     pub files: Vec<Seen>,
     pub vain: Vec<Vain>,
-    /// Paths, and where they have to lead: folders may be one, and gcc may name what a link leads to.
+    /// Paths, and where they lead: folders may be one, and gcc may name what a link leads to.
     pub places: Vec<(PathBuf, PathBuf)>,
     /// What the command lines of preprocessors define, if a source may stand for another one of its layout.
     pub defines: Option<Vec<Vec<u8>>>,
@@ -226,14 +226,13 @@ impl Manifest {
     pub fn again(&self, cwd: &Path) -> Option<Manifest> {
         let files = self.files.iter().map(|seen| seen.again(cwd)).collect::<Option<_>>()?;
         let vain = self.vain.iter().map(|vain| vain.again(cwd)).collect::<Option<_>>()?;
-        let leads_there = |(path, real): &(PathBuf, PathBuf)| real_place(path, cwd).is_some_and(|now| now == *real);
-        let are_in_place = self.places.iter().all(leads_there);
-        are_in_place.then(|| Manifest { files, vain, places: self.places.clone(), defines: self.defines.clone() })
+        let places = self.places.iter().map(|(path, _)| Some((path.clone(), real_place(path, cwd)?))).collect::<Option<_>>()?;
+        Some(Manifest { files, vain, places, defines: self.defines.clone() })
     }
 
     /// The same as it is now, if what has changed of it doesn't count: sources of which the layouts are as they were.
     pub fn alike(&self, now: &Manifest, cwd: &Path) -> Option<Manifest> {
-        let defines = self.defines.as_ref()?;
+        let defines = self.defines.as_ref().filter(|_| self.places == now.places)?;
         let mut alike = now.clone();
         let mut unsure = Vec::new();
         for (place, (earlier, seen)) in self.files.iter().zip(&mut alike.files).enumerate() {
@@ -282,7 +281,7 @@ impl Manifest {
     /// The digest of what counts, beside a call's own key.
     pub fn digest(&self, call: &Digest) -> Digest {
         let mut hasher = Hasher::default();
-        hasher.add(b"zigrunk result 1");
+        hasher.add(b"zigrunk result 2");
         hasher.update(&call.0);
         hasher.update(&(self.files.len() as u64).to_le_bytes());
         for seen in &self.files {
@@ -296,6 +295,10 @@ impl Manifest {
             hasher.add(vain.folder.as_os_str().as_bytes());
             hasher.update(&(vain.lacks.len() as u64).to_le_bytes());
             vain.lacks.iter().for_each(|lacking| hasher.add(&lacking.name));
+        }
+        hasher.update(&(self.places.len() as u64).to_le_bytes());
+        for path in self.places.iter().flat_map(|(path, real)| [path, real]) {
+            hasher.add(path.as_os_str().as_bytes());
         }
         hasher.finish()
     }
@@ -463,6 +466,27 @@ mod tests {
         assert_eq!(scratch.again(&manifest), None);
         fs::create_dir(scratch.0.join("k.cu")).unwrap();
         assert_eq!(scratch.again(&manifest), None);
+    }
+
+    #[test]
+    fn where_paths_lead_counts() {
+        let scratch = Scratch::new("ways");
+        let manifest = Manifest { vain: Vec::new(), defines: Some(Vec::new()), ..scratch.manifest() };
+        let first = scratch.again(&manifest);
+        assert!(first.is_some());
+        let lead = |to: &str| {
+            fs::remove_file(scratch.0.join("way")).unwrap();
+            std::os::unix::fs::symlink(to, scratch.0.join("way")).unwrap();
+        };
+        fs::create_dir(scratch.0.join("other")).unwrap();
+        lead("other");
+        let now = manifest.again(&scratch.0).unwrap();
+        assert_ne!(scratch.again(&manifest), first);
+        assert_eq!((manifest.alike(&now, &scratch.0), scratch.again(&now)), (None, scratch.again(&manifest)));
+        lead("missing");
+        assert_eq!(scratch.again(&manifest), None);
+        lead("inc");
+        assert_eq!((scratch.again(&manifest), scratch.again(&now)), (first, first));
     }
 
     #[test]
