@@ -707,6 +707,46 @@ real_calls() {
         done
         end
     fi
+    if case_of 'nvcc: sources of C++'; then
+        project
+        # warns WORDS FROM TO: a source is compiled, and once more with an edit that no token has
+        warns() {
+            for edit in '' "$2"; do
+                sed -i "$edit" k.cpp a.h && touch -d '1 minute ago' k.cpp
+                # shellcheck disable=SC2086 # several words
+                made $1 -c k.cpp -o k.o
+            done
+            same "what was said after $2" "$(grep -c 'warning: ' "$room/err")" 1
+        }
+        echo 'inline int g(int a) { return a; }' > a.h
+        printf '%s\n' '#include "a.h"' 'int f(int a) {' '  if (a)' '    a++;' '  a++;' '  return g(a);' '}' > k.cpp
+        warns '-Xcompiler -Wall' 's/^  a++/    a++/'
+        printf '%s\n' '#include "a.h"' 'int f(int a) { return g(a); }' > k.cpp
+        printf '%s\n' 'inline int g(int a) {' '  switch (a) {' '  case 1: a++; // fall through' '  case 2: a++; }' '  return a;' '}' > a.h
+        warns '-Xcompiler -Wextra' 's,// fall.*,// nothing,'
+        echo 'inline int g(int a) { return a; }' > a.h
+        touch -d '1 minute ago' k.cpp
+        for _ in 1 2; do made -Xcompiler -Winvalid-pch -c k.cpp -o k.o; done
+        same 'served again' "$served" gcc--c
+        echo none > a.h.gch && touch -d '1 minute ago' a.h.gch
+        made -Xcompiler -Winvalid-pch -c k.cpp -o k.o
+        same 'what was said of a precompiled header' "$(grep -c 'warning: ' "$room/err")" 1
+        rm a.h.gch
+        for name in symver weakref; do
+            printf '%s\n' "static int one() __attribute__(($name(\"${name/symver/g@}\\n.pushsection .data\\n.inc\\142in \\\"data\\\"\\n.popsection\")));" 'int two() { return one(); }' > k.cpp
+            [ $name = weakref ] || sed -i 's/static int one() \(.*\);/extern "C" \1 int one() { return 1; }/' k.cpp
+            touch -d '1 minute ago' k.cpp
+            for text in one two; do
+                echo "$text" > data
+                made -c k.cpp -o k.o
+            done
+            same "served with $name" "$served" ''
+        done
+        echo 'struct S { void f() {}; };' > k.cpp && touch -d '1 minute ago' k.cpp
+        for form in '' fixits-v1; do made GCC_EXTRA_DIAGNOSTIC_OUTPUT=$form -Xcompiler -Wextra-semi -c k.cpp -o k.o; done
+        same 'lines that say how to mend it' "$(grep -c ^fix-it "$room/err")" 1
+        end
+    fi
     if case_of 'nvcc: folders'; then
         project
         made -arch=sm_80 -I"$PWD/inc" -c "$PWD/k.cu" -o k.o
@@ -987,6 +1027,11 @@ whole_calls() {
         twice "${usual[@]}"
         echo 'inline int further() { return 7; } int here = further();' > b/more.h
         whole '' "${usual[@]}"
+        # two names of a file, of which one becomes a copy
+        ln -f a/more.h b/more.h && touch -d '1 minute ago' a/more.h
+        twice "${usual[@]}"
+        cp a/more.h copy && mv copy b/more.h && touch -d '2 minutes ago' b/more.h
+        whole '' "${usual[@]}"
         end
     fi
     if case_of 'whole: sources of the same layout'; then
@@ -1103,6 +1148,160 @@ whole_calls() {
         whole '' "${usual[@]}"
         end
     fi
+    if case_of 'whole: questions that are put together'; then
+        project
+        mkdir src
+        printf '%s\n' '#define NAME "asked.h"' '#define CAT(a, b, c) a##b##c' '#define SECOND(a, b) __has_include(b)' \
+            '#define BOTH(a) (__has_include(a) || __has_include(NAME))' '#define HAS_ODD (1 && __has_include(<a b.h>))' '#define ODD "a b.h"' \
+            '#define \u00e4(a) __has_include(a)' > inc/names.h
+        local file words=(-arch=sm_80 -Iinc -c src/k.cu -o k.o)
+        for line in 'CAT(__has, _inc, lude)(NAME)' 'SECOND("x.h", NAME)' 'BOTH("x.h")' $'\u00e4(NAME)' '__has_include("a b.h")' '__has_include(<a@2.h>)' \
+            $'__has_include("\u00e4.h")' HAS_ODD; do
+            { printf '%s\n' '#include "names.h"' "#if $line" 'int more = 7;' '#endif' && cat k.cu; } > src/k.cu
+            touch -d '1 minute ago' src/k.cu inc/names.h
+            for _ in 1 2; do call "${words[@]}" && settle; done
+            case $line in *'a b.h'*) file='src/a b.h' ;; HAS_ODD) file='inc/a b.h' ;; *@*) file=inc/a@2.h ;; *'.h")') file=$'src/\u00e4.h' ;; *) file=src/asked.h ;; esac
+            [ "$line" != 'BOTH("x.h")' ] || file=src/asked.h
+            echo > "$file"
+            whole '' "${words[@]}"
+            rm "$file"
+        done
+        end
+    fi
+    if case_of 'whole: where folders and links lead'; then
+        project
+        mkdir -p v1/inc v2/inc a b c a_long_name_of_a_folder_with_a_link
+        for folder in v1 v2; do echo 'static const char* here = __FILE__;' > $folder/inc/here.h; done
+        ln -s "$PWD/v1" a_long_name_of_a_link_to_a_folder
+        ln -s "$PWD/v1/inc/here.h" a_long_name_of_a_folder_with_a_link/there.h
+        printf '%s\n' '#include <here.h>' '#ifdef THERE' '#include <there.h>' '#endif' '#ifdef TWO' '#include <x.h>' 'int two = TWO;' '#endif' \
+            'const char* its_name() { return here; }' >> k.cu
+        touch -d '1 minute ago' k.cu v?/inc/here.h
+        local folder=$PWD/a_long_name_of_a_link_to_a_folder/inc
+        twice -MD -isystem "$folder" "${usual[@]}"
+        ln -sfn "$PWD/v2" a_long_name_of_a_link_to_a_folder
+        whole '' -MD -isystem "$folder" "${usual[@]}"
+        rm a_long_name_of_a_link_to_a_folder && sed -i '/<here.h>/d' k.cu
+        twice -MD -DTHERE -isystem "$PWD/a_long_name_of_a_folder_with_a_link" "${usual[@]}"
+        ln -sfn "$PWD/v2/inc/here.h" a_long_name_of_a_folder_with_a_link/there.h
+        whole '' -MD -DTHERE -isystem "$PWD/a_long_name_of_a_folder_with_a_link" "${usual[@]}"
+        # a folder that becomes another one of the list is left out
+        sed -i '/its_name/d' k.cu && printf '%s\n' '#undef TWO' '#ifndef ONE' '#define ONE' '#include_next <x.h>' '#else' '#define TWO 2' '#endif' > a/x.h
+        cp a/x.h b && printf '%s\n' '#undef TWO' '#define TWO 3' > c/x.h
+        rm -f k.d && touch -d '1 minute ago' k.cu ./?/x.h
+        twice -DTWO -Ia -Ib -Ic "${usual[@]}"
+        rm -r b && ln -s a b
+        whole '' -DTWO -Ia -Ib -Ic "${usual[@]}"
+        rm b && cp -rp a b
+        whole '' -DTWO -Ia -Ib -Ic "${usual[@]}"
+        end
+    fi
+    if case_of 'whole: what nvcc and the loader look for'; then
+        project
+        twice "${usual[@]}"
+        call TMPDIR=/nonexistent "${usual[@]}"
+        same 'without a folder for temporary files' "$([ "$status" != 0 ] && echo told)" told
+        echo none > libm.so.6
+        call "${usual[@]}"
+        same 'with a libm that is none' "$([ "$status" != 0 ] && echo told)" told
+        rm libm.so.6
+        echo 'int one;' | gcc -shared -o first.so -x c -
+        twice LD_PRELOAD="$PWD/first.so" "${usual[@]}"
+        echo 'int one, two;' | gcc -shared -o first.so -x c -
+        whole '' LD_PRELOAD="$PWD/first.so" "${usual[@]}"
+        local kit
+        kit=$(dirname "$(dirname "$(nvcc --dryrun -c -x cu /dev/null 2>&1 | sed -n 's,^#\$ _HERE_=\(.*\),\1/nvcc,p')")")
+        [ -d "$kit/targets/x86_64-linux/include" ] || { end && return; }
+        mkdir -p "$room"/kit/{bin,include}
+        for file in "$kit"/nvvm "$kit"/lib* "$kit"/bin/*; do ln -s "$file" "$room/kit/${file#"$kit"}"; done
+        ln -s "$kit"/targets/x86_64-linux/include/* "$room/kit/include"
+        rm "$room"/kit/bin/nvcc{,.profile} && cp "$kit"/bin/nvcc{,.profile} "$room/kit/bin"
+        echo '#define MORE 1' > "$room/kit/include/more.h" && printf '%s\n' '#include <more.h>' 'int more = MORE;' >> k.cu
+        touch -d '1 minute ago' k.cu "$room/kit/include/more.h" "$room"/kit/bin/nvcc{,.profile}
+        twice PATH="$room/kit/bin:$PATH" "${usual[@]}"
+        mkdir -p "$room/kit/targets/x86_64-linux" && cp -a "$room/kit/include" "$room/kit/targets/x86_64-linux"
+        echo '#define MORE 2' > "$room/kit/targets/x86_64-linux/include/more.h"
+        whole '' PATH="$room/kit/bin:$PATH" "${usual[@]}"
+        end
+    fi
+    if case_of 'whole: specs of all compilers'; then
+        project
+        local count
+        printf '%s\n' '#ifdef MORE' 'int more = MORE;' '#endif' >> k.cu
+        # a script gives the call a mount of its own
+        cat > "$room/specs.sh" << 'END_OF_SCRIPT'
+folder=$(dirname "$(dirname "$(gcc -print-prog-name=cc1plus)")")
+mount -t tmpfs none "$1/layers" && mkdir "$1/layers/up" "$1/layers/work" || exit 99
+mount -t overlay none -o "lowerdir=$folder,upperdir=$1/layers/up,workdir=$1/layers/work" "$folder" || exit 99
+shift
+for _ in 1 2 3; do "$@" && sleep 0.3; done
+printf '%s\n' '*cpp_unique_options:' '+ -DMORE=1' '' > "$folder/specs"
+"$@" && nm k.o | grep -c ' more$'
+END_OF_SCRIPT
+        mkdir "$room/layers"
+        if [ "$(id -u)" = 0 ] && unshare -m true 2> /dev/null; then
+            count=$(TMPDIR=$room/tmp XDG_RUNTIME_DIR=$room/run unshare -m bash "$room/specs.sh" "$room" "$scratch/bin/zigrunk-nvcc" "${usual[@]}" 2> /dev/null)
+            case $? in 99) skip 'specs of all compilers' 'nothing can be mounted' ;; *) same 'symbols with specs' "$count" 1 ;; esac
+        else
+            skip 'specs of all compilers' 'it takes root'
+        fi
+        end
+    fi
+    if case_of "whole: what another user can't read or write"; then
+        project
+        if [ "$(id -u)" != 0 ] || ! command -v setpriv > /dev/null; then
+            skip 'another user' 'it takes root and setpriv'
+        else
+            chmod 711 "$scratch" && chmod 777 "$room" "$PWD" && mkdir "$room/theirs" "$PWD/early" && chmod 777 "$room/theirs"
+            local path=/usr/local/bin:/usr/bin:/bin words=(-Iearly "${usual[@]}") driver_copy=$room/zigrunk-nvcc
+            cp "$driver" "$driver_copy"
+            # theirs WORD..: makes a call as another user, whose messages and status are shown
+            theirs() {
+                chmod -R a+rX "$room/cache"
+                (umask 022 && env -u ZIGRUNK_LOG LOG="$room/log" TMPDIR="$room/theirs" XDG_RUNTIME_DIR=/nonexistent PATH=$path ZIGRUNK_SLOTS=0 \
+                    setpriv --reuid=65534 --regid=65534 --clear-groups "$driver_copy" "$@" 2>&1)
+                echo "status $?"
+            }
+            for _ in 1 2; do call XDG_RUNTIME_DIR=/nonexistent PATH=$path "${words[@]}" && settle; done
+            rm -f k.o
+            same 'that may be read' "$(theirs "${words[@]}")" 'status 0'
+            for file in inc/size.h early; do
+                chmod go= $file && sleep 2.1
+                for _ in 1 2; do call XDG_RUNTIME_DIR=/nonexistent PATH=$path "${words[@]}" && settle; done
+                rm -f k.o
+                same "with $file" "$(theirs "${words[@]}" | grep -c 'Permission denied')" 1
+                chmod go=rX $file
+            done
+            for product in k.ptx k.cubin; do
+                for _ in 1 2; do call XDG_RUNTIME_DIR=/nonexistent PATH=$path -arch=sm_80 -Iinc -${product#k.} k.cu -o $product && settle; done
+                rm -f $product && echo kept > $product && chmod 444 $product
+                theirs -arch=sm_80 -Iinc -${product#k.} k.cu -o $product > "$room/said"
+                same "$product that can't be written" "$(head -c 4 $product | tr -d '\0') $(stat -c %a $product)" 'kept 444'
+                rm -f $product
+            done
+        fi
+        end
+    fi
+    if case_of 'whole: an empty file where the product goes'; then
+        project
+        twice "${usual[@]}"
+        rm k.o && : > k.o && chmod 600 k.o && ln k.o other
+        call "${usual[@]}"
+        same 'its modes and names' "$(stat -c '%a %h' k.o) $(cmp k.o other)" '600 2 '
+        rm k.o other
+        end
+    fi
+    if case_of 'whole: colours and forms of messages'; then
+        project
+        echo 'int narrow(double value) { return value; }' >> k.cu
+        local words=(-Xcompiler '-Wconversion,-fdiagnostics-color=always' "${usual[@]}")
+        twice "${words[@]}"
+        for calls in 1 0; do
+            whole '' ZIGRUNK_CALLS=$calls GCC_COLORS='warning=01;36' "${words[@]}"
+            whole '' ZIGRUNK_CALLS=$calls GCC_COLORS='warning=01;35' "${words[@]}"
+        done
+        end
+    fi
     if case_of 'whole: names in odd directives'; then
         project
         for line in '#include "si\|ze.h"' '#inc\|lude "size.h"' '#/* x */include "size.h"' '# /*|*/ include "size.h"' '%:include "size.h"' '??=include "size.h"'; do
@@ -1194,11 +1393,11 @@ whole_calls() {
         project
         echo data > data
         for line in 'const char* d = __DATE__;' 'const char* t = __TIME__;' 'const char* s = __TIMESTAMP__;' 'asm(".globl m\nm: .incbin \"data\"\n");' \
-            '#pragma GCC dependency "data"' '_Pragma("GCC dependency \"data\"")'; do
-            printf '%s\n' 'int one() { return 1; }' "$line" > k.cu
-            call "${usual[@]}"
-            settle
-            call "${usual[@]}"
+            '#pragma GCC dependency "data"' '_Pragma("GCC dependency \"data\"")' 'const char* d = OF(__DATE__);' 'PRAGMA(GCC CAT(depend, ency) "data")' \
+            'PRAGMA(GCC_NAME dependency "data")'; do
+            printf '%s\n' 'int one() { return 1; }' '#define TEXT(x) #x' '#define OF(x) TEXT(x)' '#define CAT(a, b) a##b' '#define PRAGMA_OF(x) _Pragma(#x)' \
+                '#define PRAGMA(x) PRAGMA_OF(x)' '#define GCC_NAME GCC' "$line" > k.cu
+            for _ in 1 2; do settle && call "${usual[@]}"; done
             same "served with $line" "$status $([ "$(commands true)" = nvcc ] && echo whole)" '0 '
         done
         echo -O2 > words

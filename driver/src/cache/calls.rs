@@ -11,6 +11,7 @@ use crate::cache::store::Store;
 use crate::cache::{put, terminal};
 use crate::planner::Line;
 use crate::split::Said;
+use crate::system::may_write;
 use std::env;
 use std::ffi::{OsStr, OsString};
 use std::io;
@@ -139,7 +140,7 @@ fn keys(line: &Line, nvcc: &Path) -> [Digest; 2] {
 /// The key of a call: the processor, its nvcc, its words and its variables, and its folder if that counts.
 fn key(line: &Line, nvcc: &Path, folder: Option<&str>, variables: impl Iterator<Item = (OsString, OsString)>) -> Digest {
     let mut hasher = Hasher::default();
-    hasher.add(b"zigrunk call 5");
+    hasher.add(b"zigrunk call 6");
     hasher.add(instructions().as_bytes());
     hasher.add(folder.unwrap_or_default().as_bytes());
     hasher.add(nvcc.as_os_str().as_bytes());
@@ -162,7 +163,10 @@ pub fn is_on() -> bool {
 /// Makes what the store has of a whole call, and gives what it said. `None` if the call has to be made.
 pub fn serve(store: &Store, line: &Line, nvcc: &Path) -> Option<Said> {
     let cwd = Path::new(&line.cwd);
-    keys(line, nvcc).iter().find_map(|key| serve_by(store, key, cwd))
+    // Without a folder for temporary files nvcc fails.
+    let folder = env::var_os("TMPDIR").filter(|folder| !folder.is_empty()).map(|folder| cwd.join(folder));
+    let has_room = folder.is_none_or(|folder| folder.is_dir() && may_write(&folder));
+    if has_room { keys(line, nvcc).iter().find_map(|key| serve_by(store, key, cwd)) } else { None }
 }
 
 /// What the store has of a call with this key, and what the call depends on now. Says too whether other sources have taken the place of some.
@@ -180,7 +184,9 @@ fn found(store: &Store, key: &Digest, manifest: &Manifest, cwd: &Path) -> Option
 fn serve_by(store: &Store, key: &Digest, cwd: &Path) -> Option<Said> {
     let manifest = Manifest::of_bytes(&store.read(key)?)?;
     let (answer, now, is_alike) = found(store, key, &manifest, cwd)?;
-    for product in &answer.products {
+    // (what is to be written to may not be writable: then nothing else is made either)
+    let (made, written): (Vec<&Product>, Vec<&Product>) = answer.products.iter().partition(|product| product.is_new);
+    for product in written.into_iter().chain(made) {
         put(product.is_new, &cwd.join(&product.path), &product.text).ok()?;
     }
     if is_alike {
@@ -267,7 +273,8 @@ mod tests {
         let keep = |text: &str, folder_counts: bool| {
             fs::write(room.join("k.cu"), text).unwrap();
             let vain = Vain::now(Path::new(""), vec![Lacking { name: b"a.h".to_vec(), may_be_folder: true }], &room).unwrap();
-            let manifest = Manifest { files: vec![Seen::now(Path::new("k.cu"), &room).unwrap()], vain: vec![vain], defines: None };
+            let files = vec![Seen::now(Path::new("k.cu"), &room).unwrap()];
+            let manifest = Manifest { files, vain: vec![vain], ..Manifest::default() };
             super::keep(&store, &line, nvcc, folder_counts, &manifest, &Answer { said: vec![(false, text.into())], ..answer() });
         };
         let served = || serve(&store, &line, nvcc).map(|said| String::from_utf8(said[0].1.clone()).unwrap());
@@ -296,7 +303,8 @@ mod tests {
         let keep = |said: &[u8]| {
             put("int a;\n");
             let (seen, text) = Seen::with_text(Path::new("k.cu"), &room).unwrap();
-            let manifest = Manifest { files: vec![Seen { form: Form::of_source(&text), ..seen }], vain: Vec::new(), defines: Some(Vec::new()) };
+            let files = vec![Seen { form: Form::of_source(&text), ..seen }];
+            let manifest = Manifest { files, defines: Some(Vec::new()), ..Manifest::default() };
             super::keep(&store, &line, nvcc, false, &manifest, &Answer { said: vec![(true, said.to_vec())], ..answer() });
         };
         let served = || serve(&store, &line, nvcc).is_some();

@@ -149,7 +149,7 @@ impl Session<'_> {
         let is_known = own.iter().all(|path| generated.iter().any(|file| file == path)) && read.len() == others.len();
         let asked = beside.into_iter().filter(|seen| present.contains(&seen.path));
         let (count, files) = (read.len(), read.iter().copied().chain(asked).cloned().collect());
-        is_known.then(|| Found { count, manifest: Manifest { files, vain: call.vain.clone(), defines: None } })
+        is_known.then(|| Found { count, manifest: Manifest { files, vain: call.vain.clone(), places: call.places.clone(), defines: None } })
     }
 
     /// Keeps what the call's compiles have read beside their own texts, so that they are found without a preprocessor. These files are among

@@ -6,8 +6,8 @@ use std::collections::BTreeSet;
 const DIRECTIVES: [&[u8]; 2] = [b"incbin", b".include"];
 /// What may hide a directive: the assembler's macros, its comments, and a mode in which directives have no dot.
 const HIDING: [&[u8]; 4] = [b".macro", b".irp", b".mri", b"/*"];
-/// Where strings that reach the assembler stand: statements, and names of sections.
-const ASSEMBLED: [&[u8]; 2] = [b"asm", b"section"];
+/// Where strings that reach the assembler stand: statements, and names of sections and of symbols.
+const ASSEMBLED: [&[u8]; 6] = [b"asm", b"section", b"symver", b"weakref", b"alias", b"ifunc"];
 
 /// The words by which a text sees its lines.
 const LINE_WORDS: [&[u8]; 5] = [b"__LINE__", b"__builtin_LINE", b"__builtin_FILE", b"__builtin_COLUMN", b"source_location"];
@@ -94,13 +94,15 @@ pub fn files_entered(text: &[u8]) -> Option<BTreeSet<&[u8]>> {
     names.iter().all(|name| !name.contains(&b'\\')).then(|| names.into_iter().filter(|name| !name.starts_with(b"<")).collect())
 }
 
-/// Whether a text has what `__DATE__`, `__TIME__` or `__TIMESTAMP__` may have become: a time of day, or a year at the end of a string.
+/// Whether a text has what `__DATE__`, `__TIME__` or `__TIMESTAMP__` may have become: a time of day, or a year at the end of a string, be that in
+/// another.
 pub fn tells_time(text: &[u8]) -> bool {
     let is_digit = |place: usize| text.get(place).is_some_and(u8::is_ascii_digit);
     let are_digits = |begin: usize, count: usize| (begin..begin + count).all(is_digit);
     let is_time = |place: usize| place >= 2 && are_digits(place - 2, 2) && are_digits(place + 1, 2);
     let is_year = |place: usize| place >= 8 && are_digits(place - 4, 4) && is_digit(place - 6) && text[place - 8] == b' ';
-    pairs(text, b':', b':', 3).any(is_time) || pairs(text, b' ', b'"', 5).any(|place| is_year(place + 5))
+    let years = |quote| pairs(text, b' ', quote, 5).any(|place| is_year(place + 5));
+    pairs(text, b':', b':', 3).any(is_time) || years(b'"') || years(b'\\')
 }
 
 /// Whether a text sees its lines, as its definition says, which is only asked where one of the words is for which it looks.
@@ -176,6 +178,9 @@ mod tests {
             ("extern int f() __asm__ (\"\" \"__isoc99_f\");", false),
             ("asm(\".section a\\n.quad 1\\n\"); const char* s = \"\\0\";", false),
             ("#pragma GCC pch_preprocess \"a.h.gch\"", true),
+            ("int f() __attribute__((symver(\"f@V\\n.inc\\142in \\\"data\\\"\")));", true),
+            ("int f() __attribute__((__weakref__ (\"g\\n.inc\\142in \\\"data\\\"\")));", true),
+            ("int f() __attribute__((alias(\"g\")));", false),
         ];
         for (text, wanted) in cases {
             assert_eq!(reads_more(text.as_bytes()), wanted, "{text}");
@@ -220,6 +225,7 @@ mod tests {
         let cases = [
             ("const char* s = \"12:34:56\";", true),
             ("\"Nov  8 2026\"", true),
+            ("\"built \\\"Nov  8 2026\\\"\"", true),
             ("\"Sat Nov 28 09:21:06 2026\"", true),
             ("std::vector<int> a; b ? 12:34; \"1:23:45\" \"copyright 2026\" 2026", false),
             ("", false),

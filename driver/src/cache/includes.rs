@@ -93,30 +93,41 @@ fn names_between(line: &[u8], open: u8, close: u8, is_include: bool) -> impl Ite
 
 /// How a directive uses a word.
 #[derive(Clone, Copy, PartialEq, Eq, Debug)]
-enum Use {
+enum Use<'a> {
     /// It asks whether the word is defined, or has a bracket and a name in the marks of such behind it.
     Plain,
     /// The same with a name in quotes, which is sought beside the text that asks.
     Quoted,
-    Other,
+    /// Anything else, with the word that stands alone in brackets behind it, if one does.
+    Other(&'a [u8]),
+}
+
+/// A plain name between marks with which a text begins, alone in brackets.
+fn is_alone(text: &[u8], close: u8) -> bool {
+    let end = text.iter().skip(1).position(|&byte| byte == close).map(|end| end + 1);
+    end.is_some_and(|end| text[1..end].iter().all(|&byte| is_plain(byte)) && text[end + 1..].trim_ascii_start().starts_with(b")"))
 }
 
 /// How a line uses a word that stands between these parts of it.
-fn use_of(before: &[u8], behind: &[u8]) -> Use {
+fn use_of<'a>(before: &[u8], behind: &'a [u8]) -> Use<'a> {
     let before = before.trim_ascii_end();
     let before = before.strip_suffix(b"(").unwrap_or(before).trim_ascii_end();
-    if before.ends_with(b"defined") {
+    if before.strip_suffix(b"defined").is_some_and(|rest| rest.last().is_none_or(|&byte| !is_word(byte))) {
         return Use::Plain;
     }
-    match behind.trim_ascii_start().strip_prefix(b"(").and_then(|operand| operand.trim_ascii_start().first()) {
-        Some(b'<') => Use::Plain,
-        Some(b'"') => Use::Quoted,
-        _ => Use::Other,
+    let operand = behind.trim_ascii_start().strip_prefix(b"(").unwrap_or_default().trim_ascii_start();
+    match operand.first() {
+        Some(b'<') if is_alone(operand, b'>') => Use::Plain,
+        Some(b'"') if is_alone(operand, b'"') => Use::Quoted,
+        _ => {
+            let word = first_word(operand);
+            Use::Other(if operand[word.len()..].trim_ascii_start().starts_with(b")") { word } else { b"" })
+        }
     }
 }
 
 /// How a line uses any of some words.
-fn uses<'a>(line: &'a [u8], is_sought: impl Fn(&[u8]) -> bool + 'a) -> impl Iterator<Item = Use> + 'a {
+fn uses<'a>(line: &'a [u8], is_sought: impl Fn(&[u8]) -> bool + 'a) -> impl Iterator<Item = Use<'a>> + 'a {
     let mut place = 0;
     std::iter::from_fn(move || {
         while place < line.len() {
@@ -145,32 +156,43 @@ fn asks(line: &[u8], is_sought: impl Fn(&[u8]) -> bool) -> Asks {
     let word = first_word(line);
     let rest = behind_blanks(&line[word.len()..]);
     match word {
-        b"if" | b"elif" if uses(rest, &is_sought).any(|one| one == Use::Other) || has_part_of_question(rest) => Asks::Oddly,
-        b"define" => {
-            let name = first_word(rest);
-            let body = &rest[name.len()..];
-            // A name in the body of one with parameters may have a parameter in it.
-            let is_hidden = uses(body, &is_sought).any(|one| one != Use::Plain || body.starts_with(b"("));
-            // No condition may have these marks.
-            let is_condition = || !body.iter().any(|byte| matches!(byte, b'{' | b';'));
-            if is_hidden || (has_part_of_question(body) && is_condition()) { Asks::By(name.to_vec()) } else { Asks::Nothing }
-        }
+        b"if" | b"elif" if uses(rest, &is_sought).any(|one| matches!(one, Use::Other(_))) || has_part_of_question(rest) => Asks::Oddly,
+        b"define" => asks_of_definition(rest, is_sought),
         _ => Asks::Nothing,
     }
 }
 
-/// Whether a line has a word that may be put together with another one to one of those by which texts ask for files.
-fn has_part_of_question(line: &[u8]) -> bool {
-    (contains(line, b"__has_") || contains(line, b"_include")) && words_of(line).any(is_part_of_question)
+/// What a definition has to do with such words. One with parameters may ask for what one of them is, and for nothing else that isn't plain.
+fn asks_of_definition(definition: &[u8], is_sought: impl Fn(&[u8]) -> bool) -> Asks {
+    let name = first_word(definition);
+    let body = &definition[name.len()..];
+    let list = body.strip_prefix(b"(").map(|rest| &rest[..rest.iter().position(|&byte| byte == b')').unwrap_or(rest.len())]);
+    let is_parameter = |word: &[u8]| list.is_some_and(|list| words_of(list).any(|parameter| parameter == word));
+    let is_odd = |one: Use<'_>| match one {
+        Use::Plain => false,
+        Use::Quoted => list.is_some(),
+        Use::Other(word) => list.is_some() && !is_parameter(word),
+    };
+    // No condition may have these marks.
+    let has_part = || !body.iter().any(|byte| matches!(byte, b'{' | b';')) && has_part_of_question(body);
+    let is_hidden = uses(body, &is_sought).any(|one| one != Use::Plain || list.is_some()) || has_part();
+    match (is_hidden, name.is_empty() || uses(body, &is_sought).any(is_odd)) {
+        (false, _) => Asks::Nothing,
+        (true, false) => Asks::By(name.to_vec()),
+        (true, true) => Asks::Oddly,
+    }
 }
 
-/// Whether a word may be put together with another one to one of those by which texts ask for files.
+/// Whether a line has a word that may be put together with others to one of those by which texts ask for files.
+fn has_part_of_question(line: &[u8]) -> bool {
+    words_of(line).any(is_part_of_question)
+}
+
+/// Whether a word may be put together with others to one of those by which texts ask for files: it's a part of one, and no word of English.
 fn is_part_of_question(word: &[u8]) -> bool {
-    let is_part = |question: &&[u8]| {
-        let (is_begin, is_end) = (question.starts_with(word) && word.len() > 5, question.ends_with(word) && word.len() > 7);
-        (is_begin || is_end) && *word != **question
-    };
-    !QUESTIONS.contains(&word) && QUESTIONS.iter().any(is_part)
+    let is_part = |question: &&[u8]| question.len() > word.len() && question.windows(word.len()).any(|part| part == word);
+    let may_be = word.len() > 3 && !matches!(word, b"next" | b"include" | b"embed") && !QUESTIONS.contains(&word);
+    may_be && QUESTIONS.iter().any(is_part)
 }
 
 /// The macros that the lines of a text define by others by which texts ask for files. `None` if one asks for a file that a macro names.
@@ -193,16 +215,29 @@ pub fn may_ask(definition: &[u8], askers: &BTreeSet<Vec<u8>>) -> bool {
     words_of(definition).any(|word| QUESTIONS.contains(&word) || askers.contains(word) || is_part_of_question(word))
 }
 
-/// Whether a text may have a preprocessor compare the times of files, by `#pragma GCC dependency`, which it doesn't write.
+/// Whether what a command line defines may be a word by which a preprocessor compares the times of files.
+pub fn may_compare_times(definition: &[u8]) -> bool {
+    contains(definition, b"dependency")
+}
+
+/// Whether a text may have a preprocessor compare the times of files, by `#pragma GCC dependency`, which it doesn't write. Macros may put it
+/// together.
 fn compares_times(text: &[u8]) -> bool {
     let is_between = |byte: &u8| byte.is_ascii_whitespace() || *byte == b'\\';
     let mut from = 0;
-    while let Some(place) = find(&text[from..], b"dependency") {
-        let end = text[..from + place].iter().rposition(|byte| !is_between(byte)).map_or(0, |last| last + 1);
-        if text[..end].ends_with(b"GCC") || text[..end].ends_with(b"*/") {
+    while let Some(place) = find(&text[from..], b"ncy").map(|place| from + place) {
+        from = place + 3;
+        let begin = text[..place].iter().rposition(|&byte| !is_word(byte)).map_or(0, |last| last + 1);
+        let is_whole = !text.get(from).is_some_and(|&byte| is_word(byte));
+        if &text[begin..from] == b"dependency" && is_whole {
+            let end = text[..begin].iter().rposition(|byte| !is_between(byte)).map_or(0, |last| last + 1);
+            let behind = text[from..].iter().find(|byte| !is_between(byte));
+            if text[..end].ends_with(b"GCC") || text[..end].ends_with(b"*/") || matches!(behind, Some(b'"' | b'<')) {
+                return true;
+            }
+        } else if is_whole && b"dependency".ends_with(&text[begin..from]) {
             return true;
         }
-        from += place + 1;
     }
     false
 }
@@ -235,12 +270,16 @@ pub fn names_in(text: &[u8]) -> Names {
 impl Names {
     /// Notes how a line asks for files.
     fn add_questions(&mut self, line: &[u8]) {
-        if [&b"__has_"[..], b"_include"].iter().any(|part| contains(line, part)) {
-            match asks(line, |word| QUESTIONS.contains(&word)) {
-                Asks::Nothing => {}
-                Asks::By(name) => drop(self.askers.insert(name)),
-                Asks::Oddly => self.is_odd = true,
-            }
+        let word = first_word(line);
+        if !matches!(word, b"if" | b"elif" | b"define") {
+            return;
+        }
+        // (letters by their numbers may be those of a macro that asks)
+        self.is_odd |= word != b"define" && (contains(line, b"\\u") || contains(line, b"\\U"));
+        match asks(line, |word| QUESTIONS.contains(&word)) {
+            Asks::Nothing => {}
+            Asks::By(name) => drop(self.askers.insert(name)),
+            Asks::Oddly => self.is_odd = true,
         }
     }
 }
@@ -273,7 +312,8 @@ impl Folders {
     pub fn with_programs(self, said: &str) -> Option<Folders> {
         let own = Path::new(said.lines().find_map(|line| line.strip_prefix("install: "))?);
         let machine = own.parent()?.file_name()?.to_str()?.to_owned();
-        Some(Folders { programs: listed(said, "programs")?, libraries: listed(said, "libraries")?, machine, ..self })
+        let (programs, libraries) = (listed(said, "programs")?, listed(said, "libraries")?);
+        Some(Folders { programs, libraries, machine, ..self })
     }
 }
 
@@ -368,12 +408,39 @@ mod tests {
     }
 
     #[test]
+    fn questions_that_are_put_together_are_odd() {
+        let cases = [
+            ("#if __has_include(\"a b\")\n", [false, false, true]),
+            ("#if __has_include(<a@2.h>)\n", [false, false, true]),
+            ("#if __has_include(\"\u{e4}\")\n", [false, false, true]),
+            ("#if HAS_INCLUDE(\"a b\") && \"a b\"\n", [false; 3]),
+            ("#if JOIN(__has, _inc, lude)(NAME)\n", [false, false, true]),
+            ("#if A(list, next) && B(has_value, included)\n", [false; 3]),
+            ("#if my_defined __has_include(NAME)\n", [false, false, true]),
+            ("#if \\u00e4(NAME)\n", [false, false, true]),
+            ("#define \\u00e4(x) __has_include(x)\n", [false, false, true]),
+            ("#define HAS(x) (__has_include(x) || __has_include(NAME))\n", [false, false, true]),
+            ("#define HAS(x) CALL(__has_include, x)\n", [false, false, true]),
+            ("#define HAS(x) __has_include(\"a\")\n", [false, false, true]),
+            ("#define HAS(x) __has_include(#x)\n", [false, false, true]),
+            ("P(G dependency \"data\")\n", [false, false, true]),
+            ("P(GCC JOIN(depend, ency) \"data\")\n", [false, false, true]),
+            ("a frequency's dependency is latency\n", [false; 3]),
+        ];
+        for (text, wanted) in cases {
+            assert_eq!(shown(text).1, wanted, "{text}");
+        }
+    }
+
+    #[test]
     fn macros_may_ask() {
         let list = |names: &BTreeSet<Vec<u8>>| names.iter().map(|name| String::from_utf8_lossy(name)).collect::<Vec<_>>().join(" ");
         let cases = [
             ("#define HAS(x) __has_include(x)\n#define NEXT __has_include_next\n", "HAS NEXT"),
             ("#define HAS __has_include(<a>)\n#define Q __has_include(\"a\")\n#define IN(x) __has_include(<x>)\n", "IN Q"),
             ("#define HAS defined(__has_include)\n#undef __has_include\n", ""),
+            ("#define HAS (1 && __has_include(<a b>))\n#define IN(x, y) __has_include(y)\n", "HAS IN"),
+            ("#define A __has\n#define B list->next\n#define C _inc\n", "A C"),
             ("#define HAS JOIN(__has_, include)\n#define IN(x) __has_##x\n#define TYPE(x) struct __has_##x { };\n", "HAS IN"),
         ];
         for (text, wanted) in cases {
@@ -385,6 +452,8 @@ mod tests {
             ("#define HAS(x) __has_include(x)\n#if defined(HAS) && !defined HAS\n", Some("")),
             ("#define A HAS(<a>)\n#define B(x) HAS(x)\n#define C HAS(\"c\")\n", Some("B C")),
             ("#if HAS(NAME)\n", None),
+            ("#if HAS(\"a\", NAME)\n", None),
+            ("#if HAS(\"a b\")\n", None),
             ("#if HAS\n", None),
             ("#if H\\\nAS(NAME)\n", None),
             ("#if HASS(NAME)\nHAS(NAME)\n#else // HAS(NAME)\n#endif\n", Some("")),

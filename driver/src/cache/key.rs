@@ -111,7 +111,7 @@ pub fn start_of(recipe: &Recipe, tool: &Digest, environment: &[(OsString, OsStri
 
 /// The key of a compile by the texts that it reads and by its words, those for the preprocessor too. `None` if it may not have one.
 pub fn direct<'a>(mut start: Hasher, recipe: &Recipe, texts: &[Text], words: impl Iterator<Item = &'a String>) -> Option<Digest> {
-    start.add(b"direct 2");
+    start.add(b"direct 3");
     start.add(recipe.job.folder.as_bytes());
     for word in words {
         marked::add_to(&mut start, &recipe.unnamed(word.as_bytes())?, recipe.directory.as_bytes());
@@ -192,6 +192,7 @@ mod tests {
             assembles: false,
             included: None,
             stem: None,
+            has_own_source: false,
         }
     }
 

@@ -12,6 +12,7 @@ use crate::cache::store::digest_of;
 use crate::streams::{content, content_of};
 use std::ffi::OsStr;
 use std::fs::{self, File, Metadata};
+use std::io::ErrorKind;
 use std::os::unix::ffi::OsStrExt;
 use std::os::unix::fs::MetadataExt;
 use std::path::{Path, PathBuf};
@@ -123,7 +124,7 @@ impl Seen {
         let place = if let Form::Placed(_) = self.form { Some(Form::Placed(fs::canonicalize(cwd.join(&self.path)).ok()?)) } else { None };
         let is_in_place = place.as_ref().is_none_or(|place| *place == self.form);
         if is_in_place && self.stamp.is_some_and(|stamp| stamp == Stamp::of(&status)) {
-            return Some(self.clone());
+            return may_be_read(&cwd.join(&self.path), &status).then(|| self.clone());
         }
         if let Some(form) = place {
             return Some(Seen { form, ..Seen::now(&self.path, cwd)? });
@@ -142,6 +143,18 @@ impl Seen {
     fn layouts(&self) -> Option<&Layouts> {
         if let Form::Source(layouts) = &self.form { Some(layouts) } else { None }
     }
+}
+
+/// Whether a process of this user may read a file. Most may be read by all.
+fn may_be_read(path: &Path, status: &Metadata) -> bool {
+    status.mode() & 0o444 == 0o444 || File::open(path).is_ok()
+}
+
+/// Where a path leads, seen from a working directory as the path is.
+pub fn real_place(path: &Path, cwd: &Path) -> Option<PathBuf> {
+    let real = fs::canonicalize(cwd.join(path)).ok()?;
+    let own = if path.is_absolute() { None } else { Some(fs::canonicalize(cwd).ok()?) };
+    Some(own.and_then(|own| real.strip_prefix(own).ok().map(Path::to_owned)).unwrap_or(real))
 }
 
 /// A name that wasn't in a folder.
@@ -167,7 +180,10 @@ impl Vain {
     pub fn now(folder: &Path, lacks: Vec<Lacking>, cwd: &Path) -> Option<Vain> {
         let status = fs::metadata(cwd.join(folder)).ok()?;
         let path = |lacking: &Lacking| cwd.join(folder).join(OsStr::from_bytes(&lacking.name));
-        let is_free = |lacking: &Lacking| fs::metadata(path(lacking)).map_or(true, |found| lacking.may_be_folder && found.is_dir());
+        let is_free = |lacking: &Lacking| match fs::metadata(path(lacking)) {
+            Ok(found) => lacking.may_be_folder && found.is_dir(),
+            Err(error) => matches!(error.kind(), ErrorKind::NotFound | ErrorKind::NotADirectory),
+        };
         let is_link = |lacking: &Lacking| fs::symlink_metadata(path(lacking)).is_ok_and(|found| found.is_symlink());
         let stamp = Stamp::settled(&status).filter(|_| !lacks.iter().any(is_link));
         lacks.iter().all(is_free).then(|| Vain { folder: folder.to_owned(), lacks, stamp })
@@ -175,8 +191,11 @@ impl Vain {
 
     /// The same folder as it is now. `None` if it has one of the names.
     fn again(&self, cwd: &Path) -> Option<Vain> {
-        let is_same = || self.stamp.is_some_and(|stamp| fs::metadata(cwd.join(&self.folder)).is_ok_and(|status| stamp == Stamp::of(&status)));
-        if is_same() { Some(self.clone()) } else { Vain::now(&self.folder, self.lacks.clone(), cwd) }
+        let status = fs::metadata(cwd.join(&self.folder)).ok()?;
+        // (all may look into most folders)
+        let may_look = status.mode() & 0o111 == 0o111;
+        let is_same = may_look && self.stamp.is_some_and(|stamp| stamp == Stamp::of(&status));
+        if is_same { Some(self.clone()) } else { Vain::now(&self.folder, self.lacks.clone(), cwd) }
     }
 }
 
@@ -185,6 +204,8 @@ impl Vain {
 pub struct Manifest {
     pub files: Vec<Seen>,
     pub vain: Vec<Vain>,
+    /// Paths, and where they lead: folders may be one, and gcc may name what a link leads to.
+    pub places: Vec<(PathBuf, PathBuf)>,
     /// What the command lines of preprocessors define, if a source may stand for another one of its layout.
     pub defines: Option<Vec<Vec<u8>>>,
 }
@@ -205,12 +226,13 @@ impl Manifest {
     pub fn again(&self, cwd: &Path) -> Option<Manifest> {
         let files = self.files.iter().map(|seen| seen.again(cwd)).collect::<Option<_>>()?;
         let vain = self.vain.iter().map(|vain| vain.again(cwd)).collect::<Option<_>>()?;
-        Some(Manifest { files, vain, defines: self.defines.clone() })
+        let places = self.places.iter().map(|(path, _)| Some((path.clone(), real_place(path, cwd)?))).collect::<Option<_>>()?;
+        Some(Manifest { files, vain, places, defines: self.defines.clone() })
     }
 
     /// The same as it is now, if what has changed of it doesn't count: sources of which the layouts are as they were.
     pub fn alike(&self, now: &Manifest, cwd: &Path) -> Option<Manifest> {
-        let defines = self.defines.as_ref()?;
+        let defines = self.defines.as_ref().filter(|_| self.places == now.places)?;
         let mut alike = now.clone();
         let mut unsure = Vec::new();
         for (place, (earlier, seen)) in self.files.iter().zip(&mut alike.files).enumerate() {
@@ -259,7 +281,7 @@ impl Manifest {
     /// The digest of what counts, beside a call's own key.
     pub fn digest(&self, call: &Digest) -> Digest {
         let mut hasher = Hasher::default();
-        hasher.add(b"zigrunk result 1");
+        hasher.add(b"zigrunk result 2");
         hasher.update(&call.0);
         hasher.update(&(self.files.len() as u64).to_le_bytes());
         for seen in &self.files {
@@ -273,6 +295,10 @@ impl Manifest {
             hasher.add(vain.folder.as_os_str().as_bytes());
             hasher.update(&(vain.lacks.len() as u64).to_le_bytes());
             vain.lacks.iter().for_each(|lacking| hasher.add(&lacking.name));
+        }
+        hasher.update(&(self.places.len() as u64).to_le_bytes());
+        for path in self.places.iter().flat_map(|(path, real)| [path, real]) {
+            hasher.add(path.as_os_str().as_bytes());
         }
         hasher.finish()
     }
@@ -297,6 +323,10 @@ impl Manifest {
                 bytes.push(u8::from(lacking.may_be_folder));
             }
         }
+        put_number(&mut bytes, self.places.len());
+        for path in self.places.iter().flat_map(|(path, real)| [path, real]) {
+            put_text(&mut bytes, path.as_os_str().as_bytes());
+        }
         bytes.push(u8::from(self.defines.is_some()));
         let defines = self.defines.iter().flatten();
         put_number(&mut bytes, defines.clone().count());
@@ -309,8 +339,9 @@ impl Manifest {
         let mut rest = Rest(bytes);
         let files = rest.list(|rest| Some(Seen { path: path(rest)?, digest: rest.digest()?, stamp: rest.list(stamp)?.pop(), form: form(rest)? }))?;
         let vain = rest.list(|rest| Some(Vain { folder: path(rest)?, stamp: rest.list(stamp)?.pop(), lacks: rest.list(lacking)? }))?;
+        let places = rest.list(|rest| Some((path(rest)?, path(rest)?)))?;
         let (has_defines, defines) = (rest.flag()?, rest.list(Rest::text)?);
-        rest.0.is_empty().then_some(Manifest { files, vain, defines: has_defines.then_some(defines) })
+        rest.0.is_empty().then_some(Manifest { files, vain, places, defines: has_defines.then_some(defines) })
     }
 }
 
@@ -379,13 +410,15 @@ mod tests {
             let _ = fs::remove_dir_all(&path);
             fs::create_dir_all(path.join("inc")).unwrap();
             fs::write(path.join("k.cu"), "one").unwrap();
+            std::os::unix::fs::symlink("inc", path.join("way")).unwrap();
             Scratch(path)
         }
 
         fn manifest(&self) -> Manifest {
             let lacks = vec![Lacking { name: b"a.h".to_vec(), may_be_folder: true }, Lacking { name: b"sub".to_vec(), may_be_folder: false }];
             let vain = Vain::now(Path::new("inc"), lacks, &self.0).unwrap();
-            Manifest { files: vec![Seen::now(Path::new("k.cu"), &self.0).unwrap()], vain: vec![vain], defines: None }
+            let places = [("inc", "inc"), ("way", "inc")].map(|(path, real)| (path.into(), real.into())).to_vec();
+            Manifest { files: vec![Seen::now(Path::new("k.cu"), &self.0).unwrap()], vain: vec![vain], places, defines: None }
         }
 
         fn again(&self, manifest: &Manifest) -> Option<Digest> {
@@ -433,6 +466,27 @@ mod tests {
         assert_eq!(scratch.again(&manifest), None);
         fs::create_dir(scratch.0.join("k.cu")).unwrap();
         assert_eq!(scratch.again(&manifest), None);
+    }
+
+    #[test]
+    fn where_paths_lead_counts() {
+        let scratch = Scratch::new("ways");
+        let manifest = Manifest { vain: Vec::new(), defines: Some(Vec::new()), ..scratch.manifest() };
+        let first = scratch.again(&manifest);
+        assert!(first.is_some());
+        let lead = |to: &str| {
+            fs::remove_file(scratch.0.join("way")).unwrap();
+            std::os::unix::fs::symlink(to, scratch.0.join("way")).unwrap();
+        };
+        fs::create_dir(scratch.0.join("other")).unwrap();
+        lead("other");
+        let now = manifest.again(&scratch.0).unwrap();
+        assert_ne!(scratch.again(&manifest), first);
+        assert_eq!((manifest.alike(&now, &scratch.0), scratch.again(&now)), (None, scratch.again(&manifest)));
+        lead("missing");
+        assert_eq!(scratch.again(&manifest), None);
+        lead("inc");
+        assert_eq!((scratch.again(&manifest), scratch.again(&now)), (first, first));
     }
 
     #[test]
@@ -503,7 +557,7 @@ mod tests {
         let seen = |name: &str| Seen::with_text(Path::new(name), &scratch.0).unwrap();
         let (source, text) = seen("k.cu");
         let files = vec![Seen { form: Form::of_source(&text), ..source }, seen("inc/a.h").0];
-        let manifest = Manifest { files, vain: Vec::new(), defines: Some(vec![defines.into()]) };
+        let manifest = Manifest { files, defines: Some(vec![defines.into()]), ..Manifest::default() };
         put(texts[1]);
         let now = manifest.again(&scratch.0).unwrap();
         let again = manifest.alike(&now, &scratch.0);

@@ -132,13 +132,16 @@ pub struct Session<'a> {
     known: Known,
 }
 
-/// What of a terminal shows in messages; nothing if they don't go to one.
+/// Variables by which messages differ, and those that count on a terminal alone.
+const MESSAGES: [&str; 3] = ["GCC_COLORS", "GCC_EXTRA_DIAGNOSTIC_OUTPUT", "LANGUAGE"];
+const ON_TERMINALS: [&str; 6] = ["TERM", "COLUMNS", "GCC_URLS", "TERM_URLS", "NOCOLOR", "NO_COLOR"];
+
+/// What messages depend on beside what they say: the kind of terminal, and variables. Nothing if they don't go to one, and none is set.
 fn terminal() -> Vec<u8> {
-    if !io::stderr().is_terminal() {
-        return Vec::new();
-    }
-    let value = |name: &str| env::var_os(name).unwrap_or_default().as_bytes().to_vec();
-    ["TERM", "COLUMNS", "GCC_COLORS"].map(value).join(&b'\n')
+    let is_terminal = io::stderr().is_terminal();
+    let names = MESSAGES.iter().chain(ON_TERMINALS.iter().filter(|_| is_terminal));
+    let values: Vec<Vec<u8>> = names.map(|name| env::var_os(name).unwrap_or_default().as_bytes().to_vec()).collect();
+    if is_terminal || values.iter().any(|value| !value.is_empty()) { values.join(&b'\n') } else { Vec::new() }
 }
 
 /// The modes that a new file gets.
@@ -148,18 +151,16 @@ fn new_modes() -> Option<u32> {
     Some(0o666 & !u32::from_str_radix(mask.trim(), 8).ok()?)
 }
 
-/// Puts a file in its place as a tool does: a compiler makes a new one, the others write to what is there.
+/// Puts a file in its place as a tool does: a compiler makes a new one, unless what is there is empty. The others write to what is there.
 fn put(is_new: bool, path: &Path, text: &[u8]) -> io::Result<()> {
     match fs::symlink_metadata(path) {
         Ok(status) if !status.is_file() => return Err(ErrorKind::AlreadyExists.into()),
-        Ok(_) if is_new => fs::remove_file(path)?,
+        Ok(status) if is_new && status.len() > 0 => fs::remove_file(path)?,
         _ => {}
     }
-    let written = File::create(path).and_then(|file| write_all(&file, text));
-    if written.is_err() {
-        let _ = fs::remove_file(path);
-    }
-    written
+    // What can't be opened stays, as with a tool.
+    let file = File::create(path)?;
+    write_all(&file, text).inspect_err(|_| drop(fs::remove_file(path)))
 }
 
 /// What was taken from the cache.
@@ -307,12 +308,18 @@ impl<'a> Session<'a> {
     }
 
     /// The texts that a task reads, without those that it reads late if they aren't there yet. `None` if they aren't known. The first one
-    /// has its line markers.
+    /// has its line markers. Of a compile of the user's own source all files that it names are among them: gcc looks at comments and blanks
+    /// before it warns.
     fn texts(recipe: &Recipe, has_late: bool) -> Option<Vec<Text>> {
         let preprocessed = recipe.question.iter().map(|(_, file)| (file, Role::Preprocessed));
         let own = recipe.reads.iter().map(|file| (file, recipe.role_of(file))).filter(|(_, role)| has_late || *role != Role::Late);
         let text = |(file, role): (&PathBuf, Role)| Some(Text { role, content: fs::read(file).ok()? });
-        let texts: Vec<Text> = preprocessed.chain(own).map(text).collect::<Option<_>>()?;
+        let mut texts: Vec<Text> = preprocessed.chain(own).map(text).collect::<Option<_>>()?;
+        if recipe.has_own_source {
+            let names: Vec<Vec<u8>> = host_text::files_entered(&texts.first()?.content)?.into_iter().map(<[u8]>::to_vec).collect();
+            let entered = names.iter().map(|name| Some(Text { role: Role::Source, content: fs::read(path_of(recipe, name)).ok()? }));
+            texts.extend(entered.collect::<Option<Vec<_>>>()?);
+        }
         let is_known = texts.first().is_some_and(|text| !recipe.reads_more(&text.content));
         is_known.then_some(texts)
     }
@@ -523,6 +530,10 @@ mod tests {
         assert_eq!(fs::read(&other).unwrap(), b"two", "it writes to what is there");
         put(true, &file, b"three").unwrap();
         assert_eq!([&file, &other].map(|path| fs::read(path).unwrap()), [&b"three"[..], b"two"], "it makes a new one");
+        fs::write(&other, "").unwrap();
+        fs::hard_link(&other, folder.join("empty")).unwrap();
+        put(true, &folder.join("empty"), b"two").unwrap();
+        assert_eq!(fs::read(&other).unwrap(), b"two", "binutils leave an empty file the one that it is");
         symlink(&other, &link).unwrap();
         for is_new in [true, false] {
             assert_eq!(put(is_new, &link, b"four").unwrap_err().kind(), ErrorKind::AlreadyExists);
@@ -550,6 +561,7 @@ mod tests {
             assembles: false,
             included: None,
             stem: None,
+            has_own_source: false,
         }
     }
 

@@ -51,6 +51,8 @@ pub struct Recipe {
     pub included: Option<String>,
     /// What cudafe++'s files begin with, as `k.compute_90.cudafe1`, if that doesn't count: it depends on the list of targets.
     pub stem: Option<String>,
+    /// Whether it's a compile of a source that no tool has written.
+    pub has_own_source: bool,
 }
 
 /// The outputs of a command, by its record.
@@ -98,9 +100,10 @@ fn stem_of(kind: Kind, words: &[String]) -> Option<&str> {
     Path::new(file?).file_name()?.to_str()?.strip_suffix(".cpp").filter(|stem| stem.ends_with(".cudafe1"))
 }
 
-/// The process that preprocesses what a compile reads, and says nothing else.
-fn question(job: &Job, file: &str) -> Job {
+/// The process that preprocesses what a compile reads, and says nothing else. With precompiled headers, if the compile may take one.
+fn question(job: &Job, file: &str, has_own_source: bool) -> Job {
     let mut words = job.words.clone();
+    words.extend(has_own_source.then(|| "-fpch-preprocess".to_owned()));
     for place in 0..words.len() {
         match words[place].as_str() {
             "-c" | "-S" => "-E".clone_into(&mut words[place]),
@@ -136,11 +139,13 @@ impl Recipe {
         let stem = stem_of(kind, words).filter(|_| !names_count).map(String::from);
         let job = Job { words: [std::slice::from_ref(program), &run].concat(), ..job.clone() };
         let file = format!("{tmp}/{OWN}/cache.{number}.ii");
-        let question = (is_host && !is_assembly).then(|| (question(&job, &file), file.into()));
+        let has_own_source = is_host && !is_assembly && !reads.iter().any(|file| file.starts_with(tmp));
+        let question = (is_host && !is_assembly).then(|| (question(&job, &file, has_own_source), file.into()));
         let assembles = run.iter().any(|word| word == "-c");
         let directory = if names_count { String::new() } else { tmp.to_owned() };
         let included = is_assembly.then(|| late::included(tmp));
-        Some(Recipe { kind, counted, job, reads, outputs, directory, lines_count: names_count, question, assembles, included, stem })
+        let lines_count = names_count || has_own_source;
+        Some(Recipe { kind, counted, job, reads, outputs, directory, lines_count, question, assembles, included, stem, has_own_source })
     }
 
     /// The directory whose path doesn't count in texts that the command reads. fatbinary packs them, so nobody sees whether its product has it.
@@ -243,6 +248,15 @@ mod tests {
         );
         assert!(made.has_products() && made.assembles && made.directory == "/t");
         assert_eq!(made.role_of(Path::new("/t/x.cpp")), Role::Source);
+    }
+
+    #[test]
+    fn a_source_that_no_tool_has_written_counts_with_its_lines() {
+        let of = |source: &str| recipe(&format!("/b/gcc -c -x c++ {source} -o k.o"), &[source], &["/w/k.o"]).unwrap();
+        let (own, generated) = (of("/w/x.cpp"), of("/t/x.cpp"));
+        assert_eq!([own.has_own_source, own.lines_count, generated.has_own_source, generated.lines_count], [true, true, false, false]);
+        let asks = |made: &Recipe| made.question.as_ref().is_some_and(|(job, _)| job.words.iter().any(|word| word == "-fpch-preprocess"));
+        assert!(asks(&own) && !asks(&generated) && !own.job.words.contains(&"-fpch-preprocess".to_owned()));
     }
 
     #[test]

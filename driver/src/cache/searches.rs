@@ -194,6 +194,11 @@ impl<'a> Search<'a> {
         Some(())
     }
 
+    /// Notes that nothing is at a place, and no folder either.
+    pub fn lacks_all(&mut self, path: PathBuf) {
+        self.vain.insert(path.into_os_string(), false);
+    }
+
     /// Notes that there is no file at a place.
     pub fn lacks(&mut self, path: PathBuf) {
         self.vain.entry(path.into_os_string()).or_insert(true);

@@ -9,7 +9,7 @@ use crate::cache::store::{Store, digest_of};
 use crate::programs;
 use crate::streams::content_of;
 use crate::system;
-use std::collections::BTreeMap;
+use std::collections::{BTreeMap, BTreeSet};
 use std::ffi::{OsStr, OsString};
 use std::fs::{self, File, Metadata};
 use std::io::{Read, Seek};
@@ -35,6 +35,8 @@ const PAUSE: Duration = Duration::from_millis(2);
 
 /// Where systems have the C library.
 const SYSTEM: [&str; 4] = ["/lib/x86_64-linux-gnu", "/lib/aarch64-linux-gnu", "/lib64", "/lib"];
+/// The list of libraries that the loader gives any program.
+const PRELOADED: &str = "/etc/ld.so.preload";
 /// Where the loader looks for libm in a folder, by what the processor can do.
 const LIBM: [&str; 4] = ["glibc-hwcaps/x86-64-v4/libm.so.6", "glibc-hwcaps/x86-64-v3/libm.so.6", "glibc-hwcaps/x86-64-v2/libm.so.6", "libm.so.6"];
 
@@ -126,6 +128,8 @@ pub struct Tools {
     known: BTreeMap<PathBuf, Option<Digest>>,
     /// What compilers consist of beside their own programs.
     parts: Vec<(Compiler, Parts)>,
+    /// Where the loader would find a library of a tool.
+    lacking: BTreeSet<PathBuf>,
 }
 
 /// A tool, and where it runs.
@@ -152,13 +156,21 @@ impl Run<'_> {
         Some((programs::find(OsStr::from_bytes(line), self.variable("PATH").unwrap_or_default(), self.folder)?, specs))
     }
 
-    /// The libm that the loader may give a tool: cicc has it compute constants.
-    fn libms(&self) -> impl Iterator<Item = PathBuf> {
+    /// The places of the libm that the loader may give a tool: cicc has it compute constants.
+    fn libms(&self) -> Vec<PathBuf> {
         let value = self.variable("LD_LIBRARY_PATH").unwrap_or_default().as_bytes();
         let named = value.split(|byte| matches!(byte, b':' | b';')).filter(|_| !value.is_empty());
         let folders = named.map(OsStr::from_bytes).chain(SYSTEM.map(OsStr::new));
-        let files: Vec<PathBuf> = folders.flat_map(|folder| LIBM.map(|name| self.folder.join(folder).join(name))).collect();
-        files.into_iter().filter(|file| file.is_file())
+        folders.flat_map(|folder| LIBM.map(|name| self.folder.join(folder).join(name))).collect()
+    }
+
+    /// The files of libraries that variables, or a list, have the loader give any tool.
+    fn preloaded(&self) -> Vec<PathBuf> {
+        let listed = content_of(Path::new(PRELOADED)).unwrap_or_default();
+        let values = [self.variable("LD_AUDIT"), self.variable("LD_PRELOAD"), Some(OsStr::from_bytes(&listed))];
+        let words = values.iter().flatten().flat_map(|value| value.as_bytes().split(|byte| matches!(byte, b':' | b' ' | b'\t' | b'\n')));
+        let named = words.filter(|file| file.contains(&b'/')).map(|file| self.folder.join(OsStr::from_bytes(file)));
+        named.chain([PRELOADED.into()]).filter(|file| file.is_file()).collect()
     }
 
     /// The files of libraries that cicc may read: those for device code, and libm.
@@ -172,7 +184,7 @@ impl Run<'_> {
             }
         }
         files.sort();
-        files.extend(self.libms());
+        files.extend(self.libms().into_iter().filter(|file| file.is_file()));
         Some(files)
     }
 }
@@ -198,7 +210,7 @@ impl Tools {
     }
 
     fn in_stores(stores: Vec<Store>) -> Tools {
-        Tools { stores, known: BTreeMap::new(), parts: Vec::new() }
+        Tools { stores, known: BTreeMap::new(), parts: Vec::new(), lacking: BTreeSet::new() }
     }
 
     fn kept(&self, stamp: &Digest) -> Option<Digest> {
@@ -260,8 +272,13 @@ impl Tools {
         self.known.iter().filter_map(|(path, digest)| Some((path.as_path(), (*digest)?)))
     }
 
+    /// Where a file would be a part of a tool that was looked at.
+    pub fn lacking(&self) -> impl Iterator<Item = &Path> {
+        self.lacking.iter().map(PathBuf::as_path)
+    }
+
     /// The digest of all that a tool consists of: the program; for gcc also cc1plus, the assembler that it runs and its specs, for cicc
-    /// the files of its libraries. `None` if that isn't known.
+    /// the files of its libraries; and what is loaded before any program. `None` if that isn't known.
     pub fn identity(&mut self, run: &Run<'_>) -> Option<Digest> {
         if run.kind == Kind::Host && is_disguised(run.program) {
             return None;
@@ -275,7 +292,10 @@ impl Tools {
         for file in parts.specs {
             hasher.update(&self.known(&file, false)?.0);
         }
-        let libraries = if run.kind == Kind::Cicc { run.libraries()? } else { Vec::new() };
+        let mut libraries = if run.kind == Kind::Cicc { run.libraries()? } else { Vec::new() };
+        let libms = if run.kind == Kind::Cicc { run.libms() } else { Vec::new() };
+        self.lacking.extend(libms.into_iter().chain([PRELOADED.into()]).filter(|file| !file.is_file()));
+        libraries.extend(run.preloaded());
         for library in libraries {
             hasher.add(library.file_name()?.as_bytes());
             hasher.update(&self.known(&library, false)?.0);

@@ -4,7 +4,7 @@ use crate::cache::calls::{self, Answer, Product};
 use crate::cache::direct::Found;
 use crate::cache::host_text::files_of_ptx;
 use crate::cache::includes::{self, Folders};
-use crate::cache::manifest::{Form, Manifest, Seen, Stamp, is_older};
+use crate::cache::manifest::{Form, Manifest, Seen, Stamp, is_older, real_place};
 use crate::cache::searches::{MARGIN, Search};
 use crate::cache::tool::{Kind, is_called, is_disguised};
 use crate::cache::words::{self, Role};
@@ -131,6 +131,7 @@ struct Gathered<'a> {
     seen: BTreeMap<PathBuf, Seen>,
     /// Whether the text of a preprocessor may see its lines.
     sees_lines: bool,
+    places: BTreeMap<PathBuf, PathBuf>,
 }
 
 /// Whether a line has nvcc read further words from a file.
@@ -166,6 +167,44 @@ impl Gathered<'_> {
         present.iter().try_for_each(|path| self.add(Seen::with_text(path, cwd)?.0, cwd))
     }
 
+    /// Notes where a path leads.
+    fn add_place(&mut self, path: &Path, cwd: &Path) -> Option<()> {
+        self.places.insert(path.to_owned(), real_place(path, cwd)?);
+        Some(())
+    }
+
+    /// Notes where folders lead, and files that are sought there if these aren't in them: gcc leaves out a folder that is another one, and may
+    /// name what a link in a system's folder leads to.
+    fn add_places(&mut self, folders: &Folders, cwd: &Path) -> Option<()> {
+        let all = || [&folders.quoted, &folders.all, &folders.doubled].into_iter().flatten();
+        all().try_for_each(|folder| self.add_place(folder, cwd))?;
+        let own = fs::canonicalize(cwd).ok()?;
+        let places = self.places.clone();
+        let is_in = |folder: &Path, path: &Path, real: &Path| {
+            let name = path.strip_prefix(folder);
+            name.is_ok_and(|name| places.get(folder).is_some_and(|place| own.join(place).join(name) == *real))
+        };
+        let found: Vec<PathBuf> = self.search.found().map(Path::to_owned).collect();
+        for path in found {
+            let real = fs::canonicalize(cwd.join(&path)).ok()?;
+            if own.join(&path) != real && !all().any(|folder| is_in(folder, &path, &real)) {
+                self.add_place(&path, cwd)?;
+            }
+        }
+        Some(())
+    }
+
+    /// Notes another path to a file that is to be read once. One by the same file's name, or a link, has to lead there. Of two names of a file,
+    /// times count: one may become a copy.
+    fn add_other_name(&mut self, names: [&Path; 2], cwd: &Path) -> Option<()> {
+        let [one, other] = names.map(|name| fs::canonicalize(cwd.join(name)).ok());
+        if one? != other? {
+            return names.into_iter().try_for_each(|name| self.add(Seen::dated(name, cwd)?, cwd));
+        }
+        self.add(Seen::with_text(names[0], cwd)?.0, cwd)?;
+        names.into_iter().try_for_each(|name| self.add_place(name, cwd))
+    }
+
     /// Notes further paths to files that gcc may have read only once. Of a copy of such a file, and of that, times count too: gcc leaves it out
     /// if both were last changed in the same second.
     fn add_copies(&mut self, once: &BTreeSet<PathBuf>, cwd: &Path) -> Option<()> {
@@ -176,8 +215,8 @@ impl Gathered<'_> {
             let (file, same_size): (_, &mut Vec<(PathBuf, _)>) = ((status.dev(), status.ino()), sizes.entry(status.len()).or_default());
             let alike = || same_size.iter().filter(|(other, _)| once.contains(other));
             let is_copy = |other: &Path| content_of(&cwd.join(path)).ok() == content_of(&cwd.join(other)).ok();
-            if alike().any(|(_, other)| *other == file) {
-                self.add(Seen::with_text(path, cwd)?.0, cwd)?;
+            if let Some((other, _)) = alike().find(|(_, other)| *other == file) {
+                self.add_other_name([path, other], cwd)?;
             } else if let Some((other, _)) = alike().find(|(other, _)| is_copy(other)) {
                 self.add(Seen::dated(path, cwd)?, cwd)?;
                 self.add(Seen::dated(other, cwd)?, cwd)?;
@@ -197,15 +236,16 @@ impl Session<'_> {
         }
         let folders = self.folders(call)?;
         let search = Search::new(call.cwd(), &folders, call.begun);
-        let mut gathered = Gathered { search, begun: call.begun, seen: BTreeMap::new(), sees_lines: false };
+        let mut gathered = Gathered { search, begun: call.begun, seen: BTreeMap::new(), sees_lines: false, places: BTreeMap::new() };
         self.gather_files(call, &mut gathered)?;
+        gathered.add_places(&folders, call.cwd())?;
         self.gather_programs(call, &nvcc, &folders, &mut gathered)?;
         self.gather_named(call.cwd(), &mut gathered)?;
         let defines = self.defines(call).filter(|_| !gathered.sees_lines);
         let present = gathered.search.present().clone();
         let direct = self.candidates.values().filter_map(|candidate| candidate.direct.found.as_ref());
         let vain = gathered.search.vain(direct.flat_map(|found| &found.manifest.vain))?;
-        let manifest = Manifest { files: gathered.seen.into_values().collect(), vain, defines };
+        let manifest = Manifest { files: gathered.seen.into_values().collect(), vain, places: gathered.places.into_iter().collect(), defines };
         self.keep_directly(&call.line.cwd, &manifest, &present);
         let answer = self.answer(call)?;
         calls::keep(self.store, call.line, &nvcc, self.folder_counts(call), &manifest, &answer);
@@ -326,7 +366,10 @@ impl Session<'_> {
                 askers.extend(further);
             }
         }
-        let may_ask = |definition: &str| includes::may_ask(definition.as_bytes(), &askers);
+        let may_ask = |definition: &str| {
+            let definition = definition.as_bytes();
+            includes::may_ask(definition, &askers) || includes::may_compare_times(definition)
+        };
         let is_known = !self.preprocessors(call).flat_map(|(job, _)| words::defined(&job.words)).any(may_ask);
         is_known.then_some(())
     }
@@ -352,7 +395,14 @@ impl Session<'_> {
         for (place, part) in parts.iter().enumerate() {
             self.tools.known(part, place + 1 == parts.len())?;
         }
-        profiles.into_iter().try_for_each(|profile| self.gather_text_if_there(profile, gathered))?;
+        for profile in profiles {
+            // nvcc takes other folders of headers if there are targets.
+            let targets = profile.parent()?.parent().map(|kit| kit.join("targets"));
+            if let Some(targets) = targets.filter(|targets| !targets.exists()) {
+                gathered.search.lacks_all(targets);
+            }
+            self.gather_text_if_there(profile, gathered)?;
+        }
         for (_, task, command) in call.of_plan() {
             if command.preprocesses && is_disguised(Path::new(&command.program)) {
                 return None;
@@ -398,7 +448,13 @@ impl Session<'_> {
         let names = ["as", "cc1plus", &format!("{}-as", folders.machine)].map(String::from);
         let places = folders.programs.iter().flat_map(|folder| names.iter().map(|name| folder.join(name)));
         places.into_iter().try_for_each(|place| self.gather_if_there(place, gathered))?;
-        folders.libraries.iter().try_for_each(|folder| self.gather_text_if_there(folder.join("specs"), gathered))
+        let lacking: Vec<PathBuf> = self.tools.lacking().map(|path| path.strip_prefix(call.cwd()).unwrap_or(path).to_owned()).collect();
+        for path in lacking {
+            gathered.search.lacks(path);
+        }
+        // gcc also looks for specs in a folder that it names among those of programs alone.
+        let specs = folders.libraries.iter().chain(&folders.programs).map(|folder| folder.join("specs"));
+        specs.into_iter().try_for_each(|specs| self.gather_text_if_there(specs, gathered))
     }
 
     /// Whether a product may have the call's folder in it: debugging information has it, and the module id has a source's whole path.
@@ -446,7 +502,8 @@ mod tests {
         thread::sleep(2 * MARGIN);
         let (begun, folders) = (SystemTime::now(), Folders::default());
         let seen = Known::default().scanned(Path::new("a.h"), &room).unwrap().seen.clone();
-        let mut gathered = Gathered { search: Search::new(&room, &folders, begun), begun, seen: BTreeMap::new(), sees_lines: false };
+        let mut gathered =
+            Gathered { search: Search::new(&room, &folders, begun), begun, seen: BTreeMap::new(), sees_lines: false, places: BTreeMap::new() };
         assert_eq!(gathered.add(seen.clone(), &room), Some(()));
         fs::write(room.join("a.h"), "two").unwrap();
         assert_eq!(gathered.add(seen.clone(), &room), None);
@@ -529,7 +586,7 @@ mod tests {
             with_call(std::slice::from_ref(&ptxas), &room, Vec::new(), |session, call| {
                 let folders = Folders::default();
                 let search = Search::new(call.cwd(), &folders, call.begun);
-                let mut gathered = Gathered { search, begun: call.begun, seen: BTreeMap::new(), sees_lines: false };
+                let mut gathered = Gathered { search, begun: call.begun, seen: BTreeMap::new(), sees_lines: false, places: BTreeMap::new() };
                 let is_known = session.gather_named(call.cwd(), &mut gathered).is_some();
                 let files: Vec<(String, Form)> =
                     gathered.seen.into_values().map(|seen| (seen.path.to_string_lossy().into_owned(), seen.form)).collect();
@@ -579,7 +636,7 @@ mod tests {
             with_call(&[preprocessor], &room, Vec::new(), |session, call| {
                 let folders = Folders::default();
                 let search = Search::new(call.cwd(), &folders, call.begun);
-                let mut gathered = Gathered { search, begun: call.begun, seen: BTreeMap::new(), sees_lines: false };
+                let mut gathered = Gathered { search, begun: call.begun, seen: BTreeMap::new(), sees_lines: false, places: BTreeMap::new() };
                 session.gather_files(call, &mut gathered).map(|()| gathered.seen.values().filter(|seen| seen.form == Form::Dated).count())
             })
         };

@@ -6,6 +6,7 @@ use std::env;
 use std::ffi::{OsStr, OsString};
 use std::fs::{self, File};
 use std::io::Read;
+use std::os::unix::ffi::OsStrExt;
 use std::path::{Path, PathBuf};
 use std::process::{Command, Stdio};
 use std::sync::atomic::{AtomicUsize, Ordering};
@@ -89,14 +90,21 @@ fn printed(program: &Path, words: &[&str]) -> Option<[Vec<u8>; 2]> {
     Some([said.stdout, said.stderr])
 }
 
-/// A host compiler's program and those that it runs.
+/// The files by which gcc does otherwise than it would by itself, by what it says.
+fn specs_in(said: &[u8]) -> Vec<PathBuf> {
+    let files = said.split(|&byte| byte == b'\n').filter_map(|line| line.strip_prefix(b"Reading specs from "));
+    files.map(|file| PathBuf::from(OsStr::from_bytes(file))).collect()
+}
+
+/// A host compiler's program, those that it runs, and its specs.
 fn of_compiler(compiler: &Path, path: &OsStr) -> Vec<PathBuf> {
     let part = |name: &&str| {
         let [said, _] = printed(compiler, &[&format!("-print-prog-name={name}")])?;
         let line = String::from_utf8(said).ok()?;
         programs::find(OsStr::new(line.trim_end()), path, Path::new(""))
     };
-    [compiler.to_owned()].into_iter().chain(OF_COMPILER.iter().filter_map(part)).collect()
+    let specs = printed(compiler, &["-v"]).map(|[_, said]| specs_in(&said)).unwrap_or_default();
+    [compiler.to_owned()].into_iter().chain(OF_COMPILER.iter().filter_map(part)).chain(specs).collect()
 }
 
 /// The files of nvcc's toolkit, as its dry run names them.
@@ -152,14 +160,18 @@ mod tests {
         for folder in ["nvvm", "lib", "bin"] {
             fs::create_dir_all(here.join(folder)).unwrap();
         }
-        let others = ["lib/d.bc", "lib/a.bc", "lib/e.bc", "lib/c.bc", "lib/b.bc", "nvvm/cicc", "ptxas", "bin/as", "bin/cc1plus", "cudafe", "bin/ld"];
+        let others =
+            ["lib/d.bc", "lib/a.bc", "lib/e.bc", "lib/c.bc", "lib/b.bc", "nvvm/cicc", "ptxas", "bin/as", "bin/cc1plus", "cudafe", "bin/ld", "specs"];
         for name in others {
             fs::write(here.join(name), name).unwrap();
         }
         let shown = here.display();
         let says = format!("_HERE_={shown}\n#$ CICC_PATH={shown}/nvvm\n#$ NVVMIR_LIBRARY_DIR={shown}/lib\n#$ PATH={shown}/bin\n#$ gcc -E k.cu");
         fs::write(here.join("nvcc"), format!("#!/bin/sh\n[ \"$*\" = '--dryrun -c zigrunk.cu' ] && echo '#$ {says}' >&2\n")).unwrap();
-        fs::write(here.join("bin/gcc"), format!("#!/bin/sh\necho {shown}/bin/${{1#-print-prog-name=}}\n")).unwrap();
+        let gcc = format!(
+            "#!/bin/sh\ncase $1 in\n-v) echo 'Reading specs from {shown}/specs' >&2 ;;\n*) echo {shown}/bin/${{1#-print-prog-name=}} ;;\nesac\n"
+        );
+        fs::write(here.join("bin/gcc"), gcc).unwrap();
         for name in ["nvcc", "bin/gcc", "bin/as", "bin/cc1plus", "bin/ld"] {
             fs::set_permissions(here.join(name), PermissionsExt::from_mode(0o755)).unwrap();
         }
@@ -173,7 +185,7 @@ mod tests {
             make_toolkit(&here);
             let found = tools(&Settings { nvcc: here.join("nvcc").into(), ..Settings::default() });
             let libraries = ["lib/a.bc", "lib/b.bc", "lib/c.bc", "lib/d.bc", "lib/e.bc"];
-            let wanted = [&["nvcc", "nvvm/cicc", "ptxas"][..], &libraries, &["bin/gcc", "bin/cc1plus", "bin/as"]].concat();
+            let wanted = [&["nvcc", "nvvm/cicc", "ptxas"][..], &libraries, &["bin/gcc", "bin/cc1plus", "bin/as", "specs"]].concat();
             let wanted: Vec<_> = wanted.into_iter().map(|name| (here.join(name), Digest::of(&fs::read(here.join(name)).unwrap()).0)).collect();
             assert_eq!(found, wanted);
             assert_eq!(found.iter().filter(|(path, _)| is_of_devices(path)).count(), 7);
