@@ -4,11 +4,13 @@ use Rattle.plans.specs.declared.origins.Origin.{Origin}
 use Rattle.plans.specs.declared.origins.PlanWithOrigins.{PlanWithOrigins}
 use Rattle.plans.specs.declared.plan.Dropped.{Dropped}
 use Rattle.plans.specs.declared.plan.NvccGeneratedSubcommand.{NvccGeneratedSubcommand}
+use Rattle.plans.specs.Listed.{Listed, listed_group, listed}
+use Rattle.command_files.specs.Numbered.{numbered}
 use Rattle.c_texts.proofs.TextLemmas.{ranges-length, texts-then, count-then}
 use Rattle.c_plans.specs.declared.record.CommandRecord.{CommandRecord}
 use Rattle.c_plans.specs.declared.record.GroupRecord.{GroupRecord}
 use Rattle.c_texts.specs.Outcomes.{Outcome, of_texts, with_texts}
-use Rattle.c_plans.specs.Records.{Entry, Recorded, Shared, Variables, command_entry, dropped_entry, own_texts, shared_first, shared_of, variable_texts, variables_at, texts_of, record_at, records_at, group_record, groups_at, records_of, with_entry, with_entries, with_groups, without_records, of_group, of_groups}
+use Rattle.c_plans.specs.Records.{Entry, Recorded, Shared, Variables, command_entry, dropped_entry, own_texts, shared_first, shared_of, variable_texts, variables_at, texts_of, record_at, records_at, groups_at, records_of, with_entry, with_entries, with_groups, without_records}
 
 -- ---- records
 
@@ -58,20 +60,15 @@ entry-then recorded e ys =
     ∙ ap (λ n. commands ++ record_at first e ∷ records_at n ys) (count-then outcome (texts_of e)) in
     λ i. (texts-then outcome (texts_of e) (flat_map texts_of ys) i, (recorded.1.0, records i))
 
--- how many records there are, behind further commands
-pub commands-then : (recorded : Recorded) (xs : List Entry) → length (with_entries recorded xs).1.1 ≡ length recorded.1.1 + length xs
-commands-then recorded xs = simp (length-append, records-length)
+-- a group, and others behind it
+pub groups-then : (recorded : Recorded) (one : GroupRecord) (others : List GroupRecord) →
+    with_groups (recorded.0, (recorded.1.0 ++ one ∷ [], recorded.1.1)) others ≡ with_groups recorded (one ∷ others)
+groups-then recorded one others = λ i. (recorded.0, (append_assoc recorded.1.0 (one ∷ []) others i, recorded.1.1))
 
--- groups and their commands, and others behind them
-pub groups-then : (recorded : Recorded) (here there : List GroupRecord) (xs ys : List Entry) →
-    with_groups (with_groups recorded here xs) there ys ≡ with_groups recorded (here ++ there) (xs ++ ys)
-groups-then recorded here there xs ys = grind (arith, append_assoc, entries-then)
-
--- a group has as many commands as before
-pub group-length : {X : Type 0} (described : ℕ → ℕ → NvccGeneratedSubcommand → X) (number group : ℕ) (commands : List NvccGeneratedSubcommand) →
-    length (of_group described number group commands) ≡ length commands
-group-length described number group [] = refl
-group-length described number group (c ∷ commands) = ap suc (group-length described (number + 1) group commands)
+-- a group's commands, in front of others, are as many as before
+pub listed-length : (group place : ℕ) (commands : List NvccGeneratedSubcommand) (rest : List Listed) → length (listed_group group place commands ++ rest) ≡ length commands + length rest
+listed-length group place [] rest = omega arith
+listed-length group place (c ∷ commands) rest = let ih = listed-length group (place + 1) commands rest in omega (arith, ih)
 
 -- ---- a command and its texts
 
@@ -104,46 +101,39 @@ command-record t0 t1 t2 t3 e first second third =
     let counted : length t2.1.0 ≡ length t1.1.0 + 1 = ap (λ (t : Outcome). length t.1.0) second ∙ count-then t1 (e.cwd ∷ []) in
     grind (arith, count-then)
 
--- groups and their commands, and then further commands, where only texts are before them
+-- commands, groups, and then further commands, where only texts are before them
 pub from-texts : (before : List (List ℕ)) (groups : List GroupRecord) (xs ys : List Entry) →
-    with_entries (with_groups (without_records (of_texts before)) groups xs) ys ≡
+    with_entries (with_groups (with_entries (without_records (of_texts before)) xs) groups) ys ≡
     (of_texts (before ++ flat_map texts_of (xs ++ ys)), (groups, records_at (length before) (xs ++ ys)))
 from-texts before groups xs ys =
     let start : Recorded = without_records (of_texts before) in
     let both : with_entries (with_entries start xs) ys ≡ with_entries start (xs ++ ys) = entries-then start xs ys in
     (λ i. ((both i).0, (groups, (both i).1.1))) ∙ (λ i. ((texts-then (of_texts []) before (flat_map texts_of (xs ++ ys))) i, (groups, records_at ((ranges-length 0 before) i) (xs ++ ys))))
 
--- a group and its commands, and then further groups, whose numbers begin behind it
-pub groups-step : (described : ℕ → ℕ → NvccGeneratedSubcommand → Entry) (last group : ℕ) (before after : Recorded) (commands : List NvccGeneratedSubcommand)
-    (left : List (List NvccGeneratedSubcommand)) →
-    after ≡ with_groups before (group_record last group (length before.1.1) commands ∷ []) (of_group described (length before.1.1) group commands) →
-    with_groups after (groups_at last (group + 1) (length after.1.1) left) (of_groups described (length after.1.1) (group + 1) left) ≡
-    with_groups before (groups_at last group (length before.1.1) (commands ∷ left)) (of_groups described (length before.1.1) group (commands ∷ left))
-groups-step described last group before after commands left pushed = grind (arith, commands-then, group-length, groups-then)
-
 -- the records of a plan, by its parts
-abbrev made : List Origin → Variables → List (List NvccGeneratedSubcommand) → ℕ → List Dropped → Recorded
-made origins shared groups count dropped =
+abbrev made : List Origin → Variables → List Listed → List (List NvccGeneratedSubcommand) → ℕ → List Dropped → Recorded
+made origins shared commands groups count dropped =
     let texts = variable_texts shared in
-    let entries = of_groups (command_entry origins (shared_first shared)) 0 0 groups ++ map (dropped_entry count) dropped in
+    let entries = numbered (command_entry origins (shared_first shared)) 0 commands ++ map (dropped_entry count) dropped in
     (of_texts (texts ++ flat_map texts_of entries), (groups_at (count - 1) 0 0 groups, records_at (length texts) entries))
 
-pub records-are : (planned : PlanWithOrigins) (start middle end : Recorded) (origins : List Origin) (variables : Variables) (shared : Shared)
-    (groups : List (List NvccGeneratedSubcommand)) (count : ℕ) (dropped : List Dropped) →
+pub records-are : (planned : PlanWithOrigins) (start first middle end : Recorded) (origins : List Origin) (variables : Variables) (shared : Shared)
+    (commands : List Listed) (groups : List (List NvccGeneratedSubcommand)) (count : ℕ) (dropped : List Dropped) →
     start ≡ without_records (of_texts (variable_texts variables)) →
     shared ≡ shared_first variables →
-    middle ≡ with_groups start (groups_at (count - 1) 0 (length start.1.1) groups) (of_groups (command_entry origins shared) (length start.1.1) 0 groups) →
+    first ≡ with_entries start (numbered (command_entry origins shared) 0 commands) →
+    middle ≡ with_groups first (groups_at (count - 1) 0 0 groups) →
     end ≡ with_entries middle (map (dropped_entry count) dropped) →
-    origins ≡ planned.origins → variables ≡ shared_of planned.plan.groups → groups ≡ planned.plan.groups → count ≡ length planned.plan.groups →
-    dropped ≡ planned.plan.dropped →
+    origins ≡ planned.origins → variables ≡ shared_of (listed planned.plan.groups) → commands ≡ listed planned.plan.groups → groups ≡ planned.plan.groups →
+    count ≡ length planned.plan.groups → dropped ≡ planned.plan.dropped →
     end ≡ records_of planned
-records-are planned start middle end origins variables shared groups count dropped first seen second third lines same lists counted lost =
+records-are planned start first middle end origins variables shared commands groups count dropped begun seen entries grouped rest lines same all lists counted lost =
     let others : List Entry = map (dropped_entry count) dropped in
     let records : List GroupRecord = groups_at (count - 1) 0 0 groups in
     let texts = variable_texts variables in
-    third
-    ∙ ap (λ r. with_entries r others) second
-    ∙ ap (λ (r : Recorded). with_entries (with_groups r (groups_at (count - 1) 0 (length r.1.1) groups) (of_groups (command_entry origins shared) (length r.1.1) 0 groups)) others) first
-    ∙ ap (λ s. with_entries (with_groups (without_records (of_texts texts)) records (of_groups (command_entry origins s) 0 0 groups)) others) seen
-    ∙ from-texts texts records (of_groups (command_entry origins (shared_first variables)) 0 0 groups) others
-    ∙ (λ i. made (lines i) (same i) (lists i) (counted i) (lost i))
+    rest
+    ∙ ap (λ r. with_entries r others) grouped
+    ∙ ap (λ (r : Recorded). with_entries (with_groups r records) others) entries
+    ∙ (λ i. with_entries (with_groups (with_entries (begun i) (numbered (command_entry origins (seen i)) 0 commands)) records) others)
+    ∙ from-texts texts records (numbered (command_entry origins (shared_first variables)) 0 commands) others
+    ∙ (λ i. made (lines i) (same i) (all i) (lists i) (counted i) (lost i))

@@ -10,12 +10,13 @@ use Rattle.plans.specs.declared.origins.PlanWithOrigins.{PlanWithOrigins}
 use Rattle.plans.specs.declared.plan.Dropped.{Dropped}
 use Rattle.plans.specs.declared.plan.NvccGeneratedSubcommand.{NvccGeneratedSubcommand}
 use Rattle.plans.specs.declared.plan.Reason.{Reason}
+use Rattle.plans.specs.Listed.{Listed, listed_group, listed_from, listed}
+use Rattle.command_files.specs.Numbered.{numbered}
 use Rattle.plan_json.specs.Json.{origin_at}
 use Rattle.c_texts.specs.declared.memory.Range.{Range}
-use Rattle.c_plans.specs.Records.{Entry, Shared, Variables, are_same, shared_by, shared_first, shared_of, variables_at, reason_number, cacheable_number, command_entry, dropped_entry, entries_of, variable_texts, texts_of, record_at, records_at, groups_at, records_of, of_group, of_groups}
+use Rattle.c_plans.specs.Records.{Entry, Shared, Variables, are_same, shared_by, shared_first, shared_of, variables_at, reason_number, cacheable_number, command_entry, dropped_entry, entries_of, variable_texts, texts_of, record_at, records_at, groups_at, records_of}
 use Rattle.c_plans.specs.RecordsRead.{part, pairs_of, entry_in, cacheable_of, reason_of, command_of, dropped_of, origin_of, plan_of, plan_in, HasOrigins}
 use Rattle.c_texts.proofs.RangeLemmas.{cut_behind}
-use Rattle.c_plans.proofs.RecordLemmas.{group-length}
 
 -- ---- a command by its texts
 
@@ -117,13 +118,9 @@ shared-is variables own =
     ] refl
 
 module _ (origins : List Origin) (variables : Variables) where
-  group-sharing : (id group : ℕ) (commands : List NvccGeneratedSubcommand) → AreSharing variables (of_group (command_entry origins (shared_first variables)) id group commands)
-  group-sharing id group [] = tt
-  group-sharing id group (c ∷ commands) = (shared-is variables c.env_vars, group-sharing (id + 1) group commands)
-
-  groups-sharing : (id group : ℕ) (groups : List (List NvccGeneratedSubcommand)) → AreSharing variables (of_groups (command_entry origins (shared_first variables)) id group groups)
-  groups-sharing id group [] = tt
-  groups-sharing id group (commands ∷ groups) = grind (arith, sharing-append, group-sharing, (groups-sharing (id + length commands) (group + 1) groups))
+  commands-sharing : (id : ℕ) (commands : List Listed) → AreSharing variables (numbered (command_entry origins (shared_first variables)) id commands)
+  commands-sharing id [] = tt
+  commands-sharing id (l ∷ commands) = (shared-is variables l.command.env_vars, commands-sharing (id + 1) commands)
 
 dropped-sharing : (variables : Variables) (groups : ℕ) (dropped : List Dropped) → AreSharing variables (map (dropped_entry groups) dropped)
 dropped-sharing variables groups [] = tt
@@ -131,15 +128,16 @@ dropped-sharing variables groups (d ∷ dropped) = (inl refl, dropped-sharing va
 
 -- all commands of a plan are read from the texts of its records, with others behind these
 pub all-read : (planned : PlanWithOrigins) (behind : List (List ℕ)) →
-    let shared = variable_texts (shared_of planned.plan.groups) in
+    let shared = variable_texts (shared_of (listed planned.plan.groups)) in
     map (entry_in (shared ++ (flat_map texts_of (entries_of planned) ++ behind))) (records_at (length shared) (entries_of planned)) ≡ entries_of planned
 all-read planned behind =
     let groups = planned.plan.groups in
-    let variables = shared_of groups in
-    let grouped : List Entry = of_groups (command_entry planned.origins (shared_first variables)) 0 0 groups in
+    let commands = listed groups in
+    let variables = shared_of commands in
+    let grouped : List Entry = numbered (command_entry planned.origins (shared_first variables)) 0 commands in
     let others : List Entry = map (dropped_entry (length groups)) planned.plan.dropped in
     entries-read variables (variable_texts variables) [] (entries_of planned) behind (sym (append-nil (variable_texts variables)))
-    (sharing-append variables grouped others (groups-sharing planned.origins variables 0 0 groups) (dropped-sharing variables (length groups) planned.plan.dropped))
+    (sharing-append variables grouped others (commands-sharing planned.origins variables 0 commands) (dropped-sharing variables (length groups) planned.plan.dropped))
 
 -- ---- groups
 
@@ -147,42 +145,40 @@ cacheable-is : (c : Cacheable) → cacheable_of (cacheable_number c) ≡ c
 cacheable-is c = grind arith
 
 module _ (origins : List Origin) (shared : Shared) where
-  commands-are : (id group : ℕ) (commands : List NvccGeneratedSubcommand) → map command_of (of_group (command_entry origins shared) id group commands) ≡ commands
-  commands-are id group [] = refl
-  commands-are id group (c ∷ commands) =
-      λ i. record { exe = c.exe; args = c.args; cwd = c.cwd; env_vars = c.env_vars; cacheable = cacheable-is c.cacheable i } ∷ commands-are (id + 1) group commands i
+  commands-are : (id group place : ℕ) (commands : List NvccGeneratedSubcommand) → map command_of (numbered (command_entry origins shared) id (listed_group group place commands)) ≡ commands
+  commands-are id group place [] = refl
+  commands-are id group place (c ∷ commands) =
+      λ i. record { exe = c.exe; args = c.args; cwd = c.cwd; env_vars = c.env_vars; cacheable = cacheable-is c.cacheable i } ∷ commands-are (id + 1) group (place + 1) commands i
+
+  group-length : (id group place : ℕ) (commands : List NvccGeneratedSubcommand) → length (numbered (command_entry origins shared) id (listed_group group place commands)) ≡ length commands
+  group-length id group place [] = refl
+  group-length id group place (c ∷ commands) = ap suc (group-length (id + 1) group (place + 1) commands)
+
+  -- a group's commands, and others behind them
+  group-then : (id group place : ℕ) (commands : List NvccGeneratedSubcommand) (rest : List Listed) →
+      numbered (command_entry origins shared) id (listed_group group place commands ++ rest) ≡
+      numbered (command_entry origins shared) id (listed_group group place commands) ++ numbered (command_entry origins shared) (id + length commands) rest
+  group-then id group place [] rest = ap (λ n. numbered (command_entry origins shared) n rest) (omega arith)
+  group-then id group place (c ∷ commands) rest = grind (arith, (group-then (id + 1) group (place + 1) commands rest))
 
   groups-are : (last : ℕ) (before : List Entry) (group : ℕ) (groups : List (List NvccGeneratedSubcommand)) (behind : List Entry) →
-      map (λ g. map command_of (part (before ++ (of_groups (command_entry origins shared) (length before) group groups ++ behind)) g.commands)) (groups_at last group (length before) groups) ≡ groups
+      map (λ g. map command_of (part (before ++ (numbered (command_entry origins shared) (length before) (listed_from group groups) ++ behind)) g.commands)) (groups_at last group (length before) groups) ≡ groups
   groups-are last before group [] behind = refl
   groups-are last before group (commands ∷ groups) behind =
-      let here : List Entry = of_group (command_entry origins shared) (length before) group commands in
-      let next = length before + length commands in
-      grind (arith, part-behind, commands-are, length-append, (groups-are last (before ++ here) (group + 1) groups behind), group-length, append_assoc)
+      let here : List Entry = numbered (command_entry origins shared) (length before) (listed_group group 0 commands) in
+      grind (arith, part-behind, commands-are, length-append, (groups-are last (before ++ here) (group + 1) groups behind), group-length, group-then, append_assoc)
 
   -- ---- which commands are in groups
 
-  kept-group : (id group : ℕ) (commands : List NvccGeneratedSubcommand) (rest : List Entry) →
-      filter (λ e. e.reason == 0) (of_group (command_entry origins shared) id group commands ++ rest) ≡ of_group (command_entry origins shared) id group commands ++ filter (λ e. e.reason == 0) rest
-  kept-group id group [] rest = refl
-  kept-group id group (c ∷ commands) rest = ap (λ t. command_entry origins shared id group c ∷ t) (kept-group (id + 1) group commands rest)
+  kept : (id : ℕ) (commands : List Listed) (rest : List Entry) →
+      filter (λ e. e.reason == 0) (numbered (command_entry origins shared) id commands ++ rest) ≡ numbered (command_entry origins shared) id commands ++ filter (λ e. e.reason == 0) rest
+  kept id [] rest = refl
+  kept id (l ∷ commands) rest = ap (λ t. command_entry origins shared id l ∷ t) (kept (id + 1) commands rest)
 
-  kept : (id group : ℕ) (groups : List (List NvccGeneratedSubcommand)) (rest : List Entry) →
-      filter (λ e. e.reason == 0) (of_groups (command_entry origins shared) id group groups ++ rest) ≡ of_groups (command_entry origins shared) id group groups ++ filter (λ e. e.reason == 0) rest
-  kept id group [] rest = refl
-  kept id group (commands ∷ groups) rest =
-      simp (append_assoc, kept-group, (kept (id + length commands) (group + 1) groups rest))
-
-  skipped-group : (id group : ℕ) (commands : List NvccGeneratedSubcommand) (rest : List Entry) →
-      filter (λ e. not (e.reason == 0)) (of_group (command_entry origins shared) id group commands ++ rest) ≡ filter (λ e. not (e.reason == 0)) rest
-  skipped-group id group [] rest = refl
-  skipped-group id group (c ∷ commands) rest = skipped-group (id + 1) group commands rest
-
-  skipped : (id group : ℕ) (groups : List (List NvccGeneratedSubcommand)) (rest : List Entry) →
-      filter (λ e. not (e.reason == 0)) (of_groups (command_entry origins shared) id group groups ++ rest) ≡ filter (λ e. not (e.reason == 0)) rest
-  skipped id group [] rest = refl
-  skipped id group (commands ∷ groups) rest =
-      simp (append_assoc, skipped-group, (skipped (id + length commands) (group + 1) groups rest))
+  skipped : (id : ℕ) (commands : List Listed) (rest : List Entry) →
+      filter (λ e. not (e.reason == 0)) (numbered (command_entry origins shared) id commands ++ rest) ≡ filter (λ e. not (e.reason == 0)) rest
+  skipped id [] rest = refl
+  skipped id (l ∷ commands) rest = skipped (id + 1) commands rest
 
 -- ---- dropped commands
 
@@ -221,21 +217,9 @@ all-origins [] = refl
 all-origins (o ∷ origins) = ap (λ t. o ∷ t) (past-first o origins (length origins) 0 ∙ all-origins origins)
 
 module _ (origins : List Origin) (shared : Shared) where
-  group-origins : (id group : ℕ) (commands : List NvccGeneratedSubcommand) (rest : List Entry) →
-      map origin_of (of_group (command_entry origins shared) id group commands ++ rest) ≡ origins-from origins (length commands) id ++ map origin_of rest
-  group-origins id group [] rest = refl
-  group-origins id group (c ∷ commands) rest = grind (arith, add-one, (group-origins (id + 1) group commands rest))
-
-  joined-origins : (n m id : ℕ) → origins-from origins n id ++ origins-from origins m (id + n) ≡ origins-from origins (n + m) id
-  joined-origins zero m id = grind arith
-  joined-origins (suc n) m id =
-      let more : suc (n + m) ≡ suc n + m = omega arith in
-      grind (arith, (joined-origins n m (suc id)))
-
-  origins-are : (id group : ℕ) (groups : List (List NvccGeneratedSubcommand)) →
-      map origin_of (of_groups (command_entry origins shared) id group groups) ≡ origins-from origins (length (flat_map (λ g. g) groups)) id
-  origins-are id group [] = refl
-  origins-are id group (commands ∷ groups) = simp (group-origins, joined-origins, length-append, (origins-are (id + length commands) (group + 1) groups))
+  origins-are : (id : ℕ) (commands : List Listed) → map origin_of (numbered (command_entry origins shared) id commands) ≡ origins-from origins (length commands) id
+  origins-are id [] = refl
+  origins-are id (l ∷ commands) = grind (arith, add-one, (origins-are (id + 1) commands))
 
 -- ---- plans
 
@@ -244,13 +228,14 @@ plan-is planned has =
     let origins = planned.origins in
     let groups = planned.plan.groups in
     let dropped = planned.plan.dropped in
-    let shared : Shared = shared_first (shared_of groups) in
-    let grouped : List Entry = of_groups (command_entry origins shared) 0 0 groups in
+    let commands = listed groups in
+    let shared : Shared = shared_first (shared_of commands) in
+    let grouped : List Entry = numbered (command_entry origins shared) 0 commands in
     let others : List Entry = map (dropped_entry (length groups)) dropped in
     let lists = groups-are origins shared (length groups - 1) [] 0 groups others in
-    let lost = ap (map dropped_of) (skipped origins shared 0 0 groups others ∙ all-dropped (length groups) dropped) ∙ dropped-are (length groups) dropped in
-    let lines = ap (map origin_of) (kept origins shared 0 0 groups others ∙ ap (λ t. grouped ++ t) (none-in-groups (length groups) dropped) ∙ append-nil grouped)
-    ∙ origins-are origins shared 0 0 groups
+    let lost = ap (map dropped_of) (skipped origins shared 0 commands others ∙ all-dropped (length groups) dropped) ∙ dropped-are (length groups) dropped in
+    let lines = ap (map origin_of) (kept origins shared 0 commands others ∙ ap (λ t. grouped ++ t) (none-in-groups (length groups) dropped) ∙ append-nil grouped)
+    ∙ origins-are origins shared 0 commands
     ∙ ap (λ n. origins-from origins n 0) (sym has)
     ∙ all-origins origins in
     λ i. record { plan = record { groups = lists i; dropped = lost i }; origins = lines i }
@@ -260,7 +245,7 @@ pub records-read-back : (planned : PlanWithOrigins) → HasOrigins planned → p
 records-read-back planned has =
     let groups = groups_at (length planned.plan.groups - 1) 0 0 planned.plan.groups in
     let entries = entries_of planned in
-    let shared = variable_texts (shared_of planned.plan.groups) in
+    let shared = variable_texts (shared_of (listed planned.plan.groups)) in
     let texts = flat_map texts_of entries in
     ap (λ ts. plan_of groups (map (entry_in ts) (records_at (length shared) entries))) (cut_behind [] (shared ++ texts) ∙ ap (λ t. shared ++ t) (sym (append-nil texts)))
     ∙ ap (plan_of groups) (all-read planned [])

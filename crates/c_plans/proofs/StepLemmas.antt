@@ -1,5 +1,5 @@
 -- The files and needs of commands, one behind the other.
-use Rattle.std.proofs.Common.{◌≡◌, ◌++◌, ◌+◌, ◌∷◌, [], ℕ, suc, List, length, refl, sym, ap, ◌∙◌, arith, length-append, append_assoc, flat_map}
+use Rattle.std.proofs.Common.{◌≡◌, ◌∷◌, List, length, arith, length-append, append_assoc}
 use Rattle.c_texts.proofs.TextLemmas.{texts-then, count-then}
 use Rattle.c_texts.specs.declared.memory.Range.{Range}
 use Rattle.c_texts.specs.Outcomes.{Outcome, with_texts}

@@ -5,9 +5,10 @@ use Rattle.compilers.specs.declared.command.Cacheable.TheVariants.{Yes, No}
 use Rattle.plans.specs.declared.origins.Origin.{Origin}
 use Rattle.plans.specs.declared.origins.PlanWithOrigins.{PlanWithOrigins}
 use Rattle.plans.specs.declared.plan.Dropped.{Dropped}
-use Rattle.plans.specs.declared.plan.NvccGeneratedSubcommand.{NvccGeneratedSubcommand}
 use Rattle.plans.specs.declared.plan.Reason.{Reason}
 use Rattle.plans.specs.declared.plan.Reason.TheVariants.{NotCuda, NoCiccGroup, NoPtxasGroup, Superseded}
+use Rattle.plans.specs.Listed.{Listed, listed}
+use Rattle.command_files.specs.Numbered.{numbered}
 use Rattle.plan_json.specs.Json.{origin_at}
 use Rattle.texts.specs.Variables.{pair_of}
 use Rattle.c_texts.specs.declared.memory.Range.{Range}
@@ -41,10 +42,9 @@ variable_texts variables = flat_map (λ p. p.0 ∷ p.1 ∷ []) variables
 
 -- Commands share the texts of the first command's variables, which come before all others: a command with the same variables has no
 -- texts of its own for them.
-abbrev pub shared_of : List (List NvccGeneratedSubcommand) → Variables
+abbrev pub shared_of : List Listed → Variables
 shared_of [] = []
-shared_of ([] ∷ groups) = shared_of groups
-shared_of ((c ∷ commands) ∷ groups) = c.env_vars
+shared_of (l ∷ commands) = l.command.env_vars
 
 -- what commands share: variables, and which texts they are
 pub record Shared : Type 0 where
@@ -82,16 +82,17 @@ abbrev pub cacheable_number : Cacheable → ℕ
 cacheable_number Yes = 1
 cacheable_number No = 0
 
--- a command by its number and that of its group, given where each command comes from and what they share
-abbrev pub command_entry : List Origin → Shared → ℕ → ℕ → NvccGeneratedSubcommand → Entry
-command_entry origins shared id group c =
+-- the command with a number, given where each command comes from and what they share
+abbrev pub command_entry : List Origin → Shared → ℕ → Listed → Entry
+command_entry origins shared id l =
     let origin = origin_at origins id in
+    let c = l.command in
     record {
       program = c.exe;
       cwd = c.cwd;
       arguments = c.args;
       variables = c.env_vars;
-      group = group;
+      group = l.group;
       run = origin.run;
       line = origin.line;
       reason = 0;
@@ -115,20 +116,11 @@ dropped_entry groups d =
       shared = None;
     }
 
--- the commands of a group from a number on, each described by its number and that of its group, and those of groups
-module _ {X : Type 0} (described : ℕ → ℕ → NvccGeneratedSubcommand → X) where
-  abbrev pub of_group : ℕ → ℕ → List NvccGeneratedSubcommand → List X
-  of_group number group [] = []
-  of_group number group (c ∷ commands) = described number group c ∷ of_group (number + 1) group commands
-
-  abbrev pub of_groups : ℕ → ℕ → List (List NvccGeneratedSubcommand) → List X
-  of_groups number group [] = []
-  of_groups number group (commands ∷ groups) = of_group number group commands ++ of_groups (number + length commands) (group + 1) groups
-
 -- all commands of a plan: those of the groups in plan order, then the dropped ones
 abbrev pub entries_of : PlanWithOrigins → List Entry
 entries_of planned =
-    of_groups (command_entry planned.origins (shared_first (shared_of planned.plan.groups))) 0 0 planned.plan.groups
+    let commands = listed planned.plan.groups in
+    numbered (command_entry planned.origins (shared_first (shared_of commands))) 0 commands
     ++ map (dropped_entry (length planned.plan.groups)) planned.plan.dropped
 
 -- the texts of a command's variables, unless it shares them
@@ -190,7 +182,7 @@ without_records outcome = (outcome, ([], []))
 abbrev pub records_of : PlanWithOrigins → Recorded
 records_of planned =
     let groups = planned.plan.groups in
-    let shared = variable_texts (shared_of groups) in
+    let shared = variable_texts (shared_of (listed groups)) in
     let entries = entries_of planned in
     (of_texts (shared ++ flat_map texts_of entries), (groups_at (length groups - 1) 0 0 groups, records_at (length shared) entries))
 
@@ -204,11 +196,9 @@ abbrev pub with_entries : Recorded → List Entry → Recorded
 with_entries recorded entries =
     (with_texts recorded.0 (flat_map texts_of entries), (recorded.1.0, recorded.1.1 ++ records_at (length recorded.0.1.0) entries))
 
--- the same of groups and their commands
-abbrev pub with_groups : Recorded → List GroupRecord → List Entry → Recorded
-with_groups recorded groups entries =
-    let more = with_entries recorded entries in
-    (more.0, (more.1.0 ++ groups, more.1.1))
+-- records with those of further groups
+abbrev pub with_groups : Recorded → List GroupRecord → Recorded
+with_groups recorded groups = (recorded.0, (recorded.1.0 ++ groups, recorded.1.1))
 
 -- what a record says, as the code holds it
 abbrev pub entry_seen : HeldEntry → Entry

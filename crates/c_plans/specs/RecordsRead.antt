@@ -1,5 +1,5 @@
 -- A plan is read back from its records.
-use Rattle.std.specs.Prelude.{◌≡◌, ℕ, List, [], ◌∷◌, ◌==◌, not, nat_le, if◌then◌else◌, length, map, filter, take, drop, get_or, Some, None, flat_map}
+use Rattle.std.specs.Prelude.{◌≡◌, ℕ, List, [], ◌∷◌, ◌==◌, not, nat_le, if◌then◌else◌, length, map, filter, take, drop, get_or, Some, None}
 use Rattle.compilers.specs.declared.command.Cacheable.{Cacheable}
 use Rattle.compilers.specs.declared.command.Cacheable.TheVariants.{Yes, No}
 use Rattle.plans.specs.declared.origins.Origin.{Origin}
@@ -8,6 +8,7 @@ use Rattle.plans.specs.declared.plan.Dropped.{Dropped}
 use Rattle.plans.specs.declared.plan.NvccGeneratedSubcommand.{NvccGeneratedSubcommand}
 use Rattle.plans.specs.declared.plan.Reason.{Reason}
 use Rattle.plans.specs.declared.plan.Reason.TheVariants.{NotCuda, NoCiccGroup, NoPtxasGroup, Superseded}
+use Rattle.plans.specs.Listed.{listed}
 use Rattle.c_texts.specs.declared.memory.Range.{Range}
 use Rattle.c_plans.specs.declared.record.CommandRecord.{CommandRecord}
 use Rattle.c_plans.specs.declared.record.GroupRecord.{GroupRecord}
@@ -72,7 +73,7 @@ plan_in recorded = plan_of recorded.1.0 (map (entry_in (map (cut recorded.0.1.1)
 
 -- whether a plan has an origin for each command of its groups, as every plan of two dry runs has
 abbrev pub HasOrigins : PlanWithOrigins → Type 0
-HasOrigins planned = length planned.origins ≡ length (flat_map (λ group. group) planned.plan.groups)
+HasOrigins planned = length planned.origins ≡ length (listed planned.plan.groups)
 
 -- the records of a plan are read back as that plan
 abbrev pub RecordsReadBack : Type 0

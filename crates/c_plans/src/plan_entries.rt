@@ -1,8 +1,10 @@
 //! The commands of a plan as records.
 
-ghost use Rattle.std.specs.Prelude.{◌≡◌, ◌-◌, ◌∷◌, [], List, ℕ, IfOk, OnOk, length, map, vec_items};
+ghost use Rattle.std.specs.Prelude.{◌≡◌, ◌-◌, ◌^◌, ◌<◌, [], List, ℕ, IfOk, OnOk, length, map, vec_items};
 ghost use Rattle.texts.specs.Variables.{pair_of};
 ghost use Rattle.plans.specs.declared.origins.Origin.{Origin};
+ghost use Rattle.plans.specs.Listed.{listed};
+ghost use Rattle.command_files.specs.Numbered.{numbered};
 ghost use Rattle.plan_json.specs.Json.{origin_at};
 ghost use Rattle.c_texts.specs.Outcomes.{of_texts};
 ghost use Rattle.c_plans.specs.Records as spec;
@@ -11,7 +13,7 @@ use crate::record::GroupRecord;
 use crate::recorded::{Entry, Recorded};
 use c_texts::Range;
 use compilers::command::Cacheable;
-use plans::{Dropped, NvccGeneratedSubcommand, Origin, PlanWithOrigins, Reason};
+use plans::{Dropped, ListedCommand, NvccGeneratedSubcommand, Origin, PlanWithOrigins, Reason};
 use std::alloc::{AllocError, Global};
 
 fn reason_number(reason: Reason) -> u32
@@ -50,15 +52,13 @@ struct Shared<'a> {
 }
 
 // Mostly all commands of a plan have the first one's variables, so their texts are there once.
-fn shared_of(groups: &[Vec<NvccGeneratedSubcommand>]) -> &[(String, String)]
-    ensures { map pair_of result.now ≡ spec.shared_of (map vec_items groups.now) }
+fn shared_of<'a>(commands: &[ListedCommand<'a>]) -> &'a [(String, String)]
+    ensures { map pair_of result.now ≡ spec.shared_of commands.now }
 {
-    for commands in groups {
-        if let [command, ..] = commands.as_slice() {
-            return command.env_vars.as_slice();
-        }
+    match commands {
+        [first, ..] => first.command.env_vars.as_slice(),
+        [] => &[],
     }
-    &[]
 }
 
 fn are_same(some: &[(String, String)], others: &[(String, String)]) -> bool
@@ -80,21 +80,17 @@ fn are_same(some: &[(String, String)], others: &[(String, String)]) -> bool
     }
 }
 
-fn command_entry<'a>(
-    origin: Origin,
-    shared: Shared<'_>,
-    group: usize,
-    command: &'a NvccGeneratedSubcommand,
-) -> Entry<'a>
+fn command_entry<'a>(origin: Origin, shared: Shared<'_>, listed: &ListedCommand<'a>) -> Entry<'a>
     ensures { (origins : List Origin) (id : ℕ) → origin ≡ origin_at origins id
-        → spec.entry_seen result ≡ spec.command_entry origins (spec.shared_seen shared.entry) id group command.now }
+        → spec.entry_seen result ≡ spec.command_entry origins (spec.shared_seen shared.entry) id listed.now }
 {
+    let command: &'a NvccGeneratedSubcommand = listed.command;
     Entry {
         program: command.exe.as_str(),
         cwd: command.cwd.as_str(),
         arguments: command.args.as_slice(),
         variables: command.env_vars.as_slice(),
-        group,
+        group: listed.group,
         run: origin.run,
         line: origin.line,
         reason: 0,
@@ -129,63 +125,48 @@ fn push_commands(
     recorded: &mut Recorded,
     origins: &[Origin],
     shared: Shared<'_>,
-    group: usize,
-    commands: &[NvccGeneratedSubcommand],
+    commands: &[ListedCommand<'_>],
 ) -> Result<(), AllocError>
     ensures { OnOk result (recorded.new
-        ≡ spec.with_entries recorded.old (spec.of_group (spec.command_entry origins.now (spec.shared_seen shared.entry)) (length recorded.old.1.1) group commands.now)) }
+        ≡ spec.with_entries recorded.old (numbered (spec.command_entry origins.now (spec.shared_seen shared.entry)) 0 commands.now)) }
 {
-    for command in commands {
-        let origin = origin_of(origins, recorded.commands_count());
-        recorded.push(command_entry(origin, shared, group, command))?;
+    for (id, listed) in commands.iter().enumerate() {
+        recorded.push(command_entry(origin_of(origins, id), shared, listed))?;
     }
     Ok(())
 }
 
-fn push_group(
-    recorded: &mut Recorded,
-    origins: &[Origin],
-    shared: Shared<'_>,
-    last: usize,
-    group: usize,
-    commands: &[NvccGeneratedSubcommand],
-) -> Result<(), AllocError>
-    ensures { OnOk result (recorded.new
-        ≡ spec.with_groups recorded.old (spec.group_record last group (length recorded.old.1.1) commands.now ∷ [])
-        (spec.of_group (spec.command_entry origins.now (spec.shared_seen shared.entry)) (length recorded.old.1.1) group commands.now)) }
+fn stage_at(last: usize, group: usize) -> u32
+    ensures { result ≡ spec.stage_at last group }
 {
-    let record = GroupRecord {
-        commands: Range {
-            offset: recorded.commands_count(),
-            length: commands.len(),
-        },
-        stage: if group == 0 {
-            0
-        } else if group == last {
-            2
-        } else {
-            1
-        },
-        reserved: 0,
-    };
-    push_commands(recorded, origins, shared, group, commands)?;
-    recorded.push_group(record)
+    if group == 0 {
+        0
+    } else if group == last {
+        2
+    } else {
+        1
+    }
 }
 
 fn push_groups(
     recorded: &mut Recorded,
-    origins: &[Origin],
-    shared: Shared<'_>,
     groups: &[Vec<NvccGeneratedSubcommand>],
 ) -> Result<(), AllocError>
-    ensures { OnOk result (recorded.new
-        ≡ spec.with_groups recorded.old
-        (spec.groups_at (length groups.now - 1) 0 (length recorded.old.1.1) (map vec_items groups.now))
-        (spec.of_groups (spec.command_entry origins.now (spec.shared_seen shared.entry)) (length recorded.old.1.1) 0 (map vec_items groups.now))) }
+    requires { length (listed (map vec_items groups.now)) < 2 ^ 64 }
+    ensures { OnOk result (recorded.new ≡ spec.with_groups recorded.old (spec.groups_at (length groups.now - 1) 0 0 (map vec_items groups.now))) }
 {
     let last = groups.len().saturating_sub(1);
+    let mut first = 0;
     for (group, commands) in groups.iter().enumerate() {
-        push_group(recorded, origins, shared, last, group, commands.as_slice())?;
+        recorded.push_group(GroupRecord {
+            commands: Range {
+                offset: first,
+                length: commands.len(),
+            },
+            stage: stage_at(last, group),
+            reserved: 0,
+        })?;
+        first += commands.len();
     }
     Ok(())
 }
@@ -203,15 +184,26 @@ fn push_dropped(
     Ok(())
 }
 
-fn push_plan(recorded: &mut Recorded, planned: &PlanWithOrigins) -> Result<(), AllocError>
+fn push_plan(
+    alloc: Global,
+    recorded: &mut Recorded,
+    planned: &PlanWithOrigins,
+) -> Result<(), AllocError>
     requires { recorded.now ≡ spec.without_records (of_texts []) }
     ensures { OnOk result (recorded.new ≡ spec.records_of planned.now) }
 {
     let groups = planned.plan.groups.as_slice();
     let origins = planned.origins.as_slice();
-    let variables = shared_of(groups);
+    let commands = planned.plan.groups.listed(alloc)?;
+    let variables = shared_of(commands.as_slice());
     let texts = recorded.share(variables)?;
-    push_groups(recorded, origins, Shared { variables, texts }, groups)?;
+    push_commands(
+        recorded,
+        origins,
+        Shared { variables, texts },
+        commands.as_slice(),
+    )?;
+    push_groups(recorded, groups)?;
     push_dropped(recorded, groups.len(), planned.plan.dropped.as_slice())?;
     Ok(())
 }
@@ -221,7 +213,7 @@ pub fn records_of(alloc: Global, planned: &PlanWithOrigins) -> Result<Recorded, 
     ensures { IfOk result (λ recorded. recorded ≡ spec.records_of planned.now) }
 {
     let mut recorded = Recorded::new(alloc);
-    match push_plan(&mut recorded, planned) {
+    match push_plan(alloc, &mut recorded, planned) {
         Ok(()) => Ok(recorded),
         Err(fault) => {
             // Dropped by a call: see "Explicit drops" in docs/ARCHITECTURE.md.

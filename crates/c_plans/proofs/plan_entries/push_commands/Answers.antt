@@ -1,24 +1,20 @@
-use Rattle.std.proofs.Common.{ℕ, ◌+◌, List, ◌∷◌, [], length, drop, sym, ap, ◌∙◌, length-append}
-use Rattle.plan_json.specs.Json.{origin_at}
+use Rattle.std.proofs.Common.{◌+◌, List, drop, sym, ap, ◌∙◌}
 use Rattle.texts.proofs.PushedLemmas.{next-left}
-use Rattle.c_plans.specs.Records.{Entry, command_entry, shared_seen, record_at, with_entry, with_entries, of_group}
+use Rattle.command_files.specs.Numbered.{numbered}
+use Rattle.c_plans.specs.Records.{Entry, command_entry, shared_seen, with_entry, with_entries}
 use Rattle.c_plans.proofs.RecordLemmas.{entry-then}
 use Rattle.c_plans.proofs.plan_entries.push_commands.Goals as goal
 
-pub loop-command-preserved : goal.loop-command-preserved
-loop-command-preserved c =
+pub loop-id-preserved : goal.loop-id-preserved
+loop-id-preserved c =
     let described = command_entry c.args.origins.now (shared_seen c.args.shared) in
-    let group = c.args.group in
     let commands = c.args.commands.now in
-    let i = c.loop-command.command-index in
-    let command = c.command-item.result in
-    let before = c.loop-command.recorded in
-    let n = length before.1.1 in
-    let e : Entry = described n group command in
-    let rest : ℕ → List Entry = λ m. of_group described m group (drop (i + 1) commands) in
-    let entry = c.command_entry.ensures c.args.origins.now n (c.origin_of-origin.ensures ∙ ap (origin_at c.args.origins.now) c.commands_count.ensures) in
-    ap (λ r. with_entries r (rest (length r.1.1))) (c.in_ok-push.ensures ∙ ap (with_entry before) entry)
-    ∙ ap (λ m. with_entries (with_entry before e) (rest m)) (length-append before.1.1 (record_at (length before.0.1.0) e ∷ []))
-    ∙ entry-then before e (rest (n + 1))
-    ∙ ap (λ cs. with_entries before (of_group described n group cs)) (sym (next-left commands i command c.loop-command-test.true c.command-item.is))
-    ∙ c.loop-command.invariant
+    let id = c.loop-id.id in
+    let item = c.index-commands-id.result in
+    let before = c.loop-id.recorded in
+    let rest : List Entry = numbered described (id + 1) (drop (id + 1) commands) in
+    let entry = c.command_entry.ensures c.args.origins.now id c.origin_of.ensures in
+    ap (λ r. with_entries r rest) (c.in_ok-push.ensures ∙ ap (with_entry before) entry)
+    ∙ entry-then before (described id item) rest
+    ∙ ap (λ cs. with_entries before (numbered described id cs)) (sym (next-left commands id item c.loop-id-test.true c.index-commands-id.is))
+    ∙ c.loop-id.invariant

@@ -16,8 +16,10 @@ returns c =
       variables = variables;
       texts = (c.in_ok-texts.ensures.range ∙ ap (λ (r : Recorded). record { offset = length r.0.1.0; length = length (variable_texts variables) }) c.requires) i;
     } in
-    records-are c.args.planned.now c.share.new.self c.push_groups.new.recorded c.push_dropped.new.recorded
-    c.as_slice-origins.result.now variables shared (map vec_items groups) (length groups) c.as_slice.result.now
-    (c.in_ok-texts.ensures.texts ∙ ap (λ (r : Recorded). (with_texts r.0 (variable_texts variables), r.1)) c.requires) seen c.in_ok-push_groups.ensures c.in_ok-push_dropped.ensures
-    c.as_slice-origins.ensures (c.shared_of-variables.ensures ∙ ap shared_of c.as_slice-groups.ensures) c.as_slice-groups.ensures
-    (sym (mapped-length vec_items groups) ∙ ap length c.as_slice-groups.ensures) c.as_slice.ensures
+    records-are c.args.planned.now c.share.new.self c.push_commands.new.recorded c.push_groups.new.recorded c.push_dropped.new.recorded
+    c.as_slice-origins.result.now variables shared c.as_slice-2.result.now (map vec_items groups) (length groups) c.as_slice-3.result.now
+    (c.in_ok-texts.ensures.texts ∙ ap (λ (r : Recorded). (with_texts r.0 (variable_texts variables), r.1)) c.requires) seen
+    c.in_ok-push_commands.ensures c.in_ok-push_groups.ensures c.in_ok-push_dropped.ensures
+    c.as_slice-origins.ensures (c.shared_of-variables.ensures ∙ ap shared_of (c.as_slice.ensures.value ∙ c.in_ok-commands.ensures))
+    (c.as_slice-2.ensures.value ∙ c.in_ok-commands.ensures) c.as_slice-groups.ensures
+    (sym (mapped-length vec_items groups) ∙ ap length c.as_slice-groups.ensures) c.as_slice-3.ensures
