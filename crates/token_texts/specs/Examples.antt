@@ -1,7 +1,8 @@
 -- Texts and their tokens, worked out by hand.
-use Rattle.std.specs.Prelude.{◌≡◌, [], ◌∷◌, ◌++◌, Some, None, codes, refl}
+use Rattle.std.specs.Prelude.{false, true, ◌≡◌, [], ◌∷◌, ◌++◌, Some, None, codes, refl}
 use Rattle.token_texts.specs.Lexing.{tokens}
 use Rattle.token_texts.specs.Normal.{normal}
+use Rattle.token_texts.specs.TokenLaws.{is_whole_lines, begins_with_move}
 
 -- Words, numbers and operators. What could join stays apart.
 abbrev pub WordsAreRead : Type 0
@@ -59,3 +60,16 @@ DoubtsHaveNone =
 
 pub doubts_have_none : DoubtsHaveNone
 doubts_have_none = (refl, refl, refl, refl, refl, refl, refl, refl, refl, refl, refl, refl, refl, refl)
+
+-- Parts that don't add up: cut within a line, in a comment, or in front of a line marker that stays in its file.
+abbrev pub OtherPartsDont : Type 0
+OtherPartsDont =
+    (tokens (codes "ab") ≡ Some (codes "ab" ∷ [])) × (tokens (codes "a") ≡ Some (codes "a" ∷ [])) × (is_whole_lines (codes "a") ≡ false)
+    × (tokens (codes "/* a" ++ 10 ∷ codes "# 1 \"b\" 1" ++ 10 ∷ codes "*/") ≡ Some []) × (tokens (codes "/* a" ++ 10 ∷ []) ≡ None)
+    × (tokens (codes "# 1 \"a\" 3" ++ 10 ∷ codes "# 7 \"a\" 3" ++ 10 ∷ []) ≡ Some ((codes "\"a\"3" ++ 10 ∷ []) ∷ []))
+    × (tokens (codes "# 1 \"a\" 3" ++ 10 ∷ []) ≡ Some ((codes "\"a\"3" ++ 10 ∷ []) ∷ []))
+    × (tokens (codes "# 7 \"a\" 3" ++ 10 ∷ []) ≡ Some ((codes "\"a\"3" ++ 10 ∷ []) ∷ []))
+    × (begins_with_move (codes "# 7 \"a\" 3") ≡ false) × (begins_with_move (codes "# 7 \"a\" 1 3") ≡ true)
+
+pub other_parts_dont : OtherPartsDont
+other_parts_dont = (refl, refl, refl, refl, refl, refl, refl, refl, refl, refl)

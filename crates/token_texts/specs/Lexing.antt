@@ -13,7 +13,7 @@ use Rattle.token_texts.specs.declared.lexer.State.{State}
 use Rattle.token_texts.specs.declared.lexer.State.TheVariants.{LineStart, Between, Word, Number, Exponent, Separator, Operator, Dot, Slash, Text, TextEscape, Character, CharacterEscape, Closed, Suffix, RawDelimiter, Raw, LineComment, Comment, CommentStar, Hash, Directive, Marker, MarkerNumber, MarkerGap, MarkerName, MarkerEscape, Flags, Enters, Returns, Refused}
 use Rattle.token_texts.specs.Classes.{class_of}
 
--- where a lexer is: the state, the token so far, `)` and the delimiter of the last raw string, and the last line marker
+-- where a lexer is: the state, the token so far, `)` and the delimiter of the raw string that it is in, and the last line marker
 pub record Lexing : Type 0 where
   pub state : State
   pub token : List ℕ
@@ -180,7 +180,7 @@ in_raw_delimiter k c s = if (c == 40) && nat_lt (length s.delimiter) 18 then gro
 
 -- a raw string ends with the first `"` right after `)` and its delimiter
 abbrev pub in_raw : ℕ → Lexing → Step
-in_raw c s = if (c == 34) && ends_with nat_eq s.token s.delimiter then grow Closed c s else grow Raw c s
+in_raw c s = if (c == 34) && ends_with nat_eq s.token s.delimiter then grow Closed c (record s { delimiter = [] }) else grow Raw c s
 
 -- ---- directives and line markers
 

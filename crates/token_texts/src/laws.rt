@@ -15,6 +15,14 @@ pub fn lines()
     ensures comments { spec.CommentsDontCount }
 {}
 
+/// A text that is cut in front of line markers that enter files has the tokens of its parts. Cut between any two lines, their tokens
+/// determine its own.
+pub fn parts()
+    ensures tokens { spec.PartsHaveTheTokens }
+    ensures same { spec.PartsDetermine }
+    ensures others { examples.OtherPartsDont }
+{}
+
 /// Examples: texts with their tokens, and texts without a reading.
 pub fn worked_texts()
     ensures words { examples.WordsAreRead }

@@ -132,7 +132,7 @@ pub(crate) struct Lexer {
     state: State,
     // The bytes of the current token, literal, directive or line marker.
     token: Vec<u8>,
-    // `)` and the delimiter of the last raw string.
+    // `)` and the delimiter of the raw string that it is in.
     delimiter: Vec<u8>,
     // The file of the last line marker, and its flags 3 and 4.
     place: Vec<u8>,
@@ -461,6 +461,7 @@ impl Lexer {
         ensures { OnOk result (self.new ≡ applied (spec.in_raw byte self.old.at) self.old) }
     {
         if byte == b'"' && self.token.ends_with(self.delimiter.as_slice()) {
+            self.delimiter.clear();
             self.grow(State::Closed, byte)
         } else {
             self.grow(State::Raw, byte)
