@@ -84,14 +84,41 @@ fn name_in(line: &[u8]) -> Option<&[u8]> {
     between_quotes(line.strip_prefix(b"# ")?).filter(|name| !name.is_empty() && !name.starts_with(b"<"))
 }
 
+/// The line markers of a text, each with its place.
+fn markers(text: &[u8]) -> impl Iterator<Item = (usize, &[u8])> {
+    let begins = pairs(text, b'#', b' ', 1).filter(|&place| place == 0 || text[place - 1] == b'\n');
+    let lines = begins.map(|place| (place, text[place..].split(|&byte| byte == b'\n').next().unwrap_or_default()));
+    lines.filter(|(_, line)| line.get(2).is_some_and(u8::is_ascii_digit))
+}
+
+/// Whether a line marker has a flag right behind its name: 1 enters a file, 2 returns to one.
+fn has_flag(marker: &[u8], flag: &[u8]) -> bool {
+    marker.iter().rposition(|&byte| byte == b'"').is_some_and(|end| marker[end + 1..].starts_with(flag))
+}
+
 /// The files that a preprocessor has entered, by its text's line markers. `None` if a name is quoted in a way that may mean another.
 pub fn files_entered(text: &[u8]) -> Option<BTreeSet<&[u8]>> {
-    let begins = pairs(text, b'#', b' ', 1).filter(|&place| place == 0 || text[place - 1] == b'\n');
-    let lines = begins.map(|place| text[place..].split(|&byte| byte == b'\n').next().unwrap_or_default());
-    let markers = lines.filter(|line| line.get(2).is_some_and(u8::is_ascii_digit));
-    let enters = |line: &&[u8]| line.iter().rposition(|&byte| byte == b'"').is_some_and(|end| line[end + 1..].starts_with(b" 1"));
-    let names: BTreeSet<&[u8]> = markers.filter(enters).filter_map(between_quotes).collect();
+    let entering = markers(text).map(|(_, marker)| marker).filter(|marker| has_flag(marker, b" 1"));
+    let names: BTreeSet<&[u8]> = entering.filter_map(between_quotes).collect();
     names.iter().all(|name| !name.contains(&b'\\')).then(|| names.into_iter().filter(|name| !name.starts_with(b"<")).collect())
+}
+
+/// The parts of a preprocessed text: each file that the main one includes begins another, at the line marker that enters it.
+pub fn parts_of(text: &[u8]) -> Vec<&[u8]> {
+    let (mut parts, mut begin, mut depth) = (Vec::new(), 0, 0_usize);
+    for (place, marker) in markers(text) {
+        if has_flag(marker, b" 1") {
+            if depth == 0 {
+                parts.push(&text[begin..place]);
+                begin = place;
+            }
+            depth += 1;
+        } else if has_flag(marker, b" 2") {
+            depth = depth.saturating_sub(1);
+        }
+    }
+    parts.push(&text[begin..]);
+    parts
 }
 
 /// Whether a text has what `__DATE__`, `__TIME__` or `__TIMESTAMP__` may have become: a time of day, or a year at the end of a string, be that in
@@ -218,6 +245,15 @@ mod tests {
             b"# 0 \"k.cu\"\n# 1 \"a.h\" 1\n# 1 \"/usr/b.h\" 1 3 4\n# 12 \"a.h\" 2\n# 5 \"c.y\"\n# 1 \"<command-line>\" 1\n#pragma x 1\nint a;\n";
         assert_eq!(files_entered(text).unwrap().into_iter().collect::<Vec<_>>(), [&b"/usr/b.h"[..], b"a.h"]);
         assert_eq!(files_entered(b"# 1 \"a\\\\b.h\" 1\n"), None);
+    }
+
+    #[test]
+    fn what_the_main_file_includes_is_a_part() {
+        let parts =
+            ["# 0 \"k.cu\"\n", "# 1 \"a.h\" 1\n# 1 \"b.h\" 1 3\n# 2 \"a.h\" 2\n# 5 \"k.cu\" 2\nint a;\n# 9 \"k.cu\"\n", "# 1 \"c.h\" 1 3 4\nint c;"];
+        assert_eq!(parts_of(parts.concat().as_bytes()), parts.map(str::as_bytes));
+        assert_eq!(parts_of(parts[1].as_bytes()), [b"", parts[1].as_bytes()]);
+        assert_eq!((parts_of(b""), parts_of(b" # 1 \"a.h\" 1\n")), (vec![&b""[..]], vec![&b" # 1 \"a.h\" 1\n"[..]]));
     }
 
     #[test]

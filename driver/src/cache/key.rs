@@ -1,9 +1,10 @@
 //! The key of a command: what its outputs and messages depend on.
 use crate::cache::digest::{Digest, Hasher};
-use crate::cache::host_text::{files_of_ptx, sees_lines};
+use crate::cache::host_text::{files_of_ptx, parts_of, sees_lines};
 use crate::cache::marked;
 use crate::cache::processor::instructions;
 use crate::cache::recipe::Recipe;
+use crate::cache::store::Store;
 use crate::cache::tool::Kind;
 use command_keys::{command_key, tool_variables};
 use plans::Program;
@@ -17,7 +18,10 @@ use std::path::Path;
 use token_texts::token_text;
 
 /// What every key begins with. It changes with what is in an entry, or in a key.
-const FORM: &[u8] = b"zigrunk command 3";
+const FORM: &[u8] = b"zigrunk command 4";
+
+/// A part of a text that has so many bytes is found in the store, with what its tokens are.
+const LARGE: usize = 1 << 16;
 
 /// What a text is that a command reads.
 #[derive(Clone, Copy, PartialEq, Eq, Debug)]
@@ -45,11 +49,42 @@ fn text_identity(text: &[u8], directory: &[u8]) -> Digest {
     hasher.finish()
 }
 
+/// What the tokens of a text are. `None` if it isn't sure to have these.
+fn tokens_of(text: &[u8], recipe: &Recipe) -> Option<Digest> {
+    let tokens = token_text(Global, text).ok()??;
+    Some(text_identity(&recipe.unnamed(tokens.as_slice())?, recipe.directory.as_bytes()))
+}
+
+/// The same for a part of a text. Sources of a project have large ones in common, as what nvcc includes for each: their tokens are read once,
+/// unless a name that doesn't count, or what stands for one, makes them the call's own.
+fn part_identity(part: &[u8], recipe: &Recipe, store: &Store) -> Option<Digest> {
+    let names = [recipe.directory.as_str(), recipe.stem.as_deref().unwrap_or_default()];
+    if part.len() < LARGE || part.contains(&0) || names.iter().any(|name| marked::contains(part, name.as_bytes())) {
+        return tokens_of(part, recipe);
+    }
+    let mut key = Hasher::default();
+    key.add(b"zigrunk tokens 1");
+    key.update(part);
+    let key = key.finish();
+    if let Some(kept) = store.read(&key).and_then(|kept| kept.try_into().ok()) {
+        return Some(Digest(kept));
+    }
+    let tokens = tokens_of(part, recipe)?;
+    let _ = store.write(&key, &tokens.0);
+    Some(tokens)
+}
+
 /// What counts of a preprocessed text if lines, blanks and comments don't. `None` if the text may see its lines, or isn't sure to have
-/// these tokens.
-fn token_identity(text: &[u8], recipe: &Recipe) -> Option<Digest> {
-    let tokens = if sees_lines(text) { None } else { token_text(Global, text).ok()? };
-    Some(text_identity(&recipe.unnamed(tokens?.as_slice())?, recipe.directory.as_bytes()))
+/// these tokens. A part ends with a line, and has none if a comment or a literal goes on behind it: so its tokens are those of the text.
+fn token_identity(text: &[u8], recipe: &Recipe, store: &Store) -> Option<Digest> {
+    if sees_lines(text) {
+        return None;
+    }
+    let mut hasher = Hasher::default();
+    for part in parts_of(text) {
+        hasher.update(&part_identity(part, recipe, store)?.0);
+    }
+    Some(hasher.finish())
 }
 
 /// A text as it counts. `None` if the name that doesn't count may reach more than line markers.
@@ -142,14 +177,14 @@ impl Part {
 
     /// That by the tokens of preprocessed texts. Commands that have it in common make the same, but may say other things. `None` if lines
     /// count, or if no text is preprocessed.
-    pub fn by_tokens(mut start: Hasher, recipe: &Recipe, texts: &[Text]) -> Option<Part> {
+    pub fn by_tokens(mut start: Hasher, recipe: &Recipe, texts: &[Text], store: &Store) -> Option<Part> {
         if recipe.lines_count || !texts.iter().any(|text| text.role == Role::Preprocessed) {
             return None;
         }
         start.add(b"tokens");
         for text in texts {
             match text.role {
-                Role::Preprocessed => start.update(&token_identity(&text.content, recipe)?.0),
+                Role::Preprocessed => start.update(&token_identity(&text.content, recipe, store)?.0),
                 Role::Source | Role::Late => {}
                 Role::Other => start.update(&text_identity(&counted(text, recipe)?, recipe.directory.as_bytes()).0),
             }
@@ -179,6 +214,11 @@ mod tests {
     use super::*;
     use crate::machine::Job;
 
+    /// A store without entries.
+    fn store() -> Store {
+        Store::new(std::env::temp_dir().join("no-entries"), 1 << 20)
+    }
+
     fn recipe(words: &str, directory: &str) -> Recipe {
         Recipe {
             kind: Kind::Cicc,
@@ -207,7 +247,7 @@ mod tests {
     /// The key by tokens of a recipe with a preprocessed text and others.
     fn tokens(recipe: &Recipe, text: &str, others: &[(Role, &str)]) -> Option<Digest> {
         let texts = texts(&[&[(Role::Preprocessed, text)], others].concat());
-        Part::by_tokens(start(recipe, &[]), recipe, &texts).map(|part| part.key(recipe, &texts))
+        Part::by_tokens(start(recipe, &[]), recipe, &texts, &store()).map(|part| part.key(recipe, &texts))
     }
 
     fn key(recipe: &Recipe, variables: &[(&str, &str)], text: &str) -> Digest {
@@ -261,13 +301,58 @@ mod tests {
     }
 
     #[test]
+    fn tokens_of_large_parts_are_kept() {
+        let folder = std::env::temp_dir().join(format!("tokens-{}", std::process::id()));
+        let (store, cicc) = (Store::new(folder, 1 << 20), recipe("-m64", "/t"));
+        let text = |header: &str| format!("# 0 \"k.cu\"\n# 1 \"a.h\" 1\n{}# 2 \"k.cu\" 2\nint k;\n", header.repeat(LARGE / 6));
+        let of = |text: &str, recipe: &Recipe| token_identity(text.as_bytes(), recipe, &store);
+        let entries = || store.content().entries;
+        let one = of(&text("int a;\n"), &cicc);
+        assert_eq!((one.is_some(), entries(), of(&text("int a;\n"), &cicc), entries()), (true, 1, one, 1));
+        assert_eq!(of(&text("int  a;\n\n"), &cicc), of(&text("int\ta ;\n"), &cicc), "the same tokens");
+        let kept = entries();
+        assert_ne!(of(&text("int b;\n"), &cicc), one);
+        assert_eq!((of(&text("/* a\n"), &cicc), of(&text("char a = '\n"), &cicc), entries()), (None, None, kept + 1));
+        let named = Recipe { stem: Some("k.cudafe1".into()), ..cicc.clone() };
+        assert_eq!((of(&text("int a;\n"), &named), entries()), (one, kept + 1));
+        for text in ["f(\"/t/a\");\n", "f(\"k.cudafe1\");\n", "f(\"\0\");\n"].map(text) {
+            assert_eq!((of(&text, &named).is_some(), entries()), (!text.contains('\0'), kept + 1), "{text}");
+        }
+        store.clear().unwrap();
+        fs::remove_dir(store.folder()).unwrap();
+    }
+
+    #[test]
+    fn parts_have_the_tokens_of_the_text() {
+        let texts = [
+            "# 0 \"k\"\n",
+            "int a;\n",
+            "# 1 \"a\" 1\n",
+            "# 3 \"k\" 2\n",
+            "# 5 \"k\"\n",
+            "\"/*\" // x\n",
+            "#pragma x\n",
+            "/* x\n */ + +\n",
+            "R\"(\n",
+            ")\";\n",
+        ];
+        for number in 0..texts.len().pow(4) {
+            let lines = (0..4).map(|place| texts[number / texts.len().pow(place) % texts.len()]);
+            let text: String = lines.collect();
+            let of = |text: &[u8]| token_text(Global, text).unwrap().map(|tokens| tokens.as_slice().to_vec());
+            let parts: Option<Vec<_>> = parts_of(text.as_bytes()).into_iter().map(of).collect();
+            assert!(parts.is_none_or(|parts| Some(parts.concat()) == of(text.as_bytes())), "{text}");
+        }
+    }
+
+    #[test]
     fn beside_tokens_other_texts_count_but_sources_do_not() {
         let cicc = recipe("-m64", "/t");
         let of = |role: Role, text: &str| tokens(&cicc, "int a;\n", &[(role, text)]);
         assert_ne!(of(Role::Other, "id"), of(Role::Other, "id\n"));
         assert_eq!(of(Role::Source, "x"), of(Role::Source, "y"));
         assert_eq!(tokens(&cicc, "f(\"/t/k\");\n", &[]), tokens(&recipe("-m64", "/u"), "f(\"/u/k\");\n", &[]));
-        assert!(Part::by_tokens(start(&cicc, &[]), &cicc, &texts(&[(Role::Other, "int a;\n")])).is_none(), "no preprocessed text");
+        assert!(Part::by_tokens(start(&cicc, &[]), &cicc, &texts(&[(Role::Other, "int a;\n")]), &store()).is_none(), "no preprocessed text");
     }
 
     #[test]
@@ -276,7 +361,7 @@ mod tests {
             let recipe = Recipe { stem: Some(stem.into()), ..recipe(&format!("-o /t/{stem}.cpp"), "/t") };
             let texts = texts(&[(Role::Preprocessed, text)]);
             let by_texts = Part::by_texts(start(&recipe, &[]), &recipe, &texts).map(|part| part.key(&recipe, &texts));
-            (by_texts, Part::by_tokens(start(&recipe, &[]), &recipe, &texts).map(|part| part.key(&recipe, &texts)))
+            (by_texts, Part::by_tokens(start(&recipe, &[]), &recipe, &texts, &store()).map(|part| part.key(&recipe, &texts)))
         };
         let one = of("k.80.cudafe1", "# 1 \"k.80.cudafe1.cpp\"\nint a;\n");
         assert_eq!(one, of("k.90.cudafe1", "# 1 \"k.90.cudafe1.cpp\"\nint a;\n"));
@@ -292,7 +377,8 @@ mod tests {
         let cicc = recipe("-m64", "/t");
         let with = |text: &str, id: &str| {
             let texts = texts(&[(Role::Preprocessed, text), (Role::Late, id)]);
-            let parts = [Part::by_texts(start(&cicc, &[]), &cicc, &texts).unwrap(), Part::by_tokens(start(&cicc, &[]), &cicc, &texts).unwrap()];
+            let parts =
+                [Part::by_texts(start(&cicc, &[]), &cicc, &texts).unwrap(), Part::by_tokens(start(&cicc, &[]), &cicc, &texts, &store()).unwrap()];
             parts.map(|part| (part.key(&cicc, &texts), part.mark(), part.key(&cicc, &[])))
         };
         for (one, other) in with("int a;\n", "_1").into_iter().zip(with("int a;\n", "_2")) {

@@ -328,7 +328,7 @@ impl<'a> Session<'a> {
     fn parts(&mut self, task: usize) -> Option<(Parts, Vec<u8>)> {
         let (start, texts) = self.asked(task, false)?;
         let recipe = &self.candidates.get(&task)?.recipe;
-        let parts = Parts(Part::by_texts(start.clone(), recipe, &texts)?, Part::by_tokens(start, recipe, &texts));
+        let parts = Parts(Part::by_texts(start.clone(), recipe, &texts)?, Part::by_tokens(start, recipe, &texts, self.store));
         Some((parts, texts.into_iter().next()?.content))
     }
 
@@ -351,7 +351,7 @@ impl<'a> Session<'a> {
             self.found(task, key);
             return self.hit(task, taken);
         }
-        let keys = Parts(by_texts, Part::by_tokens(start, recipe, &texts)).keys(recipe, &texts);
+        let keys = Parts(by_texts, Part::by_tokens(start, recipe, &texts, self.store)).keys(recipe, &texts);
         if let Some(taken) = keys.tokens.and_then(|key| self.take_other(recipe, &key, times)) {
             self.has_other_lines = true;
             return self.hit(task, taken);
@@ -573,7 +573,7 @@ mod tests {
         let parts = |has_late: bool| {
             let texts = Session::texts(&recipe, has_late).unwrap();
             let by_texts = Part::by_texts(Hasher::default(), &recipe, &texts).unwrap();
-            (Parts(by_texts, Part::by_tokens(Hasher::default(), &recipe, &texts)), texts)
+            (Parts(by_texts, Part::by_tokens(Hasher::default(), &recipe, &texts, &store())), texts)
         };
         fs::write(&recipe.reads[0], "int one;\n").unwrap();
         let (early, texts) = parts(false);
