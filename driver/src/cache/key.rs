@@ -75,7 +75,8 @@ fn part_identity(part: &[u8], recipe: &Recipe, store: &Store) -> Option<Digest> 
 }
 
 /// What counts of a preprocessed text if lines, blanks and comments don't. `None` if the text may see its lines, or isn't sure to have
-/// these tokens. A part ends with a line, and has none if a comment or a literal goes on behind it: so its tokens are those of the text.
+/// these tokens. Texts whose parts have the same tokens have the same tokens (`token_texts::laws::parts`). A part has none if a comment or a
+/// literal goes on behind it.
 fn token_identity(text: &[u8], recipe: &Recipe, store: &Store) -> Option<Digest> {
     if sees_lines(text) {
         return None;
