@@ -333,7 +333,7 @@ ROWS
     if case_of 'the call and its guard are killed'; then
         start TOOL_DOES='[ "$name" != cudafe++ ] || exec sleep 300' -c k.cu -o k.o
         within 20 has_begun cudafe++
-        guard=$(pgrep -P "$process" -f zigrunk-nvcc | head -n 1)
+        within 20 eval 'guard=$(pgrep -P "$process" -f zigrunk-nvcc | head -n 1); [ -n "$guard" ]'
         kill -KILL "$guard" "$process"
         ended 137
         call TOOL_DOES="$notes" -c k.cu -o k.o
