@@ -98,6 +98,8 @@ has_begun() { grep -q "^+ $1" "$room/log"; }
 # waits_for_cudafe: whether cudafe++ alone still runs of a call that $waits holds up.
 waits_for_cudafe() { has_begun cudafe++ && [ "$(grep -c '^- ptxas' "$room/log")" = 2 ]; }
 none_run() { ! pgrep -f "$room" > /dev/null; }
+# has_guard: whether the call has its guard, which is $guard then.
+has_guard() { guard=$(pgrep -P "$process" -f zigrunk-nvcc | head -n 1) && [ -n "$guard" ]; }
 
 has_ended() { [[ $(cut -d ' ' -f 3 "/proc/$process/stat" 2> /dev/null) != [A-Ya-y] ]]; }
 
@@ -333,7 +335,7 @@ ROWS
     if case_of 'the call and its guard are killed'; then
         start TOOL_DOES='[ "$name" != cudafe++ ] || exec sleep 300' -c k.cu -o k.o
         within 20 has_begun cudafe++
-        within 20 eval 'guard=$(pgrep -P "$process" -f zigrunk-nvcc | head -n 1); [ -n "$guard" ]'
+        within 20 has_guard
         kill -KILL "$guard" "$process"
         ended 137
         call TOOL_DOES="$notes" -c k.cu -o k.o
