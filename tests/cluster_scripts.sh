@@ -235,6 +235,7 @@ arrays_that_end() {
         kill -s "${how%:*}" "$script"
         { wait "$script"; } 2> /dev/null
         same status "$?" "${how#*:}"
+        last=$((SECONDS + 60))
         until tail -n 1 "$room/log" | grep -qx 'scancel -Q 7' || [ "$SECONDS" -gt "$last" ]; do sleep 0.05; done
         same 'what leaves the queue' "$(tail -n 1 "$room/log")" 'scancel -Q 7'
         end_case
