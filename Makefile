@@ -52,7 +52,7 @@ help:
 	@echo 'make odd-calls        the same for 182 calls with odd words, and for 100 random calls'
 	@echo 'make random-calls     the same for calls whose words are drawn from nvcc'\''s options; SEED=1 COUNT=1000'
 	@echo 'make mutants-by-lot   edit the driver by lot, one line at a time, and say which edits no test finds; SEED=1 COUNT=100, ONLY=17 makes one'
-	@echo '                      of them again; KIND=examples edits the examples. Needs root. No part of the gate'
+	@echo '                      of them again; KIND=examples edits the examples. Needs root. The gate makes twenty'
 	@echo 'make versions         the same with nvcc 11.2, 11.8 and 12.4, which it downloads from Debian, up to 3 GB; or CUDA_VERSIONS=FOLDER'
 	@echo 'make cache            compare builds and rebuilds with and without ccache and sccache; needs both, sccache 0.9 or later; PARTS="edits alone"'
 	@echo 'make cache-edits      build a small project by nvcc and with our cache after each of 200 random edits; SEED=, COUNT='

@@ -76,78 +76,70 @@ compiled() {
     "$compiler" "${c_flags[@]}" -I"$library/include" "$source" "$library/lib/libzigrunk.a" -o "$program" "$@"
 }
 
+# The tests in C: a name, what it tests, and the words of its call, and of one under a tool that makes it slow. FILES are the dry runs of
+# real calls, ONE those of one call, and a number is how many random cases there are.
+readonly C_TESTS='calls|the calls|1000|100
+plans|the plans|FILES|ONE
+steps|the plans for programs that run them|1000 FILES|10 ONE
+limits|the limits||watched
+lines|the lines|1000|50
+keys|the keys|1000|50
+schedules|the schedules|20000|500'
+
+# each_test FUNCTION: calls it for each of these, which are $name, $what, $many and $few.
+each_test() {
+    local name what many few
+    while IFS='|' read -r name what many few; do "$1"; done <<< "$C_TESTS"
+}
+
+# tried WHAT TEXT COMMAND..: a case: a program with the words that a text stands for.
+tried() {
+    local words=${2/FILES/$data ${real_calls[*]}}
+    # shellcheck disable=SC2086 # words
+    check "$1" "${@:3}" ${words/ONE/$data ${real_calls[0]}} < /dev/null
+}
+
+# run_test: compiles a test and runs it. What it answers is compared with the other build's answers.
+run_test() {
+    check "$name.c" compiled gcc "tests/c/$name.c" "$programs/$name" "$library"
+    tried "$what" "$many" "$programs/$name"
+    grep -E '^digest|^[0-9]+ passed' "$scratch/said" >> "$programs/answers"
+}
+
 # calls LIBRARY: the tests in C, of one build of the library.
 calls() {
     local library=$1 programs=$1/programs
     mkdir "$programs"
     has gcc || return
-    check "calls.c" compiled gcc tests/c/calls.c "$programs/calls" "$library"
-    check 'the calls' "$programs/calls" 1000
-    cp "$scratch/said" "$programs/answers"
-    check "plans.c" compiled gcc tests/c/plans.c "$programs/plans" "$library"
-    check 'the plans' "$programs/plans" "$data" "${real_calls[@]}"
-    cat "$scratch/said" >> "$programs/answers"
-    check "steps.c" compiled gcc tests/c/steps.c "$programs/steps" "$library"
-    check 'the plans for programs that run them' "$programs/steps" 1000 "$data" "${real_calls[@]}"
-    grep '^digest' "$scratch/said" >> "$programs/answers"
-    check "limits.c" compiled gcc tests/c/limits.c "$programs/limits" "$library"
-    check 'the limits' "$programs/limits"
-    grep '^digest' "$scratch/said" >> "$programs/answers"
-    check "lines.c" compiled gcc tests/c/lines.c "$programs/lines" "$library"
-    check 'the lines' "$programs/lines"
-    cat "$scratch/said" >> "$programs/answers"
-    check "line_records.c" compiled gcc tests/c/line_records.c "$programs/line_records" "$library"
-    check 'the records of lines' "$programs/line_records" 1000
-    cat "$scratch/said" >> "$programs/answers"
-    check "keys.c" compiled gcc tests/c/keys.c "$programs/keys" "$library"
-    check 'the keys' "$programs/keys" 1000
-    cat "$scratch/said" >> "$programs/answers"
-    check "schedules.c" compiled gcc tests/c/schedules.c "$programs/schedules" "$library"
-    check 'the schedules' "$programs/schedules" 20000
-    cat "$scratch/said" >> "$programs/answers"
+    each_test run_test
     check 'failing_memory.c' compiled gcc tests/c/failing_memory.c "$programs/failing_memory" "$library" "${memory_functions[@]}"
-    check 'allocations failing in turn, and by lot' "$programs/failing_memory" 2000 "$data" "${real_calls[@]}"
+    tried 'allocations failing in turn, and by lot' '2000 FILES' "$programs/failing_memory"
     check 'threads.c' compiled gcc tests/c/threads.c "$programs/threads" "$library" -pthread
     check 'the calls of eight threads' "$programs/threads" 2000
+}
+
+memcheck_test() {
+    tried "$what under memcheck" "$few" valgrind -q --error-exitcode=9 --leak-check=full "$programs/$name"
 }
 
 # memchecked LIBRARY: the same under valgrind.
 memchecked() {
     local programs=$1/programs
     if has gcc valgrind; then
-        check 'the calls under memcheck' valgrind -q --error-exitcode=9 --leak-check=full "$programs/calls" 100
-        check 'the plans under memcheck' valgrind -q --error-exitcode=9 --leak-check=full "$programs/plans" "$data" "${real_calls[0]}"
-        check 'the steps under memcheck' valgrind -q --error-exitcode=9 --leak-check=full "$programs/steps" 10 "$data" "${real_calls[0]}"
-        check 'the limits under memcheck' valgrind -q --error-exitcode=9 --leak-check=full "$programs/limits" watched
-        check 'the lines under memcheck' valgrind -q --error-exitcode=9 --leak-check=full "$programs/lines"
-        check 'the records of lines under memcheck' valgrind -q --error-exitcode=9 --leak-check=full "$programs/line_records" 50
-        check 'the keys under memcheck' valgrind -q --error-exitcode=9 --leak-check=full "$programs/keys" 50
-        check 'the schedules under memcheck' valgrind -q --error-exitcode=9 --leak-check=full "$programs/schedules" 500
+        each_test memcheck_test
         check 'the threads under helgrind' valgrind -q --tool=helgrind --error-exitcode=9 "$programs/threads" 20
     fi
+}
+
+sanitize_test() {
+    check "$name.c with sanitizers" compiled clang "tests/c/$name.c" "$programs/sanitized_$name" "$library" -fsanitize=address,undefined -fno-sanitize-recover=all
+    tried "$what under ASan and UBSan" "${many:-$few}" "$programs/sanitized_$name"
 }
 
 # sanitized LIBRARY: the same with clang's sanitizers.
 sanitized() {
     local library=$1 programs=$1/programs
-    if has clang; then
-        check 'calls.c with sanitizers' compiled clang tests/c/calls.c "$programs/sanitized" "$library" -fsanitize=address,undefined -fno-sanitize-recover=all
-        check 'the calls under ASan and UBSan' "$programs/sanitized" 1000
-        check 'plans.c with sanitizers' compiled clang tests/c/plans.c "$programs/sanitized_plans" "$library" -fsanitize=address,undefined -fno-sanitize-recover=all
-        check 'the plans under ASan and UBSan' "$programs/sanitized_plans" "$data" "${real_calls[@]}"
-        check 'steps.c with sanitizers' compiled clang tests/c/steps.c "$programs/sanitized_steps" "$library" -fsanitize=address,undefined -fno-sanitize-recover=all
-        check 'the steps under ASan and UBSan' "$programs/sanitized_steps" 1000 "$data" "${real_calls[@]}"
-        check 'limits.c with sanitizers' compiled clang tests/c/limits.c "$programs/sanitized_limits" "$library" -fsanitize=address,undefined -fno-sanitize-recover=all
-        check 'the limits under ASan and UBSan' "$programs/sanitized_limits" watched
-        check 'lines.c with sanitizers' compiled clang tests/c/lines.c "$programs/sanitized_lines" "$library" -fsanitize=address,undefined -fno-sanitize-recover=all
-        check 'the lines under ASan and UBSan' "$programs/sanitized_lines"
-        check 'line_records.c with sanitizers' compiled clang tests/c/line_records.c "$programs/sanitized_line_records" "$library" -fsanitize=address,undefined -fno-sanitize-recover=all
-        check 'the records of lines under ASan and UBSan' "$programs/sanitized_line_records" 1000
-        check 'keys.c with sanitizers' compiled clang tests/c/keys.c "$programs/sanitized_keys" "$library" -fsanitize=address,undefined -fno-sanitize-recover=all
-        check 'the keys under ASan and UBSan' "$programs/sanitized_keys" 1000
-        check 'schedules.c with sanitizers' compiled clang tests/c/schedules.c "$programs/sanitized_schedules" "$library" -fsanitize=address,undefined -fno-sanitize-recover=all
-        check 'the schedules under ASan and UBSan' "$programs/sanitized_schedules" 20000
-    fi
+    ! has clang || each_test sanitize_test
 }
 
 # script LIBRARY PROGRAM: an example that plans writes a script that a shell can read, with a line for each command of each plan.

@@ -124,28 +124,13 @@ Difference = tuple[str, str]
 class Call:
     """A line of a file of calls."""
 
-    name: str
-    setup: str
-    after: str
-    cwd: str
-    tmp: str
-    ours: str
-    both: str
-    headers: str
-    targets: str
-    later: str
-    instead: str
-    how: str
-    launched: str
-    differs: str
+    name = setup = after = cwd = tmp = ours = both = headers = targets = later = instead = how = launched = differs = ""
 
     def __init__(self, line: str, number: int) -> None:
         self.line, self.number = line, number
         self.env: dict[str, str] = {}
         self.unset: list[str] = []
         self.older: dict[str, str] = {}
-        for field in FIELDS:
-            setattr(self, field, "")
         words = shell_words(line)
         while words and words[0].startswith("@") and "=" in words[0]:
             key, value = words.pop(0)[1:].split("=", 1)

@@ -192,14 +192,12 @@ def body_of(lines: List[str], at: int, indent: str) -> Optional[Tuple[int, int]]
     return None
 
 
-def without_bodies(path: str, text: str, types: Dict[str, str], tested: List[str]) -> Tuple[str, List[str]]:
-    """Returns a source file's text without the bodies of its functions, but for the tested ones, and these functions' paths in the crate.
-    Functions of traits, and those that another crate's type has, keep theirs."""
-    lines, found, left = text.split("\n"), [], []  # type: List[str], List[str], List[str]
+def functions_of(path: str, lines: List[str], types: Dict[str, str]) -> List[Tuple[str, int, Tuple[int, int]]]:
+    """Returns the functions with a body in a source file, in their order: the path in the crate, the line of the head, and the lines of the
+    braces around the body. Functions of traits, and those that another crate's type has, aren't among them."""
+    found: List[Tuple[str, int, Tuple[int, int]]] = []
     owner: Optional[str] = module_of(path)
-    at = 0
-    while at < len(lines):
-        line = lines[at]
+    for at, line in enumerate(lines):
         inherent = re.match(r"impl(?:<.*>)? (\w+)(?:<.*>)? \{$", line)
         if inherent and inherent[1] in types:
             owner = f"{types[inherent[1]]}{inherent[1]}::"
@@ -208,16 +206,22 @@ def without_bodies(path: str, text: str, types: Dict[str, str], tested: List[str
         elif line == "}":
             owner = module_of(path)
         head = re.match(r"( *)(?:pub(?:\(\w+\))? )?fn (\w+)\b", line)
-        body = body_of(lines, at, head[1]) if head and owner is not None and f"{owner}{head[2]}" not in tested else None
+        body = body_of(lines, at, head[1]) if head and owner is not None else None
         if head and body:
-            found.append(f"{owner}{head[2]}")
-            first, last = body
-            left += [*lines[at:first], lines[first], f"{head[1]}    loop {{}}", lines[last]]
-            at = last
-        else:
-            left.append(line)
-        at += 1
-    return "\n".join(left), found
+            found.append((f"{owner}{head[2]}", at, body))
+    return found
+
+
+def without_bodies(path: str, text: str, types: Dict[str, str], tested: List[str]) -> Tuple[str, List[str]]:
+    """Returns a source file's text without the bodies of its functions, but for the tested ones, and these functions' paths in the crate.
+    Functions of traits, and those that another crate's type has, keep theirs."""
+    lines, left, behind = text.split("\n"), [], 0  # type: List[str], List[str], int
+    found = [it for it in functions_of(path, lines, types) if it[0] not in tested]
+    for _, _, (first, last) in found:
+        indent = lines[last].removesuffix("}")
+        left += [*lines[behind:first + 1], f"{indent}    loop {{}}"]
+        behind = last
+    return "\n".join([*left, *lines[behind:]]), [function for function, _, _ in found]
 
 
 def with_holes(crate: str, texts: Texts, tested: List[str]) -> Texts:
@@ -393,17 +397,21 @@ def digest_of(crate: Any) -> str:
     return hashlib.sha256((kept.digest_of(crate) + with_bodies).encode()).hexdigest()
 
 
+def commit() -> str:
+    return subprocess.run(["git", "rev-parse", "HEAD"], cwd=TOP, stdout=subprocess.PIPE, text=True, check=True).stdout.strip()
+
+
 def chosen(crates: List[Any], record: Record) -> Dict[str, List[WrongBody]]:
     """Returns the wrong bodies that the gate tries, by crate: all of the crates that changed since the record, and some of the others,
     drawn by the commit's hash."""
     changed = [it for it in crates if os.environ.get("BODIES") == "all" or not record.holds(it)]
     bodies = {it.name: wrong_bodies(it.name) for it in crates if it in changed}
     others = [(it.name, body) for it in crates if it not in changed for body in wrong_bodies(it.name)]
-    commit = subprocess.run(["git", "rev-parse", "HEAD"], cwd=TOP, capture_output=True, text=True).stdout.strip()
-    for name, body in random.Random(commit).sample(others, min(DRAWN, len(others))):
+    hashed = commit()
+    for name, body in random.Random(hashed).sample(others, min(DRAWN, len(others))):
         bodies.setdefault(name, []).append(body)
     count, drawn = sum(len(wrong_bodies(it.name)) for it in changed), min(DRAWN, len(others))
-    print(f"all {count} wrong bodies of {len(changed)} changed crates, {drawn} of the other {len(others)}, drawn by {commit[:12]}", flush=True)
+    print(f"all {count} wrong bodies of {len(changed)} changed crates, {drawn} of the other {len(others)}, drawn by {hashed[:12]}", flush=True)
     return bodies
 
 

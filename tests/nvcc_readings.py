@@ -2,7 +2,7 @@
 """Plans lines with each option of nvcc, and counts those that nvcc reads otherwise than zigrunk.
 
 An option stands in a line alone, with a value behind it, behind `=` and joined to it, and with a source behind it, each with and without
---forward-unknown-to-host-compiler. The options are those of the table in crates/nvcc_options and of `nvcc --help`. zigrunk-nvcc plans each
+--forward-unknown-to-host-compiler. The options are those of the table in crates/nvcc_calls and of `nvcc --help`. zigrunk-nvcc plans each
 line and runs nothing of it, and says if nvcc's dry run of the line itself has other lines than that of the normal form.
 
 The table is for nvcc 13.0: this has to read each line as zigrunk does. Another nvcc may read some otherwise, and nvcc itself then makes the
@@ -38,7 +38,7 @@ VALUES = {
 
 def names() -> list[str]:
     """The names of all options."""
-    table = (TOP / "crates/nvcc_options/src/options.rt").read_text()
+    table = (TOP / "crates/nvcc_calls/src/options.rt").read_text()
     said = subprocess.run(["nvcc", "--help"], capture_output=True, text=True, check=True).stdout
     listed = re.findall(r"^(--[^ \n]+)", said, re.M) + re.findall(r"^--.*\((-[^ ()]+)\) *$", said, re.M)
     return sorted({*re.findall(r'"(-[^"]+)"', table), *listed})

@@ -253,6 +253,14 @@ static void is_list_answer(answered *a, zigrunk_list_answer it) {
     a->sizes[BYTES] = it.length;
 }
 
+/* Both builds' answers to a call that writes a text, or a list of texts, with these words before its buffers. */
+#define BOTH_TEXT(name, ...) \
+    for (int i = 0; i < 2; i++) \
+    is_text_answer(&answers[i], OF(i, name)(__VA_ARGS__, answers[i].out, room_for[BYTES]))
+#define BOTH_LIST(name, ...) \
+    for (int i = 0; i < 2; i++) \
+    is_list_answer(&answers[i], OF(i, name)(__VA_ARGS__, answers[i].ranges, room_for[RANGES], answers[i].out, room_for[BYTES]))
+
 static void drawn_rooms(void) {
     for (int i = 0; i < LISTS; i++) {
         room_for[i] = i == BYTES ? MOST_BYTES : MOST_RECORDS;
@@ -318,9 +326,7 @@ static void show_variables(const zigrunk_variable *variables, size_t count) {
 
 static void try_message(void) {
     int32_t status = (int32_t)random_below(40) - 5;
-    for (int i = 0; i < 2; i++) {
-        is_text_answer(&answers[i], OF(i, zigrunk_message)(status, answers[i].out, room_for[BYTES]));
-    }
+    BOTH_TEXT(zigrunk_message, status);
 }
 
 static void try_version(void) {
@@ -334,18 +340,13 @@ static void try_version(void) {
 static void try_split(void) {
     zigrunk_text text = changed_often(drawn_part(drawn_first()->texts[0], '\n'));
     show("text", text);
-    for (int i = 0; i < 2; i++) {
-        answered *a = &answers[i];
-        is_list_answer(a, OF(i, zigrunk_split)(text.bytes, text.length, a->ranges, room_for[RANGES], a->out, room_for[BYTES]));
-    }
+    BOTH_LIST(zigrunk_split, text.bytes, text.length);
 }
 
 static void try_quote(void) {
     list words = words_in(changed_often(drawn_part(drawn_first()->texts[0], '\n')));
     show_list("word", words.at, words.count);
-    for (int i = 0; i < 2; i++) {
-        is_text_answer(&answers[i], OF(i, zigrunk_quote)(words.at, words.count, answers[i].out, room_for[BYTES]));
-    }
+    BOTH_TEXT(zigrunk_quote, words.at, words.count);
 }
 
 static void try_remap(void) {
@@ -356,20 +357,13 @@ static void try_remap(void) {
     }
     show_list("word", words.at, words.count);
     show_list("suffix", suffixes.at, suffixes.count);
-    for (int i = 0; i < 2; i++) {
-        answered *a = &answers[i];
-        is_list_answer(a, OF(i, zigrunk_remap)(words.at, words.count, suffixes.at, suffixes.count, a->ranges, room_for[RANGES], a->out, room_for[BYTES]));
-    }
+    BOTH_LIST(zigrunk_remap, words.at, words.count, suffixes.at, suffixes.count);
 }
 
 static void try_candidates(void) {
     zigrunk_text texts[3] = {drawn_word(), chance(2) ? drawn_word() : text_of("/b:/usr/bin::x:/w"), drawn_directory("/w")};
     show_list("text", texts, 3);
-    for (int i = 0; i < 2; i++) {
-        answered *a = &answers[i];
-        is_list_answer(a, OF(i, zigrunk_candidates)(texts[0].bytes, texts[0].length, texts[1].bytes, texts[1].length, texts[2].bytes,
-            texts[2].length, a->ranges, room_for[RANGES], a->out, room_for[BYTES]));
-    }
+    BOTH_LIST(zigrunk_candidates, texts[0].bytes, texts[0].length, texts[1].bytes, texts[1].length, texts[2].bytes, texts[2].length);
 }
 
 static void try_key(void) {
@@ -387,9 +381,7 @@ static void try_key(void) {
     show_list("word", words.at, words.count);
     show_variables(variables, call.variables_count);
     show_list("root", roots, call.roots_count);
-    for (int i = 0; i < 2; i++) {
-        is_text_answer(&answers[i], OF(i, zigrunk_command_key)(&call, answers[i].out, room_for[BYTES]));
-    }
+    BOTH_TEXT(zigrunk_command_key, &call);
 }
 
 static void try_line(void) {
@@ -436,10 +428,7 @@ static void try_nvcc_line(void) {
     show("nvcc", call.nvcc);
     show_list("word", words.at, words.count);
     show_variables(variables, call.variables_count);
-    for (int i = 0; i < 2; i++) {
-        answered *a = &answers[i];
-        is_list_answer(a, OF(i, zigrunk_nvcc_line)(&call, a->ranges, room_for[RANGES], a->out, room_for[BYTES]));
-    }
+    BOTH_LIST(zigrunk_nvcc_line, &call);
 }
 
 /* A call that plans. The programs are those that the first build asks for, a few of them missing. */
@@ -515,9 +504,7 @@ static void try_plan(void) {
     drawn_plan(&plan_now);
     show_plan(&plan_now);
     uint32_t form = drawn_number(4);
-    for (int i = 0; i < 2; i++) {
-        is_text_answer(&answers[i], OF(i, zigrunk_plan)(&plan_now.call, form, answers[i].out, room_for[BYTES]));
-    }
+    BOTH_TEXT(zigrunk_plan, &plan_now.call, form);
 }
 
 static void try_steps(void) {
@@ -541,11 +528,8 @@ static void try_lookups(void) {
     show_plan(&plan_now);
     const zigrunk_plan_call *call = &plan_now.call;
     size_t limit = chance(2) ? call->limit : 0;
-    for (int i = 0; i < 2; i++) {
-        answered *a = &answers[i];
-        is_list_answer(a, OF(i, zigrunk_lookups_within)(call->dry1.bytes, call->dry1.length, call->dry2.bytes, call->dry2.length,
-                              call->cwd.bytes, call->cwd.length, limit, a->ranges, room_for[RANGES], a->out, room_for[BYTES]));
-    }
+    BOTH_LIST(zigrunk_lookups_within, call->dry1.bytes, call->dry1.length, call->dry2.bytes, call->dry2.length, call->cwd.bytes,
+        call->cwd.length, limit);
 }
 
 /* How often a call is drawn, and how many of its inputs there were with each status. */

@@ -28,7 +28,7 @@ build() {
 # words: the dictionary of the libFuzzer harness, and the options that the sources name.
 words() {
     cat tests/fuzz/words.dict
-    grep -rhoE '"--?[A-Za-z][^"\\ ]*"' crates/{nvcc_options,nvcc_words,host_lines,gcc_lines,device_lines}/src | LC_ALL=C sort -u
+    grep -rhoE '"--?[A-Za-z][^"\\ ]*"' crates/{nvcc_calls,host_lines,device_lines}/src | LC_ALL=C sort -u
 }
 
 require 'the comparison of both builds' gcc objcopy

@@ -165,7 +165,7 @@ in_c() {
     # gcc's unwinder is in these too
     [[ $1 != *-musl ]] || compiler+=' /root/zigrunk/unwind/find.o'
     inside env CC="$compiler" LD="${tools}ld" AR="${tools}ar" OBJCOPY="${tools}objcopy" bindings/c/library.sh "rust/target/$1/release/libzigrunk.a" "$1" || return 1
-    for name in calls plans lines line_records keys limits; do
+    for name in calls plans lines keys limits; do
         # shellcheck disable=SC2086 # a compiler, and an object
         inside $compiler -std=c99 -D_POSIX_C_SOURCE=200809L -O1 -Itests/c "-DVERSION=\"$version\"" "-I$1/include" -static \
             "tests/c/$name.c" "$1/lib/libzigrunk.a" -o "$1/$name" || return 1
@@ -173,7 +173,7 @@ in_c() {
     words=("$data"/*.flag)
     words=("${words[@]##*/}")
     # an emulator takes time and memory of its own
-    for name in 'calls 100' "plans $data ${words[*]%.flag}" lines 'line_records 100' 'keys 100' "limits${3:+ watched}"; do
+    for name in 'calls 100' "plans $data ${words[*]%.flag}" 'lines 100' 'keys 100' "limits${3:+ watched}"; do
         # shellcheck disable=SC2086 # an emulator, and the program's words
         inside $3 ./"$1"/$name || return 1
         echo "  $1: ${name%% *}" >> "$scratch/counts"

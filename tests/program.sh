@@ -11,7 +11,7 @@
 # EMULATED, if set, says that an emulator runs them: what takes a program seconds or memory is left out then.
 set -u
 cd "$(dirname "$0")/.." || exit 1
-program=$(realpath "${1:-crates/cudaplan/out/cudaplan}")
+program=$(realpath "${1:-crates/cudaplan/out/cudaplan}") speaker=cudaplan
 zigrunk=$(realpath "${2:-crates/zigrunk/out/zigrunk}")
 wanted=("${@:3}")
 data=tests/drivers/test_plans/data/dry_runs
@@ -47,39 +47,47 @@ check() {
     local name=$1 status=$2 out=$3 err=$4
     is_wanted "$name" || return 0
     shift 4
-    "$program" "$@" > "$scratch/out" 2> "$scratch/err"
-    echo $? > "$scratch/status"
+    noted "$program" "$@" > "$scratch/out" 2> "$scratch/err"
     judge "$name" "$status" "$out" "$err"
 }
 
-# lines WORD..: each word on a line of its own, and a mark that keeps the last newline in $(..).
-lines() {
-    printf '%s\n' "$@"
-    printf .
+# fails NAME MESSAGE WORD..: a call that fails with this message of the program's.
+fails() {
+    check "$1" 1 '' "$speaker: $2"$'\n' "${@:3}"
+}
+
+# noted COMMAND..: runs a command, and notes its status for `judge`.
+noted() {
+    "$@"
+    echo $? > "$scratch/status"
+}
+
+# gives NAME LINE.. -- WORD..: a call that prints these lines, which stay in $given.
+gives() {
+    local name=$1
+    given=''
+    while shift && [ "$1" != -- ]; do given+=$1$'\n'; done
+    check "$name" 0 "$given" '' "${@:2}"
+}
+
+# gives_file NAME FILE WORD..: a call that prints what a file has.
+gives_file() {
+    given=$(cat "$2"; printf .)
+    check "$1" 0 "${given%.}" '' "${@:3}"
 }
 
 # a call of each tool that is written back
 good_lines() {
-    local out
-    out=$(lines --device-c -arch compute_80 --module_id_file_name kernel.module_id --simt-only kernel.cpp1.ii -o /w/kernel.ptx)
-    check 'cicc line' 0 "${out%.}" '' \
+    gives 'cicc line' --device-c -arch compute_80 --module_id_file_name kernel.module_id --simt-only kernel.cpp1.ii -o /w/kernel.ptx -- \
         line cicc /w --device-c -arch compute_80 --module_id_file_name kernel.module_id kernel.cpp1.ii --simt-only -o kernel.ptx
-    out=$(lines -arch=sm_80 k.ptx -o /w/k.cubin)
-    check 'ptxas line' 0 "${out%.}" '' line ptxas /w -arch=sm_80 k.ptx -o k.cubin
-    out=$(lines --simt-only --module_id_file_name /t/k.id x_0.cpp4.ii)
-    check 'cudafe++ line' 0 "${out%.}" '' line cudafe++ /t --simt-only --module_id_file_name k.id x_0.cpp4.ii
-    out=$(lines '-D a' '' k.cpp1.ii -o /w/k.ptx)
-    check 'words with a blank, and an empty one' 0 "${out%.}" '' line cicc /w '-D a' '' k.cpp1.ii -o k.ptx
-    out=$(lines -foo bar k.cpp1.ii -o /w/p)
-    check 'words of no option' 0 "${out%.}" '' line cicc /w -foo k.cpp1.ii bar baz -o p
-    out=$(lines -arch k.ptx -o /w/k.cubin)
-    check 'an empty value that is joined' 0 "${out%.}" '' line ptxas /w -arch= k.ptx -o k.cubin
-    out=$(lines -x b.ptx a.ptx -o /w/c)
-    check 'two words that end as an input does' 0 "${out%.}" '' line ptxas /w -x a.ptx b.ptx -o c
-    out=$(lines $'-a\nb' $'\'"\\' k.cpp1.ii -o $'/w/\t')
-    check 'words with newlines, quotes and backslashes' 0 "${out%.}" '' line cicc /w $'-a\nb' $'\'"\\' k.cpp1.ii -o $'\t'
-    out=$(lines -Dé k.cpp1.ii -o /é/k.ptx)
-    check 'words of two bytes a character' 0 "${out%.}" '' line cicc /é -Dé k.cpp1.ii -o k.ptx
+    gives 'ptxas line' -arch=sm_80 k.ptx -o /w/k.cubin -- line ptxas /w -arch=sm_80 k.ptx -o k.cubin
+    gives 'cudafe++ line' --simt-only --module_id_file_name /t/k.id x_0.cpp4.ii -- line cudafe++ /t --simt-only --module_id_file_name k.id x_0.cpp4.ii
+    gives 'words with a blank, and an empty one' '-D a' '' k.cpp1.ii -o /w/k.ptx -- line cicc /w '-D a' '' k.cpp1.ii -o k.ptx
+    gives 'words of no option' -foo bar k.cpp1.ii -o /w/p -- line cicc /w -foo k.cpp1.ii bar baz -o p
+    gives 'an empty value that is joined' -arch k.ptx -o /w/k.cubin -- line ptxas /w -arch= k.ptx -o k.cubin
+    gives 'two words that end as an input does' -x b.ptx a.ptx -o /w/c -- line ptxas /w -x a.ptx b.ptx -o c
+    gives 'words with newlines, quotes and backslashes' $'-a\nb' $'\'"\\' k.cpp1.ii -o $'/w/\t' -- line cicc /w $'-a\nb' $'\'"\\' k.cpp1.ii -o $'\t'
+    gives 'words of two bytes a character' -Dé k.cpp1.ii -o /é/k.ptx -- line cicc /é -Dé k.cpp1.ii -o k.ptx
 }
 
 # lines that are refused: what compiles nothing, and what names no output
@@ -92,39 +100,34 @@ refused_lines() {
     check 'cicc without an output' 1 '' "$none" line cicc /w k.cpp1.ii
     check 'cicc with an output option that ends the line' 1 '' "$none" line cicc /w k.cpp1.ii -o
     check 'cicc whose input is found from the end' 1 '' "$none" line cicc /w a b c
-    check 'ptxas whose option takes the output away' 1 '' $'cudaplan: Missing "cubin" file output\n' \
-        line ptxas /w -arch k.ptx -o /w/k.cubin
-    check 'cudafe++ without an output' 1 '' $'cudaplan: Missing "cuda" file output\n' line cudafe++ /t x.cpp4.ii
+    fails 'ptxas whose option takes the output away' 'Missing "cubin" file output' line ptxas /w -arch k.ptx -o /w/k.cubin
+    fails 'cudafe++ without an output' 'Missing "cuda" file output' line cudafe++ /t x.cpp4.ii
 }
 
 # what the dry runs of real calls plan, each with its compilation flag
 good_plans() {
-    local file name plan
+    local file name
     for file in "$data"/*.flag "$data"/*/*.flag; do
         name=${file%.flag}
-        plan=$(cat "$name.plan"; printf .)
-        check "the plan of ${name#"$data/"}" 0 "${plan%.}" '' plan /w /t "$(cat "$file")" "$name.dry1" "$name.dry2"
+        gives_file "the plan of ${name#"$data/"}" "$name.plan" plan /w /t "$(cat "$file")" "$name.dry1" "$name.dry2"
     done
     : > "$scratch/none"
     check 'empty dry runs' 0 $'group 0\ngroup 1\n' '' plan /w /t -c "$scratch/none" "$scratch/none"
     lines_of steps '#$ PATH=/b' '#$ gcc -D__NVCC__ -E k.cu -o k.cpp1.ii' '#$ cicc --gen_device_file_name k.cudafe1.gpu k.cpp1.ii -o k.ptx'
-    plan=$(lines 'group 0' 'group 1' 'no cd /w && /b/gcc -D__NVCC__ -E k.cu -o x_0.cpp1.ii' \
-        'yes cd /t && /b/cicc --gen_device_file_name k.cudafe1.gpu x_0.cpp1.ii -o k.ptx' 'group 2')
-    check 'no further suffix' 0 "${plan%.}" '' plan /w /t -c "$scratch/steps" "$scratch/steps"
-    plan=$(lines 'group 0' 'group 1' 'no cd /w && /b/gcc -D__NVCC__ -E k.cu -o x_0.cpp1.ii' \
-        'yes cd /t && /b/cicc --gen_device_file_name x_0.cudafe1.gpu x_0.cpp1.ii -o k.ptx' 'group 2')
-    check 'a further suffix' 0 "${plan%.}" '' plan /w /t -c "$scratch/steps" "$scratch/steps" .cudafe1.gpu
+    gives 'no further suffix' 'group 0' 'group 1' 'no cd /w && /b/gcc -D__NVCC__ -E k.cu -o x_0.cpp1.ii' \
+        'yes cd /t && /b/cicc --gen_device_file_name k.cudafe1.gpu x_0.cpp1.ii -o k.ptx' 'group 2' -- plan /w /t -c "$scratch/steps" "$scratch/steps"
+    gives 'a further suffix' 'group 0' 'group 1' 'no cd /w && /b/gcc -D__NVCC__ -E k.cu -o x_0.cpp1.ii' \
+        'yes cd /t && /b/cicc --gen_device_file_name x_0.cudafe1.gpu x_0.cpp1.ii -o k.ptx' 'group 2' -- plan /w /t -c "$scratch/steps" "$scratch/steps" .cudafe1.gpu
     lines_of foreign '#$ PATH=/b' '#$ "" x'
-    plan=$(lines 'group 0' 'group 1' 'dropped 1 run 2 NotCuda /b/ x')
-    check 'a dropped command' 0 "${plan%.}" '' plan /w /t -c "$scratch/foreign" "$scratch/foreign"
+    gives 'a dropped command' 'group 0' 'group 1' 'dropped 1 run 2 NotCuda /b/ x' -- plan /w /t -c "$scratch/foreign" "$scratch/foreign"
 }
 
-# plans NAME OUT LINE..: plans these lines behind one that sets PATH, as both runs. OUT ends in a mark behind its newline.
+# plans NAME OUT.. -- LINE..: plans these lines behind one that sets PATH, as both runs, which prints the lines OUT.
 plans() {
-    local name=$1 out=$2
-    shift 2
-    lines_of run '#$ PATH=/b' "$@"
-    check "$name" 0 "${out%.}" '' plan /w /t -c "$scratch/run" "$scratch/run"
+    local out=("$1")
+    while shift && [ "$1" != -- ]; do out+=("$1"); done
+    lines_of run '#$ PATH=/b' "${@:2}"
+    gives "${out[@]}" -- plan /w /t -c "$scratch/run" "$scratch/run"
 }
 
 # steps that open a group again, files that several commands read, and commands that find no group
@@ -133,17 +136,17 @@ grouped_plans() {
     local stepped='no cd /w && /b/gcc -D__NVCC__ -E k.cu -o x_0.cpp1.ii' compiled='yes cd /t && /b/cicc x_0.cpp1.ii -o k.ptx'
     local lost_step='dropped 1 run 2 Superseded /b/gcc -D__NVCC__ -E k.cu -o x_0.cpp1.ii'
     local lost_cicc='dropped 2 run 1 Superseded /b/cicc x_0.cpp1.ii -o k.ptx'
-    plans 'a group that is opened again' "$(lines 'group 0' 'group 1' "$stepped" "$compiled" 'group 2' "$lost_step" "$lost_cicc")" \
+    plans 'a group that is opened again' 'group 0' 'group 1' "$stepped" "$compiled" 'group 2' "$lost_step" "$lost_cicc" -- \
         "$step" "$cicc" "$step" "$cicc"
-    plans 'two ptxas commands for one file' "$(lines 'group 0' 'group 1' "$stepped" "$compiled" 'yes cd /t && /b/ptxas k.ptx -o a.cubin' \
-        'yes cd /t && /b/ptxas k.ptx -o b.cubin' 'group 2')" "$step" "$cicc" '#$ ptxas k.ptx -o a.cubin' '#$ ptxas k.ptx -o b.cubin'
-    plans 'a ptxas command behind a superseded cicc' "$(lines 'group 0' 'group 1' "$stepped" 'group 2' "$lost_step" "$lost_cicc" \
-        'dropped 4 run 1 NoPtxasGroup /b/ptxas k.ptx -o a.cubin')" "$step" "$cicc" "$step" '#$ ptxas k.ptx -o a.cubin'
-    plans 'a step that names a PTX file' "$(lines 'group 0' 'group 1' "$stepped k.ptx" 'group 2' \
-        'dropped 2 run 1 NoPtxasGroup /b/ptxas k.ptx -o a.cubin')" "$step k.ptx" '#$ ptxas k.ptx -o a.cubin'
-    plans 'an output with a slash' "$(lines 'group 0' 'group 1' 'no cd /w && /b/gcc -D__NVCC__ -E k.cu -o k.cpp1.ii/' 'group 2' \
-        'dropped 2 run 1 NoCiccGroup /b/cicc x_0.cpp1.ii -o k.ptx')" "$step/" "$cicc"
-    plans 'a step without an output' "$(lines 'group 0' 'no cd /w && /b/gcc -D__NVCC__ -E k.cu -o' 'group 1')" '#$ gcc -D__NVCC__ -E k.cu -o'
+    plans 'two ptxas commands for one file' 'group 0' 'group 1' "$stepped" "$compiled" 'yes cd /t && /b/ptxas k.ptx -o a.cubin' \
+        'yes cd /t && /b/ptxas k.ptx -o b.cubin' 'group 2' -- "$step" "$cicc" '#$ ptxas k.ptx -o a.cubin' '#$ ptxas k.ptx -o b.cubin'
+    plans 'a ptxas command behind a superseded cicc' 'group 0' 'group 1' "$stepped" 'group 2' "$lost_step" "$lost_cicc" \
+        'dropped 4 run 1 NoPtxasGroup /b/ptxas k.ptx -o a.cubin' -- "$step" "$cicc" "$step" '#$ ptxas k.ptx -o a.cubin'
+    plans 'a step that names a PTX file' 'group 0' 'group 1' "$stepped k.ptx" 'group 2' \
+        'dropped 2 run 1 NoPtxasGroup /b/ptxas k.ptx -o a.cubin' -- "$step k.ptx" '#$ ptxas k.ptx -o a.cubin'
+    plans 'an output with a slash' 'group 0' 'group 1' 'no cd /w && /b/gcc -D__NVCC__ -E k.cu -o k.cpp1.ii/' 'group 2' \
+        'dropped 2 run 1 NoCiccGroup /b/cicc x_0.cpp1.ii -o k.ptx' -- "$step/" "$cicc"
+    plans 'a step without an output' 'group 0' 'no cd /w && /b/gcc -D__NVCC__ -E k.cu -o' 'group 1' -- '#$ gcc -D__NVCC__ -E k.cu -o'
 }
 
 # a thousand host compilers, in order
@@ -153,7 +156,7 @@ long_plan() {
         commands+=("#\$ gcc -D__NVCC__ -c $number.cpp")
         want+=("yes cd /w && /b/gcc -D__NVCC__ -c $number.cpp")
     done
-    plans 'a thousand commands' "$(lines "${want[@]}")" "${commands[@]}"
+    plans 'a thousand commands' "${want[@]}" -- "${commands[@]}"
 }
 
 # lines_of FILE LINE..: writes lines to a file of the scratch folder.
@@ -175,12 +178,12 @@ refused_plans() {
     check 'a file without a name' 1 '' "$unread" plan /w /t -c '' "$good"
     check 'standard input, which has no name here' 1 '' "$unread" plan /w /t -c - "$good" < "$data/one_kernel.dry1"
     for suffix in .ii .cpp1.ii '' .a/b gpu .x.; do
-        check "suffix '$suffix'" 1 '' $'cudaplan: bad generated suffixes\n' plan /w /t -c "$good" "$good" "$suffix"
+        fails "suffix '$suffix'" 'bad generated suffixes' plan /w /t -c "$good" "$good" "$suffix"
     done
-    check 'two suffixes that overlap' 1 '' $'cudaplan: bad generated suffixes\n' plan /w /t -c "$good" "$good" .gpu .cudafe1.gpu
+    fails 'two suffixes that overlap' 'bad generated suffixes' plan /w /t -c "$good" "$good" .gpu .cudafe1.gpu
     lines_of pathless '#$ gcc'
     check 'a missing file before a bad suffix' 1 '' "$unread" plan /w /t -c "$scratch/pathless" "$scratch/missing" .ii
-    check 'a bad suffix before a bad run' 1 '' $'cudaplan: bad generated suffixes\n' plan /w /t -c "$scratch/pathless" "$scratch/none" .ii
+    fails 'a bad suffix before a bad run' 'bad generated suffixes' plan /w /t -c "$scratch/pathless" "$scratch/none" .ii
 }
 
 # refuses NAME MESSAGE FIRST SECOND: two dry runs that are refused with this message. In them a backslash begins an
@@ -188,7 +191,7 @@ refused_plans() {
 refuses() {
     printf '%b' "$3" > "$scratch/first"
     printf '%b' "$4" > "$scratch/second"
-    check "$1" 1 '' "cudaplan: $2"$'\n' plan /w /t -c "$scratch/first" "$scratch/second"
+    fails "$1" "$2" plan /w /t -c "$scratch/first" "$scratch/second"
 }
 
 # both NAME MESSAGE RUN: the same of one dry run, as both.
@@ -236,7 +239,7 @@ one_lost() {
 
 # a program of many that is not found, in both runs and in the second alone; and none that isn't
 lost_programs() {
-    local kernel run plan name
+    local kernel run name
     kernel=$(cat "$data/one_kernel.dry1")
     for name in gcc cudafe++ cicc ptxas fatbinary; do
         run=$(one_lost "$name")
@@ -244,22 +247,19 @@ lost_programs() {
         refuses "$name is not found in the second run" "$name: not found" "$kernel" "$run"
     done
     one_lost none > "$scratch/run"
-    plan=$(cat "$data/one_kernel.plan"; printf .)
-    check 'all programs are found' 0 "${plan%.}" '' plan /w /t -c "$scratch/run" "$scratch/run"
+    gives_file 'all programs are found' "$data/one_kernel.plan" plan /w /t -c "$scratch/run" "$scratch/run"
 }
 
 # odd dry runs that can be read
 odd_plans() {
-    local empty
-    empty=$(lines 'group 0' 'group 1')
-    plans 'a mark without its blank' "$empty" '#$' $'#$gcc "' $'#$\t\''
-    plans 'a folder as program' "$(lines 'group 0' 'group 1' 'dropped 1 run 2 NotCuda /b/ x')" '#$ "" x'
-    plans 'a step with a folder as output' "$(lines 'group 0' 'no cd /w && /b/gcc -D__NVCC__ -E k.cu -o ..' 'group 1')" \
+    plans 'a mark without its blank' 'group 0' 'group 1' -- '#$' $'#$gcc "' $'#$\t\''
+    plans 'a folder as program' 'group 0' 'group 1' 'dropped 1 run 2 NotCuda /b/ x' -- '#$ "" x'
+    plans 'a step with a folder as output' 'group 0' 'no cd /w && /b/gcc -D__NVCC__ -E k.cu -o ..' 'group 1' -- \
         '#$ gcc -D__NVCC__ -E k.cu -o ..'
-    plans 'variables of a line' "$(lines 'group 0' 'group 1' "dropped 2 run 2 NotCuda /b/gcc -L\$TOP" \
-        'dropped 3 run 2 NotCuda /u/gcc -L/uX')" '#$ TOP=/u' "#\$ gcc -L\$TOP" "#\$ \$TOP/gcc -L\$TOPX"
+    plans 'variables of a line' 'group 0' 'group 1' "dropped 2 run 2 NotCuda /b/gcc -L\$TOP" \
+        'dropped 3 run 2 NotCuda /u/gcc -L/uX' -- '#$ TOP=/u' "#\$ gcc -L\$TOP" "#\$ \$TOP/gcc -L\$TOPX"
     lines_of rootless '#$ PATH=/' '#$ "" x'
-    check 'a program that is the root' 0 "${empty%.}" '' plan /w /t -c "$scratch/rootless" "$scratch/rootless"
+    gives 'a program that is the root' 'group 0' 'group 1' -- plan /w /t -c "$scratch/rootless" "$scratch/rootless"
     printf 'kernel.cu\r\n#$ PATH=/b\r\n#$ gcc -D__NVCC__ -c x.cpp' > "$scratch/returns"
     check 'carriage returns, and no last newline' 0 $'group 0\ngroup 1\nyes cd /w && /b/gcc -D__NVCC__ -c x.cpp\n' '' \
         plan /w /t -c "$scratch/returns" "$scratch/returns"
@@ -285,13 +285,11 @@ other_calls() {
 long_lines() {
     local many out
     mapfile -t many < <(seq 1 100000 | sed 's/^/-/')
-    out=$(lines "${many[@]}" k.cpp1.ii -o /k.ptx)
-    check '100000 words' 0 "${out%.}" '' line cicc / "${many[@]}" k.cpp1.ii -o k.ptx
+    gives '100000 words' "${many[@]}" k.cpp1.ii -o /k.ptx -- line cicc / "${many[@]}" k.cpp1.ii -o k.ptx
     local word
     word=-$(head -c 100000 /dev/zero | tr '\0' x)
     many=("$word" "$word" "$word" "$word" "$word" "$word" "$word" "$word" "$word" "$word" "$word")
-    out=$(lines "${many[@]}" k.cpp1.ii -o /k.ptx)
-    check 'a megabyte of words' 0 "${out%.}" '' line cicc / "${many[@]}" k.cpp1.ii -o k.ptx
+    gives 'a megabyte of words' "${many[@]}" k.cpp1.ii -o /k.ptx -- line cicc / "${many[@]}" k.cpp1.ii -o k.ptx
 }
 
 # a plan with a thousand further suffixes, and one with a thousand dropped commands
@@ -305,7 +303,7 @@ long_suffixes() {
     lines_of suffixed '#$ PATH=/b' '#$ gcc -D__NVCC__ -c k.a1000'
     check 'a thousand further suffixes' 0 $'group 0\ngroup 1\nyes cd /w && /b/gcc -D__NVCC__ -c x_0.a1000\n' '' \
         plan /w /t -c "$scratch/suffixed" "$scratch/suffixed" "${suffixes[@]}"
-    plans 'a thousand dropped commands' "$(lines "${want[@]}")" "${steps[@]}"
+    plans 'a thousand dropped commands' "${want[@]}" -- "${steps[@]}"
 }
 
 # byte_by_byte FILE: writes a file one byte at a time.
@@ -318,11 +316,10 @@ byte_by_byte() {
 
 # dry runs that come in pieces, and some that don't come at all
 slow_streams() {
-    local run=$data/one_kernel.dry1 plan
-    plan=$(cat "$data/one_kernel.plan"; printf .)
-    check 'dry runs that come a byte at a time' 0 "${plan%.}" '' plan /w /t -c <(byte_by_byte "$run") <(byte_by_byte "$run")
+    local run=$data/one_kernel.dry1
+    gives_file 'dry runs that come a byte at a time' "$data/one_kernel.plan" plan /w /t -c <(byte_by_byte "$run") <(byte_by_byte "$run")
     check 'pipes that end at once' 0 $'group 0\ngroup 1\n' '' plan /w /t -c <(true) <(true)
-    check 'a second run that is bad, byte by byte' 1 '' $'cudaplan: run 2 line 8: not UTF-8\n' \
+    fails 'a second run that is bad, byte by byte' 'run 2 line 8: not UTF-8' \
         plan /w /t -c <(byte_by_byte "$run") <(LC_ALL=C byte_by_byte "$data/bad_last_line.dry1")
 }
 
@@ -331,8 +328,7 @@ limited() {
     (
         trap '' XFSZ
         ulimit -f "$1"
-        "$program" plan /w /t -c "$2" "$2" > "$scratch/limited" 2> "$scratch/err"
-        echo $? > "$scratch/status"
+        noted "$program" plan /w /t -c "$2" "$2" > "$scratch/limited" 2> "$scratch/err"
     )
 }
 
@@ -351,8 +347,7 @@ short_streams() {
 
     word=-$(head -c 100000 /dev/zero | tr '\0' x)
     {
-        "$program" line cicc /w {"$word","$word","$word"}{1,2,3,4,5} k.cpp1.ii -o k.ptx 2> "$scratch/err"
-        echo $? > "$scratch/status"
+        noted "$program" line cicc /w {"$word","$word","$word"}{1,2,3,4,5} k.cpp1.ii -o k.ptx 2> "$scratch/err"
     } | head -c 100 > /dev/null
     : > "$scratch/out"
     judge 'a pipe whose reader ends' 1 '' "$CANNOT_WRITE"
@@ -362,67 +357,50 @@ short_streams() {
 closed_streams() {
     local call=(line cicc /w k.cpp1.ii -o k.ptx)
     : > "$scratch/out"
-    "$program" "${call[@]}" > /dev/full 2> "$scratch/err"
-    echo $? > "$scratch/status"
+    noted "$program" "${call[@]}" > /dev/full 2> "$scratch/err"
     judge 'a full disk' 1 '' "$CANNOT_WRITE"
 
     mkfifo "$scratch/pipe"
     exec 4<> "$scratch/pipe"
     exec 5> "$scratch/pipe"
     exec 4>&-
-    "$program" "${call[@]}" >&5 2> "$scratch/err"
-    echo $? > "$scratch/status"
+    noted "$program" "${call[@]}" >&5 2> "$scratch/err"
     exec 5>&-
     judge 'a pipe that nobody reads' 1 '' "$CANNOT_WRITE"
 
-    "$program" "${call[@]}" >&- 2> "$scratch/err"
-    echo $? > "$scratch/status"
+    noted "$program" "${call[@]}" >&- 2> "$scratch/err"
     judge 'a closed standard output' 1 '' "$CANNOT_WRITE"
 
-    "$program" plan /w /t -c "$data/one_target.dry1" "$data/one_target.dry2" > /dev/full 2> "$scratch/err"
-    echo $? > "$scratch/status"
+    noted "$program" plan /w /t -c "$data/one_target.dry1" "$data/one_target.dry2" > /dev/full 2> "$scratch/err"
     judge 'a plan to a full disk' 1 '' "$CANNOT_WRITE"
 
-    "$program" "${call[@]}" > /dev/full 2> /dev/full
-    echo $? > "$scratch/status"
+    noted "$program" "${call[@]}" > /dev/full 2> /dev/full
     : > "$scratch/err"
     judge 'two full disks' 1 '' ''
 
-    "$program" > "$scratch/out" 2> /dev/full
-    echo $? > "$scratch/status"
+    noted "$program" > "$scratch/out" 2> /dev/full
     judge 'usage to a full disk' 2 '' ''
 
-    "$program" line cicc /w > /dev/full 2> "$scratch/err"
-    echo $? > "$scratch/status"
+    noted "$program" line cicc /w > /dev/full 2> "$scratch/err"
     : > "$scratch/out"
     judge 'a refusal writes nothing to a full disk' 1 '' "$NO_COMPILATION"
 
-    "$program" plan /w /t -c "$data/one_kernel.dry1" "$data/bad_last_line.dry1" > /dev/full 2> "$scratch/err"
-    echo $? > "$scratch/status"
+    noted "$program" plan /w /t -c "$data/one_kernel.dry1" "$data/bad_last_line.dry1" > /dev/full 2> "$scratch/err"
     judge 'a refused plan writes nothing to a full disk' 1 '' $'cudaplan: run 2 line 8: not UTF-8\n'
 
-    "$program" plan /w /t -c "$data/bad_last_line.dry1" "$data/one_kernel.dry1" >&- 2> "$scratch/err"
-    echo $? > "$scratch/status"
+    noted "$program" plan /w /t -c "$data/bad_last_line.dry1" "$data/one_kernel.dry1" >&- 2> "$scratch/err"
     judge 'a refused plan needs no standard output' 1 '' $'cudaplan: run 1 line 8: not UTF-8\n'
 }
 
 # ---- zigrunk
 
-# calls_text DEPENDENCIES WORDS FLAG JOBS KEEP: what an nvcc line at /w gives, of these words before those of the dry
-# runs. No word of it needs quotes.
-calls_text() {
-    local begin="'( unset NVCC_PREPEND_FLAGS NVCC_APPEND_FLAGS; cd /w && nvcc" dependencies="''"
-    [ -z "$1" ] || dependencies="$begin $1 )'"
-    lines "dependencies=$dependencies" "first_dry_run=$begin $2 --dryrun --keep )'" \
-        "second_dry_run=$begin $2 --keep-dir /t --dryrun --keep )'" "flag=$3" "jobs=$4" "keep_dir=$5"
-}
-
-# reads NAME DEPENDENCIES WORDS FLAG JOBS KEEP WORD..: a line that is read so.
+# reads NAME DEPENDENCIES WORDS FLAG JOBS KEEP WORD..: an nvcc line at /w that is read so, with these words before those of the dry runs.
+# None of them needs quotes.
 reads() {
-    local name=$1 text
-    text=$(calls_text "$2" "$3" "$4" "$5" "$6")
-    shift 6
-    check "$name" 0 "${text%.}" '' calls /w /t nvcc "$@"
+    local begin="'( unset NVCC_PREPEND_FLAGS NVCC_APPEND_FLAGS; cd /w && nvcc" dependencies="''"
+    [ -z "$2" ] || dependencies="$begin $2 )'"
+    gives "$1" "dependencies=$dependencies" "first_dry_run=$begin $3 --dryrun --keep )'" "second_dry_run=$begin $3 --keep-dir /t --dryrun --keep )'" \
+        "flag=$4" "jobs=$5" "keep_dir=$6" -- calls /w /t nvcc "${@:7}"
 }
 
 # nvcc lines that are read
@@ -521,13 +499,9 @@ options_files() {
     printf -- '-DB=1 "-I"ab\n\t-o k.o\n' > "$scratch/lines/sub/f.rsp"
     printf -- '-DB=\xff\n' > "$scratch/lines/latin.rsp"
     mkfifo "$scratch/lines/pipe.rsp"
-    check 'words of a file' 0 "dependencies=''
-first_dry_run='$begin $scratch/lines && nvcc $words -DA -DB=1 -Iab -DC -c k.cu --dryrun --keep )'
-second_dry_run='$begin $scratch/lines && nvcc $words -DA -DB=1 -Iab -DC -c k.cu --keep-dir /t --dryrun --keep )'
-flag=-c
-jobs=''
-keep_dir=''
-" '' calls "$scratch/lines" /t nvcc -c k.cu -DA -optf sub/f.rsp -DC
+    gives 'words of a file' "dependencies=''" "first_dry_run='$begin $scratch/lines && nvcc $words -DA -DB=1 -Iab -DC -c k.cu --dryrun --keep )'" \
+        "second_dry_run='$begin $scratch/lines && nvcc $words -DA -DB=1 -Iab -DC -c k.cu --keep-dir /t --dryrun --keep )'" flag=-c "jobs=''" "keep_dir=''" -- \
+        calls "$scratch/lines" /t nvcc -c k.cu -DA -optf sub/f.rsp -DC
     printf -- '-g' > "$scratch/lines/g.rsp"
     reads 'words of a whole path' '' "$words -g -c k.cu" -c "''" "''" -c k.cu "--options-file=$scratch/lines/g.rsp"
     printf -- '-w' > "$scratch/lines/w.rsp"
@@ -545,8 +519,7 @@ keep_dir=''
 
 # odd words of an nvcc line, which a shell reads back
 odd_nvcc_words() {
-    "$program" calls '/a b' "/t'" 'n v' "-DA=\"x'y\"" -c k.cu -o "é *.o" > "$scratch/calls" 2> "$scratch/err"
-    echo $? > "$scratch/status"
+    noted "$program" calls '/a b' "/t'" 'n v' "-DA=\"x'y\"" -c k.cu -o "é *.o" > "$scratch/calls" 2> "$scratch/err"
     sh -c '. "$1"; eval "set -- $second_dry_run"; printf "%s\n" "$@"' sh <(sed 's/=.( unset .* && /=\x27/; s/ ).$/\x27/' "$scratch/calls") > "$scratch/out"
     judge 'odd words' 0 "n v
 -x
@@ -602,7 +575,7 @@ refused_nvcc_lines() {
     passes 'a variable of the shell' "nvcc's shell may expand a word" -c k.cu '-DA=$B'
     NVCC_APPEND_FLAGS=--dryrun passes 'a dry run' 'it prints something' -c k.cu
     NVCC_PREPEND_FLAGS="-DA='1'" passes 'quotes in a variable' 'NVCC_PREPEND_FLAGS or NVCC_APPEND_FLAGS has quotes' -c k.cu
-    check 'an output without a name' 1 '' $'zigrunk: output has no file name\n' calls /w /t nvcc -c k.cu -o ..
+    fails 'an output without a name' 'output has no file name' calls /w /t nvcc -c k.cu -o ..
 }
 
 # run_of FILE LINE..: a dry run with these lines behind one that sets PATH, where the programs of a kernel's run are, in two files:
@@ -631,20 +604,20 @@ kernel_programs() {
 
 # plans as scripts
 plan_scripts() {
-    local bin=$scratch/bin text env last
+    local bin=$scratch/bin env last
     env="env 'PATH=$scratch/none:$bin'"
     last="$env '__SCCACHE_THIS_IS_A_CUDA_COMPILATION__='"
-    text=$(lines 'set -e' "( cd /w && $env $bin/gcc -D__CUDACC__ -E k.cu -o x_0.cpp4.ii )" \
+    gives 'a plan as a script' 'set -e' "( cd /w && $env $bin/gcc -D__CUDACC__ -E k.cu -o x_0.cpp4.ii )" \
         "( cd /t && $env $bin/cudafe++ --gen_module_id_file --module_id_file_name k.id x_0.cpp4.ii )" \
         "( cd /w && $env $bin/gcc -D__NVCC__ -E k.cu -o x_0.cpp1.ii )" "( cd /t && $env $bin/cicc x_0.cpp1.ii -o k.ptx )" \
         "( cd /t && $env $bin/ptxas k.ptx -o 'k \$x.cubin' )" "( cd /t && $env $bin/fatbinary k.cubin )" \
-        "( cd /w && $last $bin/gcc -D__NVCC__ '-DA=it'\\''s' x_0.cudafe1.cpp -o k.o )")
-    check 'a plan as a script' 0 "${text%.}" '' shell /w /t -c "$scratch/kernel" "$scratch/kernel.2"
-    text=${text//x_0/k}
-    check 'a plan as a script, with names kept' 0 "${text%.}" '' shell --keep /w /t -c "$scratch/kernel" "$scratch/kernel.2"
+        "( cd /w && $last $bin/gcc -D__NVCC__ '-DA=it'\\''s' x_0.cudafe1.cpp -o k.o )" -- shell /w /t -c "$scratch/kernel" "$scratch/kernel.2"
+    check 'a plan as a script, with names kept' 0 "${given//x_0/k}" '' shell --keep /w /t -c "$scratch/kernel" "$scratch/kernel.2"
+    run_of newline '#$ gcc -D__NVCC__ -E k.cu -o k.cpp1.ii'
+    gives 'a folder with a newline as a script' 'set -e' "( cd '/a" "b' && $env $bin/gcc -D__NVCC__ -E k.cu -o x_0.cpp1.ii )" -- \
+        shell $'/a\nb' /t -c "$scratch/newline" "$scratch/newline.2"
     run_of suffixed '#$ gcc -D__NVCC__ -E k.cu -o k.odd'
-    text=$(lines 'set -e' "( cd /w && $env $bin/gcc -D__NVCC__ -E k.cu -o x_0.odd )")
-    check 'a further suffix' 0 "${text%.}" '' shell /w /t -c "$scratch/suffixed" "$scratch/suffixed.2" .odd
+    gives 'a further suffix' 'set -e' "( cd /w && $env $bin/gcc -D__NVCC__ -E k.cu -o x_0.odd )" -- shell /w /t -c "$scratch/suffixed" "$scratch/suffixed.2" .odd
 }
 
 # edge GROUP.PLACE NEEDS COMMAND: an edge of a file for Ninja.
@@ -686,13 +659,13 @@ run_by_ninja() {
 
 # plans for Ninja and as JSON
 plan_files() {
-    local bin=$scratch/bin text text_kept env run cached before
+    local bin=$scratch/bin text env run cached before
     env="env 'PATH=$scratch/none:$bin'"
     run="$env \$\${ZIGRUNK_RUNNER-} $bin"
     cached="$env \$\${ZIGRUNK_RUNNER-} \$\${ZIGRUNK_LAUNCHER-} $bin"
     before=$(printf " \${tmp}/zigrunk.%s" 0.0 0.1 1.0 1.1 1.2)
-    text=$(lines 'tmp = /t' "builddir = \${tmp}" 'rule run' '  command = ${line} || { code=$$?; echo $$code > ${out}.status; exit $$code; }')
-    text=${text%.}$(
+    text=$(
+        printf '%s\n' 'tmp = /t' "builddir = \${tmp}" 'rule run' '  command = ${line} || { code=$$?; echo $$code > ${out}.status; exit $$code; }'
         edge 0.0 '' "/t && $run/gcc -D__CUDACC__ -E k.cu -o x_0.cpp4.ii"
         edge 0.1 " \${tmp}/zigrunk.0.0" "/t && $cached/cudafe++ --gen_module_id_file --module_id_file_name k.id x_0.cpp4.ii"
         edge 1.0 " \${tmp}/zigrunk.0.0" "/t && $run/gcc -D__NVCC__ -E k.cu -o x_0.cpp1.ii"
@@ -711,11 +684,9 @@ plan_files() {
     text+=",\"writes\":[\"/t/k.ptx\"]}],\"cwd\":\"/w\",\"dropped\":[{\"args\":[\"a b\"],\"exe\":\"$bin/g++\",\"line\":5,\"reason\":\"NotCuda\",\"run\":2}]"
     text+=",\"flag\":\"-c\",\"groups\":3,\"tmp\":\"/t\",\"version\":1}"$'\n'
     check 'a plan as JSON' 0 "$text" '' json /w /t -c "$scratch/short" "$scratch/short.2"
-    text=$(lines 'group 0' 'group 1' "no cd /w && $bin/gcc -D__NVCC__ -E k.cu -o x_0.cpp1.ii" "yes cd /t && $bin/cicc x_0.cpp1.ii -o k.ptx" 'group 2' \
-        "dropped 4 run 2 NotCuda $bin/g++ a b")
-    check 'a plan as text' 0 "${text%.}" '' text /w /t -c "$scratch/short" "$scratch/short.2"
-    text_kept=${text//x_0/k}
-    check 'a plan as text, with names kept' 0 "${text_kept%.}" '' text --keep /w /t -c "$scratch/short" "$scratch/short.2"
+    gives 'a plan as text' 'group 0' 'group 1' "no cd /w && $bin/gcc -D__NVCC__ -E k.cu -o x_0.cpp1.ii" "yes cd /t && $bin/cicc x_0.cpp1.ii -o k.ptx" 'group 2' \
+        "dropped 4 run 2 NotCuda $bin/g++ a b" -- text /w /t -c "$scratch/short" "$scratch/short.2"
+    check 'a plan as text, with names kept' 0 "${given//x_0/k}" '' text --keep /w /t -c "$scratch/short" "$scratch/short.2"
 }
 
 # plans as graphs and as compilation databases
@@ -725,14 +696,13 @@ plan_views() {
         '#$ gcc -D__NVCC__ -E k.cu -o k.cpp1.ii' '#$ cicc --gen_module_id_file --module_id_file_name k.id k.cpp1.ii -o "a&\"k.ptx"' \
         '#$ gcc -D__NVCC__ k.cudafe1.cpp -o k.o' '#$ g++ "a b"'
     sed -i 's# k\.\(cpp[14]\.ii\|cudafe1\.cpp\)# /t/k.\1#' "$scratch/views.2"
-    text=$(lines 'digraph plan {' '  node [shape=box]' \
+    gives 'a plan as a graph' 'digraph plan {' '  node [shape=box]' \
         '  subgraph cluster_0 { label="front group" 0 [label="gcc\nx_0.cpp4.ii"] }' \
         '  subgraph cluster_0 { label="front group" 1 [label="cudafe++\nx_0.cudafe1.cpp\nk.id"] }' \
         '  subgraph cluster_1 { label="device group 1" 2 [label="gcc\nx_0.cpp1.ii"] }' \
         '  subgraph cluster_1 { label="device group 1" 3 [label="cicc\na&amp;\"k.ptx"] }' \
         '  subgraph cluster_2 { label="final group" 4 [label="gcc\nk.o"] }' \
-        '  0 -> 1' '  0 -> 2' '  1 -> 3' '  2 -> 3' '  0 -> 4' '  1 -> 4' '  2 -> 4' '  3 -> 4' '  d0 [label="g++\nNotCuda" style=dashed]' '}')
-    check 'a plan as a graph' 0 "${text%.}" '' dot /w /t -c "$scratch/views" "$scratch/views.2"
+        '  0 -> 1' '  0 -> 2' '  1 -> 3' '  2 -> 3' '  0 -> 4' '  1 -> 4' '  2 -> 4' '  3 -> 4' '  d0 [label="g++\nNotCuda" style=dashed]' '}' -- dot /w /t -c "$scratch/views" "$scratch/views.2"
     text="[{\"arguments\":[\"clang++\",\"--cuda-host-only\",\"-fsyntax-only\",\"k.cu\",\"-o\",\"/t/x_0.cpp4.ii\"],\"directory\":\"/w\",\"file\":\"/w/k.cu\"}"
     text+=",{\"arguments\":[\"$bin/gcc\",\"-D__NVCC__\",\"-E\",\"k.cu\",\"-o\",\"/t/x_0.cpp1.ii\"],\"directory\":\"/w\",\"file\":\"/w/k.cu\"}]"$'\n'
     check 'a plan as a compilation database' 0 "$text" '' compdb /w /t -c "$scratch/views" "$scratch/views.2"
@@ -831,37 +801,21 @@ plan_schema() {
 whole_plans() {
     run_of whole "${KERNEL[@]:0:7}"
     "$program" ninja /w /t -c "$scratch/whole" "$scratch/whole.2" > "$scratch/want"
-    check 'a whole plan' 0 "$(cat "$scratch/want")"$'\n' '' ninja --whole /w /t -c "$scratch/whole" "$scratch/whole.2"
+    gives_file 'a whole plan' "$scratch/want" ninja --whole /w /t -c "$scratch/whole" "$scratch/whole.2"
     "$program" ninja --keep /w /t -c "$scratch/whole" "$scratch/whole.2" > "$scratch/want"
-    check 'a whole plan with names kept' 0 "$(cat "$scratch/want")"$'\n' '' ninja --keep --whole /w /t -c "$scratch/whole" "$scratch/whole.2"
-    check 'a plan that dropped a command' 1 '' $'zigrunk: the plan dropped a command\n' ninja --whole /w /t -c "$scratch/kernel" "$scratch/kernel.2"
+    gives_file 'a whole plan with names kept' "$scratch/want" ninja --keep --whole /w /t -c "$scratch/whole" "$scratch/whole.2"
+    fails 'a plan that dropped a command' 'the plan dropped a command' ninja --whole /w /t -c "$scratch/kernel" "$scratch/kernel.2"
     run_of nothing
     run_of dropped '#$ g++ k.o'
-    check 'a plan without commands, of those that have to be whole' 1 '' $'zigrunk: the plan has no command\n' \
+    fails 'a plan without commands, of those that have to be whole' 'the plan has no command' \
         ninja --whole /w /t -c "$scratch/nothing" "$scratch/nothing.2"
-}
-
-# a command that fails leaves its status beside its stamp
-statuses() {
-    local tmp=$scratch/build line
-    mkdir -p "$tmp"
-    run_of status_run '#$ gcc -D__NVCC__ -E k.cu -o k.cpp1.ii'
-    printf '#!/bin/sh\nexit 7\n' > "$scratch/bin/gcc"
-    "$program" ninja "$scratch" "$tmp" -c "$scratch/status_run" "$scratch/status_run.2" > "$scratch/graph"
-    line=$(sed -n 's/^  line = //p' "$scratch/graph" | sed 's/\$\$/$/g')
-    line=$line out=$tmp/zigrunk.1.0 sh -c "$(sed -n 's/^  command = //p' "$scratch/graph" | sed -e 's/\$\$/$/g' -e "s/\${line}/eval \"\$line\"/")"
-    echo $? > "$scratch/status"
-    cat "$tmp/zigrunk.1.0.status" > "$scratch/out"
-    : > "$scratch/err"
-    judge 'the status of a command that failed' 7 $'7\n' ''
 }
 
 # counts NAME NUMBER PATTERN WORD..: a call that succeeds with a large limit, and prints text that matches the pattern so many times.
 counts() {
     local name=$1 number=$2 pattern=$3
     shift 3
-    "$program" --limit 100000000 "$@" > "$scratch/text" 2> "$scratch/err"
-    echo $? > "$scratch/status"
+    noted "$program" --limit 100000000 "$@" > "$scratch/text" 2> "$scratch/err"
     grep -o -e "$pattern" "$scratch/text" | wc -l > "$scratch/out"
     judge "$name" 0 "$number"$'\n' ''
 }
@@ -964,8 +918,7 @@ as_nobody() {
 denied() {
     (
         cd "$scratch/unread" || exit
-        as_nobody ./zigrunk json /w /t -c "$2" "$3" > "$scratch/out" 2> "$scratch/err"
-        echo $? > "$scratch/status"
+        noted as_nobody ./zigrunk json /w /t -c "$2" "$3" > "$scratch/out" 2> "$scratch/err"
     )
     judge "$1" 1 '' $'zigrunk: cannot read secret: Permission denied\n'
 }
@@ -975,17 +928,15 @@ unread_files() {
     local folder=$scratch/unread
     mkdir -p "$folder"
     ln -s loop "$folder/loop"
-    check 'a file whose links go round' 1 '' "zigrunk: cannot read $folder/loop: Too many levels of symbolic links"$'\n' \
-        json /w /t -c "$folder/loop" "$scratch/kernel"
-    check 'a file that the system refuses to read' 1 '' $'zigrunk: cannot read /proc/self/mem: the system reports error 5\n' \
+    fails 'a file whose links go round' "cannot read $folder/loop: Too many levels of symbolic links" json /w /t -c "$folder/loop" "$scratch/kernel"
+    fails 'a file that the system refuses to read' 'cannot read /proc/self/mem: the system reports error 5' \
         json /w /t -c "$scratch/kernel" /proc/self/mem
     cp "$scratch/kernel" "$folder/-x"
     cp "$scratch/kernel.2" "$folder/--"
     "$program" json /w /t -c "$scratch/kernel" "$scratch/kernel.2" > "$scratch/want"
     (
         cd "$folder" || exit
-        "$program" json /w /t -c -x -- > "$scratch/out" 2> "$scratch/err" < /dev/null
-        echo $? > "$scratch/status"
+        noted "$program" json /w /t -c -x -- > "$scratch/out" 2> "$scratch/err" < /dev/null
     )
     judge 'files whose names begin with a dash' 0 "$(cat "$scratch/want")"$'\n' ''
     if ! as_nobody true 2> /dev/null; then
@@ -1013,8 +964,7 @@ closed_folder() {
     cp "$1/run" "$1/run.2"
     (
         cd "$1" || exit
-        as_nobody ./zigrunk json /w /t -c run run.2 > "$scratch/plan" 2> "$scratch/err"
-        echo $? > "$scratch/status"
+        noted as_nobody ./zigrunk json /w /t -c run run.2 > "$scratch/plan" 2> "$scratch/err"
     )
     chmod 700 "$1/closed"
     grep -o '"exe":"[^"]*"' "$scratch/plan" > "$scratch/out"
@@ -1024,8 +974,7 @@ closed_folder() {
 # holds NAME FORMAT RUN WORD: a plan that has this long word once.
 holds() {
     printf '%s' "$4" > "$scratch/long_word"
-    "$program" "$2" /w /t -c "$scratch/$3" "$scratch/$3.2" > "$scratch/text" 2> "$scratch/err"
-    echo $? > "$scratch/status"
+    noted "$program" "$2" /w /t -c "$scratch/$3" "$scratch/$3.2" > "$scratch/text" 2> "$scratch/err"
     # (grep takes many seconds for such a word)
     awk 'NR == FNR { word = $0; next } { while ((at = index($0, word)) > 0) { found++; $0 = substr($0, at + length(word)) } } END { print found + 0 }' \
         "$scratch/long_word" "$scratch/text" > "$scratch/out"
@@ -1050,7 +999,7 @@ long_values() {
     holds 'a dropped word of 70,000 bytes' ninja lost_word "w$long"
     holds 'an output of 70,000 bytes' dot name "n$long"
     for name in value word name; do
-        check "a $name of 70,000 bytes as makeflow" 1 '' $'zigrunk: a command of the plan has over 65000 bytes, which Makeflow doesn\'t read\n' \
+        fails "a $name of 70,000 bytes as makeflow" "a command of the plan has over 65000 bytes, which Makeflow doesn't read" \
             makeflow /w /t -c "$scratch/$name" "$scratch/$name.2"
     done
 }
@@ -1136,30 +1085,26 @@ unfit_files() {
     : > "$scratch/empty"
     printf '#$\n #$ gcc\n$# gcc\n' > "$scratch/prose"
     for format in shell ninja json dot compdb makeflow text; do
-        check "one file twice as $format" 1 '' "zigrunk: $scratch/kernel: both dry runs are the same file"$'\n' \
-            "$format" /w /t -c "$scratch/kernel" "$scratch/kernel"
+        fails "one file twice as $format" "$scratch/kernel: both dry runs are the same file" "$format" /w /t -c "$scratch/kernel" "$scratch/kernel"
         check "a first file that is no dry run as $format" 1 '' "zigrunk: $scratch/prose: the first file is no dry run: $behind" \
             "$format" /w /t -c "$scratch/prose" "$scratch/kernel"
         check "a second file that is no dry run as $format" 1 '' "zigrunk: $scratch/empty: the second file is no dry run: $behind" \
             "$format" /w /t -c "$scratch/kernel" "$scratch/empty"
-        check "a plan without commands as $format" 1 '' $'zigrunk: the plan has no command\n' \
-            "$format" /w /t -c "$scratch/nothing" "$scratch/nothing.2"
+        fails "a plan without commands as $format" 'the plan has no command' "$format" /w /t -c "$scratch/nothing" "$scratch/nothing.2"
     done
     for format in shell ninja json dot compdb makeflow text; do
         for folder in w . ../w //w /w/ /w//x /w/./x /w/../w /w/. /w/..; do
             check "the directory $folder for temporary files as $format" 1 '' \
                 $'zigrunk: the directory for temporary files has to be absolute, without an empty part, . or ..\n' \
                 "$format" /w "$folder" -c "$scratch/kernel" "$scratch/kernel.2"
-            check "the working directory $folder as $format" 1 '' $'zigrunk: the working directory has to be absolute, without an empty part, . or ..\n' \
+            fails "the working directory $folder as $format" 'the working directory has to be absolute, without an empty part, . or ..' \
                 "$format" "$folder" /t -c "$scratch/kernel" "$scratch/kernel.2"
         done
     done
-    check 'one file twice that is no dry run' 1 '' "zigrunk: $scratch/empty: both dry runs are the same file"$'\n' \
-        json /w /t -c "$scratch/empty" "$scratch/empty"
+    fails 'one file twice that is no dry run' "$scratch/empty: both dry runs are the same file" json /w /t -c "$scratch/empty" "$scratch/empty"
     check 'no dry run, and a bad suffix' 1 '' "zigrunk: $scratch/empty: the first file is no dry run: $behind" \
         json /w /t -c "$scratch/empty" "$scratch/kernel" .ii
-    check 'a plan of commands that are all dropped' 1 '' $'zigrunk: the plan has no command\n' \
-        json /w /t -c "$scratch/dropped" "$scratch/dropped.2"
+    fails 'a plan of commands that are all dropped' 'the plan has no command' json /w /t -c "$scratch/dropped" "$scratch/dropped.2"
     check 'the text of one file twice' 0 $'group 0\ngroup 1\n' '' plan /w /t -c "$scratch/empty" "$scratch/empty"
 }
 
@@ -1175,8 +1120,8 @@ bad() {
 suffixes() {
     local name=$1 message=$2
     shift 2
-    check "$name" 1 '' "zigrunk: $message"$'\n' json /w /t -c "$scratch/kernel" "$scratch/kernel.2" "$@"
-    check "$name, as text" 1 '' "zigrunk: $message"$'\n' plan /w /t -c "$scratch/kernel" "$scratch/kernel.2" "$@"
+    fails "$name" "$message" json /w /t -c "$scratch/kernel" "$scratch/kernel.2" "$@"
+    fails "$name, as text" "$message" plan /w /t -c "$scratch/kernel" "$scratch/kernel.2" "$@"
 }
 
 # messages: which file, which line, why, and what to do
@@ -1185,8 +1130,8 @@ messages() {
     lines_of pathless '#$ gcc'
     check 'no PATH in the second run' 1 '' "zigrunk: $scratch/pathless:1: no line before this one sets PATH"$'\n    #$ gcc\n' \
         json /w /t -c "$scratch/kernel" "$scratch/pathless"
-    check 'a folder in place of a file' 1 '' "zigrunk: cannot read $folder: Is a directory"$'\n' json /w /t -c "$scratch/kernel" "$folder"
-    check 'a file in place of a folder' 1 '' "zigrunk: cannot read $scratch/kernel/x: Not a directory"$'\n' json /w /t -c "$scratch/kernel/x" x
+    fails 'a folder in place of a file' "cannot read $folder: Is a directory" json /w /t -c "$scratch/kernel" "$folder"
+    fails 'a file in place of a folder' "cannot read $scratch/kernel/x: Not a directory" json /w /t -c "$scratch/kernel/x" x
     check 'a file with a newline' 1 '' 'zigrunk: cannot read a\nb: No such file or directory'$'\n' json /w /t -c $'a\nb' x
     bad 'an open quote' "#\$ gcc 'x" 'the command has an open quote or ends in a backslash'
     # shellcheck disable=SC1003 # a backslash
@@ -1236,7 +1181,7 @@ long_messages() {
     check 'a program that is not in a path of a megabyte' 1 '' \
         "zigrunk: $scratch/bad:2: cannot find nowhere in PATH (/${long:0:999}..)"$'\n    #$ nowhere\n' json /w /t -c "$scratch/kernel" "$scratch/bad"
     long=${long:0:100000}
-    check 'a file with a name of 100,000 bytes' 1 '' "zigrunk: cannot read ${long:0:1000}..: File name too long"$'\n' json /w /t -c "$long" x
+    fails 'a file with a name of 100,000 bytes' "cannot read ${long:0:1000}..: File name too long" json /w /t -c "$long" x
 }
 
 # No byte of the input reaches the terminal if it isn't printable ASCII, in any message that quotes input: all 256 bytes, and each
@@ -1299,19 +1244,16 @@ standard_input() {
     plan=$("$program" json /w /t -c "$scratch/kernel" "$scratch/kernel.2"; printf .)
     check 'the first run from standard input' 0 "${plan%.}" '' json /w /t -c - "$scratch/kernel.2" < "$scratch/kernel"
     check 'the second run from standard input' 0 "${plan%.}" '' json /w /t -c "$scratch/kernel" - < <(cat "$scratch/kernel.2")
-    check 'both runs from standard input' 1 '' $'zigrunk: -: both dry runs are the same file\n' json /w /t -c - - < "$scratch/kernel"
-    check 'a closed standard input' 1 '' $'zigrunk: cannot read -: the system reports error 9\n' json /w /t -c "$scratch/kernel" - <&-
-    check 'a folder as standard input' 1 '' $'zigrunk: cannot read -: Is a directory\n' json /w /t -c - "$scratch/kernel.2" < "$scratch"
-    check 'a first run without a name' 1 '' $'zigrunk: cannot read : No such file or directory\n' \
-        json /w /t -c '' "$scratch/kernel.2" < "$scratch/kernel"
-    check 'a second run without a name' 1 '' $'zigrunk: cannot read : No such file or directory\n' \
-        json /w /t -c "$scratch/kernel" '' < "$scratch/kernel.2"
+    fails 'both runs from standard input' '-: both dry runs are the same file' json /w /t -c - - < "$scratch/kernel"
+    fails 'a closed standard input' 'cannot read -: the system reports error 9' json /w /t -c "$scratch/kernel" - <&-
+    fails 'a folder as standard input' 'cannot read -: Is a directory' json /w /t -c - "$scratch/kernel.2" < "$scratch"
+    fails 'a first run without a name' 'cannot read : No such file or directory' json /w /t -c '' "$scratch/kernel.2" < "$scratch/kernel"
+    fails 'a second run without a name' 'cannot read : No such file or directory' json /w /t -c "$scratch/kernel" '' < "$scratch/kernel.2"
     mkdir -p "$scratch/dashes"
     cp "$scratch/kernel" "$scratch/dashes/-"
     (
         cd "$scratch/dashes" || exit
-        "$program" json /w /t -c ./- ../kernel.2 > "$scratch/out" 2> "$scratch/err" < /dev/null
-        echo $? > "$scratch/status"
+        noted "$program" json /w /t -c ./- ../kernel.2 > "$scratch/out" 2> "$scratch/err" < /dev/null
     )
     judge 'a file that has the name of standard input' 0 "${plan%.}" ''
 }
@@ -1323,7 +1265,7 @@ refused_exports() {
         check "no first file for $format" 1 '' "$unread" "$format" /w /t -c "$scratch/missing" "$scratch/kernel"
         check "no second file for $format" 1 '' "$unread" "$format" /w /t -c "$scratch/kernel" "$scratch/missing"
     done
-    check 'a bad suffix' 1 '' $'zigrunk: suffix ".ii" is a suffix of ".cpp1.ii"\n' json /w /t -c "$scratch/kernel" "$scratch/kernel.2" .ii
+    fails 'a bad suffix' 'suffix ".ii" is a suffix of ".cpp1.ii"' json /w /t -c "$scratch/kernel" "$scratch/kernel.2" .ii
     lines_of pathless '#$ gcc'
     check 'no first file, and its name twice' 1 '' "$unread" json /w /t -c "$scratch/missing" "$scratch/missing"
     check 'no PATH' 1 '' "zigrunk: $scratch/pathless:1: no line before this one sets PATH"$'\n    #$ gcc\n' json /w /t -c "$scratch/pathless" "$scratch/kernel"
@@ -1335,14 +1277,12 @@ refused_exports() {
     : > "$scratch/h=re/gcc"
     chmod +x "$scratch/h=re/gcc"
     run_of equals '#$ ./gcc -D__NVCC__ x.cpp'
-    check 'a program whose path has an equals sign' 1 '' $'zigrunk: a program of the plan has a path that env takes for something else\n' \
+    fails 'a program whose path has an equals sign' 'a program of the plan has a path that env takes for something else' \
         shell "$scratch/h=re" /t -c "$scratch/equals" "$scratch/equals.2"
     : > "$scratch/out"
-    "$program" --version > /dev/full 2> "$scratch/err"
-    echo $? > "$scratch/status"
+    noted "$program" --version > /dev/full 2> "$scratch/err"
     judge 'a version to a full disk' 1 '' $'zigrunk: cannot write\n'
-    "$program" json /w /t -c "$scratch/kernel" "$scratch/kernel.2" > /dev/full 2> "$scratch/err"
-    echo $? > "$scratch/status"
+    noted "$program" json /w /t -c "$scratch/kernel" "$scratch/kernel.2" > /dev/full 2> "$scratch/err"
     judge 'a plan as JSON to a full disk' 1 '' $'zigrunk: cannot write\n'
 }
 
@@ -1495,7 +1435,7 @@ orders_of_options() {
         check "$front FORMAT $after" 0 "${kept%.}" '' $front shell $after /w /t -c "$scratch/whole" "$scratch/whole.2"
         [ -n "$dropped" ] || continue
         # shellcheck disable=SC2086 # words
-        check "$front FORMAT $after, and a dropped command" 1 '' $'zigrunk: the plan dropped a command\n' \
+        fails "$front FORMAT $after, and a dropped command" 'the plan dropped a command' \
             $front shell $after /w /t -c "$scratch/kernel" "$scratch/kernel.2"
     done << 'ORDERS'
 --keep||
@@ -1528,8 +1468,7 @@ ORDERS
 zigrunk_pages() {
     local out name
     check 'the version' 0 $'zigrunk 0.1.0\n' '' --version
-    "$program" --help > "$scratch/help" 2> "$scratch/err"
-    echo $? > "$scratch/status"
+    noted "$program" --help > "$scratch/help" 2> "$scratch/err"
     head -n 4 "$scratch/help" > "$scratch/out"
     judge 'the help' 0 "usage: zigrunk FORMAT [--limit BYTES] [--keep] [--whole]
                    CWD TMP FLAG DRY1 DRY2 SUFFIX..
@@ -1557,11 +1496,11 @@ run \
     good_lines refused_lines good_plans grouped_plans long_plan refused_plans unreadable_runs lost_programs odd_plans other_calls \
     long_suffixes long_lines slow_streams short_streams closed_streams
 cudaplan=$program
-program=$zigrunk
+program=$zigrunk speaker=zigrunk
 unset NVCC_PREPEND_FLAGS NVCC_APPEND_FLAGS ZIGRUNK_JOBS MAKEFLAGS
 run \
     nvcc_lines jobs_at_once directories forms_of_cudaplan long_nvcc_lines options_files odd_nvcc_words refused_nvcc_lines kernel_programs \
-    plan_scripts plan_files plan_views makeflow_files plan_schema whole_plans unfit_files programs_on_disk unread_files long_values many_names no_memory statuses run_by_makeflow run_by_ninja \
+    plan_scripts plan_files plan_views makeflow_files plan_schema whole_plans unfit_files programs_on_disk unread_files long_values many_names no_memory run_by_makeflow run_by_ninja \
     long_exports refused_exports limits hostile_input messages \
     long_messages escapes standard_input zigrunk_pages wrong_usage orders_of_options
 summary

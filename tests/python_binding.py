@@ -130,17 +130,6 @@ class Calls(unittest.TestCase):
         call = zigrunk.PlanCall(run, run, "/w", "/t")
         self.assertEqual([it.line for it in zigrunk.plan_records(call, first).dropped], list(range(1, 2001)))
 
-    def test_errors_of_records(self) -> None:
-        run = b"#$ PATH=/b\n#$ gcc -D__NVCC__ -c k.cpp\n"
-        call = zigrunk.PlanCall(run, run, "/w", "/t")
-        self.rejects_at(zigrunk.Field.DRY2, 2, zigrunk.Status.NOT_FOUND, "dry run 2, line 2: cannot find gcc", zigrunk.PlanCall(
-            b"#$ PATH=/b\n#$ cicc k.cpp1.ii\n", run, "/w", "/t"), lambda lookup, folder: "/b/cicc" if lookup.program == "cicc" else None)
-        call.suffixes = ["gpu"]
-        self.rejects_at(zigrunk.Field.SUFFIXES, None, zigrunk.Status.BAD_SUFFIXES, "bad generated suffixes", call, first)
-        for name, field in (("cwd", "CWD"), ("tmp", "TMP"), ("flag", "FLAG"), ("keep_dir", "KEEP_DIR")):
-            bad = dataclasses.replace(call, **{name: "\udcff"})
-            self.rejects_at(zigrunk.Field[field], None, zigrunk.Status.NOT_UTF8, "a text is not UTF-8", bad, lambda lookup, folder: "/b/x")
-
     def rejects_at(self, field: zigrunk.Field, line: Optional[int], status: zigrunk.Status, message: str, call: zigrunk.PlanCall,
                    which: Callable[[zigrunk.Lookup, str], Optional[str]]) -> None:
         with self.assertRaises(zigrunk.ZigrunkError) as caught:
@@ -148,32 +137,31 @@ class Calls(unittest.TestCase):
         error = caught.exception
         self.assertEqual((error.place, error.number, str(error)), (zigrunk.Place(field, line), status, message))
 
-    def test_what_is_no_dry_run(self) -> None:
-        run = b"#$ PATH=/b\n#$ gcc -D__NVCC__ -c k.cpp\n"
+    def test_errors_of_records(self) -> None:
+        run, status, odd = b"#$ PATH=/b\n#$ gcc -D__NVCC__ -c k.cpp\n", zigrunk.Status, "has to be absolute, without an empty part, . or .."
         call = zigrunk.PlanCall(run, run, "/w", "/t")
         self.assertEqual(len(zigrunk.plan_records(call, first).commands), 1)
-        cases: list[tuple[zigrunk.Field, str, str, Any]] = [
-            (zigrunk.Field.DRY1, 'the first text is no dry run: no line begins with "#$ "', "dry1", b"nvcc: not found\n"),
-            (zigrunk.Field.DRY2, 'the second text is no dry run: no line begins with "#$ "', "dry2", b""),
-            (zigrunk.Field.FLAG, "the flag isn't an option that says what nvcc makes", "flag", "-C"),
+        self.rejects_at(zigrunk.Field.DRY2, 2, status.NOT_FOUND, "dry run 2, line 2: cannot find gcc", zigrunk.PlanCall(
+            b"#$ PATH=/b\n#$ cicc k.cpp1.ii\n", run, "/w", "/t"), lambda lookup, folder: "/b/cicc" if lookup.program == "cicc" else None)
+        cases: list[tuple[str, Any, zigrunk.Status, str]] = [
+            ("suffixes", ["gpu"], status.BAD_SUFFIXES, "bad generated suffixes"),
+            ("dry1", b"nvcc: not found\n", status.NO_DRY_RUN, 'the first text is no dry run: no line begins with "#$ "'),
+            ("dry2", b"", status.NO_DRY_RUN, 'the second text is no dry run: no line begins with "#$ "'),
+            ("flag", "-C", status.NO_DRY_RUN, "the flag isn't an option that says what nvcc makes"),
+            *((name, "\udcff", status.NOT_UTF8, "a text is not UTF-8") for name in ("cwd", "tmp", "flag", "keep_dir")),
+            *((name, it, status.ODD_DIRECTORY, f"the {which} {odd}") for it in ("", "w", "./w", "//w", "/w/", "/w/.", "/w/../x")
+              for name, which in (("cwd", "working directory"), ("tmp", "directory for temporary files"))),
         ]
-        for field, message, name, value in cases:
-            self.rejects_at(field, None, zigrunk.Status.NO_DRY_RUN, message, dataclasses.replace(call, **{name: value}), first)
+        for name, value, number, message in cases:
+            bad = dataclasses.replace(call, **{name: value})
+            self.rejects_at(zigrunk.Field[name.upper()], None, number, message, bad, first)
+            if number == status.ODD_DIRECTORY:
+                self.rejects(number, message, zigrunk.plan, bad, zigrunk.Form.JSON, first)
+            if name == "cwd" and number == status.ODD_DIRECTORY:
+                self.rejects(number, message, zigrunk.lookups, run, run, value)
+                self.rejects(number, message, zigrunk.candidates, zigrunk.Lookup("gcc", "/b"), value)
         empty = dataclasses.replace(call, dry1=b"#$ PATH=/b\n", dry2=b"#$ PATH=/b\n#$ rm k\n")
-        self.rejects(zigrunk.Status.NO_DRY_RUN, "the plan has no command", zigrunk.plan_records, empty, first)
-
-    def test_odd_directories(self) -> None:
-        run = b"#$ PATH=/b\n#$ gcc -D__NVCC__ -c k.cpp\n"
-        call = zigrunk.PlanCall(run, run, "/w", "/t")
-        for odd in ("", "w", "./w", "//w", "/w/", "/w/.", "/w/../x"):
-            for name, which in (("cwd", "working directory"), ("tmp", "directory for temporary files")):
-                message = f"the {which} has to be absolute, without an empty part, . or .."
-                bad = dataclasses.replace(call, **{name: odd})
-                self.rejects_at(zigrunk.Field[name.upper()], None, zigrunk.Status.ODD_DIRECTORY, message, bad, first)
-                self.rejects(zigrunk.Status.ODD_DIRECTORY, message, zigrunk.plan, bad, zigrunk.Form.JSON, first)
-            message = "the working directory has to be absolute, without an empty part, . or .."
-            self.rejects(zigrunk.Status.ODD_DIRECTORY, message, zigrunk.lookups, run, run, odd)
-            self.rejects(zigrunk.Status.ODD_DIRECTORY, message, zigrunk.candidates, zigrunk.Lookup("gcc", "/b"), odd)
+        self.rejects(status.NO_DRY_RUN, "the plan has no command", zigrunk.plan_records, empty, first)
 
     def test_an_answer_that_grows(self) -> None:
         calls: list[tuple[int, int]] = []
@@ -246,16 +234,6 @@ class Calls(unittest.TestCase):
             for ask in calls:
                 with self.assertRaisesRegex(ValueError, f"a limit of {limit} bytes"):
                     ask()
-
-    def test_a_text_that_explodes(self) -> None:
-        names = "ABCDEFGHIJKLMNOPQRSTUVWXYZ"
-        lines = [f"#$ {it}=${other}.${other}." for it, other in zip(names, names[1:])]
-        run = "\n".join(["#$ PATH=/b", *lines, "#$ $A.", ""]).encode()
-        call = zigrunk.PlanCall(run, run, "/w", "/t", limit=2 << 20)
-        message = "run 1 line 26: over the limit of 2097152 bytes"
-        self.rejects(zigrunk.Status.OVER_LIMIT, message, zigrunk.plan, call, which=first)
-        message = "dry run 1, line 27: with this line, the dry run makes over 2097152 bytes"
-        self.rejects_at(zigrunk.Field.DRY1, 27, zigrunk.Status.OVER_LIMIT, message, call, first)
 
     def test_lines(self) -> None:
         words = "-arch=sm_80 k.ptx -o k.cubin".split()

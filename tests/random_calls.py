@@ -4,7 +4,7 @@
     tests/random_calls.py [--seed N] [--count N] [--first N] [--jobs N] [--scratch FOLDER] [--json FILE] [--list] [--nvcc PATH]
         [--ours PATH]
 
-The words of a call are drawn from nvcc's options, as crates/nvcc_options has them, with values from a small grammar: most are good, some
+The words of a call are drawn from nvcc's options, as crates/nvcc_calls has them, with values from a small grammar: most are good, some
 are odd, and some name files, relative or not. A third of the calls ask for line information or debug code. Some words go into
 NVCC_PREPEND_FLAGS, NVCC_APPEND_FLAGS or an options file. The same seed draws the same calls, and each call depends on the seed and its own
 number alone: --first 7 --count 1 makes the seventh again. --list prints the calls and makes none.
@@ -29,7 +29,7 @@ from pathlib import Path
 from compare_calls import Call, Compared, Difference, Ran, compare, loud, path_of, shows_nothing, version_of
 from runner import TOOLS, Counts
 
-TABLE = Path(__file__).resolve().parent.parent / "crates/nvcc_options/src/options.rt"
+TABLE = Path(__file__).resolve().parent.parent / "crates/nvcc_calls/src/options.rt"
 Draw = random.Random
 
 # Sources, how often each is drawn, and the words without which it doesn't compile.

@@ -54,10 +54,7 @@ fn counts_in(statistics: &[u8]) -> Option<Counts> {
 }
 
 /// What sccache has counted until now, if the launcher is sccache and a log wants to know.
-///
-/// # Errors
-///
-/// If a signal comes.
+/// An error if a signal comes.
 pub fn counts<M: Machine>(machine: &mut M, settings: &Settings) -> Result<Option<Counts>, Stopped> {
     let Some(sccache) = settings.launcher.first().filter(|name| settings.log.is_some() && name.contains("sccache")) else { return Ok(None) };
     let words = [sccache, "--show-stats", "--stats-format=json"].map(String::from);

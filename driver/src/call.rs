@@ -180,17 +180,12 @@ impl Call<'_> {
         }
     }
 
-    /// The words of nvcc behind those of a runner.
-    fn nvcc_words<'b>(&'b self, runner: &'b [OsString]) -> Vec<&'b OsStr> {
-        runner.iter().map(OsString::as_os_str).chain(self.logged_words()).collect()
-    }
-
     /// Becomes nvcc. Comes back with a status if that can't be done.
     fn become_nvcc(&self, runner: &[OsString]) -> i32 {
         if let Some(host) = &self.host {
             host.signals().give_back();
         }
-        let words = self.nvcc_words(runner);
+        let words: Vec<&OsStr> = runner.iter().map(OsString::as_os_str).chain(self.logged_words()).collect();
         let environment = Environment::own().with("ZIGRUNK_INSIDE", &self.compiler.inside);
         let error = become_program(&words, &environment);
         complain(&format!("zigrunk-nvcc: cannot run {}: {error}", words[0].to_string_lossy()));
@@ -211,18 +206,9 @@ impl Call<'_> {
             complain("zigrunk-nvcc: the end of nvcc is unknown");
             return 1;
         };
-        log::append(
-            file,
-            &LoggedCall {
-                begun: self.begun,
-                status: status.code,
-                reason: Some(reason),
-                hint_on: Some(reason),
-                commands: &[],
-                counted: None,
-                words: &self.logged_words(),
-            },
-        );
+        let (reason, words) = (Some(reason), &self.logged_words());
+        let call = LoggedCall { begun: self.begun, status: status.code, reason, hint_on: reason, commands: &[], counted: None, words };
+        log::append(file, &call);
         if let Some(number) = status.signal {
             system::end_by(number);
         }

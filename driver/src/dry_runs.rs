@@ -123,10 +123,7 @@ fn own_job(line: &Line<'_>, further: &[&str]) -> Job {
 /// Makes the dry runs of a call. The first is what the second says without the call's directory, and nvcc makes it only if that doesn't
 /// have the commands of the line, or if the call keeps files. So it doesn't matter which options this nvcc has, and what they mean to it.
 /// `meanwhile` is done while nvcc runs, and says why nvcc has to make the call if it can't be done.
-///
-/// # Errors
-///
-/// If a dry run fails, the line's own has other commands, or a signal comes.
+/// An error if a dry run fails, the line's own has other commands, or a signal comes.
 pub fn make<M: Machine>(machine: &mut M, line: &Line<'_>, meanwhile: impl FnOnce() -> Result<(), String>) -> Result<DryRuns, Failed> {
     let outline = line.outline;
     let places = Comparison { cwd: line.cwd, keep_dir: outline.keep_dir.as_deref().unwrap_or_default(), writes_rule: outline.dependencies.is_some() };
@@ -169,10 +166,7 @@ fn prints_to_files(run: &[u8]) -> bool {
 }
 
 /// Makes the two dry runs of a plan alone, and says how each ended.
-///
-/// # Errors
-///
-/// If a signal comes, or no process can be started.
+/// An error if a signal comes, or no process can be started.
 pub fn make_planned<M: Machine>(machine: &mut M, outline: &Outline) -> Result<Vec<Ended>, Failed> {
     all(machine, &[planned_job(&outline.first_dry_run), planned_job(&outline.second_dry_run)], || Ok(()))
 }

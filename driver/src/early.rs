@@ -35,10 +35,7 @@ pub struct HeadStart {
 
 impl HeadStart {
     /// What the task is to read.
-    ///
-    /// # Errors
-    ///
-    /// If the file can't be read, or its name isn't UTF-8.
+    /// An error if the file can't be read, or its name isn't UTF-8.
     pub fn content(&self) -> io::Result<Vec<u8>> {
         let content = content_of(&self.file)?;
         if !self.has_one_name {
@@ -50,10 +47,7 @@ impl HeadStart {
     }
 
     /// Writes what the task reads, if it reads it by the other name though all that it needs has ended.
-    ///
-    /// # Errors
-    ///
-    /// Why nvcc makes the call.
+    /// Errors: why nvcc makes the call.
     pub fn write(&self) -> Result<(), String> {
         let written = if self.has_one_name { self.content().and_then(|content| write_file(&self.withheld, content)) } else { Ok(()) };
         written.map_err(|_| "a stub file is missing, or there is no room for it".into())
@@ -131,6 +125,7 @@ pub fn allow(tasks: &mut [Task], commands: &[PlannedCommand], tmp: &str) {
 mod tests {
     use super::*;
     use crate::planner::Early;
+    use crate::test_folder::TestFolder;
     use std::fs;
 
     fn command(words: &str, needs: &[usize], reads: &[&str], writes: &[&str]) -> PlannedCommand {
@@ -160,8 +155,7 @@ mod tests {
 
     #[test]
     fn a_stub_file_has_the_name_by_which_it_is_read() {
-        let folder = env::temp_dir().join(format!("early-stub-{}", std::process::id()));
-        fs::create_dir_all(&folder).unwrap();
+        let folder = TestFolder::new();
         let [file, withheld] = ["own.c", "other.c"].map(|name| folder.join(name));
         let text = |path: &Path| format!("#define A\n# 4 \"k.cu\"\n# 1 \"{}\"\nx\n", path.display());
         fs::write(&file, text(&file)).unwrap();
@@ -177,7 +171,6 @@ mod tests {
         fs::remove_file(&file).unwrap();
         start.has_one_name = true;
         assert!(start.content().is_err() && start.write().is_err());
-        fs::remove_dir_all(folder).unwrap();
     }
 
     #[test]

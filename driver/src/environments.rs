@@ -46,10 +46,7 @@ impl Environment {
     }
 
     /// The same with these variables in place of what it had: values, or nothing if it lacks a variable.
-    ///
-    /// # Errors
-    ///
-    /// If a value has a NUL.
+    /// An error if a value has a NUL.
     pub fn changed(&self, variables: &[(String, Option<String>)]) -> io::Result<Vec<Cow<'_, CStr>>> {
         let is_kept = |text: &&CString| !variables.iter().any(|(name, _)| value_of(text, name).is_some());
         let kept = self.0.iter().filter(is_kept).map(|text| Ok(Cow::Borrowed(text.as_c_str())));

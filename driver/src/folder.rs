@@ -51,10 +51,7 @@ pub struct Folder {
 
 impl Folder {
     /// Opens a folder of this name, and makes it if it isn't there. It has to be the user's alone.
-    ///
-    /// # Errors
-    ///
-    /// If it can't be made, or is another's, or others may use it.
+    /// An error if it can't be made, or is another's, or others may use it.
     pub fn private(above: &Path, name: &str) -> io::Result<Folder> {
         let parent = File::open(above)?;
         match system::make_folder(parent.as_fd(), name) {
@@ -101,13 +98,6 @@ impl Folder {
         }
     }
 
-    /// Removes a folder in this one, if it is empty.
-    fn clear_empty(&self, name: &str) {
-        if self.is_there() {
-            let _ = fs::remove_dir(self.path.join(name));
-        }
-    }
-
     /// Removes a call's folder in this one, and its lock.
     fn remove_call(&self, name: &str) {
         self.clear(name);
@@ -141,10 +131,7 @@ struct Place {
 impl CallFolder {
     /// The directory of this name, or with a number behind it if a living call has that, in the user's folder below `above`. If that
     /// folder isn't the user's alone, or the disk has no locks, it is one of a random name.
-    ///
-    /// # Errors
-    ///
-    /// If no directory can be made.
+    /// An error if no directory can be made.
     pub fn take(above: &Path, name: &str) -> io::Result<CallFolder> {
         if let Ok(user) = Folder::private(above, &format!("zigrunk-{}", system::user())) {
             for number in 1..=MOST_EQUAL_CALLS {
@@ -248,8 +235,8 @@ fn remove_left(user: &Folder) {
         if let Ok(Some(_lock)) = lock(user, name) {
             if age > LEFT_ALONE {
                 user.clear(name);
-            } else {
-                user.clear_empty(name);
+            } else if user.is_there() {
+                let _ = fs::remove_dir(user.path.join(name));
             }
             user.remove_lock(name);
         }
@@ -259,23 +246,8 @@ fn remove_left(user: &Folder) {
 #[cfg(test)]
 mod tests {
     use super::*;
+    use crate::test_folder::TestFolder;
     use std::os::unix::fs::{PermissionsExt, symlink};
-
-    /// A folder for a test, which goes with it.
-    struct Scratch(PathBuf);
-
-    impl Scratch {
-        fn new() -> Scratch {
-            let folder = random(&std::env::temp_dir()).unwrap();
-            Scratch(folder.path().to_owned())
-        }
-    }
-
-    impl Drop for Scratch {
-        fn drop(&mut self) {
-            let _ = fs::remove_dir_all(&self.0);
-        }
-    }
 
     fn user_name() -> String {
         format!("zigrunk-{}", system::user())
@@ -283,40 +255,40 @@ mod tests {
 
     #[test]
     fn folders_elsewhere_go_with_a_call() {
-        let [scratch, other] = [Scratch::new(), Scratch::new()];
+        let [scratch, other] = [TestFolder::new(), TestFolder::new()];
         let made = |name: &str| {
-            let folder = other.0.join(name);
+            let folder = other.join(name);
             fs::create_dir(&folder).unwrap();
             fs::write(folder.join("k.o"), "half").unwrap();
             folder
         };
         let [first, second, foreign, cut] = [".zigrunk.1.0", ".zigrunk.1\n1", "mine", ".zigrunk.2"].map(made);
         let names = |folders: &[&Path]| folders.iter().map(|folder| format!("{}\0", folder.display())).collect::<Vec<_>>().concat();
-        let call = CallFolder::take(&scratch.0, "batch").unwrap();
-        fs::write(call.path().join(ELSEWHERE), names(&[&first, &other.0.join(".zigrunk.missing"), &foreign]) + cut.to_str().unwrap()).unwrap();
+        let call = CallFolder::take(&scratch, "batch").unwrap();
+        fs::write(call.path().join(ELSEWHERE), names(&[&first, &other.join(".zigrunk.missing"), &foreign]) + cut.to_str().unwrap()).unwrap();
         call.remove();
         assert_eq!([&first, &second, &foreign, &cut].map(|folder| folder.exists()), [false, true, true, true]);
-        let killed = CallFolder::take(&scratch.0, "batch").unwrap();
+        let killed = CallFolder::take(&scratch, "batch").unwrap();
         fs::write(killed.path().join(ELSEWHERE), names(&[&second])).unwrap();
         drop(killed);
-        let next = CallFolder::take(&scratch.0, "batch").unwrap();
+        let next = CallFolder::take(&scratch, "batch").unwrap();
         assert!(!second.exists(), "the next one removes what a killed one left");
         next.remove();
     }
 
     #[test]
     fn an_equal_call_gets_another_name_and_a_dead_one_leaves_its_own() {
-        let scratch = Scratch::new();
-        let first = CallFolder::take(&scratch.0, "k").unwrap();
-        let second = CallFolder::take(&scratch.0, "k").unwrap();
+        let scratch = TestFolder::new();
+        let first = CallFolder::take(&scratch, "k").unwrap();
+        let second = CallFolder::take(&scratch, "k").unwrap();
         assert_eq!((first.path().file_name(), second.path().file_name()), (Some("k".as_ref()), Some("k-2".as_ref())));
         fs::write(first.path().join("left"), "").unwrap();
         drop(first);
-        let third = CallFolder::take(&scratch.0, "k").unwrap();
+        let third = CallFolder::take(&scratch, "k").unwrap();
         assert_eq!((third.path().file_name(), fs::read_dir(third.path()).unwrap().count()), (Some("k".as_ref()), 0));
         second.remove();
         third.remove();
-        assert_eq!(fs::read_dir(scratch.0.join(user_name())).unwrap().count(), 0);
+        assert_eq!(fs::read_dir(scratch.join(user_name())).unwrap().count(), 0);
     }
 
     #[test]
@@ -335,11 +307,11 @@ mod tests {
             }),
         ];
         for (name, spoil) in cases {
-            let scratch = Scratch::new();
-            CallFolder::take(&scratch.0, "k").unwrap().remove();
-            spoil(&scratch.0.join(user_name()));
-            let taken = CallFolder::take(&scratch.0, "k").unwrap();
-            assert!(!taken.is_named() && taken.path().starts_with(&scratch.0), "{name}");
+            let scratch = TestFolder::new();
+            CallFolder::take(&scratch, "k").unwrap().remove();
+            spoil(&scratch.join(user_name()));
+            let taken = CallFolder::take(&scratch, "k").unwrap();
+            assert!(!taken.is_named() && taken.path().starts_with(&scratch), "{name}");
             assert_eq!(fs::metadata(taken.path()).unwrap().mode() & 0o7777, 0o700);
             taken.remove();
         }
@@ -347,10 +319,10 @@ mod tests {
 
     #[test]
     fn what_killed_calls_left_goes() {
-        let scratch = Scratch::new();
-        let of = |name: &str| CallFolder::take(&scratch.0, name).unwrap();
+        let scratch = TestFolder::new();
+        let of = |name: &str| CallFolder::take(&scratch, name).unwrap();
         let (own, alive) = (of("own"), of("alive"));
-        let user = scratch.0.join(user_name());
+        let user = scratch.join(user_name());
         let entry = |name: &str, seconds: u64, holds: &[&str]| {
             let file = File::create(user.join(format!("{name}.lock"))).unwrap();
             file.set_modified(std::time::SystemTime::now() - Duration::from_secs(seconds)).unwrap();
@@ -376,8 +348,8 @@ mod tests {
 
     #[test]
     fn so_many_equal_calls_have_names() {
-        let scratch = Scratch::new();
-        let taken: Vec<CallFolder> = (0..=MOST_EQUAL_CALLS).map(|_| CallFolder::take(&scratch.0, "k").unwrap()).collect();
+        let scratch = TestFolder::new();
+        let taken: Vec<CallFolder> = (0..=MOST_EQUAL_CALLS).map(|_| CallFolder::take(&scratch, "k").unwrap()).collect();
         assert_eq!(taken.iter().map(|folder| usize::from(folder.is_named())).sum::<usize>(), 64);
         let [last, random] = [&taken[63], &taken[64]].map(|folder| folder.path().file_name().unwrap().to_str().unwrap());
         assert!(last == "k-64" && random.starts_with("zigrunk.") && random.len() == "zigrunk.".len() + 6, "{random}");
@@ -387,9 +359,9 @@ mod tests {
 
     #[test]
     fn nothing_is_removed_from_another_users_folder() {
-        let scratch = Scratch::new();
-        let taken = CallFolder::take(&scratch.0, "k").unwrap();
-        let user = scratch.0.join(user_name());
+        let scratch = TestFolder::new();
+        let taken = CallFolder::take(&scratch, "k").unwrap();
+        let user = scratch.join(user_name());
         fs::rename(&user, user.with_extension("moved")).unwrap();
         fs::create_dir_all(user.join("k")).unwrap();
         fs::create_dir_all(user.join("left")).unwrap();
@@ -400,10 +372,10 @@ mod tests {
 
     #[test]
     fn a_folder_that_vanishes_is_noticed() {
-        let scratch = Scratch::new();
-        let taken = CallFolder::take(&scratch.0, "k").unwrap();
+        let scratch = TestFolder::new();
+        let taken = CallFolder::take(&scratch, "k").unwrap();
         assert!(taken.is_there());
-        fs::remove_dir_all(scratch.0.join(user_name())).unwrap();
+        fs::remove_dir_all(scratch.join(user_name())).unwrap();
         assert!(!taken.is_there());
         fs::create_dir_all(taken.path()).unwrap();
         assert!(!taken.is_there(), "another of its name");

@@ -14,8 +14,9 @@ pub const MOST_GROUPS: usize = 512;
 pub const MOST_TOKENS: usize = 1024;
 const TOKENS_AT: usize = MOST_GROUPS * size_of::<i32>();
 const DONE_AT: usize = TOKENS_AT + MOST_TOKENS;
-/// How long a command may take to end after TERM, in hundredths of a second.
-const GRACE: usize = 100;
+/// How long a command may take to end after TERM, in hundredths of a second. What starts workers still tells Slurm to drop them, which takes more
+/// than a second on a busy machine.
+const GRACE: usize = 500;
 
 /// What a call and its guard both see: the process groups that run, the jobs that the call has of make, and whether it has ended.
 #[derive(Clone, Copy, Debug)]
@@ -69,10 +70,7 @@ pub struct Guard {
 impl Guard {
     /// Starts the guard of a call with this directory, and with these jobs of make to give back. It closes these files: locks of slots, which
     /// would last as long as it does.
-    ///
-    /// # Errors
-    ///
-    /// If there is no process or no pipe for it.
+    /// An error if there is no process or no pipe for it.
     pub fn start(shared: Shared, folder: &CallFolder, tokens: Option<&OwnedFd>, locks: &[RawFd]) -> io::Result<Guard> {
         let (gone, alive) = system::pipe()?;
         let alive_there = alive.as_raw_fd();
@@ -114,7 +112,7 @@ fn watch(gone: &OwnedFd, shared: Shared, folder: &CallFolder, tokens: Option<&Ow
     }
 }
 
-/// Ends all groups: by TERM, and by KILL what is left a second later.
+/// Ends all groups: by TERM, and by KILL what is left five seconds later.
 fn end_groups(shared: Shared) {
     for number in [TERM, KILL] {
         let mut left: Vec<i32> = shared.groups().filter(|&group| system::signal_group(group, number)).collect();

@@ -152,10 +152,7 @@ fn slots(settings: &Settings, most: Option<usize>) -> Option<Slots> {
 
 impl Host {
     /// This machine for a process with this directory, with its slots and its jobs of make. Commands get `environment`.
-    ///
-    /// # Errors
-    ///
-    /// What it lacks.
+    /// Errors: what it lacks.
     pub fn of_process(settings: &Settings, make: Make, environment: Environment, folder: Rc<CallFolder>) -> Result<Host, &'static str> {
         let shared = Shared::new().map_err(|_| "memory")?;
         let signals = Signals::open().map_err(|_| "signals")?;
@@ -166,10 +163,7 @@ impl Host {
     }
 
     /// This machine, with slots and jobs of make, if they count. Commands get `environment`.
-    ///
-    /// # Errors
-    ///
-    /// If /dev/null can't be opened.
+    /// An error if /dev/null can't be opened.
     pub fn new(signals: Signals, shared: Shared, slots: Option<Slots>, tokens: Option<Tokens>, environment: Environment) -> io::Result<Host> {
         Ok(Host {
             signals,
@@ -458,10 +452,7 @@ impl Host {
     }
 
     /// Starts a job that reads this file as its standard input.
-    ///
-    /// # Errors
-    ///
-    /// If there is no process or no file for it.
+    /// An error if there is no process or no file for it.
     pub fn start_with(&mut self, number: usize, job: &Job, input: RawFd) -> io::Result<()> {
         let taken: Vec<usize> = self.running.iter().map(|running| running.place).collect();
         let (place, (out, errors)) = (free_place(&taken)?, self.streams()?);
@@ -490,10 +481,7 @@ fn free_place(taken: &[usize]) -> io::Result<usize> {
 }
 
 /// A program to run, by its path, words, environment and folder.
-///
-/// # Errors
-///
-/// If a text has a NUL.
+/// An error if a text has a NUL.
 pub fn image<'a, 'b>(
     program: &OsStr,
     words: impl Iterator<Item = &'a OsStr>,
@@ -585,30 +573,21 @@ mod tests {
     use crate::jobserver::Jobserver;
     use crate::streams::write_all;
     use crate::system::{TERM, UNBLOCKED};
+    use crate::test_folder::TestFolder;
     use std::fs;
     use std::os::fd::AsFd;
     use std::thread::{self, sleep};
 
     /// A folder of a test, which goes with it.
-    struct Room(CallFolder);
+    struct Room(TestFolder);
 
     impl Room {
-        fn new() -> Room {
-            Room(CallFolder::take(&env::temp_dir(), "host-of-a-test").unwrap())
-        }
-
         fn path(&self, name: &str) -> PathBuf {
-            self.0.path().join(name)
+            self.0.join(name)
         }
 
         fn slots(&self, count: usize, age: u64) -> Slots {
-            Slots::open(count, age, &[self.0.path().to_owned()]).unwrap()
-        }
-    }
-
-    impl Drop for Room {
-        fn drop(&mut self) {
-            self.0.remove();
+            Slots::open(count, age, &[self.0.to_owned()]).unwrap()
         }
     }
 
@@ -678,7 +657,7 @@ mod tests {
 
     #[test]
     fn a_job_that_is_ended_does_nothing_more() {
-        let room = Room::new();
+        let room = Room(TestFolder::new());
         let go = room.path("go");
         in_own_process(|| {
             let mut host = plain_host();
@@ -707,7 +686,7 @@ mod tests {
     fn a_job_is_heard_while_it_runs() {
         for shows_colours in [false, true] {
             in_own_process(|| {
-                let room = Room::new();
+                let room = Room(TestFolder::new());
                 let (go, mut host) = (room.path("go"), plain_host());
                 host.shows_colours = shows_colours;
                 start(&mut host, 5, &shell(&format!("echo one >&2; until [ -e {} ]; do sleep 0.01; done; echo two >&2", go.display())));
@@ -772,7 +751,7 @@ mod tests {
     #[test]
     fn jobs_end_by_the_signal_or_by_force() {
         in_own_process(|| {
-            let room = Room::new();
+            let room = Room(TestFolder::new());
             let ready = |name: &str| format!("touch {}; while :; do sleep 0.05; done", room.path(name).display());
             let mut host = plain_host();
             start(&mut host, 0, &shell(&format!("trap 'echo bye; exit 4' TERM; {}", ready("gentle"))));
@@ -799,7 +778,7 @@ mod tests {
     #[test]
     fn a_job_that_nothing_ends_is_given_up() {
         in_own_process(|| {
-            let room = Room::new();
+            let room = Room(TestFolder::new());
             let mut host = host(Some(room.slots(1, 1)), |_| None);
             start(&mut host, 0, &shell("exit 0"));
             let process = host.running[0].process;
@@ -827,7 +806,7 @@ mod tests {
     #[test]
     fn a_slot_is_kept_for_the_next_job_unless_an_older_call_wants_it() {
         in_own_process(|| {
-            let room = Room::new();
+            let room = Room(TestFolder::new());
             let mut host = host(Some(room.slots(1, 2)), |_| None);
             start(&mut host, 0, &shell(":"));
             assert!(host.permit.is_none());
@@ -862,7 +841,7 @@ mod tests {
     #[test]
     fn a_call_without_a_ticket_looks_for_a_slot() {
         in_own_process(|| {
-            let room = Room::new();
+            let room = Room(TestFolder::new());
             let slot = room.slots(1, 1).try_take().unwrap();
             let mut host = host(Some(room.slots(1, 2)), |_| None);
             let ticket = format!("zigrunk-slots-{}/wait-{:020}-{}-1", system::user(), 2, system::process());
@@ -880,7 +859,7 @@ mod tests {
     #[test]
     fn a_call_gives_way_with_its_further_slots() {
         in_own_process(|| {
-            let room = Room::new();
+            let room = Room(TestFolder::new());
             let mut host = host(Some(room.slots(2, 1)), |_| None);
             host.give_way();
             let go = room.path("go");
@@ -904,7 +883,7 @@ mod tests {
     #[test]
     fn jobs_of_one_slot_share_it() {
         in_own_process(|| {
-            let room = Room::new();
+            let room = Room(TestFolder::new());
             let mut host = host(Some(room.slots(2, 1)), |_| None);
             start(&mut host, 0, &shell("sleep 300"));
             host.start(1, &Job { shares_slot: true, ..shell("sleep 300") }).unwrap();
@@ -922,7 +901,7 @@ mod tests {
     #[test]
     fn without_their_folder_slots_limit_nothing() {
         in_own_process(|| {
-            let room = Room::new();
+            let room = Room(TestFolder::new());
             let slot = room.slots(1, 1).try_take().unwrap();
             let mut host = host(Some(room.slots(1, 2)), |_| None);
             host.want(true);

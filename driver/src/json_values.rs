@@ -44,10 +44,7 @@ impl Value {
 }
 
 /// The value that a text is.
-///
-/// # Errors
-///
-/// If it isn't one, or has lists within more than 100 others.
+/// An error if it isn't one, or has lists within more than 100 others.
 pub fn parse(text: &[u8]) -> Result<Value, Fault> {
     let mut reader = Reader { text, at: 0 };
     let value = reader.value(0)?;

@@ -1,10 +1,11 @@
 //! Begins a call's last host compile before its fatbin is there: gcc makes assembler text beside device commands, and the assembler waits.
+use crate::cache::tool::is_gcc;
 use crate::planner::{self, PlannedCommand};
 use crate::run::Done;
 use crate::settings::Settings;
 use crate::streams::{content_of, write_file};
 use crate::tasks::{OWN, program_of};
-use late_fatbins::{Places, assembler_text, compiler_needs, placeholder, split_compile};
+use early_starts::{Places, assembler_text, compiler_needs, placeholder, split_compile};
 use rattle_std::alloc::Global;
 use std::env;
 use std::path::PathBuf;
@@ -22,10 +23,7 @@ pub struct Include {
 
 impl Include {
     /// Writes the file.
-    ///
-    /// # Errors
-    ///
-    /// Why nvcc makes the call.
+    /// Errors: why nvcc makes the call.
     pub fn write(&self) -> Result<(), String> {
         let text = content_of(&self.from).map_err(|_| "fatbinary's file is missing")?;
         let text = assembler_text(Global, self.is_linked, &text).map_err(|_| "out of memory")?;
@@ -48,18 +46,6 @@ pub fn is_on(settings: &Settings) -> bool {
     !is_off && env::var_os(ODD_VARIABLE).is_none() && settings.launcher.is_empty() && settings.runs_here()
 }
 
-/// Whether a command is gcc's by its program's name, as `g++-12`.
-fn is_gcc(command: &PlannedCommand) -> bool {
-    let name = program_of(command);
-    let version = name.strip_prefix("gcc").or_else(|| name.strip_prefix("g++"));
-    version.is_some_and(|rest| rest.trim_start_matches('-').bytes().all(|byte| byte.is_ascii_digit() || byte == b'.'))
-}
-
-/// Whether these are commands of nvcc 13, whose fatbinary writes files of a known form.
-fn are_known(commands: &[PlannedCommand]) -> bool {
-    commands.iter().any(|command| command.words.iter().any(|word| word == "-D__CUDACC_VER_MAJOR__=13"))
-}
-
 /// Where the files go that begin a call's last host compile early.
 fn places_in(tmp: &str) -> Option<Places> {
     let place = |path: String| Some(Text::new(planner::text(&path).ok()?));
@@ -74,7 +60,9 @@ fn places_in(tmp: &str) -> Option<Places> {
 /// includes. `None` if the commands stay as they are: then the fatbin may show in the product, or in what a command says.
 pub fn begin_early(commands: &mut Vec<PlannedCommand>, tmp: &str) -> Option<Include> {
     let (last, before) = commands.split_last()?;
-    if !is_gcc(last) || !are_known(before) {
+    // The fatbinary of nvcc 13 writes files of a known form.
+    let is_known = before.iter().any(|command| command.words.iter().any(|word| word == "-D__CUDACC_VER_MAJOR__=13"));
+    if !is_gcc(program_of(last)) || !is_known {
         return None;
     }
     let places = places_in(tmp)?;
@@ -107,6 +95,7 @@ mod tests {
     use super::*;
     use crate::machine::Ended;
     use crate::system::Status;
+    use crate::test_folder::TestFolder;
     use std::fs;
 
     fn command(words: &str, writes: &[&str]) -> PlannedCommand {
@@ -120,7 +109,7 @@ mod tests {
     fn gcc_is_known_by_its_name() {
         for (program, wanted) in [("/b/gcc", true), ("g++-12", true), ("g++-4.8", true), ("/b/clang++", false), ("gcc-ar", false), ("/gcc/x", false)]
         {
-            assert_eq!(is_gcc(&command(&format!("{program} x"), &[])), wanted, "{program}");
+            assert_eq!(is_gcc(program_of(&command(&format!("{program} x"), &[]))), wanted, "{program}");
         }
     }
 
@@ -149,7 +138,7 @@ mod tests {
 
     #[test]
     fn two_commands_take_the_place_of_the_last() {
-        let folder = env::temp_dir().join(format!("late-two-{}", std::process::id()));
+        let folder = TestFolder::new();
         fs::create_dir_all(folder.join(OWN)).unwrap();
         let place = folder.to_str().unwrap();
         for (words, section) in [("", ".nv_fatbin"), ("--device-c ", "__nv_relfatbin")] {
@@ -184,7 +173,6 @@ mod tests {
         };
         assert_eq!([0, 1, 2, 4].map(without), [const { None }; 4], "one is missing");
         assert!(begin_early(&mut commands("/missing", "", ""), "/missing").is_none(), "it can't be written");
-        fs::remove_dir_all(folder).unwrap();
     }
 
     #[test]

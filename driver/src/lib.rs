@@ -35,6 +35,8 @@ mod split;
 mod streams;
 mod system;
 mod tasks;
+#[cfg(test)]
+mod test_folder;
 mod voice;
 #[cfg(test)]
 mod whole_call;

@@ -66,23 +66,8 @@ mod tests {
     use super::*;
     use crate::machine::Ended;
     use crate::system::Status;
+    use crate::test_folder::TestFolder;
     use std::fs;
-    use std::path::PathBuf;
-
-    /// A file for a test, which goes with it.
-    struct Scratch(PathBuf);
-
-    impl Scratch {
-        fn new(name: &str) -> Scratch {
-            Scratch(std::env::temp_dir().join(format!("log-{name}-{}", std::process::id())))
-        }
-    }
-
-    impl Drop for Scratch {
-        fn drop(&mut self) {
-            let _ = fs::remove_file(&self.0);
-        }
-    }
 
     fn done(code: i32, asked: f64, times: (f64, f64)) -> Done {
         let status = Status { code, signal: None, dumped: false };
@@ -91,13 +76,14 @@ mod tests {
 
     #[test]
     fn commands_that_ran_are_logged() {
-        let hit = Scratch::new("hit");
-        fs::write(&hit.0, "hit cicc\n").unwrap();
+        let folder = TestFolder::new();
+        let hit = folder.join("hit");
+        fs::write(&hit, "hit cicc\n").unwrap();
         let task = |kind: &str, needs: &[usize]| Task { kind: kind.into(), needs: needs.to_vec(), ..Task::default() };
         let tasks = [
             task("gcc -E", &[]),
             task("nvcc -M", &[0]),
-            Task { statistics: hit.0.to_str().map(String::from), ..task("cicc \"", &[0, 1]) },
+            Task { statistics: hit.to_str().map(String::from), ..task("cicc \"", &[0, 1]) },
             Task { statistics: Some("/missing".into()), ..task("gcc -c", &[0, 1, 2]) },
             task("left", &[3]),
         ];
@@ -115,16 +101,17 @@ mod tests {
 
     #[test]
     fn a_log_gets_a_line_for_each_call_and_a_hint_once() {
-        let file = Scratch::new("calls");
+        let folder = TestFolder::new();
+        let file = folder.join("log");
         let words = ["nvcc", "a b"].map(OsStr::new);
         let counted = Some([Counts { hits: 1.0, misses: 2.0 }, Counts { hits: 3.0, misses: 4.0 }]);
         let commands = ["{1}".to_owned(), "{2}".to_owned()];
         let split = LoggedCall { begun: 5.0, status: 3, reason: None, hint_on: None, commands: &commands, counted, words: &words };
         let whole = LoggedCall { reason: Some("it \"links\""), hint_on: Some("no temporary directory"), commands: &[], counted: None, ..split };
-        append(&file.0, &split);
-        append(&file.0, &whole);
-        append(&file.0, &whole);
-        let text = fs::read_to_string(&file.0).unwrap();
+        append(&file, &split);
+        append(&file, &whole);
+        append(&file, &whole);
+        let text = fs::read_to_string(&file).unwrap();
         let lines: Vec<&str> = text.lines().collect();
         let end_of = |line: &str| line.split_once(",\"status\"").unwrap().1.to_owned();
         assert!(lines.len() == 4 && text.ends_with("}\n"), "{text}");
@@ -133,7 +120,7 @@ mod tests {
         assert_eq!(end_of(lines[1]), r#":3,"reason":"it \u0022links\u0022","commands":[],"words":["nvcc","a b"]}"#);
         assert_eq!(lines[2], r#"{"hint":"make room for temporary files, or set TMPDIR"}"#);
         assert_eq!(end_of(lines[3]), end_of(lines[1]));
-        append(&file.0, &LoggedCall { hint_on: Some("a random name"), ..split });
-        assert_eq!(fs::read_to_string(&file.0).unwrap().matches("{\"hint\"").count(), 2, "another hint");
+        append(&file, &LoggedCall { hint_on: Some("a random name"), ..split });
+        assert_eq!(fs::read_to_string(&file).unwrap().matches("{\"hint\"").count(), 2, "another hint");
     }
 }

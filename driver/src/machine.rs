@@ -74,10 +74,7 @@ pub trait Machine {
     fn next(&mut self) -> Event;
 
     /// Starts a job in the slot that has just come, or in one that another has. Its end has this number.
-    ///
-    /// # Errors
-    ///
-    /// If there is no process or no file for it. The slot stays.
+    /// An error if there is no process or no file for it. The slot stays.
     fn start(&mut self, number: usize, job: &Job) -> io::Result<()>;
 
     /// Ends a job, which does nothing more from now on. Its end comes as an event.

@@ -17,7 +17,7 @@ pub fn working_directory() -> Option<PathBuf> {
 
 /// Whether a path has no `.`, `..` and nothing empty between slashes.
 fn is_plain(path: &Path) -> bool {
-    path.to_str().is_some_and(directories::is_plain)
+    path.to_str().is_some_and(canonical_names::is_plain)
 }
 
 /// A directory's path in the one form that plans take.

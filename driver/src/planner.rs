@@ -7,13 +7,13 @@ use command_files::{CommandFiles, files_and_needs, preprocesses};
 use command_groups::{CallToPlan, plan_with_origins_within};
 use compilers::command::{Cacheable, SingleCompileCommand};
 use compilers::compiler::NvccHostCompiler;
+use compilers::plans::{NvccGeneratedSubcommand as Command, PlanWithOrigins};
+use compilers::{DirectoryCall, NvccCall};
 use dry_runs::Which;
 use early_starts::{late_file, may_begin_beside, may_go_ahead};
 use nvcc_calls::{Answer, directory_name, file_names, read_call};
-use nvcc_lines::{DirectoryCall, NvccCall};
 use placed_commands::placed_command;
-use plan_scripts::Format;
-use plans::{NvccGeneratedSubcommand as Command, PlanWithOrigins};
+use plan_texts::Format;
 use rattle_std::alloc::{AllocError, Global};
 use rattle_std::string::String as Text;
 use rattle_std::vec::Vec as List;
@@ -140,10 +140,7 @@ pub fn strings(words: &[Text]) -> Vec<String> {
 }
 
 /// A command as the proved crates have it.
-///
-/// # Errors
-///
-/// If memory runs out.
+/// An error if memory runs out.
 pub fn listed(command: &PlannedCommand) -> Result<Command, AllocError> {
     let (mut args, mut env_vars) = (TextList::new(Global), Variables::new(Global));
     for word in &command.words {
@@ -163,10 +160,7 @@ fn out_of_memory(_: AllocError) -> String {
 
 /// The name of a line's directory for temporary files. The same line has the same one each time, since some commands write its path
 /// into what they make.
-///
-/// # Errors
-///
-/// A text that says that memory ran out.
+/// Errors: a text that says that memory ran out.
 pub fn directory_of(line: &Line) -> Result<String, String> {
     let name = || {
         let words = list_of(&line.words)?;
@@ -191,10 +185,7 @@ fn words_of(command: &SingleCompileCommand) -> Words {
 }
 
 /// What becomes of a line whose files go to the directory `tmp`.
-///
-/// # Errors
-///
-/// Why nvcc makes the call unchanged.
+/// Errors: why nvcc makes the call unchanged.
 pub fn outline_of(line: &Line, tmp: &str) -> Result<Outline, String> {
     let words = list_of(&line.words).map_err(out_of_memory)?;
     let variables = pairs(&line.variables).map_err(out_of_memory)?;
@@ -227,7 +218,7 @@ impl Disk {
 
 impl Which for Disk {
     fn found(&self, alloc: Global, program: &str, path: &str, cwd: &str) -> Result<Option<Text>, AllocError> {
-        let paths = program_lookups::candidates(alloc, program, path, cwd)?;
+        let paths = dry_runs::candidates(alloc, program, path, cwd)?;
         let found = paths.as_slice().iter().find(|path| self.has(path.as_str()));
         found.map(|found| text(found.as_str())).transpose()
     }
@@ -245,7 +236,7 @@ pub struct ToPlan<'a> {
 
 /// Plans a call.
 fn planned(of: &ToPlan<'_>) -> Result<PlanWithOrigins, String> {
-    if !directories::is_plain(of.cwd) || !directories::is_plain(of.tmp) {
+    if !canonical_names::is_plain(of.cwd) || !canonical_names::is_plain(of.tmp) {
         return Err("a directory isn't absolute, or has an empty part, . or ..".into());
     }
     let suffixes = all_suffixes(Global, &[]).map_err(|fault| fault.to_string())?;
@@ -271,28 +262,19 @@ fn whole_plan(of: &ToPlan<'_>) -> Result<PlanWithOrigins, String> {
 }
 
 /// The commands of a call, in plan order, each in the directory that the plan says.
-///
-/// # Errors
-///
-/// Why there is no plan, or none that runs all commands.
+/// Errors: why there is no plan, or none that runs all commands.
 pub fn plan(of: &ToPlan<'_>) -> Result<Vec<PlannedCommand>, String> {
     commands_of(&whole_plan(of)?, |command| command.try_clone(Global))
 }
 
 /// The same, with nvcc's tools in the call's own directory. There the words of a user mean what they mean to nvcc.
-///
-/// # Errors
-///
-/// Why there is no plan, or none that runs all commands.
+/// Errors: why there is no plan, or none that runs all commands.
 pub fn plan_in_place(of: &ToPlan<'_>) -> Result<Vec<PlannedCommand>, String> {
     commands_of(&whole_plan(of)?, |command| placed_command(Global, command, of.tmp, of.cwd))
 }
 
 /// The plan of a call in the format of a name, as people type it, with its commands.
-///
-/// # Errors
-///
-/// Why there is no plan, or why the format can't represent it.
+/// Errors: why there is no plan, or why the format can't represent it.
 pub fn plan_file(format: &str, of: &ToPlan<'_>) -> Result<(String, Vec<PlannedCommand>), String> {
     let format = Format::named(format).ok_or("unknown format")?;
     let planned = planned(of)?;
@@ -350,25 +332,8 @@ fn commands_of(planned: &PlanWithOrigins, as_it_runs: impl Fn(&Command) -> Resul
 #[cfg(test)]
 mod tests {
     use super::*;
+    use crate::test_folder::TestFolder;
     use std::os::unix::fs::PermissionsExt;
-    use std::path::PathBuf;
-
-    /// A folder for a test, which goes with it.
-    struct Scratch(PathBuf);
-
-    impl Scratch {
-        fn new(name: &str) -> Scratch {
-            let path = std::env::temp_dir().join(format!("planner-{name}-{}", std::process::id()));
-            fs::create_dir_all(&path).unwrap();
-            Scratch(path)
-        }
-    }
-
-    impl Drop for Scratch {
-        fn drop(&mut self) {
-            let _ = fs::remove_dir_all(&self.0);
-        }
-    }
 
     fn line(words: &str, cwd: &str) -> Line {
         let variables = vec![("ZIGRUNK_JOBS".to_owned(), "3".to_owned())];
@@ -377,11 +342,11 @@ mod tests {
 
     #[test]
     fn a_product_needs_a_folder() {
-        let scratch = Scratch::new("product");
-        fs::create_dir(scratch.0.join("taken")).unwrap();
-        fs::write(scratch.0.join("k.ptx"), "").unwrap();
+        let scratch = TestFolder::new();
+        fs::create_dir(scratch.join("taken")).unwrap();
+        fs::write(scratch.join("k.ptx"), "").unwrap();
         for (file, wanted) in [("k.o", true), ("k.ptx", true), ("taken", false), ("no/k.o", false), ("k.ptx/k.o", false), ("taken/k.o", true)] {
-            let folder = scratch.0.to_str().unwrap().to_owned();
+            let folder = scratch.to_str().unwrap().to_owned();
             let command = PlannedCommand { folder, writes: vec![file.into()], ..PlannedCommand::default() };
             assert_eq!(command.can_write(), wanted, "{file}");
         }
@@ -396,14 +361,14 @@ mod tests {
 
     #[test]
     fn an_outline_has_what_the_line_and_its_options_file_say() {
-        let scratch = Scratch::new("outline");
-        fs::write(scratch.0.join("words"), "-o k.o -MD\n").unwrap();
-        let of = |words: &str| outline_of(&line(words, scratch.0.to_str().unwrap()), "/t");
+        let scratch = TestFolder::new();
+        fs::write(scratch.join("words"), "-o k.o -MD\n").unwrap();
+        let of = |words: &str| outline_of(&line(words, scratch.to_str().unwrap()), "/t");
         let outline = of("-c k.cu --options-file words").unwrap();
         assert_eq!((outline.flag.as_str(), outline.jobs, outline.keep_dir.as_deref()), ("-c", Some(3), None));
         assert!(outline.dependencies.is_some_and(|rule| rule.words[0] == "nvcc" && rule.words.contains(&"-M".into())));
         for run in [&outline.first_dry_run, &outline.second_dry_run] {
-            assert_eq!((run.folder.as_str(), run.words[0].as_str()), (scratch.0.to_str().unwrap(), "nvcc"));
+            assert_eq!((run.folder.as_str(), run.words[0].as_str()), (scratch.to_str().unwrap(), "nvcc"));
             assert!(run.words.contains(&"--dryrun".into()), "{run:?}");
         }
         assert!(outline.second_dry_run.words.contains(&"/t".into()) && !outline.first_dry_run.words.contains(&"/t".into()));
@@ -413,22 +378,22 @@ mod tests {
 
     #[test]
     fn options_files_are_plain_files_in_utf8() {
-        let scratch = Scratch::new("options");
-        let cwd = scratch.0.to_str().unwrap();
-        fs::write(scratch.0.join("good"), "-O2").unwrap();
-        fs::write(scratch.0.join("bad"), b"\xff").unwrap();
-        fs::create_dir(scratch.0.join("folder")).unwrap();
+        let scratch = TestFolder::new();
+        let cwd = scratch.to_str().unwrap();
+        fs::write(scratch.join("good"), "-O2").unwrap();
+        fs::write(scratch.join("bad"), b"\xff").unwrap();
+        fs::create_dir(scratch.join("folder")).unwrap();
         assert_eq!(options_file(cwd, "good"), Some(("good".into(), "-O2".into())));
         assert_eq!(["bad", "folder", "missing", "/dev/null"].map(|name| options_file(cwd, name)), [None, None, None, None]);
     }
 
     #[test]
     fn programs_are_looked_up_once() {
-        let scratch = Scratch::new("disk");
-        let tool = scratch.0.join("tool");
+        let scratch = TestFolder::new();
+        let tool = scratch.join("tool");
         fs::write(&tool, "").unwrap();
         fs::set_permissions(&tool, PermissionsExt::from_mode(0o755)).unwrap();
-        let (disk, path) = (Disk::default(), format!("/missing:{}", scratch.0.display()));
+        let (disk, path) = (Disk::default(), format!("/missing:{}", scratch.display()));
         let found = |program: &str| disk.found(Global, program, &path, "/").unwrap().map(|found| string(&found));
         assert_eq!(found("tool").as_deref(), tool.to_str());
         fs::remove_file(&tool).unwrap();

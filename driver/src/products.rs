@@ -47,15 +47,15 @@ pub fn lack_of_room(temporary: &Path) -> String {
 #[cfg(test)]
 mod tests {
     use super::*;
-    use std::path::PathBuf;
+    use crate::test_folder::TestFolder;
     use std::time::Duration;
 
     /// A folder for a test, which goes with it.
-    struct Scratch(PathBuf);
+    struct Scratch(TestFolder);
 
     impl Scratch {
-        fn new(name: &str) -> Scratch {
-            let path = std::env::temp_dir().join(format!("products-{name}-{}", std::process::id()));
+        fn new() -> Scratch {
+            let path = TestFolder::new();
             fs::create_dir_all(path.join("tmp").join(OWN)).unwrap();
             fs::create_dir_all(path.join("keep")).unwrap();
             Scratch(path)
@@ -71,15 +71,9 @@ mod tests {
         }
     }
 
-    impl Drop for Scratch {
-        fn drop(&mut self) {
-            let _ = fs::remove_dir_all(&self.0);
-        }
-    }
-
     #[test]
     fn generated_files_are_kept_unless_a_product_has_their_name() {
-        let scratch = Scratch::new("keep");
+        let scratch = Scratch::new();
         let begun = SystemTime::now();
         let [before, later] = [begun - Duration::from_secs(9), begun + Duration::from_secs(9)];
         for name in ["new", "old", "product"] {
@@ -106,7 +100,7 @@ mod tests {
 
     #[test]
     fn files_are_kept_on_another_disk() {
-        let (scratch, shared) = (Scratch::new("copy"), Path::new("/dev/shm"));
+        let (scratch, shared) = (Scratch::new(), Path::new("/dev/shm"));
         let name = format!("products-{}", std::process::id());
         scratch.write(&format!("tmp/{name}"), "generated", SystemTime::now());
         fs::write(shared.join(&name), "of another call, and longer").unwrap();
@@ -118,7 +112,7 @@ mod tests {
 
     #[test]
     fn a_link_in_the_keep_directory_is_replaced() {
-        let (scratch, shared) = (Scratch::new("link"), Path::new("/dev/shm"));
+        let (scratch, shared) = (Scratch::new(), Path::new("/dev/shm"));
         let name = format!("products-link-{}", std::process::id());
         scratch.write(&format!("tmp/{name}"), "generated", SystemTime::now());
         scratch.write("mine", "mine", SystemTime::now());
@@ -131,7 +125,7 @@ mod tests {
 
     #[test]
     fn a_folder_has_room_or_not() {
-        let scratch = Scratch::new("room");
+        let scratch = Scratch::new();
         assert_eq!(lack_of_room(&scratch.0), "");
         assert_eq!(fs::read_dir(&scratch.0).unwrap().count(), 2, "nothing stays");
         assert_eq!(lack_of_room(Path::new("/missing")), ": there is no room in /missing");

@@ -21,11 +21,6 @@ pub fn find(name: &OsStr, path: &OsStr, folder: &Path) -> Option<PathBuf> {
     env::split_paths(path).map(|part| folder.join(part).join(name)).find(|found| is_program(found))
 }
 
-/// Whether two files are one.
-fn is_same(one: &Metadata, other: &Metadata) -> bool {
-    (one.dev(), one.ino()) == (other.dev(), other.ino())
-}
-
 /// This program's own file, by which it knows itself under other names.
 struct Own {
     file: Option<Metadata>,
@@ -35,7 +30,7 @@ struct Own {
 impl Own {
     /// Whether a path is this program.
     fn is(&self, path: &Path) -> bool {
-        matches!((&self.file, fs::metadata(path)), (Some(own), Ok(other)) if is_same(own, &other))
+        matches!((&self.file, fs::metadata(path)), (Some(own), Ok(other)) if (own.dev(), own.ino()) == (other.dev(), other.ino()))
     }
 
     /// Whether a program is this one, or an nvcc that called it. What the driver calls finds in `ZIGRUNK_INSIDE` each nvcc that it came
@@ -88,10 +83,7 @@ fn named<'a>(settings: &Settings, words: &'a [OsString]) -> (OsString, &'a [OsSt
 }
 
 /// The nvcc of a call and the words for it, given the name by which this program was started.
-///
-/// # Errors
-///
-/// If the nvcc that the call names is this program, and there is no other.
+/// An error if the nvcc that the call names is this program, and there is no other.
 pub fn compiler<'a>(settings: &Settings, own_name: &OsStr, words: &'a [OsString]) -> Result<(Compiler, &'a [OsString]), String> {
     let (mut name, words) = named(settings, words);
     let path = env::var_os("PATH").unwrap_or_default();
@@ -114,6 +106,7 @@ pub fn compiler<'a>(settings: &Settings, own_name: &OsStr, words: &'a [OsString]
 #[cfg(test)]
 mod tests {
     use super::*;
+    use crate::test_folder::TestFolder;
 
     #[test]
     fn a_first_word_may_be_the_compiler() {
@@ -138,11 +131,11 @@ mod tests {
     }
 
     /// A folder with folders `a` to `d`, each with an nvcc, and `own`, whose nvcc is this program. It goes with the test.
-    struct Room(PathBuf);
+    struct Room(TestFolder);
 
     impl Room {
-        fn new(name: &str) -> Room {
-            let room = Room(env::temp_dir().join(format!("programs-{name}-{}", std::process::id())));
+        fn new() -> Room {
+            let room = Room(TestFolder::new());
             for folder in ["a", "b", "c", "own"] {
                 fs::create_dir_all(room.0.join(folder)).unwrap();
                 fs::write(room.nvcc(folder), "").unwrap();
@@ -162,15 +155,9 @@ mod tests {
         }
     }
 
-    impl Drop for Room {
-        fn drop(&mut self) {
-            let _ = fs::remove_dir_all(&self.0);
-        }
-    }
-
     #[test]
     fn the_next_nvcc_is_behind_this_program_or_before_it() {
-        let room = Room::new("next");
+        let room = Room::new();
         let next = |path: &str, inside: &[&str]| {
             let found = room.own(inside).next_nvcc(OsStr::new(path), &room.0)?;
             Some(found.strip_prefix(&room.0).unwrap().to_str().unwrap().to_owned())
@@ -196,7 +183,7 @@ mod tests {
 
     #[test]
     fn this_program_knows_itself_and_who_called_it() {
-        let room = Room::new("own");
+        let room = Room::new();
         fs::hard_link(room.nvcc("own"), room.0.join("link")).unwrap();
         let own = room.own(&["a"]);
         let is = ["own", "a", "b"].map(|folder| (own.is(&room.nvcc(folder)), own.includes(&room.nvcc(folder))));
@@ -208,7 +195,7 @@ mod tests {
 
     #[test]
     fn programs_hear_through_which_nvccs_they_are_called() {
-        let room = Room::new("compiler");
+        let room = Room::new();
         let named = |nvcc: &Path, inside: &str| Settings { nvcc: nvcc.into(), inside: inside.into(), ..Settings::default() };
         let (words, path) = ([OsString::from("-c")], room.nvcc("a"));
         let of = |settings: &Settings| compiler(settings, OsStr::new("zigrunk-nvcc"), &words).map(|(found, rest)| (found, rest.len()));
@@ -235,7 +222,7 @@ mod tests {
 
     #[test]
     fn programs_are_files_that_can_be_run() {
-        let room = Room::new("files");
+        let room = Room::new();
         let is = |mode| {
             fs::set_permissions(room.nvcc("a"), PermissionsExt::from_mode(mode)).unwrap();
             is_program(&room.nvcc("a"))

@@ -6,9 +6,9 @@ use crate::planner::{PlannedCommand, Words, list_of};
 use crate::run::{Done, Step, Watch};
 use crate::streams::{complain, content_of, write_all};
 use crate::voice::Voice;
-use dependency_rules::{Rule, order_of, rule_asked, rule_text};
+use dependency_rules::{order_of, rule_asked, rule_text};
 use rattle_std::alloc::{AllocError, Global};
-use rattle_std::vec::{Collect, Vec as List};
+use rattle_std::vec::Collect;
 use std::collections::BTreeSet;
 use std::fs::File;
 use std::path::Path;
@@ -34,30 +34,22 @@ pub struct RuleMaker<'a, 'b> {
     pub made: Option<Product>,
 }
 
-/// The words of commands.
-fn word_lists(commands: &[&PlannedCommand]) -> Result<Vec<WordList>, AllocError> {
-    let words = |command: &&PlannedCommand| Ok(WordList::from_vec(list_of(&command.words)?.into_iter().collect_in(Global)?));
-    commands.iter().map(words).collect()
-}
-
 impl RuleMaker<'_, '_> {
     /// What the preprocessors have written, in the order in which nvcc reads it. `None` if nvcc has to make the rule.
     fn written(&self) -> Option<Vec<Bytes>> {
         let commands: Vec<&PlannedCommand> = self.commands.iter().filter(|command| command.preprocesses).collect();
-        let order = order_of(Global, &word_lists(&commands).ok()?).ok()??;
+        let words = |command: &&PlannedCommand| Ok(WordList::from_vec(list_of(&command.words)?.into_iter().collect_in(Global)?));
+        let words = commands.iter().map(words).collect::<Result<Vec<_>, AllocError>>().ok()?;
+        let order = order_of(Global, &words).ok()??;
         let text_of = |&place: &usize| Bytes::copy_of(Global, &content_of(Path::new(commands[place].writes.first()?)).ok()?).ok();
         order.as_slice().iter().map(text_of).collect()
-    }
-
-    fn text_of(&self, rule: &Rule<'_>) -> Option<List<u8>> {
-        rule_text(Global, rule, &self.written()?).ok()?
     }
 
     fn try_make(&self) -> Option<Product> {
         let command = self.asked?;
         let words = list_of(&command.words).ok()?;
         let rule = rule_asked(&words)?;
-        let text = self.text_of(&rule)?;
+        let text = rule_text(Global, &rule, &self.written()?).ok()??;
         let path = Path::new(&command.folder).join(rule.file);
         write_all(&File::create(&path).ok()?, text.as_slice()).ok()?;
         Some(Product { path, is_new: false, text: text.as_slice().to_vec() })
@@ -126,20 +118,14 @@ impl Watch for RuleMaker<'_, '_> {
 mod tests {
     use super::*;
     use crate::run::Task;
+    use crate::test_folder::TestFolder;
     use crate::voice::Habits;
     use std::fs;
-    use std::path::PathBuf;
 
     /// A folder for a test, which goes with it.
-    struct Scratch(PathBuf);
+    struct Scratch(TestFolder);
 
     impl Scratch {
-        fn new(name: &str) -> Scratch {
-            let path = std::env::temp_dir().join(format!("rule-{name}-{}", std::process::id()));
-            fs::create_dir_all(&path).unwrap();
-            Scratch(path)
-        }
-
         /// A preprocessor that has written this.
         fn wrote(&self, words: &str, name: &str, text: &str) -> PlannedCommand {
             let path = self.0.join(name);
@@ -159,17 +145,11 @@ mod tests {
         }
     }
 
-    impl Drop for Scratch {
-        fn drop(&mut self) {
-            let _ = fs::remove_dir_all(&self.0);
-        }
-    }
-
     const ASKED: &str = "nvcc -x cu k.cu -M -MF k.d -MT k.o";
 
     #[test]
     fn the_rule_is_made_of_what_was_written() {
-        let scratch = Scratch::new("made");
+        let scratch = Scratch(TestFolder::new());
         let host = scratch.wrote("-E -D__CUDACC_VER_MAJOR__=13 k.cu", "host.ii", "# 0 \"k.cu\"\n# 1 \"host.h\" 1\n");
         let device = scratch.wrote("-D__CUDA_ARCH__=800 -E -D__CUDACC_VER_MAJOR__=13 k.cu", "80.ii", "# 0 \"k.cu\"\n# 1 \"a b.h\" 1\n");
         assert_eq!(scratch.made(ASKED, &[host.clone(), device.clone()]).as_deref(), Some("k.o : k.cu \\\n    a\\ b.h \\\n    host.h\n"));
@@ -194,7 +174,7 @@ mod tests {
 
     #[test]
     fn without_all_texts_nvcc_makes_it() {
-        let scratch = Scratch::new("left");
+        let scratch = Scratch(TestFolder::new());
         let host = scratch.wrote("-E -D__CUDACC_VER_MAJOR__=13 k.cu", "host.ii", "# 0 \"k.cu\"\n# 1 \"a.h\" 1\n");
         let device = scratch.wrote("-D__CUDA_ARCH__=800 -E -D__CUDACC_VER_MAJOR__=13 k.cu", "80.ii", "");
         assert_eq!(scratch.made(ASKED, &[host.clone(), device.clone()]), None, "an empty text");

@@ -1,4 +1,5 @@
 //! Runs the commands of a plan on a machine.
+use crate::cache::contains;
 use crate::early::HeadStart;
 use crate::late::Include;
 use crate::machine::{Ended, Event, Job, Machine};
@@ -202,10 +203,7 @@ fn schedule_of(tasks: &[Task], at_once: usize) -> Result<Schedule, BadGraph> {
 }
 
 /// Runs tasks, so many at once, until all have ended or one has failed and all before it have ended. Says what became of each.
-///
-/// # Errors
-///
-/// If a signal comes, or no process can be started though none runs. Then no task runs any more.
+/// An error if a signal comes, or no process can be started though none runs. Then no task runs any more.
 pub fn run<M: Machine, W: Watch>(machine: &mut M, watch: &mut W, tasks: &[Task], at_once: usize) -> Result<Vec<Done>, Stopped> {
     let at_once = at_once.max(1);
     let schedule = schedule_of(tasks, at_once).map_err(|_| Stopped::NoProcess("the commands have no schedule".into()))?;
@@ -416,10 +414,6 @@ impl<'a, M: Machine, W: Watch> Run<'a, M, W> {
     }
 }
 
-fn contains(text: &[u8], part: &[u8]) -> bool {
-    text.windows(part.len()).any(|window| window == part)
-}
-
 /// An error's text without the number that std adds.
 fn plain(error: &io::Error) -> String {
     let text = error.to_string();
@@ -430,6 +424,7 @@ fn plain(error: &io::Error) -> String {
 mod tests {
     use super::*;
     use crate::system::{INT, Status, TERM, UNBLOCKED};
+    use crate::test_folder::TestFolder;
     use std::collections::VecDeque;
     use std::os::unix::fs::OpenOptionsExt;
 
@@ -703,10 +698,7 @@ mod tests {
 
     /// Two tasks, of which the second may begin beside the first, in a folder of a test. The status of the first and whether it writes its
     /// file are the test's.
-    fn with_head_start(name: &str, status: i32, writes: bool) -> [Task; 2] {
-        let folder = std::env::temp_dir().join(format!("early-{name}-{}", std::process::id()));
-        let _ = std::fs::remove_dir_all(&folder);
-        std::fs::create_dir(&folder).unwrap();
+    fn with_head_start(folder: &TestFolder, status: i32, writes: bool) -> [Task; 2] {
         let start = HeadStart { beside: 0, file: folder.join("id"), withheld: folder.join("withheld"), job: job("early 0"), has_one_name: false };
         if writes {
             std::fs::write(&start.file, "id").unwrap();
@@ -714,54 +706,54 @@ mod tests {
         [task(&format!("first {status}"), &[]), Task { head_start: Some(start), ..task("second 0", &[0]) }]
     }
 
-    /// What is in the file that the second of these tasks reads late, which goes.
-    fn read_late_of(tasks: &[Task; 2]) -> Option<String> {
-        let withheld = &tasks[1].head_start.as_ref().unwrap().withheld;
-        let text = std::fs::read_to_string(withheld).ok();
-        std::fs::remove_dir_all(withheld.parent().unwrap()).unwrap();
-        text
+    /// What is in the file that the second of these tasks reads late.
+    fn read_late_in(folder: &TestFolder) -> Option<String> {
+        std::fs::read_to_string(folder.join("withheld")).ok()
     }
 
     #[test]
     fn a_task_begins_beside_one_that_it_needs() {
-        let tasks = with_head_start("begins", 0, true);
+        let folder = TestFolder::new();
+        let tasks = with_head_start(&folder, 0, true);
         let mut machine = Fake { is_idle: true, ..Fake::default() };
         assert_eq!(run_all(&mut machine, &tasks, 2), ("firstearly".into(), vec![Some(0); 2]));
-        assert_eq!(read_late_of(&tasks).unwrap(), "id");
+        assert_eq!(read_late_in(&folder).unwrap(), "id");
     }
 
     #[test]
     fn no_task_begins_early_without_a_slot() {
         for (at_once, is_idle) in [(1, true), (2, false)] {
-            let tasks = with_head_start("waits", 0, true);
+            let folder = TestFolder::new();
+            let tasks = with_head_start(&folder, 0, true);
             let mut machine = Fake { is_idle, ..Fake::default() };
             assert_eq!(run_all(&mut machine, &tasks, at_once), ("firstsecond".into(), vec![Some(0); 2]));
-            assert_eq!(read_late_of(&tasks), None);
+            assert_eq!(read_late_in(&folder), None);
         }
     }
 
     #[test]
     fn a_task_that_read_too_early_runs_once_more() {
-        let tasks = with_head_start("again", 0, false);
+        let folder = TestFolder::new();
+        let tasks = with_head_start(&folder, 0, false);
         let read_late = tasks[1].head_start.as_ref().map(|start| start.withheld.clone());
         let mut machine = Fake { is_idle: true, read_late, ..Fake::default() };
         assert_eq!(run_all(&mut machine, &tasks, 2), ("firstearlysecond".into(), vec![Some(0); 2]));
         assert_eq!(machine.ended, [1], "it ends before it reads what isn't there");
-        read_late_of(&tasks);
     }
 
     #[test]
     fn what_began_early_ends_if_nothing_comes_of_it() {
-        let tasks = with_head_start("ends", 3, true);
+        let folder = TestFolder::new();
+        let tasks = with_head_start(&folder, 3, true);
         let mut machine = Fake { is_idle: true, ..Fake::default() };
         assert_eq!(run_all(&mut machine, &tasks, 2), ("firstearly".into(), vec![Some(3), None]));
         assert_eq!((machine.ended_by, machine.running.len()), (Some(TERM), 0));
-        read_late_of(&tasks);
     }
 
     #[test]
     fn what_began_early_takes_a_place_of_the_call() {
-        let tasks = with_head_start("place", 0, true);
+        let folder = TestFolder::new();
+        let tasks = with_head_start(&folder, 0, true);
         let [first, second] = tasks.clone();
         let all = [task("long 0", &[]), Task { needs: Vec::new(), ..first }, second, task("third 0", &[0])];
         let mut all = all;
@@ -770,40 +762,41 @@ mod tests {
         let mut machine = Fake { is_idle: true, ..Fake::default() };
         assert_eq!(run_all(&mut machine, &all, 3).1, vec![Some(0); 4]);
         assert_eq!((machine.started.concat(), machine.most_at_once), ("longfirstearlythird".into(), 3));
-        read_late_of(&tasks);
     }
 
     #[test]
     fn another_task_may_begin_early_if_one_may_not() {
-        let tasks = with_head_start("held", 0, true);
+        let folder = TestFolder::new();
+        let tasks = with_head_start(&folder, 0, true);
         let [first, second] = tasks.clone();
         let third = Task { job: job("third 0"), ..second.clone() };
         let mut machine = Fake { is_idle: true, ..Fake::default() };
         let done = run(&mut machine, &mut Heard { holds: Some(1), ..Heard::default() }, &[first, second, third], 2).unwrap();
         assert!(done.iter().all(|done| done.has_ended() && !done.failed()));
         assert_eq!(machine.started, ["first", "early", "second"], "the third begins before the second, beside the first");
-        read_late_of(&tasks);
     }
 
     #[test]
     fn what_began_early_goes_on_before_a_heavier_task_has_a_slot() {
-        let tasks = with_head_start("on", 0, true);
+        let folder = TestFolder::new();
+        let tasks = with_head_start(&folder, 0, true);
         let [first, second] = tasks.clone();
         let all = [first, second, Task { weight: 9, ..task("heavy 0", &[0]) }];
         let read_late = tasks[1].head_start.as_ref().map(|start| start.withheld.clone());
         let mut machine = Fake { is_idle: true, slots: Some(1), read_late, ..Fake::default() };
         assert_eq!(run_all(&mut machine, &all, 3), ("firstearlyheavy".into(), vec![Some(0); 3]));
-        assert_eq!(read_late_of(&tasks).unwrap(), "id");
+        assert_eq!(read_late_in(&folder).unwrap(), "id");
     }
 
     #[test]
     fn an_early_end_counts_once_its_turn_comes() {
-        let tasks = with_head_start("end", 0, true);
+        let folder = TestFolder::new();
+        let tasks = with_head_start(&folder, 0, true);
         let [first, second] = tasks.clone();
         let all = [first, second, task("other 0", &[])];
         // The other one starts first, so that what begins early ends before the first.
         let mut machine = Fake { is_idle: true, backwards: true, ..Fake::default() };
         assert_eq!(run_all(&mut machine, &all, 3), ("firstotherearly".into(), vec![Some(0); 3]));
-        assert_eq!(read_late_of(&tasks).unwrap(), "id");
+        assert_eq!(read_late_in(&folder).unwrap(), "id");
     }
 }

@@ -277,26 +277,14 @@ impl Drop for Slots {
 #[cfg(test)]
 mod tests {
     use super::*;
-    use crate::folder::CallFolder;
+    use crate::test_folder::TestFolder;
 
     /// Slots of several calls in a folder of a test, which goes with it.
-    struct Room(Option<CallFolder>);
+    struct Room(TestFolder);
 
     impl Room {
-        fn new() -> Room {
-            Room(Some(CallFolder::take(&std::env::temp_dir(), "slots-of-a-test").unwrap()))
-        }
-
         fn slots(&self, count: usize, age: u64) -> Slots {
-            Slots::open(count, age, &[self.0.as_ref().unwrap().path().to_owned()]).unwrap()
-        }
-    }
-
-    impl Drop for Room {
-        fn drop(&mut self) {
-            if let Some(folder) = self.0.take() {
-                folder.remove();
-            }
+            Slots::open(count, age, &[self.0.to_owned()]).unwrap()
         }
     }
 
@@ -312,7 +300,7 @@ mod tests {
 
     #[test]
     fn the_last_slot_goes_first_and_no_more_than_all() {
-        let room = Room::new();
+        let room = Room(TestFolder::new());
         let (one, other) = (room.slots(2, 1), room.slots(2, 2));
         let first = one.try_take().unwrap();
         assert_eq!(first.number, 2);
@@ -325,7 +313,7 @@ mod tests {
 
     #[test]
     fn slots_are_plenty_if_one_is_free_and_nobody_waits() {
-        let room = Room::new();
+        let room = Room(TestFolder::new());
         let (one, mut other) = (room.slots(2, 1), room.slots(2, 2));
         let first = one.try_take().unwrap();
         assert!(one.are_plenty() && one.are_plenty(), "it takes none");
@@ -341,7 +329,7 @@ mod tests {
 
     #[test]
     fn older_calls_come_first() {
-        let room = Room::new();
+        let room = Room(TestFolder::new());
         let (mut old, mut young) = (room.slots(1, 1), room.slots(1, 2));
         let holder = room.slots(1, 3);
         let slot = holder.try_take().unwrap();
@@ -363,7 +351,7 @@ mod tests {
 
     #[test]
     fn calls_without_a_slot_come_before_those_that_want_another() {
-        let room = Room::new();
+        let room = Room(TestFolder::new());
         let [mut old, mut young] = [room.slots(2, 1), room.slots(2, 2)];
         let [first, second] = [old.try_take().unwrap(), old.try_take().unwrap()];
         assert!(young.begin_to_wait());
@@ -390,7 +378,7 @@ mod tests {
 
     #[test]
     fn a_call_with_fewer_slots_holds_up_no_others() {
-        let room = Room::new();
+        let room = Room(TestFolder::new());
         let (mut few, many) = (room.slots(1, 1), room.slots(2, 2));
         let first = room.slots(1, 3).try_take().unwrap();
         assert!(few.begin_to_wait());
@@ -401,7 +389,7 @@ mod tests {
 
     #[test]
     fn what_is_not_touched_does_not_count() {
-        let room = Room::new();
+        let room = Room(TestFolder::new());
         let (mut stopped, other) = (room.slots(1, 1), room.slots(1, 2));
         let slot = stopped.try_take().unwrap();
         assert!(stopped.begin_to_wait());
@@ -426,8 +414,8 @@ mod tests {
 
     #[test]
     fn the_first_folder_that_takes_locks_has_the_slots() {
-        let room = Room::new();
-        let place = room.0.as_ref().unwrap().path().to_owned();
+        let room = Room(TestFolder::new());
+        let place = room.0.to_owned();
         let slots = Slots::open(1, 1, &["/missing".into(), place.clone(), std::env::temp_dir()]).unwrap();
         assert_eq!(slots.folder.path, place.join(format!("zigrunk-slots-{}", system::user())));
         assert!(Slots::open(1, 1, &["/missing".into()]).is_none() && Slots::open(1, 1, &[]).is_none());
@@ -435,7 +423,7 @@ mod tests {
 
     #[test]
     fn an_older_call_keeps_only_the_slots_that_it_shares() {
-        let room = Room::new();
+        let room = Room(TestFolder::new());
         let (mut one, mut two, mut last) = (room.slots(1, 1), room.slots(2, 2), room.slots(4, 9));
         let young = room.slots(4, 3);
         assert!(one.begin_to_wait() && two.begin_to_wait() && last.begin_to_wait());
@@ -450,7 +438,7 @@ mod tests {
 
     #[test]
     fn as_many_more_slots_are_taken_as_are_stale() {
-        let room = Room::new();
+        let room = Room(TestFolder::new());
         let (stopped, other) = (room.slots(3, 1), room.slots(3, 2));
         let slots: Vec<Slot> = std::iter::from_fn(|| stopped.try_take()).collect();
         slots[..2].iter().for_each(|slot| age(&slot.file));
@@ -464,7 +452,7 @@ mod tests {
 
     #[test]
     fn the_oldest_call_that_can_use_a_slot_is_told_of_it() {
-        let room = Room::new();
+        let room = Room(TestFolder::new());
         let mut waiting = [(1, 1), (2, 2), (2, 3), (2, 4)].map(|(count, age)| room.slots(count, age));
         let slot = waiting[3].try_take().unwrap();
         assert!(waiting.iter_mut().all(Slots::begin_to_wait));
@@ -482,7 +470,7 @@ mod tests {
 
     #[test]
     fn a_call_that_ends_to_wait_has_no_ticket() {
-        let room = Room::new();
+        let room = Room(TestFolder::new());
         let (mut slots, mut next) = (room.slots(1, 1), room.slots(1, 2));
         let names = |slots: &Slots| slots.waiters().iter().map(|waiter| waiter.rank).collect::<Vec<_>>();
         assert!(next.begin_to_wait() && slots.begin_to_wait());
@@ -498,7 +486,7 @@ mod tests {
 
     #[test]
     fn those_who_wait_are_looked_up_when_the_folder_changes() {
-        let room = Room::new();
+        let room = Room(TestFolder::new());
         let (slots, mut waiting) = (room.slots(1, 1), room.slots(1, 2));
         let folder = File::open(&slots.folder.path).unwrap();
         assert_eq!((slots.waiters(), slots.known.borrow().is_some()), (vec![], false), "it has just changed");
@@ -518,7 +506,7 @@ mod tests {
 
     #[test]
     fn slots_are_lost_with_their_folder() {
-        let room = Room::new();
+        let room = Room(TestFolder::new());
         let slots = room.slots(1, 1);
         assert!(!slots.are_lost());
         let first = slots.folder.path.join("1");
@@ -536,7 +524,7 @@ mod tests {
 
     #[test]
     fn a_call_that_runs_touches_what_it_has() {
-        let room = Room::new();
+        let room = Room(TestFolder::new());
         let mut slots = room.slots(1, 1);
         let slot = slots.try_take().unwrap();
         assert!(slots.begin_to_wait());
@@ -554,7 +542,7 @@ mod tests {
 
     #[test]
     fn the_ticket_of_a_dead_call_goes() {
-        let room = Room::new();
+        let room = Room(TestFolder::new());
         let slots = room.slots(1, 2);
         let dead = Waiter { rank: 1, process: 1, count: 1 };
         system::make_pipe(slots.folder.as_fd(), &dead.name()).unwrap();

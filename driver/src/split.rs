@@ -124,10 +124,7 @@ impl Call<'_> {
     }
 
     /// What the line says of the call.
-    ///
-    /// # Errors
-    ///
-    /// Why nvcc makes the call.
+    /// Errors: why nvcc makes the call.
     pub fn outline(&self) -> Result<Outline, Stop> {
         let mut line = self.line.clone();
         line.variables.extend(self.runs_in_place().then(|| ("ZIGRUNK_IN_PLACE".to_owned(), "1".to_owned())));
@@ -183,10 +180,7 @@ impl Call<'_> {
     }
 
     /// Makes the dry runs, plans the call and runs its commands. `say` is told what nvcc and the commands say, in nvcc's order.
-    ///
-    /// # Errors
-    ///
-    /// Why nvcc makes the call, or the signal that ends it.
+    /// Errors: why nvcc makes the call, or the signal that ends it.
     pub fn run<M: Machine>(&self, machine: &mut M, outline: &Outline, say: &mut Say<'_>) -> Result<Outcome, Stop> {
         let (line, tmp, begun) = (self.line, self.tmp()?, SystemTime::now());
         machine.plans(true);
@@ -335,6 +329,7 @@ mod tests {
     use super::*;
     use crate::machine::Ended;
     use crate::system::Status;
+    use crate::test_folder::TestFolder;
 
     fn words(line: &str) -> Words {
         Words { folder: "/w".into(), words: line.split(' ').map(String::from).collect() }
@@ -397,8 +392,7 @@ mod tests {
 
     #[test]
     fn a_pipe_is_read_only_where_it_is_an_input() {
-        let folder = env::temp_dir().join(format!("streams-{}", std::process::id()));
-        fs::create_dir(&folder).unwrap();
+        let folder = TestFolder::new();
         fs::write(folder.join("file"), "").unwrap();
         assert!(std::process::Command::new("mkfifo").arg(folder.join("pipe")).status().unwrap().success());
         assert!(["pipe", "./pipe"].iter().all(|name| is_pipe(&folder.join(name))));
@@ -409,13 +403,11 @@ mod tests {
         };
         assert_eq!(call("nvcc -c pipe -o k.o"), to_nvcc("it reads a pipe"));
         assert_eq!(call("nvcc -c file -o pipe"), Ok(()));
-        fs::remove_dir_all(folder).unwrap();
     }
 
     #[test]
     fn links_to_open_files_are_seen() {
-        let folder = env::temp_dir().join(format!("links-{}", std::process::id()));
-        fs::create_dir(&folder).unwrap();
+        let folder = TestFolder::new();
         fs::write(folder.join("file"), "").unwrap();
         for (name, target) in [("open", "/dev/stdin"), ("second", "open"), ("folder", "/dev/fd"), ("usual", "file"), ("loop", "loop")] {
             std::os::unix::fs::symlink(target, folder.join(name)).unwrap();
@@ -431,7 +423,6 @@ mod tests {
             assert_eq!(call(&folder, &format!("nvcc -c {words}")), Ok(()), "{words}");
         }
         assert_eq!(call(Path::new("/dev"), "nvcc -c stdin"), to_nvcc("it uses an open file"));
-        fs::remove_dir_all(folder).unwrap();
     }
 
     #[test]
@@ -469,8 +460,7 @@ mod tests {
 
     #[test]
     fn a_kept_stub_file_has_its_name() {
-        let room = env::temp_dir().join(format!("stubs-{}", std::process::id()));
-        fs::create_dir_all(&room).unwrap();
+        let room = TestFolder::new();
         let tmp = room.to_str().unwrap();
         let text = |folder: &str| format!("#define A \"{tmp}/\"\n# 1 \"{folder}k.cudafe1.stub.c\"\n");
         for (name, wanted) in [("k.cudafe1.stub.c", "kd/"), ("k.cudafe1.cpp", &format!("{tmp}/"))] {
@@ -478,6 +468,5 @@ mod tests {
             name_stubs(tmp, "kd/");
             assert_eq!(fs::read_to_string(room.join(name)).unwrap(), text(wanted), "{name}");
         }
-        fs::remove_dir_all(room).unwrap();
     }
 }

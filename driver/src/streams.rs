@@ -15,10 +15,7 @@ const MOST_EXPECTED: usize = 1 << 26;
 const PATIENCE: i32 = 1000;
 
 /// All that an open file holds, wherever it is read or written just now.
-///
-/// # Errors
-///
-/// Those of reading.
+/// Errors: those of reading.
 pub fn content(file: &File) -> io::Result<Vec<u8>> {
     // (one byte more than a plain file has, to see its end; other files say nothing of what they hold)
     let expected = file.metadata().ok().and_then(|status| usize::try_from(status.len()).ok()).unwrap_or_default();
@@ -39,19 +36,13 @@ pub fn content(file: &File) -> io::Result<Vec<u8>> {
 }
 
 /// All that the file of a path holds.
-///
-/// # Errors
-///
-/// Those of opening and reading.
+/// Errors: those of opening and reading.
 pub fn content_of(path: &Path) -> io::Result<Vec<u8>> {
     content(&File::open(path)?)
 }
 
 /// Writes a whole text.
-///
-/// # Errors
-///
-/// Those of writing.
+/// Errors: those of writing.
 pub fn write_all(mut file: &File, text: &[u8]) -> io::Result<()> {
     let (mut rest, mut tries) = (text, 0);
     while !rest.is_empty() {
@@ -71,19 +62,13 @@ pub fn write_all(mut file: &File, text: &[u8]) -> io::Result<()> {
 }
 
 /// Writes a whole text to the file of a path, in place of what is there.
-///
-/// # Errors
-///
-/// Those of opening and writing.
+/// Errors: those of opening and writing.
 pub fn write_file(path: impl AsRef<Path>, text: impl AsRef<[u8]>) -> io::Result<()> {
     write_all(&File::create(path)?, text.as_ref())
 }
 
 /// Writes a text to a standard stream: 1 for output, 2 for messages.
-///
-/// # Errors
-///
-/// Those of writing.
+/// Errors: those of writing.
 pub fn say(stream: i32, text: &[u8]) -> io::Result<()> {
     // SAFETY: the standard streams are open, or this gives an error. They aren't closed here.
     let file = ManuallyDrop::new(unsafe { File::from_raw_fd(stream) });

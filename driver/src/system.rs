@@ -185,10 +185,7 @@ pub enum Opening {
 }
 
 /// Opens a file below a folder. No link is followed.
-///
-/// # Errors
-///
-/// Those of `openat`, and that of a name with a NUL.
+/// Errors: those of `openat`, and that of a name with a NUL.
 pub fn open_below(folder: BorrowedFd<'_>, name: &str, how: Opening) -> io::Result<OwnedFd> {
     let flags = match how {
         Opening::Folder => FOLDER,
@@ -239,10 +236,7 @@ pub fn touch(file: BorrowedFd<'_>) {
 }
 
 /// Takes the lock of an open file if nobody has it. `Ok(false)` says that somebody has.
-///
-/// # Errors
-///
-/// Those of a disk without locks.
+/// Errors: those of a disk without locks.
 pub fn try_lock(file: BorrowedFd<'_>) -> io::Result<bool> {
     match checked(unsafe { flock(file.as_raw_fd(), 2 | 4) }) {
         Ok(_) => Ok(true),
@@ -252,10 +246,7 @@ pub fn try_lock(file: BorrowedFd<'_>) -> io::Result<bool> {
 }
 
 /// Has whoever opens a file wait, which nobody but this process has open. The kernel's word for this is a lease.
-///
-/// # Errors
-///
-/// Those of `fcntl`: the disk has no leases, or somebody else has the file open.
+/// Errors: those of `fcntl`: the disk has no leases, or somebody else has the file open.
 pub fn withhold(file: BorrowedFd<'_>) -> io::Result<()> {
     // Without another signal the kernel would end this process by IO once somebody waits.
     checked(unsafe { fcntl(file.as_raw_fd(), SET_SIGNAL, URG) })?;
@@ -263,10 +254,7 @@ pub fn withhold(file: BorrowedFd<'_>) -> io::Result<()> {
 }
 
 /// Lets those go on that wait for a file.
-///
-/// # Errors
-///
-/// Those of `fcntl`: this process doesn't withhold it.
+/// Errors: those of `fcntl`: this process doesn't withhold it.
 pub fn give(file: BorrowedFd<'_>) -> io::Result<()> {
     checked(unsafe { fcntl(file.as_raw_fd(), SET_LEASE, 2) }).map(|_| ())
 }
@@ -294,10 +282,7 @@ pub fn wait_for_streams(files: &[(RawFd, bool)], milliseconds: i32) -> Vec<[bool
 }
 
 /// Has an open file not wait.
-///
-/// # Errors
-///
-/// Those of `fcntl`.
+/// Errors: those of `fcntl`.
 pub fn set_unblocked(file: RawFd) -> io::Result<()> {
     checked(unsafe { fcntl(file, 4, 2 | UNBLOCKED) }).map(|_| ())
 }
@@ -373,10 +358,7 @@ impl Status {
 }
 
 /// How a child has ended; nothing if it runs. The ends of other children, which others wait for, stay.
-///
-/// # Errors
-///
-/// Those of `waitpid`: it is no child, or its end is told already.
+/// Errors: those of `waitpid`: it is no child, or its end is told already.
 pub fn end_of(child: i32) -> io::Result<Option<Status>> {
     let mut state = 0;
     let ended = checked(unsafe { waitpid(child, &raw mut state, 1) })?;
@@ -419,10 +401,7 @@ impl Signals {
     /// From now on HUP, INT, TERM, TSTP and CHLD come by the file.
     ///
     /// TSTP is ignored too: one that a child gets before it has a group of its own is dropped then, and doesn't stop it for ever.
-    ///
-    /// # Errors
-    ///
-    /// Those of `signalfd`.
+    /// Errors: those of `signalfd`.
     pub fn open() -> io::Result<Signals> {
         let mut set: SignalSet = [0; 16];
         for number in [HUP, INT, TERM] {
@@ -542,10 +521,7 @@ impl<'a> Image<'a> {
     ///
     /// Until it runs the program, the child has this process's memory, and this process waits: to copy the memory would take longer than
     /// many a command.
-    ///
-    /// # Errors
-    ///
-    /// Those of `clone`. If the program can't be run, the child says so on its standard error and ends with 127.
+    /// Errors: those of `clone`. If the program can't be run, the child says so on its standard error and ends with 127.
     pub fn start(&self, streams: [RawFd; 3], signals: &Signals, group: *mut i32, complaint: &CStr) -> io::Result<i32> {
         let (argv, envp) = (pointers(&self.argv), pointers(&self.envp));
         let script: Vec<*const c_char> = [c"sh".as_ptr(), self.program.as_ptr()].into_iter().chain(argv.iter().copied().skip(1)).collect();
@@ -599,10 +575,7 @@ extern "C" fn become_child(child: *mut c_void) -> c_int {
 }
 
 /// Starts a copy of this process that runs a function and ends. Says its number.
-///
-/// # Errors
-///
-/// Those of `fork`.
+/// Errors: those of `fork`.
 pub fn fork_to(run: impl FnOnce()) -> io::Result<i32> {
     let child = checked(unsafe { fork() })?;
     if child == 0 {
@@ -613,10 +586,7 @@ pub fn fork_to(run: impl FnOnce()) -> io::Result<i32> {
 }
 
 /// A terminal: the end that its owner reads, and the one that a program has. It hands over lines as they are.
-///
-/// # Errors
-///
-/// Those of a machine without terminals to give.
+/// Errors: those of a machine without terminals to give.
 pub fn terminal() -> io::Result<(File, OwnedFd)> {
     let owner = owned(unsafe { posix_openpt(2 | 0o400 | CLOSE_ON_EXEC) })?;
     let mut name = [0 as c_char; 64];
@@ -678,33 +648,26 @@ mod tests {
     use super::*;
     use crate::forked::{dispositions, in_own_process, said_by, status_of};
     use crate::streams::content;
+    use crate::test_folder::TestFolder;
     use std::fs;
     use std::io::{Read, Write};
     use std::iter;
     use std::os::fd::AsFd;
     use std::os::unix::fs::{FileTypeExt, MetadataExt, symlink};
-    use std::path::PathBuf;
     use std::time::Instant;
 
     /// A folder for a test, which goes with it.
-    struct Scratch(PathBuf, File);
+    struct Scratch(TestFolder, File);
 
     impl Scratch {
-        fn new(name: &str) -> Scratch {
-            let path = std::env::temp_dir().join(format!("system-{name}-{}", std::process::id()));
-            fs::create_dir_all(&path).unwrap();
+        fn new() -> Scratch {
+            let path = TestFolder::new();
             let file = File::open(&path).unwrap();
             Scratch(path, file)
         }
 
         fn open(&self, name: &str, how: Opening) -> io::Result<OwnedFd> {
             open_below(self.1.as_fd(), name, how)
-        }
-    }
-
-    impl Drop for Scratch {
-        fn drop(&mut self) {
-            let _ = fs::remove_dir_all(&self.0);
         }
     }
 
@@ -923,7 +886,7 @@ mod tests {
 
     #[test]
     fn a_program_gets_words_variables_streams_and_a_folder() {
-        let scratch = Scratch::new("started");
+        let scratch = Scratch::new();
         let folder = fs::canonicalize(&scratch.0).unwrap();
         let says = "echo \"$1 $2 $A\"; read line; pwd -P; ps=$(cut -d ' ' -f 5 /proc/$$/stat); [ $ps = $$ ] || echo group; echo err >&2; exit 7";
         let wanted = format!("one two b\n{}\nerr\n", folder.display());
@@ -940,7 +903,7 @@ mod tests {
 
     #[test]
     fn a_process_becomes_a_program() {
-        let scratch = Scratch::new("becomes");
+        let scratch = Scratch::new();
         let out = memory_file().unwrap();
         for begin in ["#!/bin/sh\n", "\n"] {
             let program = script(&scratch, &format!("{begin}echo \"$1 $2 $A\"; exit 7\n"));
@@ -1000,7 +963,7 @@ mod tests {
 
     #[test]
     fn programs_get_no_file_of_this_process() {
-        let scratch = Scratch::new("inherited");
+        let scratch = Scratch::new();
         make_pipe(scratch.1.as_fd(), "pipe").unwrap();
         let path = CString::new(scratch.0.join("pipe").to_str().unwrap()).unwrap();
         let (read, write) = pipe().unwrap();
@@ -1014,7 +977,7 @@ mod tests {
 
     #[test]
     fn no_link_is_followed_below_a_folder() {
-        let scratch = Scratch::new("links");
+        let scratch = Scratch::new();
         fs::create_dir(scratch.0.join("folder")).unwrap();
         fs::write(scratch.0.join("file"), "text").unwrap();
         symlink("folder", scratch.0.join("to-folder")).unwrap();
@@ -1032,7 +995,7 @@ mod tests {
 
     #[test]
     fn what_is_made_is_the_users_alone() {
-        let scratch = Scratch::new("made");
+        let scratch = Scratch::new();
         make_folder(scratch.1.as_fd(), "folder").unwrap();
         make_pipe(scratch.1.as_fd(), "pipe").unwrap();
         let mut kept = File::from(scratch.open("kept", Opening::Kept).unwrap());
@@ -1048,7 +1011,7 @@ mod tests {
 
     #[test]
     fn a_named_pipe_is_opened_without_waiting() {
-        let scratch = Scratch::new("pipe");
+        let scratch = Scratch::new();
         make_pipe(scratch.1.as_fd(), "pipe").unwrap();
         assert!(scratch.open("pipe", Opening::PipeToWrite).is_err(), "nobody reads it");
         let path = CString::new(scratch.0.join("pipe").to_str().unwrap()).unwrap();
@@ -1066,7 +1029,7 @@ mod tests {
 
     #[test]
     fn one_open_file_has_a_lock() {
-        let scratch = Scratch::new("lock");
+        let scratch = Scratch::new();
         let [one, other] = [(); 2].map(|()| scratch.open("lock", Opening::Kept).unwrap());
         assert_eq!([&one, &one, &other].map(|file| try_lock(file.as_fd()).unwrap()), [true, true, false]);
         drop(one);

@@ -89,15 +89,11 @@ fn job_of(command: &PlannedCommand, before: &[&[String]], around: &Surroundings<
     Job { words, folder: command.folder.clone(), variables, ..Job::default() }
 }
 
-/// The files that a command touches, if its words name them.
-fn record_of(command: &PlannedCommand) -> Option<Record> {
-    let writes = || [&command.writes[..], &command.may_write].concat();
-    command.complete.then(|| Record { reads: command.reads.clone(), writes: writes() })
-}
-
 fn task_of(number: usize, command: &PlannedCommand, around: &Surroundings<'_>) -> Task {
     let settings = around.settings;
-    let bare = Job { record: record_of(command), ..job_of(command, &[&settings.runner], around) };
+    // (the files that the command touches, if its words name them)
+    let record = || Record { reads: command.reads.clone(), writes: [&command.writes[..], &command.may_write].concat() };
+    let bare = Job { record: command.complete.then(record), ..job_of(command, &[&settings.runner], around) };
     let (needs, preprocesses) = (command.needs.clone(), command.preprocesses);
     let (kind, weight) = (kind_of(command), weight_of(command));
     let task = Task { command: Some(number), needs, kind, weight, preprocesses, ..Task::default() };
@@ -110,22 +106,15 @@ fn task_of(number: usize, command: &PlannedCommand, around: &Surroundings<'_>) -
     Task { job, without_launcher: Some(bare), statistics, ..task }
 }
 
-/// The task that makes the dependency file by nvcc, once the source is preprocessed.
-fn rule_task(words: &Words, commands: &[PlannedCommand]) -> Task {
-    let variables = ["NVCC_PREPEND_FLAGS", "NVCC_APPEND_FLAGS"].map(|name| (name.to_owned(), None));
-    let job = Job { words: words.words.clone(), folder: words.folder.clone(), variables: variables.into(), ..Job::default() };
-    let needs = (0..commands.len()).filter(|&number| commands[number].preprocesses).collect();
-    Task { job, needs, is_rule: true, kind: "nvcc -M".into(), ..Task::default() }
-}
-
 /// The tasks of a plan. What makes the dependency file comes before the last command, which writes the product and waits for it.
 pub fn tasks_of(commands: &[PlannedCommand], dependencies: Option<&Words>, around: &Surroundings<'_>) -> Vec<Task> {
     let mut tasks: Vec<Task> = commands.iter().enumerate().map(|(number, command)| task_of(number, command, around)).collect();
     let (Some(words), Some(last)) = (dependencies, tasks.len().checked_sub(1)) else { return tasks };
-    let mut rule = rule_task(words, commands);
-    rule.needs.retain(|&need| need < last);
+    let variables = ["NVCC_PREPEND_FLAGS", "NVCC_APPEND_FLAGS"].map(|name| (name.to_owned(), None));
+    let job = Job { words: words.words.clone(), folder: words.folder.clone(), variables: variables.into(), ..Job::default() };
+    let needs = (0..last).filter(|&number| commands[number].preprocesses).collect();
     tasks[last].needs.push(last);
-    tasks.insert(last, rule);
+    tasks.insert(last, Task { job, needs, is_rule: true, kind: "nvcc -M".into(), ..Task::default() });
     tasks
 }
 

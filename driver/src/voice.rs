@@ -132,15 +132,11 @@ impl<'a> Voice<'a> {
     /// Tells the rest of the next task, if it ran.
     fn tell_next(&mut self, done: &[Done]) {
         let number = self.order[self.next];
-        if let Some(ended) = done[number].ended.as_ref().filter(|_| !self.is_told_by_rule(number, done)) {
+        let is_told_by_rule = self.habits.rule_speaks && self.rule.is_some_and(|rule| number < rule && done[rule].ended.is_some());
+        if let Some(ended) = done[number].ended.as_ref().filter(|_| !is_told_by_rule) {
             self.tell_end(number, ended);
         }
         (self.next, self.told) = (self.next + 1, [0; 2]);
-    }
-
-    /// Whether what makes the dependency file tells what a task said.
-    fn is_told_by_rule(&self, number: usize, done: &[Done]) -> bool {
-        self.habits.rule_speaks && self.rule.is_some_and(|rule| number < rule && done[rule].ended.is_some())
     }
 
     fn tell_end(&mut self, number: usize, ended: &Ended) {

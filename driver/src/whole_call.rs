@@ -6,11 +6,11 @@ use crate::run::{self, Done, NoRule, Stopped};
 use crate::settings::Settings;
 use crate::system::{Status, TERM};
 use crate::tasks::{self, Surroundings};
+use crate::test_folder::TestFolder;
 use std::collections::VecDeque;
 use std::fs;
 use std::io;
 use std::os::unix::fs::PermissionsExt;
-use std::path::PathBuf;
 
 /// A recorded dry run for one target, whose files are in `/t/`.
 const RECORDED: &str = include_str!("one_target.txt");
@@ -86,11 +86,11 @@ impl Machine for Fake {
 }
 
 /// A folder with a toolkit of empty programs, which goes with the test.
-struct Room(PathBuf);
+struct Room(TestFolder);
 
 impl Room {
-    fn new(name: &str) -> Room {
-        let path = fs::canonicalize(std::env::temp_dir()).unwrap().join(format!("whole-call-{name}-{}", std::process::id()));
+    fn new() -> Room {
+        let path = TestFolder::new();
         for program in ["bin/nvcc", "bin/gcc", "bin/cudafe++", "bin/ptxas", "bin/fatbinary", "nvvm/bin/cicc"] {
             let program = path.join(program);
             fs::create_dir_all(program.parent().unwrap()).unwrap();
@@ -143,19 +143,13 @@ impl Room {
     }
 }
 
-impl Drop for Room {
-    fn drop(&mut self) {
-        let _ = fs::remove_dir_all(&self.0);
-    }
-}
-
 fn programs(machine: &Fake) -> String {
     machine.started.iter().map(|job| base(&job.words[0])).collect::<Vec<_>>().join(" ")
 }
 
 #[test]
 fn a_call_runs_the_commands_of_its_plan() {
-    let room = Room::new("all");
+    let room = Room::new();
     let mut machine = room.machine();
     let done = room.call(&mut machine).unwrap();
     assert!(done.len() == 7 && done.iter().all(|done| done.has_ended() && !done.failed()));
@@ -170,7 +164,7 @@ fn a_call_runs_the_commands_of_its_plan() {
 
 #[test]
 fn two_dry_runs_are_made_in_one_slot() {
-    let room = Room::new("dry");
+    let room = Room::new();
     let mut machine = room.machine();
     let dry_runs = room.dry_runs(&mut machine).unwrap();
     assert_eq!(machine.started.iter().map(|job| job.shares_slot).collect::<Vec<_>>(), [false, true]);
@@ -179,7 +173,7 @@ fn two_dry_runs_are_made_in_one_slot() {
 
 #[test]
 fn what_fails_beside_the_dry_runs_ends_them() {
-    let room = Room::new("beside");
+    let room = Room::new();
     let mut machine = room.machine();
     let (line, outline, tmp) = (room.line(), room.outline(), room.tmp());
     let asked = dry_runs::Line { nvcc: &line.nvcc, words: &line.words, outline: &outline, tmp: &tmp, cwd: &line.cwd };
@@ -189,7 +183,7 @@ fn what_fails_beside_the_dry_runs_ends_them() {
 
 #[test]
 fn the_first_command_that_fails_ends_the_call() {
-    let room = Room::new("fails");
+    let room = Room::new();
     let mut machine = Fake { fails: Some(("cicc", 7)), ..room.machine() };
     let done = room.call(&mut machine).unwrap();
     assert_eq!(programs(&machine), "gcc cudafe++ gcc cicc");
@@ -198,7 +192,7 @@ fn the_first_command_that_fails_ends_the_call() {
 
 #[test]
 fn without_processes_nvcc_has_to_make_the_call() {
-    let room = Room::new("none");
+    let room = Room::new();
     let mut machine = Fake { most: Some(1), ..room.machine() };
     assert_eq!(room.dry_runs(&mut machine), Err(Failed::ByNvcc("no process for a dry run".into())));
     assert_eq!(machine.ended_by, Some(TERM));
@@ -206,7 +200,7 @@ fn without_processes_nvcc_has_to_make_the_call() {
 
 #[test]
 fn a_signal_ends_dry_runs_and_commands() {
-    let room = Room::new("signal");
+    let room = Room::new();
     let mut machine = Fake { signal_after: Some(2), ..room.machine() };
     assert_eq!(room.dry_runs(&mut machine), Err(Failed::Signal(TERM)));
     let mut machine = room.machine();

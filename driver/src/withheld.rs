@@ -27,10 +27,7 @@ fn longest_wait() -> io::Result<Duration> {
 
 impl Withheld {
     /// A new file of this path.
-    ///
-    /// # Errors
-    ///
-    /// If there is such a file, or its disk or the kernel can't have readers wait long enough.
+    /// An error if there is such a file, or its disk or the kernel can't have readers wait long enough.
     pub fn new(path: &Path) -> io::Result<Withheld> {
         let longest = longest_wait()?.checked_sub(MARGIN).ok_or(io::ErrorKind::Unsupported)?;
         let file = File::options().read(true).write(true).create_new(true).open(path)?;
@@ -52,19 +49,14 @@ impl Withheld {
 #[cfg(test)]
 mod tests {
     use super::*;
+    use crate::test_folder::TestFolder;
     use std::sync::mpsc;
     use std::thread;
 
-    /// A path in the folder for temporary files that no other test has.
-    fn path_of(name: &str) -> std::path::PathBuf {
-        let path = std::env::temp_dir().join(format!("withheld-{name}-{}", std::process::id()));
-        let _ = fs::remove_file(&path);
-        path
-    }
-
     #[test]
     fn readers_wait_for_the_content() {
-        let path = path_of("wait");
+        let folder = TestFolder::new();
+        let path = folder.join("file");
         let mut withheld = Withheld::new(&path).unwrap();
         let (sender, read) = mpsc::channel();
         let other = path.clone();
@@ -75,24 +67,23 @@ mod tests {
         assert!(withheld.give());
         assert_eq!(read.recv().unwrap(), b"content");
         reader.join().unwrap();
-        fs::remove_file(path).unwrap();
     }
 
     #[test]
     fn what_comes_late_is_told() {
-        let path = path_of("late");
+        let folder = TestFolder::new();
+        let path = folder.join("file");
         let mut withheld = Withheld { longest: Duration::ZERO, ..Withheld::new(&path).unwrap() };
         assert!(!withheld.write(b"content"));
-        fs::remove_file(path).unwrap();
     }
 
     #[test]
     fn a_file_that_is_there_stays() {
-        let path = path_of("there");
+        let folder = TestFolder::new();
+        let path = folder.join("file");
         fs::write(&path, "old").unwrap();
         assert!(Withheld::new(&path).is_err());
         assert_eq!(fs::read(&path).unwrap(), b"old");
-        fs::remove_file(path).unwrap();
     }
 
     #[test]

@@ -1,5 +1,5 @@
 /* Calls of every function: valid, failing and hostile input. `calls ROUNDS` makes that many random cases. */
-#include "checks.h"
+#include "lines.h"
 
 static zigrunk_text_answer call_version(const void *more, uint8_t *out, size_t out_size) {
     (void)more;
@@ -10,25 +10,8 @@ static zigrunk_text_answer call_message(const void *more, uint8_t *out, size_t o
     return zigrunk_message(*(const int32_t *)more, out, out_size);
 }
 
-static zigrunk_list_answer call_split(const void *more, zigrunk_range *ranges, size_t ranges_size, uint8_t *out, size_t out_size) {
-    const zigrunk_text *text = more;
-    return zigrunk_split(text->bytes, text->length, ranges, ranges_size, out, out_size);
-}
-
-typedef struct words {
-    const zigrunk_text *words;
-    size_t count;
-} words;
-
-static zigrunk_text_answer call_quote(const void *more, uint8_t *out, size_t out_size) {
-    const words *list = more;
-    return zigrunk_quote(list->words, list->count, out, out_size);
-}
-
 static void check_messages(void) {
-    answer version = ask_text(call_version, NULL);
-    CHECK(version.status == ZIGRUNK_OK && is_text(&version, VERSION));
-    release(version);
+    TELLS(ask_text(call_version, NULL), ZIGRUNK_OK, VERSION);
     CHECK(zigrunk_abi_version() == ZIGRUNK_ABI_VERSION);
 
     static const struct {
@@ -51,15 +34,11 @@ static void check_messages(void) {
         {ZIGRUNK_ODD_DIRECTORY, "a directory is not absolute and plain"},
     };
     for (size_t i = 0; i < sizeof known / sizeof *known; i++) {
-        answer told = ask_text(call_message, &known[i].status);
-        CHECK(told.status == ZIGRUNK_OK && is_text(&told, known[i].text));
-        release(told);
+        TELLS(ask_text(call_message, &known[i].status), ZIGRUNK_OK, known[i].text);
     }
     static const int32_t unknown[] = {-1, 14, 1000, INT32_MAX, INT32_MIN};
     for (size_t i = 0; i < sizeof unknown / sizeof *unknown; i++) {
-        answer told = ask_text(call_message, &unknown[i]);
-        CHECK(told.status == ZIGRUNK_BAD_NUMBER && is_text(&told, "a number has no meaning"));
-        release(told);
+        TELLS(ask_text(call_message, &unknown[i]), ZIGRUNK_BAD_NUMBER, "a number has no meaning");
     }
 }
 
@@ -68,22 +47,12 @@ static answer split(zigrunk_text text) {
 }
 
 static void check_split(void) {
-    answer a = split(text_of("g++ -D 'a b' c\\ d \"e'f\" ''"));
-    CHECK(a.status == ZIGRUNK_OK && a.count == 6);
-    CHECK(is_word(&a, 0, "g++") && is_word(&a, 1, "-D") && is_word(&a, 2, "a b") && is_word(&a, 3, "c d"));
-    CHECK(is_word(&a, 4, "e'f") && is_word(&a, 5, ""));
-    release(a);
-    a = split(text_of(""));
-    CHECK(a.status == ZIGRUNK_OK && a.count == 0 && a.length == 0);
-    release(a);
-    a = split(text_of("a 'b"));
-    CHECK(a.status == ZIGRUNK_OPEN_QUOTE && a.count == 0 && is_text(&a, "open quote or backslash at the end"));
-    release(a);
-    a = split(text_of("a \xFF"));
-    CHECK(a.status == ZIGRUNK_NOT_UTF8 && a.count == 0 && is_text(&a, "a text is not UTF-8"));
-    release(a);
+    LISTS(split(text_of("g++ -D 'a b' c\\ d \"e'f\" ''")), "g++", "-D", "a b", "c d", "e'f", "");
+    TELLS(split(text_of("")), ZIGRUNK_OK, "");
+    TELLS(split(text_of("a 'b")), ZIGRUNK_OPEN_QUOTE, "open quote or backslash at the end");
+    TELLS(split(text_of("a \xFF")), ZIGRUNK_NOT_UTF8, "a text is not UTF-8");
     zigrunk_text with_nul = {(const uint8_t *)"a\0b c", 5};
-    a = split(with_nul);
+    answer a = split(with_nul);
     CHECK(a.status == ZIGRUNK_OK && a.count == 2 && a.ranges[0].length == 3 && memcmp(a.out, "a\0bc", 4) == 0);
     release(a);
 }
@@ -95,16 +64,10 @@ static answer quote(const zigrunk_text *list, size_t count) {
 
 static void check_quote(void) {
     zigrunk_text list[] = {text_of("g++"), text_of("a b"), text_of(""), text_of("it's"), text_of("x=y")};
-    answer a = quote(list, 5);
-    CHECK(a.status == ZIGRUNK_OK && is_text(&a, "g++ 'a b' '' 'it'\\''s' 'x=y'"));
-    release(a);
-    a = quote(list, 0);
-    CHECK(a.status == ZIGRUNK_OK && a.length == 0);
-    release(a);
+    TELLS(quote(list, 5), ZIGRUNK_OK, "g++ 'a b' '' 'it'\\''s' 'x=y'");
+    TELLS(quote(list, 0), ZIGRUNK_OK, "");
     list[4] = text_of("\xC3");
-    a = quote(list, 5);
-    CHECK(a.status == ZIGRUNK_NOT_UTF8 && is_text(&a, "a text is not UTF-8"));
-    release(a);
+    TELLS(quote(list, 5), ZIGRUNK_NOT_UTF8, "a text is not UTF-8");
 }
 
 /* A shorter answer leaves the longer one behind it as it was, a refusal too. */
@@ -138,8 +101,7 @@ static void check_random_texts(int rounds) {
         if (a.status == ZIGRUNK_OK) {
             zigrunk_text *list = room(a.count, sizeof *list);
             for (size_t k = 0; k < a.count; k++) {
-                list[k].bytes = a.out + a.ranges[k].offset;
-                list[k].length = a.ranges[k].length;
+                list[k] = text_at(&a, k);
             }
             answer quoted = quote(list, a.count);
             CHECK(quoted.status == ZIGRUNK_OK);
@@ -158,17 +120,11 @@ static void check_random_texts(int rounds) {
 
 /* A long text: no answer depends on a fixed size. */
 static void check_long_text(void) {
-    size_t count = 20000;
-    uint8_t *bytes = room(count * 2, 1);
-    for (size_t i = 0; i < count; i++) {
-        bytes[2 * i] = 'w';
-        bytes[2 * i + 1] = ' ';
-    }
-    zigrunk_text text = {bytes, count * 2};
+    zigrunk_text text = repeated("", "w ", 20000);
     answer a = split(text);
-    CHECK(a.status == ZIGRUNK_OK && a.count == count && a.length == count);
+    CHECK(a.status == ZIGRUNK_OK && a.count == 20000 && a.length == 20000);
     release(a);
-    free(bytes);
+    free((void *)text.bytes);
 }
 
 int main(int count, char **arguments) {

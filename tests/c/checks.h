@@ -73,14 +73,6 @@ static inline void add_bytes(const void *at, size_t bytes) {
     }
 }
 
-static inline void add_answer(const answer *a) {
-    add_bytes(&a->status, sizeof a->status);
-    add_bytes(&a->count, sizeof a->count);
-    add_bytes(&a->length, sizeof a->length);
-    add_bytes(a->ranges, a->count * sizeof *a->ranges);
-    add_bytes(a->out, a->length);
-}
-
 static inline void release(answer a) {
     free(a.ranges);
     free(a.out);
@@ -90,67 +82,177 @@ static inline int is_text(const answer *a, const char *text) {
     return a->length == strlen(text) && memcmp(a->out, text, a->length) == 0;
 }
 
+static inline zigrunk_text text_at(const answer *a, size_t index) {
+    zigrunk_text text = {a->out + a->ranges[index].offset, a->ranges[index].length};
+    return text;
+}
+
+static inline int is_same(zigrunk_text a, zigrunk_text b) {
+    return a.length == b.length && memcmp(a.bytes, b.bytes, a.length) == 0;
+}
+
 static inline int is_word(const answer *a, size_t index, const char *word) {
-    return index < a->count && a->ranges[index].length == strlen(word)
-        && memcmp(a->out + a->ranges[index].offset, word, strlen(word)) == 0;
+    return index < a->count && is_same(text_at(a, index), text_of(word));
+}
+
+/* Whether an answer has this status and text, and no list. Shows it if not, and releases it. */
+static inline int has_told(answer a, int32_t status, const char *text) {
+    int holds = a.status == status && a.count == 0 && is_text(&a, text);
+    if (!holds) {
+        printf("status %d: %.*s\n", (int)a.status, (int)a.length, (const char *)a.out);
+    }
+    release(a);
+    return holds;
+}
+
+#define TELLS(asked, status, text) CHECK(has_told(asked, status, text))
+
+/* Whether an answer is a list of these words. Shows it if not, and releases it. */
+static inline int has_listed(answer a, const char *const *words, size_t count) {
+    int holds = a.status == ZIGRUNK_OK && a.count == count;
+    for (size_t i = 0; i < count && holds; i++) {
+        holds = is_word(&a, i, words[i]);
+    }
+    if (!holds) {
+        printf("status %d, %zu words: %.*s\n", (int)a.status, a.count, (int)a.length, (const char *)a.out);
+    }
+    release(a);
+    return holds;
+}
+
+#define LISTS(asked, ...) CHECK(has_listed(asked, (const char *const[]){__VA_ARGS__}, sizeof((const char *const[]){__VA_ARGS__}) / sizeof(char *)))
+
+/* Any call's answer: its status, how much each part has, and the parts, in memory of its own. What else it says is in `more`. */
+enum { PARTS = 6 };
+
+typedef struct asked {
+    int32_t status;
+    size_t counts[PARTS];
+    union {
+        zigrunk_line_record line;
+        zigrunk_place place;
+    } more;
+    void *parts[PARTS];
+} asked;
+
+/* Makes a call with `what` it takes besides its buffers, and with room for so many of each part. */
+typedef void asker(const void *what, asked *into, const size_t room_for[PARTS]);
+
+static inline void release_asked(asked a) {
+    for (int i = 0; i < PARTS; i++) {
+        free(a.parts[i]);
+    }
+}
+
+static inline asked ask_with(asker *asks, const size_t sizes[PARTS], const void *what, const size_t room_for[PARTS]) {
+    asked a;
+    memset(&a, 0, sizeof a);
+    for (int i = 0; i < PARTS; i++) {
+        a.parts[i] = room(room_for[i], sizes[i]);
+    }
+    asks(what, &a, room_for);
+    return a;
+}
+
+static inline int same_answers(const asked *a, const asked *b) {
+    return a->status == b->status && memcmp(a->counts, b->counts, sizeof a->counts) == 0 && memcmp(&a->more, &b->more, sizeof a->more) == 0;
+}
+
+/* The same with room that must not change the answer, nor anything behind the first `written` of each part. */
+static inline asked ask_again(asker *asks, const size_t sizes[PARTS], const void *what, const asked *right, const size_t room_for[PARTS],
+    const size_t written[PARTS]) {
+    asked a = ask_with(asks, sizes, what, room_for);
+    CHECK(same_answers(&a, right));
+    for (int i = 0; i < PARTS; i++) {
+        CHECK(is_unwritten((const uint8_t *)a.parts[i] + written[i] * sizes[i], (room_for[i] - written[i]) * sizes[i]));
+    }
+    return a;
+}
+
+/* Asks for the sizes; calls with one of the buffers one element too small, when all must stay as they are; then with larger
+ * buffers, whose rest must stay as it is; and last with buffers of the right sizes. All of these return the same answer. */
+static inline asked ask_all(asker *asks, const size_t sizes[PARTS], const void *what) {
+    static const size_t none[PARTS];
+    asked empty = ask_with(asks, sizes, what, none);
+    size_t counts[PARTS], larger[PARTS];
+    memcpy(counts, empty.counts, sizeof counts);
+    for (int i = 0; i < PARTS; i++) {
+        larger[i] = counts[i] + (sizes[i] > 0) * (2 + (size_t)i);
+        if (counts[i] > 0) {
+            counts[i]--;
+            release_asked(ask_again(asks, sizes, what, &empty, counts, none));
+            counts[i]++;
+        }
+    }
+    asked large = ask_again(asks, sizes, what, &empty, larger, counts), a = ask_again(asks, sizes, what, &empty, counts, counts);
+    add_bytes(&a.status, sizeof a.status);
+    add_bytes(&a.more, sizeof a.more);
+    for (int i = 0; i < PARTS; i++) {
+        CHECK(memcmp(a.parts[i], large.parts[i], counts[i] * sizes[i]) == 0);
+        add_bytes(a.parts[i], counts[i] * sizes[i]);
+    }
+    release_asked(empty);
+    release_asked(large);
+    return a;
 }
 
 /* A call that writes a text, or a list of texts: `more` is what it takes besides its buffers. */
 typedef zigrunk_text_answer text_call(const void *more, uint8_t *out, size_t out_size);
 typedef zigrunk_list_answer list_call(const void *more, zigrunk_range *ranges, size_t ranges_size, uint8_t *out, size_t out_size);
 
-/* Asks for the sizes; calls with buffers that are one element too small, which must stay as they are; then calls with the
- * right ones, and with larger ones, whose rest must stay as it is. All of these calls must return the same sizes. */
-static inline answer ask_text(text_call *call, const void *more) {
-    zigrunk_text_answer sizes = call(more, (uint8_t *)"", 0);
-    answer a = {sizes.status, 0, sizes.length, room(0, 1), room(sizes.length, 1)};
-    if (a.length > 0) {
-        uint8_t *less = room(a.length - 1, 1);
-        zigrunk_text_answer without = call(more, less, a.length - 1);
-        CHECK(without.status == a.status && without.length == a.length && is_unwritten(less, a.length - 1));
-        free(less);
+/* One of both, and what it takes. */
+typedef struct listed {
+    text_call *text;
+    list_call *list;
+    const void *more;
+} listed;
+
+static inline void asks_texts(const void *what, asked *into, const size_t room_for[PARTS]) {
+    const listed *it = what;
+    zigrunk_list_answer a;
+    if (it->text) {
+        zigrunk_text_answer text = it->text(it->more, into->parts[1], room_for[1]);
+        a.status = text.status, a.count = 0, a.length = text.length;
+    } else {
+        a = it->list(it->more, into->parts[0], room_for[0], into->parts[1], room_for[1]);
     }
-    uint8_t *larger = room(a.length + 7, 1);
-    zigrunk_text_answer with = call(more, larger, a.length + 7);
-    CHECK(with.status == a.status && with.length == a.length && is_unwritten(larger + a.length, 7));
-    zigrunk_text_answer exact = call(more, a.out, a.length);
-    CHECK(exact.status == a.status && exact.length == a.length && memcmp(a.out, larger, a.length) == 0);
-    free(larger);
-    add_answer(&a);
+    into->status = a.status, into->counts[0] = a.count, into->counts[1] = a.length;
+}
+
+static inline answer ask_texts(text_call *text, list_call *list, const void *more) {
+    static const size_t sizes[PARTS] = {sizeof(zigrunk_range), 1};
+    const listed what = {text, list, more};
+    asked all = ask_all(asks_texts, sizes, &what);
+    answer a = {all.status, all.counts[0], all.counts[1], all.parts[0], all.parts[1]};
+    size_t at = 0;
+    for (size_t i = 0; i < a.count; at += a.ranges[i++].length) {
+        CHECK(a.ranges[i].offset == at);
+    }
+    CHECK(a.count == 0 || at == a.length);
+    for (int i = 2; i < PARTS; i++) {
+        free(all.parts[i]);
+    }
     return a;
 }
 
+static inline answer ask_text(text_call *call, const void *more) {
+    return ask_texts(call, NULL, more);
+}
+
 static inline answer ask_list(list_call *call, const void *more) {
-    zigrunk_range none;
-    zigrunk_list_answer sizes = call(more, &none, 0, (uint8_t *)"", 0);
-    answer a = {sizes.status, sizes.count, sizes.length, room(sizes.count, sizeof(zigrunk_range)), room(sizes.length, 1)};
-    size_t bytes = a.count * sizeof(zigrunk_range);
-    for (int what = 0; what < 2; what++) {
-        size_t count = a.count - (what == 0 && a.count > 0), length = a.length - (what == 1 && a.length > 0);
-        if (count < a.count || length < a.length) {
-            zigrunk_list_answer without = call(more, a.ranges, count, a.out, length);
-            CHECK(without.status == a.status && without.count == a.count && without.length == a.length);
-            CHECK(is_unwritten(a.ranges, bytes) && is_unwritten(a.out, a.length));
-        }
+    return ask_texts(NULL, call, more);
+}
+
+/* Bytes that repeat a text. */
+static inline zigrunk_text repeated(const char *first, const char *text, size_t count) {
+    size_t head = strlen(first), each = strlen(text);
+    uint8_t *bytes = room(head + count * each, 1);
+    memcpy(bytes, first, head);
+    for (size_t i = 0; i < count; i++) {
+        memcpy(bytes + head + i * each, text, each);
     }
-    zigrunk_range *more_ranges = room(a.count + 3, sizeof(zigrunk_range));
-    uint8_t *larger = room(a.length + 7, 1);
-    zigrunk_list_answer with = call(more, more_ranges, a.count + 3, larger, a.length + 7);
-    CHECK(with.status == a.status && with.count == a.count && with.length == a.length);
-    CHECK(is_unwritten(more_ranges + a.count, 3 * sizeof(zigrunk_range)) && is_unwritten(larger + a.length, 7));
-    zigrunk_list_answer exact = call(more, a.ranges, a.count, a.out, a.length);
-    CHECK(exact.status == a.status && exact.count == a.count && exact.length == a.length);
-    CHECK(memcmp(a.ranges, more_ranges, bytes) == 0 && memcmp(a.out, larger, a.length) == 0);
-    size_t at = 0;
-    for (size_t i = 0; i < a.count; i++) {
-        CHECK(a.ranges[i].offset == at);
-        at += a.ranges[i].length;
-    }
-    CHECK(a.count == 0 || at == a.length);
-    free(more_ranges);
-    free(larger);
-    add_answer(&a);
-    return a;
+    zigrunk_text made = {bytes, head + count * each};
+    return made;
 }
 
 /* A sequence of numbers that looks random and is always the same. */

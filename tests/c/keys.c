@@ -1,10 +1,6 @@
 /* Keys of commands: whole keys, refusals, and `keys COUNT` random commands, whose keys are compared with those of an encoder of its
  * own, and with those of the same commands elsewhere. */
-#include "checks.h"
-
-static zigrunk_text_answer call_key(const void *more, uint8_t *out, size_t out_size) {
-    return zigrunk_command_key(more, out, out_size);
-}
+#include "lines.h"
 
 static const zigrunk_text no_text;
 static const zigrunk_variable no_variable;
@@ -20,11 +16,14 @@ static zigrunk_key_call key_call_of(uint32_t tool, const zigrunk_text *words, si
     return call;
 }
 
-static int is_bytes(const answer *a, const char *bytes, size_t length) {
-    return a->status == ZIGRUNK_OK && a->length == length && memcmp(a->out, bytes, length) == 0;
+static int is_key(const zigrunk_key_call *call, const char *bytes, size_t length) {
+    answer a = ask_text(call_key, call);
+    int holds = a.status == ZIGRUNK_OK && a.length == length && memcmp(a.out, bytes, length) == 0;
+    release(a);
+    return holds;
 }
 
-#define IS_KEY(a, key) is_bytes(a, key, sizeof key - 1)
+#define HAS_KEY(call, key) CHECK(is_key(&call, key, sizeof key - 1))
 
 static zigrunk_variable variable_of(const char *name, const char *value) {
     zigrunk_variable made = {text_of(name), text_of(value)};
@@ -35,17 +34,11 @@ static void check_words(void) {
     zigrunk_text words[] = {text_of("cicc"), text_of("-I/t/u/t"), text_of(""), text_of("/tt"), text_of("\xff")};
     zigrunk_text roots[] = {text_of("/t/u"), text_of(""), text_of("/t")};
     zigrunk_key_call call = key_call_of(ZIGRUNK_TOOL_CICC, words, 5);
-    answer a = ask_text(call_key, &call);
-    CHECK(IS_KEY(&a, "cicc\0000-I/t/u/t\0000\0000/tt\0000\xff\0000"));
-    release(a);
+    HAS_KEY(call, "cicc\0000-I/t/u/t\0000\0000/tt\0000\xff\0000");
     call.roots = roots, call.roots_count = 3;
-    a = ask_text(call_key, &call);
-    CHECK(IS_KEY(&a, "cicc\0000-I\0A\0C\0000\0000/tt\0000\xff\0000"));
-    release(a);
+    HAS_KEY(call, "cicc\0000-I\0A\0C\0000\0000/tt\0000\xff\0000");
     call.words_count = 0;
-    a = ask_text(call_key, &call);
-    CHECK(IS_KEY(&a, ""));
-    release(a);
+    HAS_KEY(call, "");
 }
 
 /* Roots end where a name ends, and of a root and one in it the inner one counts, in any order. */
@@ -54,19 +47,13 @@ static void check_roots(void) {
     zigrunk_text outer_first[] = {text_of("/u/proj"), text_of("/u/proj/a")}, inner_first[] = {outer_first[1], outer_first[0]};
     zigrunk_key_call call = key_call_of(ZIGRUNK_TOOL_CICC, words, 4);
     call.roots = outer_first, call.roots_count = 2;
-    answer a = ask_text(call_key, &call);
-    CHECK(IS_KEY(&a, "-I\0A\0000/u/proj-deps/a\0000\0B/k.cu\0000-I\0A/ab\0000"));
-    release(a);
+    HAS_KEY(call, "-I\0A\0000/u/proj-deps/a\0000\0B/k.cu\0000-I\0A/ab\0000");
     call.roots = inner_first;
-    a = ask_text(call_key, &call);
-    CHECK(IS_KEY(&a, "-I\0B\0000/u/proj-deps/a\0000\0A/k.cu\0000-I\0B/ab\0000"));
-    release(a);
+    HAS_KEY(call, "-I\0B\0000/u/proj-deps/a\0000\0A/k.cu\0000-I\0B/ab\0000");
     /* a root that isn't absolute is a name, and counts anywhere */
     zigrunk_text name = text_of("proj");
     call.roots = &name, call.roots_count = 1;
-    a = ask_text(call_key, &call);
-    CHECK(IS_KEY(&a, "-I/u/\0A\0000/u/\0A-deps/a\0000/u/\0A/a/k.cu\0000-I/u/\0A/ab\0000"));
-    release(a);
+    HAS_KEY(call, "-I/u/\0A\0000/u/\0A-deps/a\0000/u/\0A/a/k.cu\0000-I/u/\0A/ab\0000");
 }
 
 /* Variables: those of the tool, in one order, the last value of each. */
@@ -76,24 +63,16 @@ static void check_variables(void) {
         variable_of("USR_INCLUDE", "/i"), variable_of("PWD", "/t"), variable_of("CPATHS", "x")};
     zigrunk_key_call call = key_call_of(ZIGRUNK_TOOL_HOST, &word, 1);
     call.variables = variables, call.variables_count = 6, call.roots = &root, call.roots_count = 1;
-    answer a = ask_text(call_key, &call);
-    CHECK(IS_KEY(&a, "g++\0000CPATH\0001:/t:/u\0002PWD\0001\0A\0002"));
-    release(a);
+    HAS_KEY(call, "g++\0000CPATH\0001:/t:/u\0002PWD\0001\0A\0002");
     call.tool = ZIGRUNK_TOOL_CICC;
-    a = ask_text(call_key, &call);
-    CHECK(IS_KEY(&a, "g++\0000PWD\0001\0A\0002USR_INCLUDE\0001/i\0002"));
-    release(a);
+    HAS_KEY(call, "g++\0000PWD\0001\0A\0002USR_INCLUDE\0001/i\0002");
     const uint32_t others[] = {ZIGRUNK_TOOL_PTXAS, ZIGRUNK_TOOL_FATBINARY, ZIGRUNK_TOOL_NVLINK};
     for (int i = 0; i < 3; i++) {
         call.tool = others[i];
-        a = ask_text(call_key, &call);
-        CHECK(IS_KEY(&a, "g++\0000"));
-        release(a);
+        HAS_KEY(call, "g++\0000");
     }
     call.tool = ZIGRUNK_TOOL_CUDAFE;
-    a = ask_text(call_key, &call);
-    CHECK(IS_KEY(&a, "g++\0000USR_INCLUDE\0001/i\0002"));
-    release(a);
+    HAS_KEY(call, "g++\0000USR_INCLUDE\0001/i\0002");
 }
 
 /* The variables of the loader, which count for each tool. */
@@ -104,16 +83,8 @@ static void check_loader(void) {
     for (int i = 0; i < 6; i++) {
         zigrunk_key_call call = key_call_of(tools[i], &word, 1);
         call.variables = variables, call.variables_count = 3;
-        answer a = ask_text(call_key, &call);
-        CHECK(IS_KEY(&a, "g++\0000GLIBC_TUNABLES\0001t\0002LD_PRELOAD\0001/p\0002"));
-        release(a);
+        HAS_KEY(call, "g++\0000GLIBC_TUNABLES\0001t\0002LD_PRELOAD\0001/p\0002");
     }
-}
-
-static void refuses(const zigrunk_key_call *call, int32_t status, const char *message) {
-    answer a = ask_text(call_key, call);
-    CHECK(a.status == status && is_text(&a, message));
-    release(a);
 }
 
 static void check_refusals(void) {
@@ -124,37 +95,29 @@ static void check_refusals(void) {
     }
     zigrunk_key_call call = key_call_of(ZIGRUNK_TOOL_CICC, &word, 1);
     call.roots = roots, call.roots_count = 26;
-    answer a = ask_text(call_key, &call);
-    CHECK(IS_KEY(&a, "cicc\0000"));
-    release(a);
+    HAS_KEY(call, "cicc\0000");
     call.roots_count = 27;
-    refuses(&call, ZIGRUNK_BAD_NUMBER, bad_number);
+    TELLS(ask_text(call_key, &call), ZIGRUNK_BAD_NUMBER, bad_number);
     call.roots_count = 0, call.reserved = 1;
-    refuses(&call, ZIGRUNK_BAD_NUMBER, bad_number);
+    TELLS(ask_text(call_key, &call), ZIGRUNK_BAD_NUMBER, bad_number);
     call.reserved = 0;
     for (uint32_t tool = 0; tool < 12; tool++) {
         call.tool = tool;
         if ((tool >= ZIGRUNK_TOOL_NVCC && tool <= ZIGRUNK_TOOL_NVCXX) || tool > ZIGRUNK_TOOL_HOST) {
-            refuses(&call, ZIGRUNK_BAD_NUMBER, bad_number);
+            TELLS(ask_text(call_key, &call), ZIGRUNK_BAD_NUMBER, bad_number);
         } else {
-            a = ask_text(call_key, &call);
-            CHECK(IS_KEY(&a, "cicc\0000"));
-            release(a);
+            HAS_KEY(call, "cicc\0000");
         }
     }
     call.tool = ZIGRUNK_TOOL_CICC, call.words = &with_nul;
-    refuses(&call, ZIGRUNK_BAD_LINE, nul);
+    TELLS(ask_text(call_key, &call), ZIGRUNK_BAD_LINE, nul);
     zigrunk_variable variable = {text_of("PWD"), with_nul};
     call.words = &word, call.variables = &variable, call.variables_count = 1;
-    refuses(&call, ZIGRUNK_BAD_LINE, nul);
+    TELLS(ask_text(call_key, &call), ZIGRUNK_BAD_LINE, nul);
     variable.name = text_of("HOME");
-    a = ask_text(call_key, &call);
-    CHECK(IS_KEY(&a, "cicc\0000"));
-    release(a);
+    HAS_KEY(call, "cicc\0000");
     call.variables_count = 0, call.roots = &with_nul, call.roots_count = 1;
-    a = ask_text(call_key, &call);
-    CHECK(IS_KEY(&a, "cicc\0000"));
-    release(a);
+    HAS_KEY(call, "cicc\0000");
 }
 
 /* Random commands. Their words are made of pieces, some of which are roots. */
@@ -216,13 +179,9 @@ static void check_random(long count) {
         size_t length = made(&one, &other, key);
         zigrunk_key_call call = key_call_of(ZIGRUNK_TOOL_PTXAS, one.words, WORDS);
         call.roots = first, call.roots_count = ROOTS;
-        answer a = ask_text(call_key, &call);
-        CHECK(is_bytes(&a, key, length));
-        release(a);
+        CHECK(is_key(&call, key, length));
         call.words = other.words, call.roots = second;
-        a = ask_text(call_key, &call);
-        CHECK(is_bytes(&a, key, length));
-        release(a);
+        CHECK(is_key(&call, key, length));
     }
 }
 

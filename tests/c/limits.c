@@ -68,25 +68,13 @@ static void check_plans(void) {
 }
 
 static void check_lookups(void) {
-    answer a = lookups_within(text_of(fits), text_of(fits), text_of("/w"), LOOKUPS_ROOM);
-    CHECK(a.status == ZIGRUNK_OK && a.count == 2 && is_word(&a, 0, "gcc") && is_word(&a, 1, "/b"));
-    release(a);
-    a = lookups_within(text_of(fits), text_of(fits), text_of("/w"), 0);
-    CHECK(a.status == ZIGRUNK_OK && a.count == 2 && is_word(&a, 0, "gcc") && is_word(&a, 1, "/b"));
-    release(a);
-    a = lookups_within(text_of(fits), text_of(""), text_of("/w"), LOOKUPS_ROOM - 1);
-    CHECK(a.status == ZIGRUNK_OVER_LIMIT && a.count == 0 && is_text(&a, "run 1 line 1: over the limit of 8220 bytes"));
-    release(a);
-    a = lookups_within(text_of(""), text_of(fits), text_of("/w"), LOOKUPS_ROOM - 1);
-    CHECK(a.status == ZIGRUNK_OVER_LIMIT && a.count == 0 && is_text(&a, "run 2 line 1: over the limit of 8220 bytes"));
-    release(a);
+    LISTS(lookups_within(text_of(fits), text_of(fits), text_of("/w"), LOOKUPS_ROOM), "gcc", "/b");
+    LISTS(lookups_within(text_of(fits), text_of(fits), text_of("/w"), 0), "gcc", "/b");
+    TELLS(lookups_within(text_of(fits), text_of(""), text_of("/w"), LOOKUPS_ROOM - 1), ZIGRUNK_OVER_LIMIT, "run 1 line 1: over the limit of 8220 bytes");
+    TELLS(lookups_within(text_of(""), text_of(fits), text_of("/w"), LOOKUPS_ROOM - 1), ZIGRUNK_OVER_LIMIT, "run 2 line 1: over the limit of 8220 bytes");
     /* a bad line is none of its refusals */
-    a = lookups_within(text_of("#$ gcc x\n"), text_of(fits), text_of("/w"), LOOKUPS_ROOM);
-    CHECK(a.status == ZIGRUNK_OK && a.count == 2);
-    release(a);
-    a = lookups_within(text_of(fits), text_of(fits), text_of("\xFF"), 1);
-    CHECK(a.status == ZIGRUNK_NOT_UTF8 && a.count == 0 && is_text(&a, "a text is not UTF-8"));
-    release(a);
+    LISTS(lookups_within(text_of("#$ gcc x\n"), text_of(fits), text_of("/w"), LOOKUPS_ROOM), "gcc", "/b");
+    TELLS(lookups_within(text_of(fits), text_of(fits), text_of("\xFF"), 1), ZIGRUNK_NOT_UTF8, "a text is not UTF-8");
 }
 
 /* A run of 25 variables, each of which is twice the next, and a command that refers to the first. */

@@ -1,4 +1,4 @@
-/* Lines of tools, with buffers of exactly the size that the answers need. */
+/* Words, keys and lines of tools, with buffers of exactly the size that the answers need. */
 #ifndef LINES_H
 #define LINES_H
 
@@ -58,6 +58,26 @@ typedef struct renamed_words {
     const zigrunk_text *suffixes;
     size_t suffixes_count;
 } renamed_words;
+
+static inline zigrunk_list_answer call_split(const void *more, zigrunk_range *ranges, size_t ranges_size, uint8_t *out, size_t out_size) {
+    const zigrunk_text *text = more;
+    return zigrunk_split(text->bytes, text->length, ranges, ranges_size, out, out_size);
+}
+
+/* What zigrunk_quote takes besides its buffer. */
+typedef struct words {
+    const zigrunk_text *words;
+    size_t count;
+} words;
+
+static inline zigrunk_text_answer call_quote(const void *more, uint8_t *out, size_t out_size) {
+    const words *list = more;
+    return zigrunk_quote(list->words, list->count, out, out_size);
+}
+
+static inline zigrunk_text_answer call_key(const void *more, uint8_t *out, size_t out_size) {
+    return zigrunk_command_key(more, out, out_size);
+}
 
 static inline zigrunk_list_answer call_line_words(const void *more, zigrunk_range *ranges, size_t ranges_size, uint8_t *out,
     size_t out_size) {

@@ -1,6 +1,6 @@
-/* Plans: small ones, refusals, and the plans of dry runs in files: `plans FOLDER NAME..` compares what it plans for FOLDER's
+/* Plans: small ones, refused dry runs, and the plans of dry runs in files: `plans FOLDER NAME..` compares what it plans for FOLDER's
  * NAME.dry1, NAME.dry2 and NAME.flag with NAME.plan, which is what the program `cudaplan` prints for them. */
-#include "files.h"
+#include "plans.h"
 
 static const char run1[] = "#$ PATH=/b:/c\n#$ gcc -D__NVCC__ -E k.cu -o k.cpp1.ii\n#$ cicc k.cpp1.ii -o k.ptx\n";
 static const char run2[] = "#$ PATH=/b:/c\n#$ gcc -D__NVCC__ -E k.cu -o /t/k.cpp1.ii\n#$ cicc k.cpp1.ii -o /t/k.ptx\n";
@@ -17,40 +17,21 @@ static zigrunk_plan_call small_call(void) {
 }
 
 static void check_lookups(void) {
-    answer a = lookups(text_of(run1), text_of(run2), text_of("/w"));
-    CHECK(a.status == ZIGRUNK_OK && a.count == 4);
-    CHECK(is_word(&a, 0, "gcc") && is_word(&a, 1, "/b:/c") && is_word(&a, 2, "cicc") && is_word(&a, 3, "/b:/c"));
-    release(a);
-    a = lookups(text_of(""), text_of(run2), text_of("/w"));
-    CHECK(a.status == ZIGRUNK_OK && a.count == 4);
-    release(a);
-    a = lookups(text_of(""), text_of("\xFF\n"), text_of("/"));
-    CHECK(a.status == ZIGRUNK_OK && a.count == 0 && a.length == 0);
-    release(a);
-    a = lookups(text_of(run1), text_of(run2), text_of("\xFF"));
-    CHECK(a.status == ZIGRUNK_NOT_UTF8 && a.count == 0 && is_text(&a, "a text is not UTF-8"));
-    release(a);
-    a = candidates(text_of("gcc"), text_of("/b::c"), text_of("/w"));
-    CHECK(a.status == ZIGRUNK_OK && a.count == 3);
-    CHECK(is_word(&a, 0, "/b/gcc") && is_word(&a, 1, "/w/gcc") && is_word(&a, 2, "/w/c/gcc"));
-    release(a);
+    LISTS(lookups(text_of(run1), text_of(run2), text_of("/w")), "gcc", "/b:/c", "cicc", "/b:/c");
+    LISTS(lookups(text_of(""), text_of(run2), text_of("/w")), "gcc", "/b:/c", "cicc", "/b:/c");
+    TELLS(lookups(text_of(""), text_of("\xFF\n"), text_of("/")), ZIGRUNK_OK, "");
+    TELLS(lookups(text_of(run1), text_of(run2), text_of("\xFF")), ZIGRUNK_NOT_UTF8, "a text is not UTF-8");
+    LISTS(candidates(text_of("gcc"), text_of("/b::c"), text_of("/w")), "/b/gcc", "/w/gcc", "/w/c/gcc");
     for (int i = 0; i < 3; i++) {
         three bad = {{text_of("gcc"), text_of("/b"), text_of("/w")}};
         bad.texts[i] = text_of("a\xC3");
-        a = ask_list(call_candidates, &bad);
-        CHECK(a.status == ZIGRUNK_NOT_UTF8 && a.count == 0 && is_text(&a, "a text is not UTF-8"));
-        release(a);
+        TELLS(ask_list(call_candidates, &bad), ZIGRUNK_NOT_UTF8, "a text is not UTF-8");
     }
 }
 
 /* Plans a call as text. */
 static void plans(const zigrunk_plan_call *call, const char *text) {
-    answer a = plan(call, ZIGRUNK_TEXT);
-    CHECK(a.status == ZIGRUNK_OK && is_text(&a, text));
-    if (a.status != ZIGRUNK_OK || !is_text(&a, text)) {
-        printf("status %d: %.*s\n", (int)a.status, (int)a.length, (const char *)a.out);
-    }
-    release(a);
+    TELLS(plan(call, ZIGRUNK_TEXT), ZIGRUNK_OK, text);
 }
 
 static void check_small_plans(void) {
@@ -101,13 +82,9 @@ static void check_forms(void) {
     release(a);
     /* a form refuses a plan that it can't represent, and JSON none */
     variables[0].name = text_of("");
-    a = plan(&call, ZIGRUNK_SHELL);
-    CHECK(a.status == ZIGRUNK_UNWRITABLE && is_text(&a, "a variable of the plan has a name that env takes for something else"));
-    release(a);
+    TELLS(plan(&call, ZIGRUNK_SHELL), ZIGRUNK_UNWRITABLE, "a variable of the plan has a name that env takes for something else");
     variables[0].name = text_of("A\nB");
-    a = plan(&call, ZIGRUNK_NINJA);
-    CHECK(a.status == ZIGRUNK_UNWRITABLE && is_text(&a, "a text of the plan holds a byte that the form can't"));
-    release(a);
+    TELLS(plan(&call, ZIGRUNK_NINJA), ZIGRUNK_UNWRITABLE, "a text of the plan holds a byte that the form can't");
     a = plan(&call, ZIGRUNK_JSON);
     CHECK(a.status == ZIGRUNK_OK && has(&a, "[\"A\\nB\",\"it's\"]"));
     release(a);
@@ -124,99 +101,8 @@ static void check_forms(void) {
 /* A call that every form refuses. */
 static void refuses(const zigrunk_plan_call *call, int32_t status, const char *text) {
     for (uint32_t form = ZIGRUNK_JSON; form <= ZIGRUNK_TEXT; form++) {
-        answer a = plan(call, form);
-        CHECK(a.status == status && is_text(&a, text));
-        if (a.status != status || !is_text(&a, text)) {
-            printf("status %d: %.*s\n", (int)a.status, (int)a.length, (const char *)a.out);
-        }
-        release(a);
+        TELLS(plan(call, form), status, text);
     }
-}
-
-static void check_bad_numbers(void) {
-    static const char text[] = "a number has no meaning";
-    zigrunk_plan_call call = small_call();
-    for (int i = 0; i < 2; i++) {
-        answer a = plan(&call, i ? UINT32_MAX : ZIGRUNK_TEXT + 1);
-        CHECK(a.status == ZIGRUNK_BAD_NUMBER && is_text(&a, text));
-        release(a);
-    }
-    call.keeps = 2;
-    refuses(&call, ZIGRUNK_BAD_NUMBER, text);
-    call.keeps = 0;
-    call.host_compiler = ZIGRUNK_NVHPC + 1;
-    refuses(&call, ZIGRUNK_BAD_NUMBER, text);
-    call.host_compiler = ZIGRUNK_GCC;
-    rows[1].is_found = 2;
-    refuses(&call, ZIGRUNK_BAD_NUMBER, text);
-    rows[1].is_found = 1;
-    rows[1].reserved = 1;
-    /* before any text */
-    call.cwd = text_of("\xFF");
-    refuses(&call, ZIGRUNK_BAD_NUMBER, text);
-}
-
-static void check_bad_texts(void) {
-    static const char text[] = "a text is not UTF-8";
-    static const zigrunk_text bad = {(const uint8_t *)"a\xFF", 2};
-    zigrunk_plan_call call = small_call();
-    zigrunk_text good = call.cwd;
-    zigrunk_text suffix = text_of(".x");
-    zigrunk_variable variable = {text_of("A"), text_of("B")};
-    zigrunk_text *texts[] = {&call.cwd, &call.tmp, &call.flag, &call.keep_dir, &suffix, &variable.name, &variable.value,
-        &rows[1].program, &rows[1].path, &rows[1].found};
-    call.suffixes = &suffix;
-    call.suffixes_count = 1;
-    call.variables = &variable;
-    call.variables_count = 1;
-    for (size_t i = 0; i < sizeof texts / sizeof *texts; i++) {
-        good = *texts[i];
-        *texts[i] = bad;
-        refuses(&call, ZIGRUNK_NOT_UTF8, text);
-        *texts[i] = good;
-    }
-    answer a = plan(&call, ZIGRUNK_JSON);
-    CHECK(a.status == ZIGRUNK_OK);
-    release(a);
-}
-
-/* Directories that no plan is made for: each is refused, once all texts are read. */
-static void check_odd_directories(void) {
-    static const char *const plain[] = {"/", "/w", "/.w", "/..w", "/w./x..", "/.../w", "/w x/\xC3\xA4"};
-    zigrunk_plan_call call = small_call();
-    zigrunk_text program = text_of("gcc"), list = text_of("/b");
-    for (size_t i = 0; i < ODD_DIRECTORIES; i++) {
-        call.tmp = text_of(odd_directories[i]);
-        refuses(&call, ZIGRUNK_ODD_DIRECTORY, odd_tmp);
-        call.cwd = text_of(odd_directories[i]);
-        refuses(&call, ZIGRUNK_ODD_DIRECTORY, odd_cwd);
-        call.tmp = text_of("/t");
-        refuses(&call, ZIGRUNK_ODD_DIRECTORY, odd_cwd);
-        answer answers[] = {lookups(call.dry1, call.dry2, call.cwd), lookups_within(call.dry1, call.dry2, call.cwd, 1),
-            candidates(program, list, call.cwd)};
-        for (size_t j = 0; j < 3; j++) {
-            CHECK(answers[j].status == ZIGRUNK_ODD_DIRECTORY && is_text(&answers[j], odd_cwd));
-            release(answers[j]);
-        }
-        call.cwd = text_of("/w");
-    }
-    for (size_t i = 0; i < sizeof plain / sizeof *plain; i++) {
-        call.cwd = text_of(plain[i]);
-        call.tmp = text_of(plain[i]);
-        answer a = plan(&call, ZIGRUNK_JSON), asked = lookups(call.dry1, call.dry2, call.cwd), paths = candidates(program, list, call.cwd);
-        CHECK(a.status == ZIGRUNK_OK && asked.status == ZIGRUNK_OK && paths.status == ZIGRUNK_OK);
-        release(a);
-        release(asked);
-        release(paths);
-    }
-    /* behind a text that isn't UTF-8, and before the suffixes */
-    zigrunk_text suffix = text_of("y");
-    call.cwd = text_of("w");
-    call.suffixes = &suffix;
-    call.suffixes_count = 1;
-    refuses(&call, ZIGRUNK_ODD_DIRECTORY, odd_cwd);
-    suffix = text_of("\xFF");
-    refuses(&call, ZIGRUNK_NOT_UTF8, "a text is not UTF-8");
 }
 
 static void check_faults(void) {
@@ -242,9 +128,7 @@ static void check_faults(void) {
 /* Long dry runs and long tables: no answer depends on a fixed size. */
 static void check_long_calls(void) {
     zigrunk_text dry = repeated("#$ PATH=/b\n", "#$ nvlink a b -o c\n", 4000);
-    answer a = lookups(dry, dry, text_of("/w"));
-    CHECK(a.status == ZIGRUNK_OK && a.count == 2 && is_word(&a, 0, "nvlink") && is_word(&a, 1, "/b"));
-    release(a);
+    LISTS(lookups(dry, dry, text_of("/w")), "nvlink", "/b");
     zigrunk_found_program *rows_of_many = room(10000, sizeof *rows_of_many);
     zigrunk_variable *variables = room(10000, sizeof *variables);
     for (size_t i = 0; i < 10000; i++) {
@@ -261,7 +145,7 @@ static void check_long_calls(void) {
     call.dry1 = text_of("#$ PATH=/b\n#$ nvlink a b -o c\n");
     call.variables = variables;
     call.variables_count = 10000;
-    a = plan(&call, ZIGRUNK_SHELL);
+    answer a = plan(&call, ZIGRUNK_SHELL);
     CHECK(a.status == ZIGRUNK_OK && a.length > 10000 * strlen(" NAME=VALUE"));
     release(a);
     free(rows_of_many);
@@ -294,9 +178,6 @@ int main(int count, char **arguments) {
     check_lookups();
     check_small_plans();
     check_forms();
-    check_bad_numbers();
-    check_bad_texts();
-    check_odd_directories();
     check_faults();
     check_long_calls();
     for (int i = 2; i < count; i++) {

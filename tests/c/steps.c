@@ -1,6 +1,5 @@
 /* Plans for programs that run them: small ones, refusals with their places, and the plans of dry runs in files: `steps FOLDER NAME..`
  * compares all that a plan says with its JSON form. */
-#include "cursor.h"
 #include "steps.h"
 
 static const char run1[] = "#$ PATH=/b:/c\n#$ gcc -D__NVCC__ -E k.cu -o k.cpp1.ii\n#$ rm k.o\n"
@@ -8,6 +7,51 @@ static const char run1[] = "#$ PATH=/b:/c\n#$ gcc -D__NVCC__ -E k.cu -o k.cpp1.i
                            "#$ nvlink -o j.o\n";
 static const char run2[] = "#$ PATH=/b:/c\n#$ gcc -D__NVCC__ -E k.cu -o /t/k.cpp1.ii\n#$ rm \"k\\\\\\\"\" ''\n"
                            "#$ cicc\n#$ ptxas\n#$ ar j.a\n";
+
+/* The rest of a JSON text that is compared from its start to its end. */
+typedef struct cursor {
+    const char *at;
+    size_t left;
+} cursor;
+
+/* Compares with what comes next, and moves behind it. */
+static void next_is(cursor *c, const void *bytes, size_t length) {
+    int is = length <= c->left && memcmp(c->at, bytes, length) == 0;
+    CHECK(is);
+    c->at += is ? length : 0;
+    c->left -= is ? length : 0;
+}
+
+static void next_text(cursor *c, const char *text) {
+    next_is(c, text, strlen(text));
+}
+
+/* A text without other control characters than these. */
+static void next_string(cursor *c, zigrunk_text text) {
+    next_text(c, "\"");
+    for (size_t i = 0; i < text.length; i++) {
+        switch (text.bytes[i]) {
+        case '"':
+            next_text(c, "\\\"");
+            break;
+        case '\\':
+            next_text(c, "\\\\");
+            break;
+        case '\n':
+            next_text(c, "\\n");
+            break;
+        default:
+            next_is(c, text.bytes + i, 1);
+        }
+    }
+    next_text(c, "\"");
+}
+
+static void next_number(cursor *c, size_t number) {
+    char digits[32];
+    snprintf(digits, sizeof digits, "%zu", number);
+    next_text(c, digits);
+}
 
 static zigrunk_found_program rows[6];
 
@@ -174,14 +218,12 @@ static void check_against_json(const zigrunk_plan_call *call) {
     release_steps(s);
 }
 
-static int step_text_is(const stepped *s, zigrunk_range texts, size_t index, const char *text) {
-    zigrunk_text found = step_text(s, texts.offset + index);
-    return index < texts.length && found.length == strlen(text) && memcmp(found.bytes, text, found.length) == 0;
+static int text_is(const stepped *s, size_t index, const char *text) {
+    return is_same(step_text(s, index), text_of(text));
 }
 
-static int text_is(const stepped *s, size_t index, const char *text) {
-    zigrunk_text found = step_text(s, index);
-    return found.length == strlen(text) && memcmp(found.bytes, text, found.length) == 0;
+static int step_text_is(const stepped *s, zigrunk_range texts, size_t index, const char *text) {
+    return index < texts.length && text_is(s, texts.offset + index, text);
 }
 
 static void check_small_commands(void) {
@@ -225,8 +267,11 @@ static void check_small_plan(void) {
     check_against_json(&call);
 }
 
-/* Its message alone is written, and it says where. */
+/* Its message alone is written, and it says where. Each form of a plan says the same of what isn't in a dry run. */
 static void refuses(const zigrunk_plan_call *call, int32_t status, uint32_t field, size_t line, const char *message) {
+    for (uint32_t form = ZIGRUNK_JSON; form <= ZIGRUNK_TEXT && line == 0 && status != ZIGRUNK_NO_DRY_RUN; form++) {
+        TELLS(plan(call, form), status, message);
+    }
     stepped s = plan_steps(call);
     CHECK(s.sizes.status == status && s.sizes.place.field == field && s.sizes.place.line == line);
     CHECK(s.sizes.place.run == (line > 0 ? field : 0) && s.sizes.groups == 0 && s.sizes.commands == 0 && s.sizes.steps == 0);
@@ -235,49 +280,76 @@ static void refuses(const zigrunk_plan_call *call, int32_t status, uint32_t fiel
     release_steps(s);
 }
 
+/* Each text that isn't UTF-8 and each number without a meaning, alone and with all that are looked at later. */
 static void check_bad_fields(void) {
     static const zigrunk_text bad = {(const uint8_t *)"a\xFF", 2};
     static const char not_utf8[] = "a text is not UTF-8", bad_number[] = "a number has no meaning";
     zigrunk_plan_call call = small_call();
-    zigrunk_variable variables[] = {{text_of("A"), text_of("1")}, {text_of("B"), bad}};
-    rows[1].found = bad;
-    refuses(&call, ZIGRUNK_NOT_UTF8, ZIGRUNK_FIELD_PROGRAMS, 0, not_utf8);
-    call.variables = variables;
-    call.variables_count = 2;
-    refuses(&call, ZIGRUNK_NOT_UTF8, ZIGRUNK_FIELD_VARIABLES, 0, not_utf8);
-    call.suffixes = &bad;
-    call.suffixes_count = 1;
-    refuses(&call, ZIGRUNK_NOT_UTF8, ZIGRUNK_FIELD_SUFFIXES, 0, not_utf8);
-    call.keep_dir = bad;
-    refuses(&call, ZIGRUNK_NOT_UTF8, ZIGRUNK_FIELD_KEEP_DIR, 0, not_utf8);
-    call.flag = bad;
-    refuses(&call, ZIGRUNK_NOT_UTF8, ZIGRUNK_FIELD_FLAG, 0, not_utf8);
-    call.tmp = bad;
-    refuses(&call, ZIGRUNK_NOT_UTF8, ZIGRUNK_FIELD_TMP, 0, not_utf8);
-    call.cwd = bad;
-    refuses(&call, ZIGRUNK_NOT_UTF8, ZIGRUNK_FIELD_CWD, 0, not_utf8);
-    rows[2].reserved = 1;
-    refuses(&call, ZIGRUNK_BAD_NUMBER, ZIGRUNK_FIELD_PROGRAMS, 0, bad_number);
-    call.keeps = 2;
-    refuses(&call, ZIGRUNK_BAD_NUMBER, ZIGRUNK_FIELD_KEEPS, 0, bad_number);
-    call.host_compiler = ZIGRUNK_NVHPC + 1;
-    refuses(&call, ZIGRUNK_BAD_NUMBER, ZIGRUNK_FIELD_HOST_COMPILER, 0, bad_number);
+    zigrunk_variable variable = {text_of("A"), text_of("1")};
+    zigrunk_text suffix = text_of(".x");
+    const struct {
+        zigrunk_text *at;
+        uint32_t field;
+    } texts[] = {{&rows[1].found, ZIGRUNK_FIELD_PROGRAMS}, {&rows[1].path, ZIGRUNK_FIELD_PROGRAMS}, {&rows[1].program, ZIGRUNK_FIELD_PROGRAMS},
+        {&variable.value, ZIGRUNK_FIELD_VARIABLES}, {&variable.name, ZIGRUNK_FIELD_VARIABLES}, {&suffix, ZIGRUNK_FIELD_SUFFIXES},
+        {&call.keep_dir, ZIGRUNK_FIELD_KEEP_DIR}, {&call.flag, ZIGRUNK_FIELD_FLAG}, {&call.tmp, ZIGRUNK_FIELD_TMP}, {&call.cwd, ZIGRUNK_FIELD_CWD}};
+    const struct {
+        uint32_t *at, field, first_wrong;
+    } numbers[] = {{&rows[2].reserved, ZIGRUNK_FIELD_PROGRAMS, 1}, {&rows[1].is_found, ZIGRUNK_FIELD_PROGRAMS, 2},
+        {&call.keeps, ZIGRUNK_FIELD_KEEPS, 2}, {&call.host_compiler, ZIGRUNK_FIELD_HOST_COMPILER, ZIGRUNK_NVHPC + 1}};
+    call.variables = &variable, call.variables_count = 1, call.suffixes = &suffix, call.suffixes_count = 1;
+    for (int all = 0; all < 2; all++) {
+        for (size_t i = 0; i < sizeof texts / sizeof *texts; i++) {
+            zigrunk_text good = *texts[i].at;
+            *texts[i].at = bad;
+            refuses(&call, ZIGRUNK_NOT_UTF8, texts[i].field, 0, not_utf8);
+            *texts[i].at = all ? bad : good;
+        }
+        for (size_t i = 0; i < sizeof numbers / sizeof *numbers; i++) {
+            uint32_t good = *numbers[i].at;
+            *numbers[i].at = numbers[i].first_wrong;
+            refuses(&call, ZIGRUNK_BAD_NUMBER, numbers[i].field, 0, bad_number);
+            *numbers[i].at = all ? numbers[i].first_wrong : good;
+        }
+    }
+    call = small_call();
+    for (int i = 0; i < 2; i++) {
+        TELLS(plan(&call, i ? UINT32_MAX : ZIGRUNK_TEXT + 1), ZIGRUNK_BAD_NUMBER, bad_number);
+    }
 }
 
-/* The working directory is looked at first, and both before the dry runs. */
+/* Directories that no plan is made for. The working directory is looked at first, and both behind all texts, but before the suffixes and the
+ * dry runs. */
 static void check_odd_directories(void) {
+    static const char *const plain[] = {"/", "/w", "/.w", "/..w", "/w./x..", "/.../w", "/w x/\xC3\xA4"};
+    zigrunk_text program = text_of("gcc"), list = text_of("/b"), suffix = text_of("y");
     for (size_t i = 0; i < ODD_DIRECTORIES; i++) {
         zigrunk_plan_call call = small_call();
         call.tmp = text_of(odd_directories[i]);
         refuses(&call, ZIGRUNK_ODD_DIRECTORY, ZIGRUNK_FIELD_TMP, 0, odd_tmp);
-        call.dry1 = text_of("");
-        refuses(&call, ZIGRUNK_ODD_DIRECTORY, ZIGRUNK_FIELD_TMP, 0, odd_tmp);
+        zigrunk_plan_call unread = call;
+        unread.dry1 = text_of("");
+        refuses(&unread, ZIGRUNK_ODD_DIRECTORY, ZIGRUNK_FIELD_TMP, 0, odd_tmp);
         call.cwd = text_of(odd_directories[i]);
+        TELLS(lookups(call.dry1, call.dry2, call.cwd), ZIGRUNK_ODD_DIRECTORY, odd_cwd);
+        TELLS(lookups_within(call.dry1, call.dry2, call.cwd, 1), ZIGRUNK_ODD_DIRECTORY, odd_cwd);
+        TELLS(candidates(program, list, call.cwd), ZIGRUNK_ODD_DIRECTORY, odd_cwd);
         refuses(&call, ZIGRUNK_ODD_DIRECTORY, ZIGRUNK_FIELD_CWD, 0, odd_cwd);
+        call.tmp = text_of("/t"), call.dry1 = text_of(""), call.suffixes = &suffix, call.suffixes_count = 1;
+        refuses(&call, ZIGRUNK_ODD_DIRECTORY, ZIGRUNK_FIELD_CWD, 0, odd_cwd);
+        zigrunk_text bad = text_of("\xFF");
+        call.suffixes = &bad;
+        refuses(&call, ZIGRUNK_NOT_UTF8, ZIGRUNK_FIELD_SUFFIXES, 0, "a text is not UTF-8");
     }
-    zigrunk_plan_call call = small_call();
-    call.cwd = call.tmp = text_of("/");
-    check_against_json(&call);
+    for (size_t i = 0; i < sizeof plain / sizeof *plain; i++) {
+        zigrunk_plan_call call = small_call();
+        call.cwd = call.tmp = text_of(plain[i]);
+        answer asked = lookups(call.dry1, call.dry2, call.cwd), paths = candidates(program, list, call.cwd);
+        CHECK(asked.status == ZIGRUNK_OK && paths.status == ZIGRUNK_OK);
+        release(asked);
+        release(paths);
+        check_against_json(&call);
+    }
 }
 
 static void check_bad_runs(void) {
@@ -287,9 +359,9 @@ static void check_bad_runs(void) {
     char message[100];
     for (size_t line = 0; line < 4 && call.limit < 1 << 16;) {
         call.limit += 16;
-        stepped s = call_steps(&call, none);
-        line = s.sizes.place.line;
-        release_steps(s);
+        asked a = ask_with(asks_parts, part_sizes, &call, none);
+        line = a.more.place.line;
+        release_asked(a);
     }
     snprintf(message, sizeof message, "dry run 1, line 4: with this line, the dry run makes over %zu bytes", call.limit);
     refuses(&call, ZIGRUNK_OVER_LIMIT, ZIGRUNK_FIELD_DRY1, 4, message);

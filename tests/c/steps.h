@@ -2,19 +2,18 @@
 #ifndef STEPS_H
 #define STEPS_H
 
-#include "files.h"
+#include "plans.h"
 
-enum { PARTS = 6 };
+/* A plan's parts: groups, commands, steps, numbers, ranges and bytes. */
+static const size_t part_sizes[PARTS] = {
+    sizeof(zigrunk_group), sizeof(zigrunk_command), sizeof(zigrunk_step), sizeof(size_t), sizeof(zigrunk_range), 1};
 
-/* An answer, in memory of its own: groups, commands, steps, numbers, ranges and bytes. */
+/* A plan, with the same answer in words. */
 typedef struct stepped {
     zigrunk_steps_answer sizes;
     size_t counts[PARTS];
     void *parts[PARTS];
 } stepped;
-
-static const size_t part_sizes[PARTS] = {
-    sizeof(zigrunk_group), sizeof(zigrunk_command), sizeof(zigrunk_step), sizeof(size_t), sizeof(zigrunk_range), 1};
 
 static inline const zigrunk_group *group_of(const stepped *s, size_t i) {
     return (const zigrunk_group *)s->parts[0] + i;
@@ -41,15 +40,22 @@ static inline zigrunk_text step_text(const stepped *s, size_t i) {
     return text;
 }
 
-/* Makes the call with room for so many of each part. */
-static inline stepped call_steps(const zigrunk_plan_call *call, const size_t counts[PARTS]) {
-    stepped s;
-    for (int i = 0; i < PARTS; i++) {
-        s.counts[i] = counts[i];
-        s.parts[i] = room(counts[i], part_sizes[i]);
-    }
-    s.sizes = zigrunk_plan_steps(call, s.parts[0], counts[0], s.parts[1], counts[1], s.parts[2], counts[2], s.parts[3], counts[3],
-        s.parts[4], counts[4], s.parts[5], counts[5]);
+static inline void asks_parts(const void *call, asked *into, const size_t room_for[PARTS]) {
+    void **p = into->parts;
+    zigrunk_steps_answer a = zigrunk_plan_steps(call, p[0], room_for[0], p[1], room_for[1], p[2], room_for[2], p[3], room_for[3], p[4], room_for[4],
+        p[5], room_for[5]);
+    const size_t counts[PARTS] = {a.groups, a.commands, a.steps, a.numbers, a.ranges, a.length};
+    into->status = a.status, into->more.place = a.place;
+    memcpy(into->counts, counts, sizeof counts);
+}
+
+static inline stepped stepped_of(asked a) {
+    stepped s = {{0}, {0}, {0}};
+    CHECK(a.more.place.reserved == 0);
+    s.sizes.status = a.status, s.sizes.place = a.more.place, s.sizes.groups = a.counts[0], s.sizes.commands = a.counts[1];
+    s.sizes.steps = a.counts[2], s.sizes.numbers = a.counts[3], s.sizes.ranges = a.counts[4], s.sizes.length = a.counts[5];
+    memcpy(s.counts, a.counts, sizeof s.counts);
+    memcpy(s.parts, a.parts, sizeof s.parts);
     return s;
 }
 
@@ -59,47 +65,8 @@ static inline void release_steps(stepped s) {
     }
 }
 
-static inline int same_answers(zigrunk_steps_answer a, zigrunk_steps_answer b) {
-    return a.status == b.status && a.place.run == b.place.run && a.place.line == b.place.line && a.place.field == b.place.field
-        && a.place.reserved == 0 && b.place.reserved == 0 && a.groups == b.groups && a.commands == b.commands && a.steps == b.steps
-        && a.numbers == b.numbers && a.ranges == b.ranges && a.length == b.length;
-}
-
-/* Makes the call with room for so many, which must not change the answer, nor anything behind the first `written` of each part. */
-static inline stepped with_room(const zigrunk_plan_call *call, zigrunk_steps_answer answer, const size_t counts[PARTS],
-    const size_t written[PARTS]) {
-    stepped s = call_steps(call, counts);
-    CHECK(same_answers(s.sizes, answer));
-    for (int i = 0; i < PARTS; i++) {
-        CHECK(is_unwritten((const uint8_t *)s.parts[i] + written[i] * part_sizes[i], (counts[i] - written[i]) * part_sizes[i]));
-    }
-    return s;
-}
-
-/* Asks for the sizes; calls with one of the buffers one element too small, when all must stay as they are; then with larger
- * buffers, whose rest must stay as it is; and last with buffers of the right sizes. All of these return the same answer. */
 static inline stepped plan_steps(const zigrunk_plan_call *call) {
-    static const size_t none[PARTS];
-    stepped empty = call_steps(call, none);
-    zigrunk_steps_answer a = empty.sizes;
-    release_steps(empty);
-    size_t counts[PARTS] = {a.groups, a.commands, a.steps, a.numbers, a.ranges, a.length}, larger[PARTS];
-    for (int i = 0; i < PARTS; i++) {
-        larger[i] = counts[i] + 2 + (size_t)i;
-        if (counts[i] > 0) {
-            counts[i]--;
-            release_steps(with_room(call, a, counts, none));
-            counts[i]++;
-        }
-    }
-    stepped large = with_room(call, a, larger, counts), s = with_room(call, a, counts, counts);
-    add_bytes(&a.status, sizeof a.status);
-    for (int i = 0; i < PARTS; i++) {
-        CHECK(memcmp(s.parts[i], large.parts[i], counts[i] * part_sizes[i]) == 0);
-        add_bytes(s.parts[i], counts[i] * part_sizes[i]);
-    }
-    release_steps(large);
-    return s;
+    return stepped_of(ask_all(asks_parts, part_sizes, call));
 }
 
 #endif

@@ -1,7 +1,7 @@
 /* Plans FOLDER's NAME again and again, so that tests/instructions.sh can count what one call costs.
  *
  *   work text|json|steps TIMES FOLDER NAME */
-#include "files.h"
+#include "plans.h"
 
 static zigrunk_group groups[64];
 static zigrunk_command commands[256];

@@ -7,11 +7,9 @@
  * The library gets its memory from here, so a case can't take more than BUDGET bytes: the allocation fails, and the call has
  * to answer ZIGRUNK_OUT_OF_MEMORY. After each call, all that it allocated has to be free. */
 #define _GNU_SOURCE
-#include "zigrunk.h"
+#include "lines.h"
+#include "steps.h"
 
-#include <stdio.h>
-#include <stdlib.h>
-#include <string.h>
 #include <time.h>
 
 #define BUDGET ((size_t)16 << 20)
@@ -166,38 +164,8 @@ static double end(int32_t status) {
     return took;
 }
 
-/* Memory for exactly so many bytes. */
-static uint8_t *room(size_t size) {
-    uint8_t *at = malloc(size ? size : 1);
-    if (!at) {
-        abort();
-    }
-    memset(at, 0xA5, size ? size : 1);
-    return at;
-}
-
-static int is_unwritten(const uint8_t *at, size_t size) {
-    for (size_t i = 0; i < size; i++) {
-        if (at[i] != 0xA5) {
-            return 0;
-        }
-    }
-    return 1;
-}
-
-/* An answer in memory of its own. */
-typedef struct answer {
-    int32_t status;
-    size_t count, length;
-    zigrunk_range *ranges;
-    uint8_t *out;
-} answer;
-
-/* Asks with buffers for so many ranges and bytes. */
-typedef zigrunk_list_answer asker(void *what, zigrunk_range *ranges, size_t ranges_size, uint8_t *out, size_t out_size);
-
 /* Asks for the sizes, and then, if it was fast, with buffers that fit. Sometimes in between with a buffer that is one too small. */
-static answer ask(asker *asks, void *what, unsigned long failing) {
+static answer ask(list_call *asks, const void *what, unsigned long failing) {
     zigrunk_range no_range;
     uint8_t no_byte;
     begin(failing);
@@ -207,16 +175,16 @@ static answer ask(asker *asks, void *what, unsigned long failing) {
     if (took > 0.2 || refusals || sizes.count > BUDGET || sizes.length > BUDGET) {
         return it;
     }
-    it.ranges = (zigrunk_range *)room(it.count * sizeof *it.ranges);
-    it.out = room(it.length);
+    it.ranges = room(it.count, sizeof *it.ranges);
+    it.out = room(it.length, 1);
     if (it.length > 0 && it.length < 4000 && told.calls / 2 % 4 == 0) {
-        uint8_t *small = room(it.length - 1);
+        uint8_t *small = room(it.length - 1, 1);
         begin(0);
         zigrunk_list_answer again = asks(what, it.ranges, it.count, small, it.length - 1);
         end(again.status);
         holds(again.status == it.status && again.count == it.count && again.length == it.length, "the same sizes, if the text doesn't fit");
         holds(is_unwritten(small, it.length - 1), "no text is written, if it doesn't fit");
-        holds(is_unwritten((uint8_t *)it.ranges, it.count * sizeof *it.ranges), "no list is written, if the text doesn't fit");
+        holds(is_unwritten(it.ranges, it.count * sizeof *it.ranges), "no list is written, if the text doesn't fit");
         free(small);
     }
     begin(0);
@@ -232,63 +200,30 @@ static answer ask(asker *asks, void *what, unsigned long failing) {
     return it;
 }
 
-static void release(answer it) {
-    free(it.ranges);
-    free(it.out);
-}
-
-static zigrunk_text text_at(const answer *it, size_t i) {
-    return (zigrunk_text){it->out + it->ranges[i].offset, it->ranges[i].length};
-}
-
-static int same(zigrunk_text a, zigrunk_text b) {
-    return a.length == b.length && memcmp(a.bytes, b.bytes, a.length) == 0;
-}
-
-static int is(zigrunk_text a, const char *b) {
-    return same(a, (zigrunk_text){(const uint8_t *)b, strlen(b)});
-}
-
 static int ends_with(zigrunk_text a, zigrunk_text end) {
     return a.length >= end.length && memcmp(a.bytes + a.length - end.length, end.bytes, end.length) == 0;
 }
 
 /* Whether two answers that were written are the same. */
-static int is_same(const answer *a, const answer *b) {
+static int are_same(const answer *a, const answer *b) {
     return a->status == b->status && a->count == b->count && a->length == b->length && memcmp(a->out, b->out, a->length) == 0 &&
         memcmp(a->ranges, b->ranges, a->count * sizeof *a->ranges) == 0;
 }
 
-static zigrunk_list_answer of_text(zigrunk_text_answer it) {
-    return (zigrunk_list_answer){it.status, 0, it.length};
-}
+/* A call that writes a text, as one that writes a list. */
+#define AS_LIST(name, asks) \
+    static zigrunk_list_answer name(const void *what, zigrunk_range *ranges, size_t ranges_size, uint8_t *out, size_t out_size) { \
+        (void)ranges, (void)ranges_size; \
+        zigrunk_text_answer it = asks(what, out, out_size); \
+        return (zigrunk_list_answer){it.status, 0, it.length}; \
+    }
 
-typedef struct texts {
-    const zigrunk_text *at;
-    size_t count;
-} texts;
+AS_LIST(asks_quote, call_quote)
+AS_LIST(asks_key, call_key)
+AS_LIST(asks_plan, call_plan)
 
-static zigrunk_list_answer asks_split(void *what, zigrunk_range *ranges, size_t ranges_size, uint8_t *out, size_t out_size) {
-    zigrunk_text *it = what;
-    return zigrunk_split(it->bytes, it->length, ranges, ranges_size, out, out_size);
-}
-
-static zigrunk_list_answer asks_quote(void *what, zigrunk_range *ranges, size_t ranges_size, uint8_t *out, size_t out_size) {
-    (void)ranges, (void)ranges_size;
-    texts *it = what;
-    return of_text(zigrunk_quote(it->at, it->count, out, out_size));
-}
-
-static zigrunk_list_answer asks_lookups_within(void *what, zigrunk_range *ranges, size_t ranges_size, uint8_t *out, size_t out_size) {
-    zigrunk_plan_call *it = what;
-    return zigrunk_lookups_within(it->dry1.bytes, it->dry1.length, it->dry2.bytes, it->dry2.length, it->cwd.bytes, it->cwd.length, it->limit,
-        ranges, ranges_size, out, out_size);
-}
-
-static zigrunk_list_answer asks_lookups(void *what, zigrunk_range *ranges, size_t ranges_size, uint8_t *out, size_t out_size) {
-    zigrunk_plan_call unlimited = *(zigrunk_plan_call *)what;
-    unlimited.limit = 0;
-    return asks_lookups_within(&unlimited, ranges, ranges_size, out, out_size);
+static limited_runs runs_of(const zigrunk_plan_call *call, size_t limit) {
+    return (limited_runs){{{call->dry1, call->dry2, call->cwd}}, limit};
 }
 
 /* The record of the line that was asked for last, and those of its outputs: no line has more. */
@@ -297,104 +232,62 @@ static struct {
     zigrunk_output outputs[8];
 } read_line;
 
-static zigrunk_list_answer asks_line(void *what, zigrunk_range *ranges, size_t ranges_size, uint8_t *out, size_t out_size) {
+static zigrunk_list_answer asks_line(const void *what, zigrunk_range *ranges, size_t ranges_size, uint8_t *out, size_t out_size) {
     memset(&read_line, 0, sizeof read_line);
     read_line.told = zigrunk_line_records(what, read_line.outputs, 8, ranges, ranges_size, out, out_size);
     return (zigrunk_list_answer){read_line.told.status, read_line.told.ranges, read_line.told.length};
 }
 
-static zigrunk_list_answer asks_line_words(void *what, zigrunk_range *ranges, size_t ranges_size, uint8_t *out, size_t out_size) {
-    return zigrunk_line_words(what, ranges, ranges_size, out, out_size);
-}
-
-static zigrunk_list_answer asks_nvcc_line(void *what, zigrunk_range *ranges, size_t ranges_size, uint8_t *out, size_t out_size) {
-    return zigrunk_nvcc_line(what, ranges, ranges_size, out, out_size);
-}
-
-typedef struct named {
-    texts words, suffixes;
-} named;
-
-static zigrunk_list_answer asks_remap(void *what, zigrunk_range *ranges, size_t ranges_size, uint8_t *out, size_t out_size) {
-    named *it = what;
-    return zigrunk_remap(it->words.at, it->words.count, it->suffixes.at, it->suffixes.count, ranges, ranges_size, out, out_size);
-}
-
-static zigrunk_list_answer asks_key(void *what, zigrunk_range *ranges, size_t ranges_size, uint8_t *out, size_t out_size) {
-    (void)ranges, (void)ranges_size;
-    return of_text(zigrunk_command_key(what, out, out_size));
-}
-
-static zigrunk_list_answer asks_candidates(void *what, zigrunk_range *ranges, size_t ranges_size, uint8_t *out, size_t out_size) {
-    zigrunk_text *it = what;
-    return zigrunk_candidates(it[0].bytes, it[0].length, it[1].bytes, it[1].length, it[2].bytes, it[2].length, ranges, ranges_size, out, out_size);
-}
-
+/* A call that plans, and the form of the plan. */
 typedef struct planned {
     zigrunk_plan_call call;
     uint32_t form;
 } planned;
 
-static zigrunk_list_answer asks_plan(void *what, zigrunk_range *ranges, size_t ranges_size, uint8_t *out, size_t out_size) {
-    (void)ranges, (void)ranges_size;
-    planned *it = what;
-    return of_text(zigrunk_plan(&it->call, it->form, out, out_size));
+static answer ask_plan(const planned *it, unsigned long failing) {
+    return ask(asks_plan, &(wanted){&it->call, it->form}, failing);
 }
 
-/* JSON: whether a text is one value. Each function returns where the value ends, or NULL. */
+static answer ask_lookups(const planned *it, size_t limit) {
+    const limited_runs runs = runs_of(&it->call, limit);
+    return ask(call_lookups_within, &runs, 0);
+}
 
-static const uint8_t *json_text(const uint8_t *at, const uint8_t *stop) {
-    for (at++; at < stop && *at != '"'; at++) {
-        if (*at < 0x20 || (*at == '\\' && (++at == stop || !memchr("\"\\/bfnrtu", *at, 9)))) {
-            return NULL;
+/* Where the JSON value that begins at `at` ends, or NULL. */
+static const uint8_t *json_value(const uint8_t *at, const uint8_t *stop) {
+    const uint8_t *from = at, first = at < stop ? *at : 0, last = first == '{' ? '}' : ']';
+    if (first == '"') {
+        for (at++; at < stop && *at != '"'; at++) {
+            if (*at < 0x20 || (*at == '\\' && (++at == stop || !memchr("\"\\/bfnrtu", *at, 9)))) {
+                return NULL;
+            }
         }
+        return at < stop ? at + 1 : NULL;
     }
-    return at < stop ? at + 1 : NULL;
-}
-
-static const uint8_t *json_word(const uint8_t *at, const uint8_t *stop) {
-    const uint8_t *first = at;
-    while (at < stop && ((*at >= '0' && *at <= '9') || (*at >= 'a' && *at <= 'z'))) {
-        at++;
+    if (first != '{' && first != '[') {
+        while (at < stop && ((*at >= '0' && *at <= '9') || (*at >= 'a' && *at <= 'z'))) {
+            at++;
+        }
+        return at == from ? NULL : at;
     }
-    return at == first ? NULL : at;
-}
-
-static const uint8_t *json_value(const uint8_t *at, const uint8_t *stop);
-
-static const uint8_t *json_items(const uint8_t *at, const uint8_t *stop, int is_object) {
-    uint8_t last = is_object ? '}' : ']';
     if (++at < stop && *at == last) {
         return at + 1;
     }
     for (;;) {
-        if (is_object) {
-            at = at < stop && *at == '"' ? json_text(at, stop) : NULL;
+        if (first == '{') {
+            at = at < stop && *at == '"' ? json_value(at, stop) : NULL;
             if (!at || at == stop || *at++ != ':') {
                 return NULL;
             }
         }
         at = json_value(at, stop);
-        if (!at || at == stop) {
+        if (!at || at == stop || (*at != last && *at != ',')) {
             return NULL;
         }
-        if (*at == last) {
-            return at + 1;
-        }
-        if (*at++ != ',') {
-            return NULL;
+        if (*at++ == last) {
+            return at;
         }
     }
-}
-
-static const uint8_t *json_value(const uint8_t *at, const uint8_t *stop) {
-    if (at == stop) {
-        return NULL;
-    }
-    if (*at == '"') {
-        return json_text(at, stop);
-    }
-    return *at == '{' || *at == '[' ? json_items(at, stop, *at == '{') : json_word(at, stop);
 }
 
 static int is_json(const uint8_t *at, size_t size) {
@@ -416,7 +309,7 @@ static list cut(const uint8_t *at, size_t size, uint8_t between) {
     while (it.count < MOST) {
         const uint8_t *stop = it.count + 1 < MOST && size ? memchr(at, between, size) : NULL;
         size_t length = stop ? (size_t)(stop - at) : size;
-        uint8_t *copy = room(length);
+        uint8_t *copy = room(length, 1);
         memcpy(copy, at, length);
         it.at[it.count++] = (zigrunk_text){copy, length};
         if (!stop) {
@@ -435,7 +328,7 @@ static void release_list(list *it) {
 }
 
 static zigrunk_text part(const list *it, size_t i, const char *otherwise) {
-    return i < it->count ? it->at[i] : (zigrunk_text){(const uint8_t *)otherwise, strlen(otherwise)};
+    return i < it->count ? it->at[i] : text_of(otherwise);
 }
 
 /* The texts of a list. The array is the caller's. */
@@ -448,16 +341,16 @@ static zigrunk_text *texts_in(const answer *it) {
 }
 
 /* Quotes words and splits them again. */
-static void try_words(texts *words) {
-    answer quoted = ask(asks_quote, words, 0);
+static void try_words(const words *it) {
+    answer quoted = ask(asks_quote, it, 0);
     if (quoted.out) {
         holds(quoted.status == ZIGRUNK_OK, "words can be quoted");
         zigrunk_text line = {quoted.out, quoted.length};
-        answer again = ask(asks_split, &line, 0);
+        answer again = ask(call_split, &line, 0);
         if (again.out) {
-            holds(again.status == ZIGRUNK_OK && again.count == words->count, "quoted words are as many words");
-            for (size_t i = 0; i < words->count; i++) {
-                holds(same(text_at(&again, i), words->at[i]), "quoted words split into themselves");
+            holds(again.status == ZIGRUNK_OK && again.count == it->count, "quoted words are as many words");
+            for (size_t i = 0; i < it->count; i++) {
+                holds(is_same(text_at(&again, i), it->words[i]), "quoted words split into themselves");
             }
         }
         release(again);
@@ -481,32 +374,32 @@ static zigrunk_text core_of(zigrunk_text word) {
 }
 
 /* How long the suffix of a generated name is; 0 if the word isn't generated. */
-static size_t suffix_of(zigrunk_text word, texts suffixes) {
+static size_t suffix_of(zigrunk_text word, const renamed_words *it) {
     static const char *const standard[] = {".cpp1.ii", ".cpp4.ii", ".cudafe1.c", ".cudafe1.cpp", ".cudafe1.stub.c"};
     zigrunk_text core = core_of(word);
     if (core.length && core.bytes[0] == '-') {
         return 0;
     }
     for (size_t i = 0; i < sizeof standard / sizeof *standard; i++) {
-        if (ends_with(core, (zigrunk_text){(const uint8_t *)standard[i], strlen(standard[i])})) {
+        if (ends_with(core, text_of(standard[i]))) {
             return strlen(standard[i]);
         }
     }
-    for (size_t i = 0; i < suffixes.count; i++) {
-        if (ends_with(core, suffixes.at[i])) {
-            return suffixes.at[i].length;
+    for (size_t i = 0; i < it->suffixes_count; i++) {
+        if (ends_with(core, it->suffixes[i])) {
+            return it->suffixes[i].length;
         }
     }
     return 0;
 }
 
 /* Whether no word but a generated one has a generated name in it. */
-static int are_clean(const named *it) {
-    for (size_t i = 0; i < it->words.count; i++) {
-        zigrunk_text word = it->words.at[i];
-        for (size_t j = 0; j < it->words.count && !suffix_of(word, it->suffixes); j++) {
-            zigrunk_text name = core_of(it->words.at[j]);
-            if (suffix_of(it->words.at[j], it->suffixes) && memmem(word.bytes, word.length, name.bytes, name.length)) {
+static int are_clean(const renamed_words *it) {
+    for (size_t i = 0; i < it->words_count; i++) {
+        zigrunk_text word = it->words[i];
+        for (size_t j = 0; j < it->words_count && !suffix_of(word, it); j++) {
+            zigrunk_text name = core_of(it->words[j]);
+            if (suffix_of(it->words[j], it) && memmem(word.bytes, word.length, name.bytes, name.length)) {
                 return 0;
             }
         }
@@ -515,17 +408,17 @@ static int are_clean(const named *it) {
 }
 
 /* The same word with another name: that has the number of the first word with this one, and keeps its folder and suffix. */
-static zigrunk_text renamed(const named *it, size_t i) {
-    zigrunk_text word = it->words.at[i], core = core_of(word);
-    size_t suffix = suffix_of(word, it->suffixes), folder = core.length, first = 0;
+static zigrunk_text renamed(const renamed_words *it, size_t i) {
+    zigrunk_text word = it->words[i], core = core_of(word);
+    size_t suffix = suffix_of(word, it), folder = core.length, first = 0;
     while (folder && core.bytes[folder - 1] != '/') {
         folder--;
     }
-    while (!suffix_of(it->words.at[first], it->suffixes) || !same(core_of(it->words.at[first]), core)) {
+    while (!suffix_of(it->words[first], it) || !is_same(core_of(it->words[first]), core)) {
         first++;
     }
     size_t kept = head_of(word) + folder;
-    uint8_t *other = room(kept + 32 + suffix);
+    uint8_t *other = room(kept + 32 + suffix, 1);
     memcpy(other, word.bytes, kept);
     size_t length = kept + (size_t)sprintf((char *)other + kept, "n%zu", first);
     memcpy(other + length, word.bytes + word.length - suffix, suffix);
@@ -533,31 +426,32 @@ static zigrunk_text renamed(const named *it, size_t i) {
 }
 
 /* Renames the names of a clean run twice, and other names in their place. */
-static void try_names(named *it) {
-    if (it->words.count > 200 || !are_clean(it)) {
+static void try_names(const renamed_words *it) {
+    if (it->words_count > 200 || !are_clean(it)) {
         return;
     }
-    answer once = ask(asks_remap, it, 0);
+    answer once = ask(call_remap, it, 0);
     if (once.out && once.status == ZIGRUNK_OK) {
-        holds(once.count == it->words.count, "as many words as before");
-        named canonical = {{texts_in(&once), once.count}, it->suffixes}, other = *it;
-        zigrunk_text *words = calloc(it->words.count + 1, sizeof *words);
-        for (size_t i = 0; i < it->words.count; i++) {
-            words[i] = suffix_of(it->words.at[i], it->suffixes) ? renamed(it, i) : it->words.at[i];
+        holds(once.count == it->words_count, "as many words as before");
+        zigrunk_text *words = calloc(it->words_count + 1, sizeof *words), *names = texts_in(&once);
+        renamed_words canonical = *it, other = *it;
+        canonical.words = names;
+        for (size_t i = 0; i < it->words_count; i++) {
+            words[i] = suffix_of(it->words[i], it) ? renamed(it, i) : it->words[i];
         }
-        other.words.at = words;
-        answer twice = ask(asks_remap, &canonical, 0), others = ask(asks_remap, &other, 0);
-        holds(!twice.out || is_same(&twice, &once), "canonical names of canonical names are the same");
-        holds(!others.out || !are_clean(&other) || is_same(&others, &once), "other generated names have the same canonical names");
-        for (size_t i = 0; i < it->words.count; i++) {
-            if (words[i].bytes != it->words.at[i].bytes) {
+        other.words = words;
+        answer twice = ask(call_remap, &canonical, 0), others = ask(call_remap, &other, 0);
+        holds(!twice.out || are_same(&twice, &once), "canonical names of canonical names are the same");
+        holds(!others.out || !are_clean(&other) || are_same(&others, &once), "other generated names have the same canonical names");
+        for (size_t i = 0; i < it->words_count; i++) {
+            if (words[i].bytes != it->words[i].bytes) {
                 free((void *)words[i].bytes);
             }
         }
         release(twice);
         release(others);
         free(words);
-        free((void *)canonical.words.at);
+        free(names);
     }
     release(once);
 }
@@ -568,8 +462,8 @@ static int rereads(const zigrunk_line_call *it) {
     size_t inputs = 0;
     for (size_t i = 0; i < it->words_count; i++) {
         zigrunk_text word = it->words[i];
-        inputs += (size_t)ends_with(word, (zigrunk_text){(const uint8_t *)suffix, strlen(suffix)});
-        if (it->tool == ZIGRUNK_TOOL_PTXAS && (word.length == 0 || is(word, "-arch=") || is(word, "-m="))) {
+        inputs += (size_t)ends_with(word, text_of(suffix));
+        if (it->tool == ZIGRUNK_TOOL_PTXAS && (word.length == 0 || is_same(word, text_of("-arch=")) || is_same(word, text_of("-m=")))) {
             return 0;
         }
     }
@@ -604,10 +498,9 @@ static int next_keyed(const zigrunk_key_call *it, const answer *key, size_t *at,
 }
 
 /* Reads the key of words, with the suffixes as roots. */
-static void try_key(const named *names) {
-    zigrunk_variable none = {{(const uint8_t *)"", 0}, {(const uint8_t *)"", 0}};
-    size_t roots = names->suffixes.count < 26 ? names->suffixes.count : 26;
-    zigrunk_key_call it = {names->words.at, names->words.count, &none, 0, names->suffixes.at, roots, ZIGRUNK_TOOL_HOST, 0};
+static void try_key(const renamed_words *names) {
+    size_t roots = names->suffixes_count < 26 ? names->suffixes_count : 26;
+    zigrunk_key_call it = {names->words, names->words_count, no_line_variables, 0, names->suffixes, roots, ZIGRUNK_TOOL_HOST, 0};
     int plain = 1;
     for (size_t i = 0; i < it.words_count; i++) {
         plain = plain && !memchr(it.words[i].bytes, 0, it.words[i].length);
@@ -626,7 +519,7 @@ static void try_key(const named *names) {
 
 /* Reads a line, writes it back and reads that. */
 static void try_line(zigrunk_line_call *it) {
-    answer said = ask(asks_line, it, 0), words = ask(asks_line_words, it, 0);
+    answer said = ask(asks_line, it, 0), words = ask(call_line_words, it, 0);
     zigrunk_line_answer told = read_line.told;
     zigrunk_output outputs[8];
     memcpy(outputs, read_line.outputs, sizeof outputs);
@@ -639,11 +532,11 @@ static void try_line(zigrunk_line_call *it) {
         zigrunk_line_call written = *it;
         written.words = at;
         written.words_count = words.count;
-        answer said_again = ask(asks_line, &written, 0), words_again = ask(asks_line_words, &written, 0);
-        holds(!said_again.out || is_same(&said_again, &said), "a line that was written back has the same texts");
+        answer said_again = ask(asks_line, &written, 0), words_again = ask(call_line_words, &written, 0);
+        holds(!said_again.out || are_same(&said_again, &said), "a line that was written back has the same texts");
         holds(!said_again.out || memcmp(&told, &read_line.told, sizeof told) == 0, "a line that was written back has the same record");
         holds(!said_again.out || memcmp(outputs, read_line.outputs, sizeof outputs) == 0, "a line that was written back has the same outputs");
-        holds(!words_again.out || is_same(&words_again, &words), "a line that was written back is written so again");
+        holds(!words_again.out || are_same(&words_again, &words), "a line that was written back is written so again");
         release(said_again);
         release(words_again);
         free(at);
@@ -654,18 +547,18 @@ static void try_line(zigrunk_line_call *it) {
 
 /* Splits a line of nvcc: the second dry run is the first with another folder. */
 static void try_nvcc(zigrunk_nvcc_call *it) {
-    answer split = ask(asks_nvcc_line, it, 0);
+    answer split = ask(call_nvcc_line, it, 0);
     if (split.out && split.status == ZIGRUNK_OK) {
         holds(split.count == 6, "a split line is six texts");
         zigrunk_text runs[2] = {text_at(&split, 1), text_at(&split, 2)};
-        answer first = ask(asks_split, &runs[0], 0), second = ask(asks_split, &runs[1], 0);
+        answer first = ask(call_split, &runs[0], 0), second = ask(call_split, &runs[1], 0);
         if (first.out && second.out) {
             size_t count = first.count;
             holds(first.status == ZIGRUNK_OK && second.status == ZIGRUNK_OK && count > 3 && second.count == count + 2, "both dry runs are words");
-            holds(is(text_at(&first, count - 3), "--dryrun") && is(text_at(&first, count - 2), "--keep"), "a dry run is asked for");
-            holds(is(text_at(&second, count - 3), "--keep-dir") && same(text_at(&second, count - 2), it->tmp), "the second keeps its files elsewhere");
+            holds(is_word(&first, count - 3, "--dryrun") && is_word(&first, count - 2, "--keep"), "a dry run is asked for");
+            holds(is_word(&second, count - 3, "--keep-dir") && is_same(text_at(&second, count - 2), it->tmp), "the second keeps its files elsewhere");
             for (size_t i = 0; i < count; i++) {
-                holds(same(text_at(&first, i), text_at(&second, i < count - 3 ? i : i + 2)), "both dry runs have the same words");
+                holds(is_same(text_at(&first, i), text_at(&second, i < count - 3 ? i : i + 2)), "both dry runs have the same words");
             }
         }
         release(first);
@@ -676,103 +569,67 @@ static void try_nvcc(zigrunk_nvcc_call *it) {
 
 /* Tries the words of a text: as words, as a run, and as the line of a tool. */
 static void try_text(zigrunk_text text, const zigrunk_plan_call *call, uint32_t tool) {
-    answer split = ask(asks_split, &text, 0);
+    answer split = ask(call_split, &text, 0);
     if (split.status == ZIGRUNK_OK && split.out && split.count < 5000) {
         zigrunk_text *at = texts_in(&split);
-        texts words = {at, split.count};
-        try_words(&words);
-        named names = {words, {call->suffixes, call->suffixes_count}};
+        try_words(&(words){at, split.count});
+        renamed_words names = {at, split.count, call->suffixes, call->suffixes_count};
         try_names(&names);
         try_key(&names);
         zigrunk_line_call line = {call->cwd, at, split.count, call->variables, call->variables_count, tool % 6, 0};
         try_line(&line);
-        zigrunk_nvcc_call nvcc = {call->cwd, call->tmp, {(const uint8_t *)"nvcc", 4}, at, split.count, call->variables, call->variables_count, 0};
+        zigrunk_nvcc_call nvcc = {call->cwd, call->tmp, text_of("nvcc"), at, split.count, call->variables, call->variables_count, 0};
         try_nvcc(&nvcc);
         free(at);
     }
     release(split);
 }
 
-/* A plan as records: its steps have the files and needs of its groups' commands. */
-typedef struct steps {
-    zigrunk_steps_answer sizes;
-    zigrunk_group *groups;
-    zigrunk_command *commands;
-    zigrunk_step *at;
-    size_t *numbers;
-    answer texts;
-} steps;
-
-static zigrunk_steps_answer ask_parts(const zigrunk_plan_call *call, steps *it, zigrunk_steps_answer room) {
+/* A plan as records, with room for so many of each part. */
+static asked ask_parts(const zigrunk_plan_call *call, const size_t counts[PARTS]) {
     begin(0);
-    zigrunk_steps_answer sizes = zigrunk_plan_steps(call, it->groups, room.groups, it->commands, room.commands, it->at, room.steps,
-        it->numbers, room.numbers, it->texts.ranges, room.ranges, it->texts.out, room.length);
-    end(sizes.status);
-    return sizes;
-}
-
-/* Makes room for an answer's parts. */
-static void make_room(steps *it, zigrunk_steps_answer sizes) {
-    it->groups = (zigrunk_group *)room(sizes.groups * sizeof *it->groups);
-    it->commands = (zigrunk_command *)room(sizes.commands * sizeof *it->commands);
-    it->texts = (answer){sizes.status, sizes.ranges, sizes.length, NULL, NULL};
-    it->texts.ranges = (zigrunk_range *)room(sizes.ranges * sizeof *it->texts.ranges);
-    it->texts.out = room(sizes.length);
-    it->at = (zigrunk_step *)room(sizes.steps * sizeof *it->at);
-    it->numbers = (size_t *)room(sizes.numbers * sizeof *it->numbers);
-}
-
-static void release_steps(steps *it) {
-    free(it->groups);
-    free(it->commands);
-    free(it->at);
-    free(it->numbers);
-    release(it->texts);
-}
-
-static steps ask_steps(const zigrunk_plan_call *call) {
-    static const zigrunk_steps_answer nothing;
-    steps it = {.sizes = nothing}, none = {.sizes = nothing};
-    make_room(&none, nothing);
-    it.sizes = ask_parts(call, &none, nothing);
-    release_steps(&none);
-    make_room(&it, it.sizes);
-    zigrunk_steps_answer again = ask_parts(call, &it, it.sizes);
-    holds(memcmp(&again.place, &it.sizes.place, sizeof again.place) == 0 && again.status == it.sizes.status && again.groups == it.sizes.groups &&
-        again.commands == it.sizes.commands && again.steps == it.sizes.steps && again.numbers == it.sizes.numbers &&
-        again.ranges == it.sizes.ranges && again.length == it.sizes.length, "the same sizes of steps");
+    asked it = ask_with(asks_parts, part_sizes, call, counts);
+    end(it.status);
     return it;
 }
 
+static stepped ask_steps(const zigrunk_plan_call *call) {
+    static const size_t none[PARTS];
+    asked empty = ask_parts(call, none), it = ask_parts(call, empty.counts);
+    holds(same_answers(&it, &empty), "the same sizes of steps");
+    release_asked(empty);
+    return stepped_of(it);
+}
+
 /* The groups have the first commands, each once; the others are dropped. Returns how many commands are in groups. */
-static size_t count_grouped(const steps *it) {
+static size_t count_grouped(const stepped *it) {
     size_t next = 0;
     for (size_t i = 0; i < it->sizes.groups; i++) {
-        holds(it->groups[i].commands.offset == next, "groups are one behind the other");
-        for (size_t j = 0; j < it->groups[i].commands.length; j++, next++) {
-            holds(next < it->sizes.commands && it->commands[next].group == i && it->commands[next].reason == ZIGRUNK_IN_GROUP, "a command of a group says so");
+        holds(group_of(it, i)->commands.offset == next, "groups are one behind the other");
+        for (size_t j = 0; j < group_of(it, i)->commands.length; j++, next++) {
+            holds(next < it->sizes.commands && command_of(it, next)->group == i && command_of(it, next)->reason == ZIGRUNK_IN_GROUP, "a command of a group says so");
         }
     }
     for (size_t i = next; i < it->sizes.commands; i++) {
-        holds(it->commands[i].group == it->sizes.groups && it->commands[i].reason != ZIGRUNK_IN_GROUP, "any other command is dropped");
+        holds(command_of(it, i)->group == it->sizes.groups && command_of(it, i)->reason != ZIGRUNK_IN_GROUP, "any other command is dropped");
     }
     return next;
 }
 
 /* Whether the next of the words is a text. */
 static int next_is(const answer *words, size_t *at, zigrunk_text text) {
-    return *at < words->count && same(text_at(words, (*at)++), text);
+    return *at < words->count && is_same(text_at(words, (*at)++), text);
 }
 
 static int next_word(const answer *words, size_t *at, const char *text) {
-    return next_is(words, at, (zigrunk_text){(const uint8_t *)text, strlen(text)});
+    return next_is(words, at, text_of(text));
 }
 
 /* Whether the next words are NAME=VALUE for each variable of a command. */
-static int next_variables(const answer *words, size_t *at, const steps *it, zigrunk_range variables) {
+static int next_variables(const answer *words, size_t *at, const stepped *it, zigrunk_range variables) {
     for (size_t i = 0; i < variables.length; i += 2, (*at)++) {
-        zigrunk_text name = text_at(&it->texts, variables.offset + i), value = text_at(&it->texts, variables.offset + i + 1);
-        zigrunk_text word = *at < words->count ? text_at(words, *at) : (zigrunk_text){(const uint8_t *)"", 0};
+        zigrunk_text name = step_text(it, variables.offset + i), value = step_text(it, variables.offset + i + 1);
+        zigrunk_text word = *at < words->count ? text_at(words, *at) : text_of("");
         if (word.length != name.length + 1 + value.length || memcmp(word.bytes, name.bytes, name.length) != 0 || word.bytes[name.length] != '=' ||
             !ends_with(word, value)) {
             return 0;
@@ -782,23 +639,23 @@ static int next_variables(const answer *words, size_t *at, const steps *it, zigr
 }
 
 /* Whether the next words run a command. */
-static int next_command(const answer *words, size_t *at, const steps *it, const zigrunk_command *command) {
-    int fact = next_word(words, at, "(") && next_word(words, at, "cd") && next_is(words, at, text_at(&it->texts, command->cwd)) &&
+static int next_command(const answer *words, size_t *at, const stepped *it, const zigrunk_command *command) {
+    int fact = next_word(words, at, "(") && next_word(words, at, "cd") && next_is(words, at, step_text(it, command->cwd)) &&
         next_word(words, at, "&&") && next_word(words, at, "env") && next_variables(words, at, it, command->variables) &&
-        next_is(words, at, text_at(&it->texts, command->program));
+        next_is(words, at, step_text(it, command->program));
     for (size_t i = 0; fact && i < command->arguments.length; i++) {
-        fact = next_is(words, at, text_at(&it->texts, command->arguments.offset + i));
+        fact = next_is(words, at, step_text(it, command->arguments.offset + i));
     }
     return fact && next_word(words, at, ")");
 }
 
 /* A script has the words of its plan's commands. */
-static void check_script(const steps *it, size_t grouped, zigrunk_text script) {
-    answer words = ask(asks_split, &script, 0);
+static void check_script(const stepped *it, size_t grouped, zigrunk_text script) {
+    answer words = ask(call_split, &script, 0);
     size_t at = 0;
     int fact = !words.out || (words.status == ZIGRUNK_OK && next_word(&words, &at, "set") && next_word(&words, &at, "-e"));
     for (size_t i = 0; words.out && fact && i < grouped; i++) {
-        fact = next_command(&words, &at, it, &it->commands[i]);
+        fact = next_command(&words, &at, it, command_of(it, i));
     }
     holds(fact && (!words.out || at == words.count), "a script has the words of its plan");
     release(words);
@@ -833,13 +690,13 @@ static size_t count_needs(zigrunk_text json) {
 }
 
 /* Each step's texts and needs are there, one behind the other, and a command needs commands before it. */
-static void check_steps(const steps *it) {
-    size_t need = 0, text = it->sizes.steps > 0 ? it->at[0].reads.offset : 0;
+static void check_steps(const stepped *it) {
+    size_t need = 0, text = it->sizes.steps > 0 ? step_of(it, 0)->reads.offset : 0;
     for (size_t i = 0; i < it->sizes.steps; i++) {
-        const zigrunk_step *step = &it->at[i];
+        const zigrunk_step *step = step_of(it, i);
         holds(step->needs.offset == need && step->needs.length <= it->sizes.numbers - need, "needs are one behind the other");
         for (size_t j = 0; j < step->needs.length; j++, need++) {
-            holds(it->numbers[need] < i && (j == 0 || it->numbers[need - 1] < it->numbers[need]), "needs are earlier commands, ascending");
+            holds(number_of(it, need) < i && (j == 0 || number_of(it, need - 1) < number_of(it, need)), "needs are earlier commands, ascending");
         }
         const zigrunk_range files[3] = {step->reads, step->writes, step->may_write};
         for (size_t j = 0; j < 3; text += files[j++].length) {
@@ -859,7 +716,7 @@ static void check_place(const zigrunk_steps_answer *sizes) {
 
 /* Compares a written plan with its records. */
 static void try_steps(const planned *it, const answer *plan) {
-    steps all = ask_steps(&it->call);
+    stepped all = ask_steps(&it->call);
     zigrunk_text text = {plan->out, plan->length};
     holds(it->form >= ZIGRUNK_TEXT || all.sizes.status == plan->status || plan->status == ZIGRUNK_UNWRITABLE ||
         all.sizes.status == ZIGRUNK_NO_DRY_RUN, "steps refuse what other forms refuse");
@@ -879,32 +736,31 @@ static void try_steps(const planned *it, const answer *plan) {
             holds(count_needs(text) == grouped, "each command in JSON says what it needs");
         }
     }
-    release_steps(&all);
+    release_steps(all);
 }
 
 /* Within a limit, calls answer as they do without one, or that the limit is exceeded. */
 static void try_limit(planned *it, const answer *lookups, const answer *plan, size_t limit) {
     it->call.limit = limit;
-    answer plan_within = ask(asks_plan, it, 0), lookups_within = ask(asks_lookups_within, &it->call, 0);
-    holds(!plan_within.out || plan_within.status == ZIGRUNK_OVER_LIMIT || is_same(&plan_within, plan), "a plan within a limit is that without one");
-    holds(!lookups_within.out || lookups_within.status == ZIGRUNK_OVER_LIMIT || is_same(&lookups_within, lookups), "look-ups within a limit are those without one");
+    answer plan_within = ask_plan(it, 0), lookups_within = ask_lookups(it, limit);
+    holds(!plan_within.out || plan_within.status == ZIGRUNK_OVER_LIMIT || are_same(&plan_within, plan), "a plan within a limit is that without one");
+    holds(!lookups_within.out || lookups_within.status == ZIGRUNK_OVER_LIMIT || are_same(&lookups_within, lookups), "look-ups within a limit are those without one");
     release(plan_within);
     release(lookups_within);
     it->call.limit = 0;
 }
 
-static zigrunk_list_answer asks_steps(void *what, zigrunk_range *ranges, size_t ranges_size, uint8_t *out, size_t out_size) {
-    planned *it = what;
+static zigrunk_list_answer asks_steps(const void *what, zigrunk_range *ranges, size_t ranges_size, uint8_t *out, size_t out_size) {
     zigrunk_group no_group;
     zigrunk_command no_command;
     zigrunk_step no_step;
     size_t no_number;
-    zigrunk_steps_answer sizes = zigrunk_plan_steps(&it->call, &no_group, 0, &no_command, 0, &no_step, 0, &no_number, 0, ranges, ranges_size, out, out_size);
+    zigrunk_steps_answer sizes = zigrunk_plan_steps(what, &no_group, 0, &no_command, 0, &no_step, 0, &no_number, 0, ranges, ranges_size, out, out_size);
     return (zigrunk_list_answer){sizes.status, sizes.ranges, sizes.length};
 }
 
 /* Asks once more if a call takes long: other work may have slowed it down. */
-static double shortest(asker *asks, void *what) {
+static double shortest(list_call *asks, const void *what) {
     double least = LONGEST;
     for (int tries = 0; tries < 3 && least >= LONGEST; tries++) {
         zigrunk_range no_range;
@@ -919,11 +775,13 @@ static double shortest(asker *asks, void *what) {
 }
 
 /* Within zigrunk's own limit no call takes long or much memory, whatever it is given. */
-static void try_default_limit(planned *it) {
-    asker *const asked[] = {asks_plan, asks_steps, asks_lookups_within};
-    void *what[] = {it, it, &it->call};
-    size_t limit = it->call.limit;
-    it->call.limit = OWN_LIMIT;
+static void try_default_limit(const planned *it) {
+    zigrunk_plan_call call = it->call;
+    call.limit = OWN_LIMIT;
+    const limited_runs runs = runs_of(&call, OWN_LIMIT);
+    const wanted as_plan = {&call, it->form};
+    list_call *const asked[] = {asks_plan, asks_steps, call_lookups_within};
+    const void *const what[] = {&as_plan, &call, &runs};
     budget = LARGEST;
     for (int i = 0; i < 3; i++) {
         double took = shortest(asked[i], what[i]);
@@ -932,12 +790,11 @@ static void try_default_limit(planned *it) {
         told.most_large = most_in_use > told.most_large ? most_in_use : told.most_large;
     }
     budget = BUDGET;
-    it->call.limit = limit;
 }
 
 /* A text again and again, in memory of its own, up to a size. */
-static zigrunk_text repeated(zigrunk_text text, size_t size) {
-    uint8_t *at = room(size);
+static zigrunk_text filled(zigrunk_text text, size_t size) {
+    uint8_t *at = room(size, 1);
     size_t length = 0;
     while (text.length > 0 && length + text.length <= size) {
         memcpy(at + length, text.bytes, text.length);
@@ -947,10 +804,10 @@ static zigrunk_text repeated(zigrunk_text text, size_t size) {
 }
 
 /* The same of both runs again and again, a megabyte in all. */
-static void try_megabyte(planned *it) {
+static void try_megabyte(const planned *it) {
     planned large = *it;
-    large.call.dry1 = repeated(it->call.dry1, MEGABYTE / 2);
-    large.call.dry2 = repeated(it->call.dry2, MEGABYTE / 2);
+    large.call.dry1 = filled(it->call.dry1, MEGABYTE / 2);
+    large.call.dry2 = filled(it->call.dry2, MEGABYTE / 2);
     told.large++;
     try_default_limit(&large);
     free((void *)large.call.dry1.bytes);
@@ -960,7 +817,7 @@ static void try_megabyte(planned *it) {
 /* Plans the call, with a table of what it looks up. If `misses`, some programs are missing there. Then as records, and within a
  * limit. */
 static void try_plan(planned *it, int misses, unsigned long failing, size_t limit, int is_large) {
-    answer lookups = ask(asks_lookups, &it->call, 0);
+    answer lookups = ask_lookups(it, 0);
     size_t count = lookups.status == ZIGRUNK_OK && lookups.out ? lookups.count / 2 : 0;
     zigrunk_found_program *rows = calloc(count + 1, sizeof *rows);
     list paths = {.count = 0};
@@ -968,21 +825,21 @@ static void try_plan(planned *it, int misses, unsigned long failing, size_t limi
         rows[i].program = text_at(&lookups, 2 * i);
         rows[i].path = text_at(&lookups, 2 * i + 1);
         rows[i].is_found = !(misses && i % 3 == 2);
-        rows[i].found = (zigrunk_text){(const uint8_t *)"", 0};
+        rows[i].found = text_of("");
         for (size_t j = 0; j < i && j < 50; j++) {
-            holds(!(same(rows[i].program, rows[j].program) && same(rows[i].path, rows[j].path)), "no look-up twice");
+            holds(!(is_same(rows[i].program, rows[j].program) && is_same(rows[i].path, rows[j].path)), "no look-up twice");
         }
         if (paths.count < MOST && rows[i].program.length < 4000) {
             char path[4010];
             int length = snprintf(path, sizeof path, "/b/%.*s", (int)rows[i].program.length, (const char *)rows[i].program.bytes);
-            uint8_t *copy = room((size_t)length);
+            uint8_t *copy = room((size_t)length, 1);
             memcpy(copy, path, (size_t)length);
             rows[i].found = paths.at[paths.count++] = (zigrunk_text){copy, (size_t)length};
         }
     }
     it->call.programs = rows;
     it->call.programs_count = count;
-    answer plan = ask(asks_plan, it, failing);
+    answer plan = ask_plan(it, failing);
     holds(misses || !lookups.out || plan.status != ZIGRUNK_NOT_FOUND, "a plan needs no other look-up than those listed");
     if (plan.out && plan.status == ZIGRUNK_OK && it->form == ZIGRUNK_JSON) {
         holds(is_json(plan.out, plan.length), "a plan as JSON is a JSON object");
@@ -1089,8 +946,7 @@ int LLVMFuzzerTestOneInput(const uint8_t *data, size_t size) {
     try_plan(&it, (data[0] >> 6) & 1, data[0] & 0x80 ? (unsigned long)data[1] * 7 + 1 : 0, 1 + (size_t)data[1] * 40, data[1] % 16 == 1);
     if (data[1] % 4 == 0) {
         try_text(it.call.dry1, &it.call, data[1] / 4);
-        zigrunk_text asked[3] = {it.call.flag, it.call.dry2, it.call.cwd};
-        release(ask(asks_candidates, asked, 0));
+        release(ask(call_candidates, &(three){{it.call.flag, it.call.dry2, it.call.cwd}}, 0));
     }
     if (data[1] % 4 == 1) {
         try_schedule(it.call.dry1.bytes, it.call.dry1.length);
@@ -1098,6 +954,7 @@ int LLVMFuzzerTestOneInput(const uint8_t *data, size_t size) {
     release_list(&all);
     release_list(&names);
     release_list(&suffixes);
+    holds(failed == 0, "each check of the headers");
     if (told.inputs % 256 == 0 && now() - written > 5) {
         tell();
         written = now();

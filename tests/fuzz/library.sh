@@ -42,7 +42,7 @@ END
     cp "$folder/copy/crates/zigrunk_c/out/libzigrunk_c.a" "$folder/archive.a"
 fi
 
-"$clang" -g -O2 -std=gnu11 -I bindings/c -fsanitize=fuzzer tests/fuzz/library.c "$folder/archive.a" -o "$folder/fuzzer"
+"$clang" -g -O2 -std=gnu11 -I bindings/c -I tests/c -fsanitize=fuzzer tests/fuzz/library.c "$folder/archive.a" -o "$folder/fuzzer"
 mkdir -p "$folder/inputs" "$folder/slow"
 tests/fuzz/seeds.py "$folder/seeds"
 ulimit -v 4000000 -c 0

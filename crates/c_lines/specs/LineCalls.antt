@@ -42,14 +42,10 @@ line_of cwd words variables =
     Some (record { cwd = cwd; words = words; variables = variables }))
     (variables_of variables)) (words_of (map bytes_of words))) (text_of (bytes_of cwd))
 
--- the tool of a call, if its numbers have a meaning
-abbrev pub tool_in : LineCall → Option LineTool
-tool_in call = if call.reserved == 0 then tool_of call.tool else None
-
 -- a call's tool and line, or why there is none. A number without a meaning comes first, then a text that isn't UTF-8
 abbrev pub line_in : LineCall → Result (LineTool × Line) Refused
 line_in call =
-    and_then (or_plain BadNumber (tool_in call)) (λ tool.
+    and_then (or_plain BadNumber (if call.reserved == 0 then tool_of call.tool else None)) (λ tool.
     and_then (or_plain NotUtf8 (line_of call.cwd call.words.now call.variables.now)) (λ line. Ok (tool, line)))
 
 -- such a call's tool and line, as the code holds them

@@ -146,14 +146,11 @@ line_at first p =
       too_hard_for_preprocessor_cache_mode = list_at (behind hashed) (optional_texts p.too_hard_for_preprocessor_cache_mode);
     }
 
--- an output's record, if its key has this number
-abbrev pub output_at : ℕ → List ℕ × ArtifactDescriptor → OutputRecord
-output_at first output = record { key = first; path = first + 1; optional = choice_number output.1.optional; reserved = 0 }
-
 -- the records of outputs, if the first key has this number
 abbrev pub outputs_at : ℕ → List (List ℕ × ArtifactDescriptor) → List OutputRecord
 outputs_at first [] = []
-outputs_at first (output ∷ outputs) = output_at first output ∷ outputs_at (first + 2) outputs
+outputs_at first (output ∷ outputs) =
+    record { key = first; path = first + 1; optional = choice_number output.1.optional; reserved = 0 } ∷ outputs_at (first + 2) outputs
 
 -- what a call ends with that writes records of a line
 abbrev pub RecordedLine : Type 0
@@ -217,5 +214,4 @@ TellsLine recorded answer before after = (answer ≡ answer_of recorded) × (aft
 
 -- It tells what is expected, or that an allocation failed.
 abbrev pub GivesLine : RecordedLine → LineAnswer → Buffers → Buffers → Type 0
-GivesLine expected answer before after =
-    TellsLine expected answer before after ⊎ TellsLine (without_records (refused Memory)) answer before after
+GivesLine expected answer before after = TellsLine expected answer before after ⊎ TellsLine (without_records (refused Memory)) answer before after

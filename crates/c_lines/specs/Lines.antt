@@ -6,9 +6,9 @@ use Rattle.compilers.specs.declared.compiler.NvccHostCompiler.TheVariants.{Gcc}
 use Rattle.compilers.specs.declared.compiler.Places.{Places}
 use Rattle.compilers.specs.Command.{Writing, written}
 use Rattle.compilers.specs.Compiler.{Reading, accepted, cannot_cache, not_compilation}
-use Rattle.gcc_lines.specs.GccLine.{gcc_words}
-use Rattle.nvcc_commands.specs.Nvcc.{nvcc_reading}
-use Rattle.nvcc_commands.specs.NvccCommand.{nvcc_written}
+use Rattle.host_lines.specs.GccLine.{gcc_words}
+use Rattle.host_lines.specs.Nvcc.{nvcc_reading}
+use Rattle.host_lines.specs.NvccCommand.{nvcc_written}
 use Rattle.device_lines.specs.Cicc.{cicc_options}
 use Rattle.device_lines.specs.CudaFE.{cudafe_options}
 use Rattle.device_lines.specs.DeviceWords.{cicc_words, cudafe_words}

@@ -1,12 +1,11 @@
 -- The call on lines of nvcc.
-use Rattle.std.specs.Prelude.{ℕ, List, [], ◌∷◌, ◌++◌, ◌==◌, if◌then◌else◌, Option, Some, Result, Ok, Err, codes, option_and_then}
+use Rattle.std.specs.Prelude.{ℕ, List, [], ◌∷◌, ◌++◌, ◌==◌, if◌then◌else◌, Result, Ok, Err, codes}
 use Rattle.nvcc_calls.specs.declared.answer.Answer.{Answer}
 use Rattle.nvcc_calls.specs.declared.answer.Answer.TheVariants.{Split, Pass}
 use Rattle.nvcc_calls.specs.declared.outline_texts.OutlineTexts.{OutlineTexts}
 use Rattle.nvcc_calls.specs.Answer.{nvcc_answer}
 use Rattle.nvcc_calls.specs.OutlineTexts.{texts_of}
 use Rattle.texts.specs.Results.{and_then}
-use Rattle.c_texts.specs.declared.memory.InputText.{InputText}
 use Rattle.c_lines.specs.declared.nvcc_outline.NvccLineCall.{NvccLineCall}
 use Rattle.c_lines.specs.declared.nvcc_outline.Tools.{Tools as HeldTools}
 use Rattle.c_texts.specs.declared.refusal.Refused.{Refused}
@@ -23,12 +22,6 @@ pub record Tools : Type 0 where
   pub tmp : List ℕ
   pub nvcc : List ℕ
 
--- these texts, if both are UTF-8
-abbrev pub tools_of : InputText → InputText → Option Tools
-tools_of tmp nvcc =
-    option_and_then (λ tmp. option_and_then (λ nvcc. Some (record { tmp = tmp; nvcc = nvcc }))
-    (text_of (bytes_of nvcc))) (text_of (bytes_of tmp))
-
 -- such texts, as the code holds them
 abbrev pub tools_seen : HeldTools → Tools
 tools_seen tools = record { tmp = tools.tmp.now; nvcc = tools.nvcc.now }
@@ -37,19 +30,14 @@ tools_seen tools = record { tmp = tools.tmp.now; nvcc = tools.nvcc.now }
 abbrev pub list_of : OutlineTexts → List (List ℕ)
 list_of t = t.dependencies ∷ t.first ∷ t.second ∷ t.flag ∷ t.jobs ∷ t.keep_dir ∷ []
 
--- the refusal of a line that goes to nvcc, and why
-abbrev pub passed : List ℕ → Refused
-passed why = Told ToNvcc (codes "goes to nvcc: " ++ why)
-
 -- the texts of an answer, or the refusal of a line that goes to nvcc
 abbrev pub texts_in : Answer → Result Outcome Refused
 texts_in (Split outline) = Ok (of_texts (list_of (texts_of outline)))
-texts_in (Pass why) = Err (passed why)
+texts_in (Pass why) = Err (Told ToNvcc (codes "goes to nvcc: " ++ why))
 
 -- the answer to a line of nvcc, or the refusal of its fault
 abbrev pub answer_at : Tools → Line → Result Answer Refused
-answer_at tools line =
-    or_refused (nvcc_answer (record { cwd = line.cwd; tmp = tools.tmp; nvcc = tools.nvcc; words = line.words }) line.variables [])
+answer_at tools line = or_refused (nvcc_answer (record { cwd = line.cwd; tmp = tools.tmp; nvcc = tools.nvcc; words = line.words }) line.variables [])
 
 -- what a line of nvcc says
 abbrev pub outline_at : Tools → Line → Result Outcome Refused
@@ -59,8 +47,8 @@ outline_at tools line = and_then (answer_at tools line) texts_in
 abbrev pub call_outline : NvccLineCall → Result Outcome Refused
 call_outline call =
     if call.reserved == 0 then
-    and_then (or_plain NotUtf8 (tools_of call.tmp call.nvcc)) (λ tools.
-    and_then (or_plain NotUtf8 (line_of call.cwd call.words.now call.variables.now)) (outline_at tools))
+    and_then (or_plain NotUtf8 (text_of (bytes_of call.tmp))) (λ tmp. and_then (or_plain NotUtf8 (text_of (bytes_of call.nvcc))) (λ nvcc.
+    and_then (or_plain NotUtf8 (line_of call.cwd call.words.now call.variables.now)) (outline_at (record { tmp = tmp; nvcc = nvcc }))))
     else Err (Plain BadNumber)
 
 abbrev pub nvcc_outcome : NvccLineCall → Outcome

@@ -10,11 +10,9 @@ mod line_record;
 mod lines;
 mod nvcc_outline;
 mod recorded_line;
-mod recording;
 
 pub use line_call::LineCall;
 pub use line_record::{LineAnswer, LineRecord, OutputRecord};
 pub use lines::{call_words, line_words};
 pub use nvcc_outline::{NvccLineCall, call_outline, nvcc_line};
-pub use recorded_line::RecordedLine;
-pub use recording::{call_records, line_records};
+pub use recorded_line::{RecordedLine, call_records, line_records};

@@ -25,7 +25,7 @@ pub struct LineCall<'a> {
     pub reserved: u32,
 }
 
-/// A tool, by whose rules a line is read. That isn't `plans::Program`, what a command of a plan runs: no command runs nvcc or nvhpc, and
+/// A tool, by whose rules a line is read. That isn't `compilers::plans::Program`, what a command of a plan runs: no command runs nvcc or nvhpc, and
 /// lines of fatbinary and nvlink aren't read.
 #[derive(Clone, Copy, Debug)]
 pub(crate) enum LineTool {
@@ -87,17 +87,6 @@ pub(crate) fn line_of<'a>(
     }))
 }
 
-// The tool of a call, if its numbers have a meaning.
-fn tool_in(call: &LineCall<'_>) -> Option<LineTool>
-    ensures { result ≡ spec.tool_in call.now }
-{
-    if call.reserved == 0 {
-        tool_of(call.tool)
-    } else {
-        None
-    }
-}
-
 /// A tool, and a line of it.
 #[derive(Drop)]
 pub(crate) struct ToolLine<'a> {
@@ -109,7 +98,10 @@ pub(crate) struct ToolLine<'a> {
 pub(crate) fn line_in<'a>(alloc: Global, call: &LineCall<'a>) -> Result<ToolLine<'a>, Refused>
     ensures { Answers (spec.found_seen result) (spec.line_in call.now) }
 {
-    let tool = tool_in(call).ok_or(Refused::Plain(Status::BadNumber))?;
+    if call.reserved != 0 {
+        return Err(Refused::Plain(Status::BadNumber));
+    }
+    let tool = tool_of(call.tool).ok_or(Refused::Plain(Status::BadNumber))?;
     let line = line_of(alloc, &call.cwd, call.words, call.variables)?;
     let line = line.ok_or(Refused::Plain(Status::NotUtf8))?;
     Ok(ToolLine { tool, line })

@@ -4,7 +4,7 @@ use c_texts::Range;
 
 /// What a line says. Its texts are elements of the list of ranges.
 #[repr(C)]
-#[derive(Clone, Copy, Debug)]
+#[derive(Clone, Copy, Debug, Default)]
 pub struct LineRecord {
     /// Which text is the input's path.
     pub input: usize,

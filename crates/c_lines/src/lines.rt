@@ -17,23 +17,11 @@ use compilers::compiler::{CCompilerImpl, Places};
 use device_lines::cicc::Cicc;
 use device_lines::cudafe::CudaFE;
 use device_lines::ptxas::Ptxas;
+use host_lines::nvcc::Nvcc;
 use host_lines::nvhpc::Nvhpc;
-use nvcc_commands::Nvcc;
 use std::alloc::{AllocError, Global};
 use texts::fault::Fault;
 use texts::text::Text;
-
-// What a compiler reads a line as.
-fn read_with<C: CCompilerImpl + Drop>(
-    alloc: Global,
-    compiler: C,
-    line: &Line<'_>,
-) -> Result<CompilerArguments<ParsedArguments>, AllocError>
-    ensures { IfOk result (λ r. reading_of r ≡ C.reading compiler line.now.words line.now.cwd.now line.now.variables) }
-{
-    let variables = line.variables.as_slice();
-    compiler.parse_arguments(alloc, line.words.as_slice(), line.cwd, variables)
-}
 
 // nvhpc's compiler of C, or that of C++.
 fn nvhpc(nvcplusplus: bool) -> Nvhpc
@@ -53,26 +41,14 @@ fn read_by(
 ) -> Result<CompilerArguments<ParsedArguments>, AllocError>
     ensures { IfOk result (λ r. reading_of r ≡ spec.read_by tool (line_seen line.now)) }
 {
+    let (cwd, words, variables) = (line.cwd, line.words.as_slice(), line.variables.as_slice());
     match tool {
-        LineTool::Cicc => read_with(alloc, Cicc { version: None }, line),
-        LineTool::Ptxas => read_with(alloc, Ptxas { version: None }, line),
-        LineTool::CudaFe => read_with(alloc, CudaFE { version: None }, line),
-        LineTool::Nvcc => read_with(alloc, Nvcc::gcc(), line),
-        LineTool::Nvc => read_with(alloc, nvhpc(false), line),
-        LineTool::Nvcxx => read_with(alloc, nvhpc(true), line),
-    }
-}
-
-// Why no cache can serve a line.
-fn not_cached(alloc: Global, text: &str, word: &Option<Text>) -> Result<String, AllocError>
-    ensures { IfOk result (λ message. string_bytes message ≡ spec.not_cached text.now word.now) }
-{
-    match word {
-        None => Ok(format!(in alloc; "cannot cache: {text}")?),
-        Some(word) => {
-            let word = word.as_str();
-            Ok(format!(in alloc; "cannot cache: {text}: {word}")?)
-        }
+        LineTool::Cicc => Cicc { version: None }.parse_arguments(alloc, words, cwd, variables),
+        LineTool::Ptxas => Ptxas { version: None }.parse_arguments(alloc, words, cwd, variables),
+        LineTool::CudaFe => CudaFE { version: None }.parse_arguments(alloc, words, cwd, variables),
+        LineTool::Nvcc => Nvcc::gcc().parse_arguments(alloc, words, cwd, variables),
+        LineTool::Nvc => nvhpc(false).parse_arguments(alloc, words, cwd, variables),
+        LineTool::Nvcxx => nvhpc(true).parse_arguments(alloc, words, cwd, variables),
     }
 }
 
@@ -92,8 +68,12 @@ fn arguments_of(
 {
     match reading {
         CompilerArguments::Ok(parsed) => Ok(parsed),
-        CompilerArguments::CannotCache(text, word) => {
-            Err(bad_line(not_cached(alloc, text, &word)?))
+        CompilerArguments::CannotCache(text, None) => {
+            Err(bad_line(format!(in alloc; "cannot cache: {text}")?))
+        }
+        CompilerArguments::CannotCache(text, Some(word)) => {
+            let word = word.as_str();
+            Err(bad_line(format!(in alloc; "cannot cache: {text}: {word}")?))
         }
         CompilerArguments::NotCompilation => {
             Err(bad_line(String::from_str(alloc, "not a compilation")?))
@@ -119,18 +99,8 @@ pub(crate) fn parsed_in(alloc: Global, call: &LineCall<'_>) -> Result<ParsedArgu
     parsed
 }
 
-// The places of a line: its own path of the input, and no directory.
-fn places_of(alloc: Global, parsed: &ParsedArguments) -> Result<Places, AllocError>
-    ensures { IfOk result (λ places. places ≡ spec.places_of parsed.now) }
-{
-    Ok(Places {
-        temp_dir: Text::new(String::new(alloc)),
-        canonical_input: parsed.input.try_clone(alloc)?,
-    })
-}
-
 // The words that a compiler writes arguments back as.
-fn words_with<C: CCompilerImpl>(
+fn words_of<C: CCompilerImpl>(
     alloc: Global,
     compiler: &C,
     line: &Line<'_>,
@@ -141,7 +111,11 @@ where
     ensures { UnlessMemory result (spec.words_told C.Command.arguments
         (C.writing compiler.now [] parsed.now line.now.cwd.now line.now.variables (spec.places_of parsed.now))) }
 {
-    let places = places_of(alloc, parsed)?;
+    // The line's own path of the input, and no directory for temporary files.
+    let places = Places {
+        temp_dir: Text::new(String::new(alloc)),
+        canonical_input: parsed.input.try_clone(alloc)?,
+    };
     let variables = line.variables.as_slice();
     let written = compiler.generate_compile_commands(
         alloc, "", parsed, line.cwd, variables, &places,
@@ -154,21 +128,6 @@ where
     Ok(words?)
 }
 
-// The words that a compiler writes arguments back as, given the compiler.
-fn words_of<C: CCompilerImpl + Drop>(
-    alloc: Global,
-    compiler: C,
-    line: &Line<'_>,
-    parsed: &ParsedArguments,
-) -> Result<Outcome, Fault>
-where
-    C::Command: Drop,
-    ensures { UnlessMemory result (spec.words_told C.Command.arguments
-        (C.writing compiler [] parsed.now line.now.cwd.now line.now.variables (spec.places_of parsed.now))) }
-{
-    words_with(alloc, &compiler, line, parsed)
-}
-
 // The words that a tool writes arguments back as.
 fn words_by(
     alloc: Global,
@@ -179,25 +138,13 @@ fn words_by(
     ensures { UnlessMemory result (spec.words_by tool (line_seen line.now) parsed.now) }
 {
     match tool {
-        LineTool::Cicc => words_of(alloc, Cicc { version: None }, line, parsed),
-        LineTool::Ptxas => words_of(alloc, Ptxas { version: None }, line, parsed),
-        LineTool::CudaFe => words_of(alloc, CudaFE { version: None }, line, parsed),
-        LineTool::Nvcc => words_of(alloc, Nvcc::gcc(), line, parsed),
-        LineTool::Nvc => words_of(alloc, nvhpc(false), line, parsed),
-        LineTool::Nvcxx => words_of(alloc, nvhpc(true), line, parsed),
+        LineTool::Cicc => words_of(alloc, &Cicc { version: None }, line, parsed),
+        LineTool::Ptxas => words_of(alloc, &Ptxas { version: None }, line, parsed),
+        LineTool::CudaFe => words_of(alloc, &CudaFE { version: None }, line, parsed),
+        LineTool::Nvcc => words_of(alloc, &Nvcc::gcc(), line, parsed),
+        LineTool::Nvc => words_of(alloc, &nvhpc(false), line, parsed),
+        LineTool::Nvcxx => words_of(alloc, &nvhpc(true), line, parsed),
     }
-}
-
-// The words that arguments are written back as, or why they can't be.
-fn words_of_parsed(
-    alloc: Global,
-    tool: LineTool,
-    line: &Line<'_>,
-    parsed: &ParsedArguments,
-) -> Result<Outcome, Refused>
-    ensures { Answers result (or_refused (spec.words_by tool (line_seen line.now) parsed.now)) }
-{
-    or_refused(alloc, words_by(alloc, tool, line, parsed))
 }
 
 // The words that a line is written back as.
@@ -205,7 +152,7 @@ fn rewritten_by(alloc: Global, tool: LineTool, line: &Line<'_>) -> Result<Outcom
     ensures { Answers result (spec.rewritten_by tool (line_seen line.now)) }
 {
     let parsed = parsed_by(alloc, tool, line)?;
-    let words = words_of_parsed(alloc, tool, line, &parsed);
+    let words = or_refused(alloc, words_by(alloc, tool, line, &parsed));
     // Dropped by a call: see "Explicit drops" in docs/ARCHITECTURE.md.
     drop(parsed);
     words

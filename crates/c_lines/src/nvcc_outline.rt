@@ -1,6 +1,6 @@
 //! Lines of nvcc: what to run for a plan of one.
 
-ghost use Rattle.std.specs.Prelude.{◌≡◌, IfOk, OnOk, option_map};
+ghost use Rattle.std.specs.Prelude.{◌≡◌, IfOk, OnOk};
 ghost use Rattle.nvcc_calls.specs.OutlineTexts.{texts_of};
 ghost use Rattle.c_lines.specs.LineCalls.{line_seen};
 ghost use Rattle.c_texts.specs.Outcomes.{GivesList, of_texts, with_texts};
@@ -12,8 +12,8 @@ use c_texts::{
     InputText, ListAnswer, Outcome, Range, Refused, Status, Variable, or_refused, text_of,
     write_list,
 };
+use compilers::NvccCall;
 use nvcc_calls::{Answer, Outline, OutlineTexts, read_call, texts_of};
-use nvcc_lines::NvccCall;
 use std::alloc::{AllocError, Global};
 use texts::text::Text;
 
@@ -42,16 +42,6 @@ struct Tools<'a> {
     nvcc: &'a str,
 }
 
-// These texts, if both are UTF-8.
-fn tools_of<'a>(tmp: &InputText<'a>, nvcc: &InputText<'a>) -> Option<Tools<'a>>
-    ensures { option_map spec.tools_seen result ≡ spec.tools_of tmp.now nvcc.now }
-{
-    Some(Tools {
-        tmp: text_of(tmp.bytes)?,
-        nvcc: text_of(nvcc.bytes)?,
-    })
-}
-
 // Adds the texts of what an nvcc line says.
 fn push_texts(outcome: &mut Outcome, texts: &OutlineTexts) -> Result<(), AllocError>
     ensures { OnOk result (outcome.new ≡ with_texts outcome.old (spec.list_of texts.now)) }
@@ -64,32 +54,14 @@ fn push_texts(outcome: &mut Outcome, texts: &OutlineTexts) -> Result<(), AllocEr
     outcome.push(texts.keep_dir.as_str())
 }
 
-// The texts of what an nvcc line says, as a list.
-fn listed_texts(alloc: Global, texts: &OutlineTexts) -> Result<Outcome, AllocError>
-    ensures { IfOk result (λ outcome. outcome ≡ of_texts (spec.list_of texts.now)) }
-{
-    let mut outcome = Outcome::new(alloc);
-    push_texts(&mut outcome, texts)?;
-    Ok(outcome)
-}
-
 // What an nvcc line says, as a list.
 fn listed(alloc: Global, outline: &Outline) -> Result<Outcome, AllocError>
     ensures { IfOk result (λ outcome. outcome ≡ of_texts (spec.list_of (texts_of outline.now))) }
 {
     let texts = texts_of(alloc, outline)?;
-    let outcome = listed_texts(alloc, &texts);
-    // Dropped by a call: see "Explicit drops" in docs/ARCHITECTURE.md.
-    drop(texts);
-    outcome
-}
-
-// The refusal of a line that goes to nvcc.
-fn passed(alloc: Global, why: &str) -> Result<Refused, AllocError>
-    ensures { IfOk result (λ refused. refused ≡ spec.passed why.now) }
-{
-    let message = format!(in alloc; "goes to nvcc: {why}")?;
-    Ok(Refused::Told(Status::ToNvcc, Text::new(message)))
+    let mut outcome = Outcome::new(alloc);
+    push_texts(&mut outcome, &texts)?;
+    Ok(outcome)
 }
 
 // The texts of an answer, or the refusal of a line that goes to nvcc.
@@ -98,7 +70,11 @@ fn texts_in(alloc: Global, answer: &Answer) -> Result<Outcome, Refused>
 {
     match answer {
         Answer::Split(outline) => Ok(listed(alloc, outline)?),
-        Answer::Pass(why) => Err(passed(alloc, why.as_str())?),
+        Answer::Pass(why) => {
+            let why = why.as_str();
+            let message = format!(in alloc; "goes to nvcc: {why}")?;
+            Err(Refused::Told(Status::ToNvcc, Text::new(message)))
+        }
     }
 }
 
@@ -136,7 +112,10 @@ pub fn call_outline(alloc: Global, call: &NvccLineCall<'_>) -> Result<Outcome, R
     if call.reserved != 0 {
         return Err(Refused::Plain(Status::BadNumber));
     }
-    let tools = tools_of(&call.tmp, &call.nvcc).ok_or(Refused::Plain(Status::NotUtf8))?;
+    let tools = Tools {
+        tmp: text_of(call.tmp.bytes).ok_or(Refused::Plain(Status::NotUtf8))?,
+        nvcc: text_of(call.nvcc.bytes).ok_or(Refused::Plain(Status::NotUtf8))?,
+    };
     let line = line_of(alloc, &call.cwd, call.words, call.variables)?;
     let line = line.ok_or(Refused::Plain(Status::NotUtf8))?;
     let outline = outline_at(alloc, tools, &line);

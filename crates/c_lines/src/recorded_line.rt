@@ -6,9 +6,12 @@ ghost use Rattle.c_texts.specs.declared.refusal.Refused.{Refused};
 ghost use Rattle.c_texts.specs.Outcomes.{with_texts};
 ghost use Rattle.c_texts.specs.Refusals.{Answers, refusal};
 ghost use Rattle.c_lines.specs.declared.line_record.OutputRecord.{OutputRecord};
+ghost use Rattle.c_lines.specs.LineRecordCalls as calls;
 ghost use Rattle.c_lines.specs.LineRecords as spec;
 
+use crate::line_call::LineCall;
 use crate::line_record::{LineAnswer, LineRecord, OutputRecord};
+use crate::lines::parsed_in;
 use c_texts::{Outcome, Range, Refused};
 use compilers::arguments::{ColorMode, ParsedArguments};
 use compilers::outputs::{ArtifactDescriptor, Outputs};
@@ -86,41 +89,11 @@ fn push_optional(texts: &mut Outcome, text: &Option<Text>) -> Result<Range, Allo
     }
 }
 
-// No texts.
-fn no_texts() -> Range
-    ensures { result ≡ spec.no_texts }
-{
-    Range {
-        offset: 0,
-        length: 0,
-    }
-}
-
 // The record that comes with a refusal.
 fn no_line() -> LineRecord
     ensures { result ≡ spec.no_line }
 {
-    LineRecord {
-        input: 0,
-        compilation_flag: 0,
-        depfile: no_texts(),
-        dependency_args: no_texts(),
-        preprocessor_args: no_texts(),
-        common_args: no_texts(),
-        arch_args: no_texts(),
-        unhashed_args: no_texts(),
-        extra_dist_files: no_texts(),
-        extra_hash_files: no_texts(),
-        too_hard_for_preprocessor_cache_mode: no_texts(),
-        language: 0,
-        color_mode: 0,
-        double_dash_input: 0,
-        msvc_explicit_language: 0,
-        msvc_show_includes: 0,
-        profile_generate: 0,
-        suppress_rewrite_includes_only: 0,
-        uses_external_assembler: 0,
-    }
+    LineRecord::default()
 }
 
 // What a line's record says besides its texts.
@@ -185,17 +158,6 @@ fn push_line(texts: &mut Outcome, parsed: &ParsedArguments) -> Result<LineRecord
 }
 
 impl RecordedLine {
-    // A line's record and its texts, so far without outputs.
-    fn new(alloc: Global, outcome: Outcome, line: LineRecord) -> RecordedLine
-        ensures { result ≡ (outcome, (line, [])) }
-    {
-        RecordedLine {
-            outcome,
-            line,
-            outputs: Vec::new(alloc),
-        }
-    }
-
     // Adds an output.
     fn push(&mut self, key: &str, output: &ArtifactDescriptor) -> Result<(), AllocError>
         ensures { OnOk result (self.new ≡ spec.with_outputs self.old ((key.now, output.now) ∷ [])) }
@@ -233,7 +195,11 @@ pub(crate) fn records_of(
 {
     let mut texts = Outcome::new(alloc);
     let line = push_line(&mut texts, parsed)?;
-    let mut recorded = RecordedLine::new(alloc, texts, line);
+    let mut recorded = RecordedLine {
+        outcome: texts,
+        line,
+        outputs: Vec::new(alloc),
+    };
     recorded.push_outputs(&parsed.outputs)?;
     Ok(recorded)
 }
@@ -299,4 +265,34 @@ pub(crate) fn write_line(
         Ok(recorded) => tell_line(&recorded, outputs, ranges, out),
         Err(refused) => tell_refusal(&refused, out),
     }
+}
+
+/// What [`line_records`] tells: the records of a call's line.
+pub fn call_records(alloc: Global, call: &LineCall<'_>) -> Result<RecordedLine, Refused>
+    ensures { Answers result (calls.call_records call.now) }
+{
+    let parsed = parsed_in(alloc, call)?;
+    let records = records_of(alloc, &parsed);
+    // Dropped by a call: see "Explicit drops" in docs/ARCHITECTURE.md.
+    drop(parsed);
+    Ok(records?)
+}
+
+/// Reads a line of a tool, as `CCompilerImpl::parse_arguments` of that tool, and writes what it says as records: those of its
+/// outputs and its texts. The answer has the record of the line.
+///
+/// A number without a meaning is the first refusal, then a text that isn't UTF-8. Then comes a line that compiles nothing,
+/// or that no cache can serve.
+pub fn line_records(
+    alloc: Global,
+    call: &LineCall<'_>,
+    outputs: &mut [OutputRecord],
+    ranges: &mut [Range],
+    out: &mut [u8],
+) -> LineAnswer
+    ensures { spec.GivesLine (calls.line_records call.now) result
+        (record { outputs = outputs.old; ranges = ranges.old; bytes = out.old })
+        (record { outputs = outputs.new; ranges = ranges.new; bytes = out.new }) }
+{
+    write_line(call_records(alloc, call), outputs, ranges, out)
 }

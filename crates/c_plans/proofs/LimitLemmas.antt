@@ -2,7 +2,7 @@
 use Rattle.std.proofs.Common.{◌≡◌, List, ℕ, Result, refl, arith}
 use Rattle.texts.specs.declared.fault.Fault.{Fault}
 use Rattle.texts.specs.Results.{and_then}
-use Rattle.plans.specs.declared.origins.PlanWithOrigins.{PlanWithOrigins}
+use Rattle.compilers.specs.declared.plans.origins.PlanWithOrigins.{PlanWithOrigins}
 use Rattle.dry_runs.specs.declared.limit.LimitedFault.{LimitedFault}
 use Rattle.c_plans.specs.LimitLaws.{PlansWithoutLimit, LookupsWithoutLimit}
 use Rattle.c_plans.specs.Limits.{within_limit, without_limit}

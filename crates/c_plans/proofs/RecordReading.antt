@@ -5,12 +5,12 @@ use Rattle.std.proofs.Math.Seq.{drop-append_seam, drop-append-add, take-append_s
 use Rattle.std.proofs.lemmas.Bool.{false≢true, le-leb, lt-leb}
 use Rattle.std.proofs.lemmas.Slice.Eq.{bytes_eq-Decides}
 use Rattle.compilers.specs.declared.command.Cacheable.{Cacheable}
-use Rattle.plans.specs.declared.origins.Origin.{Origin}
-use Rattle.plans.specs.declared.origins.PlanWithOrigins.{PlanWithOrigins}
-use Rattle.plans.specs.declared.plan.Dropped.{Dropped}
-use Rattle.plans.specs.declared.plan.NvccGeneratedSubcommand.{NvccGeneratedSubcommand}
-use Rattle.plans.specs.declared.plan.Reason.{Reason}
-use Rattle.plans.specs.Listed.{Listed, listed_group, listed_from, listed}
+use Rattle.compilers.specs.declared.plans.origins.Origin.{Origin}
+use Rattle.compilers.specs.declared.plans.origins.PlanWithOrigins.{PlanWithOrigins}
+use Rattle.compilers.specs.declared.plans.plan.Dropped.{Dropped}
+use Rattle.compilers.specs.declared.plans.plan.NvccGeneratedSubcommand.{NvccGeneratedSubcommand}
+use Rattle.compilers.specs.declared.plans.plan.Reason.{Reason}
+use Rattle.compilers.specs.Listed.{Listed, listed_group, listed_from, listed}
 use Rattle.command_files.specs.Numbered.{numbered}
 use Rattle.plan_json.specs.Json.{origin_at}
 use Rattle.c_texts.specs.declared.memory.Range.{Range}
@@ -252,5 +252,4 @@ records-read-back planned has =
     ∙ plan-is planned has
 
 pub records-are-one-to-one : (one other : PlanWithOrigins) → HasOrigins one → HasOrigins other → records_of one ≡ records_of other → one ≡ other
-records-are-one-to-one one other has had same =
-    sym (records-read-back one has) ∙ ap plan_in same ∙ records-read-back other had
+records-are-one-to-one one other has had same = sym (records-read-back one has) ∙ ap plan_in same ∙ records-read-back other had

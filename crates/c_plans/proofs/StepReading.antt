@@ -1,10 +1,10 @@
 -- What the records of a plan's commands say.
 use Rattle.std.proofs.Common.{◌≡◌, ◌++◌, ◌+◌, ◌∷◌, [], ℕ, List, Bool, ◌==◌, map, length, take, drop, refl, sym, ap, subst, ◌∙◌, arith, length-append, append_assoc, flat_map}
 use Rattle.command_files.specs.PlanNeeds.{preprocesses}
-use Rattle.plans.specs.Listed.{Listed}
+use Rattle.compilers.specs.Listed.{Listed}
 use Rattle.command_files.specs.Numbered.{numbered}
-use Rattle.plans.specs.declared.program.Program.{Program}
-use Rattle.plans.specs.Programs.{program_at}
+use Rattle.compilers.specs.declared.plans.program.Program.{Program}
+use Rattle.compilers.specs.Programs.{program_at}
 use Rattle.c_texts.proofs.RangeLemmas.{cut_behind}
 use Rattle.c_texts.proofs.TextLemmas.{ranges-length, texts-then}
 use Rattle.c_texts.specs.Memory.{cut}

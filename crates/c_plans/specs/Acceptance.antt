@@ -6,12 +6,12 @@ use Rattle.texts.specs.Results.{and_then}
 use Rattle.c_texts.specs.declared.status.Status.TheVariants.{BadNumber, NotUtf8}
 use Rattle.c_texts.specs.Memory.{bytes_of, text_of, words_of}
 use Rattle.c_texts.specs.Variables.{variables_of}
-use Rattle.c_plans.specs.declared.accepted.Accepted.{Accepted as HeldAccepted}
+use Rattle.c_plans.specs.declared.plan_call.Accepted.{Accepted as HeldAccepted}
 use Rattle.c_plans.specs.declared.plan_call.PlanCall.{PlanCall}
 use Rattle.c_plans.specs.declared.plan_call.Tables.{Tables}
 use Rattle.c_plans.specs.declared.plan_call.Texts.{Texts as HeldTexts}
 use Rattle.c_plans.specs.declared.refused_at.RefusedAt.{RefusedAt}
-use Rattle.c_plans.specs.OddDirectories.{odd_directory}
+use Rattle.c_plans.specs.Fitness.{odd_directory}
 use Rattle.c_plans.specs.Places.{or_plain_at, plain_at, unless_misfit}
 use Rattle.c_plans.specs.PlanCalls.{Texts, entries_of, has_row_numbers, host_of, texts_seen}
 

@@ -1,11 +1,11 @@
 -- The calls on look-ups of programs.
 use Rattle.std.specs.Prelude.{ℕ, List, [], ◌∷◌, Result, Ok, flat_map}
-use Rattle.program_lookups.specs.declared.lookup.Lookup.{Lookup}
+use Rattle.dry_runs.specs.declared.lookup.Lookup.{Lookup}
 use Rattle.dry_runs.specs.declared.parsed_runs.ParsedRuns.{ParsedRuns}
 use Rattle.dry_runs.specs.Parsed.{both_parsed}
-use Rattle.program_lookups.specs.Asked.{asked_by}
-use Rattle.program_lookups.specs.Candidates.{candidates_of}
-use Rattle.program_lookups.specs.Limit.{both_fitting}
+use Rattle.dry_runs.specs.Asked.{asked_by}
+use Rattle.dry_runs.specs.Candidates.{candidates_of}
+use Rattle.dry_runs.specs.LookupLimit.{both_fitting}
 use Rattle.texts.specs.Results.{and_then}
 use Rattle.c_texts.specs.declared.refusal.Refused.{Refused}
 use Rattle.c_texts.specs.declared.status.Status.TheVariants.{NotUtf8}
@@ -13,7 +13,7 @@ use Rattle.c_texts.specs.Memory.{text_of}
 use Rattle.c_texts.specs.Outcomes.{Outcome, of_texts}
 use Rattle.c_texts.specs.Refusals.{ended, or_plain}
 use Rattle.c_plans.specs.Limits.{or_refused_within, within_limit}
-use Rattle.c_plans.specs.OddDirectories.{plain_cwd}
+use Rattle.c_plans.specs.Fitness.{plain_cwd}
 
 -- the texts of a look-up: the program, and the value of `PATH`
 abbrev pub texts_of : Lookup → List (List ℕ)

@@ -1,11 +1,9 @@
 pub mod Acceptance
 pub mod Asking
-pub mod Causes
 pub mod FaultPlaces
 pub mod Fitness
 pub mod LimitLaws
 pub mod Limits
-pub mod OddDirectories
 pub mod Places
 pub mod PlanCalls
 pub mod PlanSteps

@@ -12,7 +12,7 @@ use Rattle.c_plans.specs.declared.plan_call.PlanCall.{PlanCall}
 use Rattle.c_plans.specs.Acceptance.{Accepted}
 use Rattle.c_plans.specs.Asking.{limited_lookups_outcome, lookups_by}
 use Rattle.c_plans.specs.Limits.{over_limit, without_limit}
-use Rattle.c_plans.specs.OddDirectories.{plain_cwd}
+use Rattle.c_plans.specs.Fitness.{plain_cwd}
 use Rattle.c_plans.specs.Planning.{planned, planned_whole}
 
 -- a call whose limit is 0 plans as one without a limit

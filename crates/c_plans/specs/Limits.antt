@@ -1,9 +1,8 @@
 -- The limit of a call: how many bytes reading a dry run may make. 0 is no limit.
-use Rattle.std.specs.Prelude.{ℕ, List, ◌++◌, ◌==◌, if◌then◌else◌, Result, Ok, Err, codes, decimal}
+use Rattle.std.specs.Prelude.{ℕ, ◌++◌, ◌==◌, if◌then◌else◌, Result, Ok, Err, codes, decimal}
 use Rattle.texts.specs.declared.fault.Fault.{Fault}
 use Rattle.texts.specs.Fault.{line_text}
 use Rattle.dry_runs.specs.declared.limit.LimitedFault.{LimitedFault}
-use Rattle.dry_runs.specs.declared.limit.LimitedFault.TheVariants.{TooLong}
 use Rattle.dry_runs.specs.declared.limit.LimitedFault.TheVariants as limited
 use Rattle.c_texts.specs.declared.refusal.Refused.{Refused}
 use Rattle.c_texts.specs.declared.refusal.Refused.TheVariants.{Told}
@@ -19,20 +18,12 @@ without_limit (Err fault) = Err (limited.Fault fault)
 abbrev pub within_limit : {T : Type 0} → ℕ → T → T → T
 within_limit limit unlimited within = if limit == 0 then unlimited else within
 
--- which line exceeds the limit: the run, the line, and the limit
-abbrev pub excess_text : ℕ → ℕ → ℕ → List ℕ
-excess_text limit run line = line_text run line (codes ": over the limit of " ++ (decimal limit ++ codes " bytes"))
-
 -- the refusal of a line that exceeds the limit
 abbrev pub over_limit : ℕ → ℕ → ℕ → Refused
-over_limit limit run line = Told OverLimit (excess_text limit run line)
+over_limit limit run line = Told OverLimit (line_text run line (codes ": over the limit of " ++ (decimal limit ++ codes " bytes")))
 
--- the refusal of a fault of reading within the limit
-abbrev pub refused_within : ℕ → LimitedFault → Refused
-refused_within limit (limited.Fault fault) = refused_by fault
-refused_within limit (TooLong run line) = over_limit limit run line
-
--- what there is, or the refusal of such a fault
+-- what there is, or the refusal of a fault of reading within the limit
 abbrev pub or_refused_within : {T : Type 0} → ℕ → Result T LimitedFault → Result T Refused
 or_refused_within limit (Ok x) = Ok x
-or_refused_within limit (Err fault) = Err (refused_within limit fault)
+or_refused_within limit (Err (limited.Fault fault)) = Err (refused_by fault)
+or_refused_within limit (Err (limited.TooLong run line)) = Err (over_limit limit run line)

@@ -54,13 +54,10 @@ memory_or place refusals.Memory P = place ≡ nowhere
 memory_or place (refusals.Plain status) P = P
 memory_or place (refusals.Told status why) P = P
 
-abbrev pub UnlessMemoryAt : RefusedAt → Type 0 → Type 0
-UnlessMemoryAt at P = memory_or at.place at.why P
-
 -- an answer is the expected one, unless an allocation failed
 abbrev pub AnswersAt : {T : Type 0} → Result T RefusedAt → Result T RefusedAt → Type 0
 AnswersAt (Ok x) expected = expected ≡ Ok x
-AnswersAt (Err at) expected = UnlessMemoryAt at (expected ≡ Err at)
+AnswersAt (Err at) expected = memory_or at.place at.why (expected ≡ Err at)
 
 -- the same answer without the place
 abbrev pub without_place : {T : Type 0} → Result T RefusedAt → Result T Refused

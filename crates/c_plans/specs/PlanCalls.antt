@@ -4,8 +4,8 @@ use Rattle.std.specs.List.{list_all}
 use Rattle.std.specs.Str.{is_utf8}
 use Rattle.compilers.specs.declared.compiler.NvccHostCompiler.{NvccHostCompiler}
 use Rattle.compilers.specs.declared.compiler.NvccHostCompiler.TheVariants.{Gcc, Msvc, Nvhpc}
-use Rattle.program_lookups.specs.declared.snapshot.Entry.{Entry}
-use Rattle.program_lookups.specs.Lookup.{lookup_of}
+use Rattle.dry_runs.specs.declared.snapshot.Entry.{Entry}
+use Rattle.dry_runs.specs.Lookup.{lookup_of}
 use Rattle.c_plans.specs.declared.plan_call.FoundProgram.{FoundProgram}
 use Rattle.c_plans.specs.declared.plan_call.Texts.{Texts as HeldTexts}
 use Rattle.c_texts.specs.Memory.{bytes_of}

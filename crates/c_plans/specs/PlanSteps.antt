@@ -1,7 +1,7 @@
 -- Planning the two dry runs of a call for a program that runs the commands.
 use Rattle.std.specs.Prelude.{Result, Ok, Err}
 use Rattle.dry_runs.specs.declared.limit.LimitedFault.{LimitedFault}
-use Rattle.plans.specs.declared.origins.PlanWithOrigins.{PlanWithOrigins}
+use Rattle.compilers.specs.declared.plans.origins.PlanWithOrigins.{PlanWithOrigins}
 use Rattle.texts.specs.Results.{and_then}
 use Rattle.c_texts.specs.declared.refusal.Refused.TheVariants.{Told}
 use Rattle.c_texts.specs.Memory.{bytes_of}
@@ -10,21 +10,16 @@ use Rattle.c_plans.specs.declared.refused_at.RefusedAt.{RefusedAt}
 use Rattle.c_plans.specs.Acceptance.{Accepted, accepted}
 use Rattle.c_plans.specs.Places.{unless_misfit}
 use Rattle.c_plans.specs.Planning.{planned}
-use Rattle.c_plans.specs.Causes.{cause_of, placed, status_within}
+use Rattle.c_plans.specs.FaultPlaces.{cause_of, placed, status_within, place_of}
 use Rattle.c_plans.specs.Fitness.{misfit_of, misfit_of_plan}
-use Rattle.c_plans.specs.FaultPlaces.{place_of}
 use Rattle.c_plans.specs.Steps.{Stepped, ended, steps_of}
 
--- the refusal of a fault of planning: its place, its status and its message
-abbrev pub refused_fault : PlanCall → Accepted → LimitedFault → RefusedAt
-refused_fault call a fault =
-    let place = place_of call a fault in
-    record { place = place; why = Told (status_within fault) (placed place (cause_of call.limit fault)) }
-
--- a plan, or the refusal of the fault of a plan that there isn't
+-- a plan, or the refusal of the fault of a plan that there isn't: its place, its status and its message
 abbrev pub or_refused_at : PlanCall → Accepted → Result PlanWithOrigins LimitedFault → Result PlanWithOrigins RefusedAt
 or_refused_at call a (Ok plan) = Ok plan
-or_refused_at call a (Err fault) = Err (refused_fault call a fault)
+or_refused_at call a (Err fault) =
+    let place = place_of call a fault in
+    Err (record { place = place; why = Told (status_within fault) (placed place (cause_of call.limit fault)) })
 
 -- the plan of a call that is accepted
 abbrev pub plan_at : PlanCall → Accepted → Result PlanWithOrigins RefusedAt

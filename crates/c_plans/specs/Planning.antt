@@ -1,19 +1,19 @@
 -- Planning the two dry runs of a call.
 use Rattle.std.specs.Prelude.{ℕ, ◌==◌, List, if◌then◌else◌, Option, Some, None, Result, Ok, Err}
 use Rattle.texts.specs.declared.fault.Fault.{Fault}
-use Rattle.plans.specs.declared.origins.PlanWithOrigins.{PlanWithOrigins}
+use Rattle.compilers.specs.declared.plans.origins.PlanWithOrigins.{PlanWithOrigins}
 use Rattle.command_groups.specs.Origins.{planning_with_origins}
 use Rattle.command_groups.specs.Plan.{PlanSetting}
 use Rattle.command_groups.specs.PlanWithin.{planning_with_origins_within}
 use Rattle.dry_runs.specs.declared.limit.LimitedFault.{LimitedFault}
-use Rattle.program_lookups.specs.Snapshot.{answer_in}
+use Rattle.dry_runs.specs.Snapshot.{answer_in}
 use Rattle.canonical_names.specs.FurtherSuffixes.{all_suffixes}
 use Rattle.texts.specs.Results.{and_then}
 use Rattle.plan_formats.specs.Texts.{text_in}
-use Rattle.plan_scripts.specs.declared.format.Format.{Format}
-use Rattle.plan_scripts.specs.declared.format.Format.TheVariants.{Json, Ninja, Shell, Text}
-use Rattle.plan_scripts.specs.declared.refusal.Refusal.{Refusal}
-use Rattle.plan_scripts.specs.Message.{message_of}
+use Rattle.plan_texts.specs.declared.format.Format.{Format}
+use Rattle.plan_texts.specs.declared.format.Format.TheVariants.{Json, Ninja, Shell, Text}
+use Rattle.plan_texts.specs.declared.refusal.Refusal.{Refusal}
+use Rattle.plan_texts.specs.Message.{message_of}
 use Rattle.c_texts.specs.declared.refusal.Refused.{Refused}
 use Rattle.c_texts.specs.declared.refusal.Refused.TheVariants.{Told}
 use Rattle.c_texts.specs.declared.status.Status.TheVariants.{BadNumber, Unwritable}
@@ -32,8 +32,7 @@ form_of n = if n == 0 then Some Json else if n == 1 then Some Ninja else if n ==
 
 -- the setting that a call plans in
 abbrev pub setting_of : Accepted → PlanSetting
-setting_of a =
-    record { cwd = a.texts.cwd; tmp = a.texts.tmp; flag = a.texts.flag; host_compiler = a.host; env_vars = a.tables.variables }
+setting_of a = record { cwd = a.texts.cwd; tmp = a.texts.tmp; flag = a.texts.flag; host_compiler = a.host; env_vars = a.tables.variables }
 
 -- the plan of a call with such suffixes, or why there is none, without a limit: its rows answer the look-ups of programs
 abbrev pub planned_whole : PlanCall → Accepted → List (List ℕ) → Result PlanWithOrigins Fault
@@ -53,14 +52,10 @@ planned call a =
     and_then (without_limit (all_suffixes a.tables.suffixes)) (λ suffixes. within_limit call.limit
     (without_limit (planned_whole call a suffixes)) (planned_within call a suffixes))
 
--- the refusal of a plan, with its message
-abbrev pub unwritable : Refusal → Refused
-unwritable refusal = Told Unwritable (message_of refusal)
-
 -- the text of a plan, or why its form can't represent it
 abbrev pub written : Result (List ℕ) Refusal → Result (List ℕ) Refused
 written (Ok text) = Ok text
-written (Err refusal) = Err (unwritable refusal)
+written (Err refusal) = Err (Told Unwritable (message_of refusal))
 
 -- a plan in a form, or why the form can't represent it
 abbrev pub text_of_plan : Format → Texts → PlanWithOrigins → Result (List ℕ) Refused
@@ -73,8 +68,7 @@ text_by call form a = and_then (or_refused_within call.limit (planned call a)) (
 -- the plan of a call in a form. The form's number without a meaning is the first refusal, then come those of the call, then those of the
 -- plan, and last that of the form
 abbrev pub plan_text : PlanCall → ℕ → Result (List ℕ) Refused
-plan_text call form =
-    and_then (or_plain BadNumber (form_of form)) (λ form. and_then (without_place (accepted call)) (text_by call form))
+plan_text call form = and_then (or_plain BadNumber (form_of form)) (λ form. and_then (without_place (accepted call)) (text_by call form))
 
 abbrev pub plan_outcome : PlanCall → ℕ → Outcome
 plan_outcome call form = ended_text (plan_text call form)

@@ -2,12 +2,12 @@
 use Rattle.std.specs.Prelude.{ℕ, ◌+◌, ◌-◌, List, [], ◌∷◌, ◌++◌, ◌&&◌, ◌==◌, Bool, true, false, if◌then◌else◌, length, map, string_bytes, Option, Some, None, flat_map, bytes_eq}
 use Rattle.compilers.specs.declared.command.Cacheable.{Cacheable}
 use Rattle.compilers.specs.declared.command.Cacheable.TheVariants.{Yes, No}
-use Rattle.plans.specs.declared.origins.Origin.{Origin}
-use Rattle.plans.specs.declared.origins.PlanWithOrigins.{PlanWithOrigins}
-use Rattle.plans.specs.declared.plan.Dropped.{Dropped}
-use Rattle.plans.specs.declared.plan.Reason.{Reason}
-use Rattle.plans.specs.declared.plan.Reason.TheVariants.{NotCuda, NoCiccGroup, NoPtxasGroup, Superseded}
-use Rattle.plans.specs.Listed.{Listed, listed}
+use Rattle.compilers.specs.declared.plans.origins.Origin.{Origin}
+use Rattle.compilers.specs.declared.plans.origins.PlanWithOrigins.{PlanWithOrigins}
+use Rattle.compilers.specs.declared.plans.plan.Dropped.{Dropped}
+use Rattle.compilers.specs.declared.plans.plan.Reason.{Reason}
+use Rattle.compilers.specs.declared.plans.plan.Reason.TheVariants.{NotCuda, NoCiccGroup, NoPtxasGroup, Superseded}
+use Rattle.compilers.specs.Listed.{Listed, listed}
 use Rattle.command_files.specs.Numbered.{numbered}
 use Rattle.plan_json.specs.Json.{origin_at}
 use Rattle.texts.specs.Variables.{pair_of}
@@ -160,15 +160,12 @@ records_at first (e ∷ entries) = record_at first e ∷ records_at (first + len
 abbrev pub stage_at : ℕ → ℕ → ℕ
 stage_at last group = if group == 0 then 0 else if group == last then 2 else 1
 
--- a group's record, given the number of the last group, its own and that of its first command
-abbrev pub group_record : {X : Type 0} → ℕ → ℕ → ℕ → List X → GroupRecord
-group_record last group first commands =
-    record { commands = record { offset = first; length = length commands }; stage = stage_at last group; reserved = 0 }
-
--- the records of groups from such numbers on
+-- the records of groups, given three numbers: of the last group, of the first group here, and of its first command
 abbrev pub groups_at : {X : Type 0} → ℕ → ℕ → ℕ → List (List X) → List GroupRecord
 groups_at last group first [] = []
-groups_at last group first (commands ∷ groups) = group_record last group first commands ∷ groups_at last (group + 1) (first + length commands) groups
+groups_at last group first (commands ∷ groups) =
+    record { commands = record { offset = first; length = length commands }; stage = stage_at last group; reserved = 0 }
+    ∷ groups_at last (group + 1) (first + length commands) groups
 
 -- texts, and records that say what they are: groups and commands
 abbrev pub Recorded : Type 0
@@ -188,8 +185,7 @@ records_of planned =
 
 -- records with that of a further command
 abbrev pub with_entry : Recorded → Entry → Recorded
-with_entry recorded e =
-    (with_texts recorded.0 (texts_of e), (recorded.1.0, recorded.1.1 ++ record_at (length recorded.0.1.0) e ∷ []))
+with_entry recorded e = (with_texts recorded.0 (texts_of e), (recorded.1.0, recorded.1.1 ++ record_at (length recorded.0.1.0) e ∷ []))
 
 -- the same of commands
 abbrev pub with_entries : Recorded → List Entry → Recorded

@@ -10,14 +10,12 @@ use Rattle.c_texts.specs.Memory.{words_of}
 use Rattle.c_texts.specs.Outcomes.{Outcome, of_texts}
 use Rattle.c_texts.specs.Refusals.{ended, or_plain}
 
--- words with canonical names of the generated files: those with a standard suffix, or a further one
-abbrev pub remapped : List (List ℕ) → List (List ℕ) → Result Outcome Refused
-remapped words further = and_then (or_refused (all_suffixes further)) (λ suffixes. Ok (of_texts (renamed_words suffixes [] words)))
-
--- the same, of texts of the caller. A text that isn't UTF-8 comes before bad suffixes
+-- words with canonical names of the generated files: those with a standard suffix, or a further one. A text that isn't UTF-8 comes before
+-- bad suffixes
 abbrev pub remapped_words : List (List ℕ) → List (List ℕ) → Result Outcome Refused
 remapped_words words suffixes =
-    and_then (or_plain NotUtf8 (words_of words)) (λ words. and_then (or_plain NotUtf8 (words_of suffixes)) (remapped words))
+    and_then (or_plain NotUtf8 (words_of words)) (λ words. and_then (or_plain NotUtf8 (words_of suffixes)) (λ further.
+    and_then (or_refused (all_suffixes further)) (λ suffixes. Ok (of_texts (renamed_words suffixes [] words)))))
 
 abbrev pub remap_outcome : List (List ℕ) → List (List ℕ) → Outcome
 remap_outcome words suffixes = ended (remapped_words words suffixes)

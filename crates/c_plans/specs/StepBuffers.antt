@@ -7,8 +7,8 @@ use Rattle.c_texts.specs.Outcomes.{refused}
 use Rattle.c_plans.specs.declared.record.CommandRecord.{CommandRecord}
 use Rattle.c_plans.specs.declared.record.GroupRecord.{GroupRecord}
 use Rattle.c_plans.specs.Places.{nowhere}
-use Rattle.c_plans.specs.declared.step_record.StepRecord.{StepRecord}
-use Rattle.c_plans.specs.declared.step_record.StepsAnswer.{StepsAnswer}
+use Rattle.c_plans.specs.declared.record.StepRecord.{StepRecord}
+use Rattle.c_plans.specs.declared.record.StepsAnswer.{StepsAnswer}
 use Rattle.c_plans.specs.Steps.{Stepped, refused_at}
 
 -- a call's memory that is written

@@ -1,9 +1,9 @@
 -- What holds of the records of a plan's commands.
 use Rattle.std.specs.Prelude.{◌≡◌, ℕ, List, ◌==◌, map}
-use Rattle.plans.specs.declared.origins.PlanWithOrigins.{PlanWithOrigins}
+use Rattle.compilers.specs.declared.plans.origins.PlanWithOrigins.{PlanWithOrigins}
 use Rattle.c_texts.specs.Memory.{cut}
 use Rattle.c_plans.specs.RecordsRead.{HasOrigins, part, plan_in}
-use Rattle.c_plans.specs.declared.step_record.StepRecord.{StepRecord}
+use Rattle.c_plans.specs.declared.record.StepRecord.{StepRecord}
 use Rattle.c_plans.specs.Steps.{Extra, Stepped, extras_of, steps_of}
 
 -- what a record says, by the texts and the numbers

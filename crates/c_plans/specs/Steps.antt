@@ -5,13 +5,13 @@ use Rattle.command_files.specs.CommandFiles.{files_of_words}
 use Rattle.command_files.specs.Numbered.{numbered}
 use Rattle.command_files.specs.Order.{needs_at}
 use Rattle.command_files.specs.PlanNeeds.{plan_files, plan_needs, preprocesses}
-use Rattle.plans.specs.declared.origins.PlanWithOrigins.{PlanWithOrigins}
-use Rattle.plans.specs.declared.plan.NvccGeneratedSubcommand.{NvccGeneratedSubcommand}
-use Rattle.plans.specs.declared.plan.Plan.{Plan}
-use Rattle.plans.specs.Listed.{Listed, listed}
-use Rattle.plans.specs.declared.program.Program.{Program}
-use Rattle.plans.specs.declared.program.Program.TheVariants.{Cicc, Ptxas, Cudafe, Fatbinary, Nvlink, Other}
-use Rattle.plans.specs.Programs.{program_at}
+use Rattle.compilers.specs.declared.plans.origins.PlanWithOrigins.{PlanWithOrigins}
+use Rattle.compilers.specs.declared.plans.plan.NvccGeneratedSubcommand.{NvccGeneratedSubcommand}
+use Rattle.compilers.specs.declared.plans.plan.Plan.{Plan}
+use Rattle.compilers.specs.Listed.{Listed, listed}
+use Rattle.compilers.specs.declared.plans.program.Program.{Program}
+use Rattle.compilers.specs.declared.plans.program.Program.TheVariants.{Cicc, Ptxas, Cudafe, Fatbinary, Nvlink, Other}
+use Rattle.compilers.specs.Programs.{program_at}
 use Rattle.c_texts.specs.declared.memory.Range.{Range}
 use Rattle.c_texts.specs.Outcomes.{Outcome, with_texts}
 use Rattle.c_texts.specs.Refusals.{refusal}
@@ -20,7 +20,7 @@ use Rattle.c_plans.specs.declared.record.PlaceRecord.{PlaceRecord}
 use Rattle.c_plans.specs.declared.refused_at.RefusedAt.{RefusedAt}
 use Rattle.c_plans.specs.Places.{nowhere}
 use Rattle.c_plans.specs.Records.{Recorded, records_of, without_records}
-use Rattle.c_plans.specs.declared.step_record.StepRecord.{StepRecord}
+use Rattle.c_plans.specs.declared.record.StepRecord.{StepRecord}
 use Rattle.c_plans.specs.declared.stepped.Extra.{Extra as HeldExtra}
 use Rattle.c_plans.specs.declared.steps.Known.{Known as HeldKnown}
 

@@ -5,11 +5,10 @@ ghost use Rattle.c_texts.specs.Outcomes.{GivesList};
 ghost use Rattle.c_texts.specs.Refusals.{Answers};
 ghost use Rattle.c_plans.specs.Asking as spec;
 
-use crate::directory::check_cwd;
-use crate::limits::or_refused_within;
+use crate::fitness::check_cwd;
+use crate::planning::or_refused_within;
 use c_texts::{ListAnswer, Outcome, Range, Refused, Status, text_of, write_list};
-use dry_runs::{ParsedRuns, parse_dry_runs};
-use program_lookups::{lookups_of_runs, parse_within};
+use dry_runs::{ParsedRuns, lookups_of_runs, parse_dry_runs, parse_within};
 use std::alloc::{AllocError, Global};
 
 fn lookups_by(alloc: Global, runs: &ParsedRuns, cwd: &str) -> Result<Outcome, AllocError>
@@ -61,7 +60,7 @@ pub fn asked_lookups(
 
 /// The look-ups of programs that planning two dry runs makes from the working directory `cwd`, as `asked_lookups_of_both`:
 /// two texts for each, the program and the value of `PATH`. Refuses dry runs if a line of one exceeds `limit`, as
-/// `program_lookups::parse_within` counts. A limit of 0 is none.
+/// `dry_runs::parse_within` counts. A limit of 0 is none.
 pub fn lookups_within(
     alloc: Global,
     dry1: &[u8],
@@ -89,11 +88,11 @@ pub fn tried_paths(
     let path = text_of(path).ok_or(Refused::Plain(Status::NotUtf8))?;
     let cwd = text_of(cwd).ok_or(Refused::Plain(Status::NotUtf8))?;
     check_cwd(alloc, cwd)?;
-    let paths = program_lookups::candidates(alloc, program, path, cwd)?;
+    let paths = dry_runs::candidates(alloc, program, path, cwd)?;
     Ok(Outcome::of_texts(alloc, paths.as_slice())?)
 }
 
-/// The paths that a look-up of a program tries, in order, as `program_lookups::candidates`.
+/// The paths that a look-up of a program tries, in order, as `dry_runs::candidates`.
 pub fn candidates(
     alloc: Global,
     program: &[u8],

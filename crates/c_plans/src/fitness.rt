@@ -1,13 +1,19 @@
-//! Whether texts can be those of a call: its dry runs and its flag.
+//! Whether texts can be those of a call: its dry runs, its flag and its directories.
 
 ghost use Rattle.std.specs.Prelude.{◌≡◌, map, vec_items, option_map};
-ghost use Rattle.c_plans.specs.Places.{misfit_seen};
 ghost use Rattle.c_plans.specs.Fitness as spec;
+ghost use Rattle.c_plans.specs.Places.{misfit_seen};
+ghost use Rattle.c_plans.specs.PlanCalls.{texts_seen};
+ghost use Rattle.c_texts.specs.Refusals.{Answers};
+ghost use Rattle.canonical_names.specs.Directories.{is_plain};
 
+use crate::plan_call::Texts;
 use crate::refused_at::Misfit;
-use c_texts::Status;
+use c_texts::{Refused, Status};
+use canonical_names::is_plain;
+use compilers::plans::{NvccGeneratedSubcommand, Plan};
 use dry_runs::is_dry_run;
-use plans::{NvccGeneratedSubcommand, Plan};
+use std::alloc::Global;
 
 // Whether a flag is one of those that nvcc's calls have.
 fn is_flag(flag: &str) -> bool
@@ -80,5 +86,44 @@ pub(crate) fn misfit_of_plan(plan: &Plan) -> Option<Misfit>
         Some(no_dry_run(0, "the plan has no command"))
     } else {
         None
+    }
+}
+
+fn odd_cwd() -> Misfit
+    ensures { misfit_seen result ≡ spec.odd_cwd }
+{
+    Misfit {
+        status: Status::OddDirectory,
+        field: 3,
+        why: "the working directory has to be absolute, without an empty part, . or ..",
+    }
+}
+
+/// The first directory of a call that isn't absolute and plain, if there is one. Two commands are taken to use one file if its paths
+/// are the same text, so a plan for a directory that has several texts would lack needs.
+pub(crate) fn odd_directory(texts: Texts<'_>) -> Option<Misfit>
+    ensures { option_map misfit_seen result ≡ spec.odd_directory (texts_seen texts.entry) }
+{
+    if !is_plain(texts.cwd) {
+        Some(odd_cwd())
+    } else if !is_plain(texts.tmp) {
+        Some(Misfit {
+            status: Status::OddDirectory,
+            field: 4,
+            why: "the directory for temporary files has to be absolute, without an empty part, . or ..",
+        })
+    } else {
+        None
+    }
+}
+
+/// Refuses a working directory that isn't absolute and plain.
+pub(crate) fn check_cwd(alloc: Global, cwd: &str) -> Result<(), Refused>
+    ensures { Answers result (spec.plain_cwd cwd.now) }
+{
+    if is_plain(cwd) {
+        Ok(())
+    } else {
+        Err(odd_cwd().refusal(alloc)?)
     }
 }

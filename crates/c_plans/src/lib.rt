@@ -5,14 +5,9 @@
 //! `c_texts` says what holds of all calls. The crate `zigrunk_c` exports these to C, one function for each.
 #![tactic(auto)]
 
-mod accepted;
 mod asking;
-mod cause;
-mod directory;
 mod fitness;
 pub mod laws;
-mod limits;
-mod place;
 mod plan_call;
 mod plan_entries;
 mod planned_steps;
@@ -21,7 +16,6 @@ mod record;
 mod recorded;
 mod refused_at;
 mod renaming;
-mod step_record;
 mod stepped;
 mod steps;
 
@@ -29,9 +23,8 @@ pub use asking::{asked_lookups, candidates, lookups_within, tried_paths};
 pub use plan_call::{FoundProgram, PlanCall};
 pub use planned_steps::{call_steps, plan_steps};
 pub use planning::{plan, plan_text};
-pub use record::{CommandRecord, GroupRecord, PlaceRecord};
+pub use record::{CommandRecord, GroupRecord, PlaceRecord, StepRecord, StepsAnswer};
 pub use recorded::Recorded;
 pub use refused_at::RefusedAt;
 pub use renaming::{remap, remapped_words};
-pub use step_record::{StepRecord, StepsAnswer};
 pub use stepped::Stepped;

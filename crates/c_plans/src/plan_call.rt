@@ -1,12 +1,16 @@
-//! What a caller passes for a plan.
+//! What a caller passes for a plan, and whether it can be planned.
 
 ghost use Rattle.std.specs.Prelude.{◌≡◌, IfOk, option_copied};
 ghost use Rattle.std.specs.List.{list_all};
+ghost use Rattle.c_plans.specs.Acceptance as acceptance;
+ghost use Rattle.c_plans.specs.Places.{AnswersAt, plain_at};
 ghost use Rattle.c_plans.specs.PlanCalls as spec;
 
-use c_texts::{InputText, Variable, text_of};
+use crate::fitness::odd_directory;
+use crate::refused_at::{RefusedAt, in_field, refuse_misfit};
+use c_texts::{InputText, Refused, Status, Variable, text_of, variables_of, words_of};
 use compilers::compiler::NvccHostCompiler;
-use program_lookups::{Entry, Lookup, Snapshot};
+use dry_runs::{Entry, Lookup, Snapshot};
 use std::alloc::{AllocError, Global};
 use texts::text::Text;
 use texts::variables::Variables;
@@ -57,26 +61,6 @@ pub struct PlanCall<'a> {
     /// How many bytes reading a dry run may make, as `dry_runs::read_dry_run_within` counts them; 0 for any number. Each run
     /// has all of them.
     pub limit: usize,
-}
-
-/// The host compiler with a number.
-pub(crate) fn host_of(number: u32) -> Option<NvccHostCompiler>
-    ensures { result ≡ spec.host_of number }
-{
-    match number {
-        0 => Some(NvccHostCompiler::Gcc),
-        1 => Some(NvccHostCompiler::Msvc),
-        2 => Some(NvccHostCompiler::Nvhpc),
-        _ => None,
-    }
-}
-
-/// Whether the numbers of rows have a meaning.
-pub(crate) fn have_numbers(rows: &[FoundProgram<'_>]) -> bool
-    ensures { result ≡ list_all spec.has_row_numbers rows.now }
-{
-    rows.iter()
-        .all(|row| row.is_found <= 1 && row.reserved == 0)
 }
 
 /// The texts of a call but those of its tables.
@@ -146,4 +130,93 @@ pub struct Tables {
     pub variables: Variables,
     /// What the look-ups of programs find.
     pub found: Snapshot,
+}
+
+/// What a call says, if it can be planned.
+#[derive(Drop)]
+pub struct Accepted<'a> {
+    /// The host compiler.
+    pub host: NvccHostCompiler,
+    /// Its texts.
+    pub texts: Texts<'a>,
+    /// Copies of its tables.
+    pub tables: Tables,
+}
+
+fn refused_in(status: Status, field: u32) -> RefusedAt
+    ensures { result ≡ plain_at status field }
+{
+    RefusedAt {
+        place: in_field(field),
+        why: Refused::Plain(status),
+    }
+}
+
+// Whether the numbers of rows have a meaning.
+fn have_numbers(rows: &[FoundProgram<'_>]) -> bool
+    ensures { result ≡ list_all spec.has_row_numbers rows.now }
+{
+    rows.iter()
+        .all(|row| row.is_found <= 1 && row.reserved == 0)
+}
+
+// The host compiler of a call, or its first number without a meaning. Its flag and the numbers of its rows have one, too.
+fn host_in(call: &PlanCall<'_>) -> Result<NvccHostCompiler, RefusedAt>
+    ensures { AnswersAt result (acceptance.host_in call.now) }
+{
+    let host = match call.host_compiler {
+        0 => NvccHostCompiler::Gcc,
+        1 => NvccHostCompiler::Msvc,
+        2 => NvccHostCompiler::Nvhpc,
+        _ => return Err(refused_in(Status::BadNumber, 11)),
+    };
+    if call.keeps > 1 {
+        return Err(refused_in(Status::BadNumber, 10));
+    }
+    if !have_numbers(call.lookups) {
+        return Err(refused_in(Status::BadNumber, 9));
+    }
+    Ok(host)
+}
+
+// The texts of a call but those of its tables, or the first that isn't UTF-8.
+fn texts_in<'a>(call: &PlanCall<'a>) -> Result<Texts<'a>, RefusedAt>
+    ensures { AnswersAt (acceptance.texts_told result) (acceptance.texts_in call.now) }
+{
+    Ok(Texts {
+        cwd: text_of(call.cwd.bytes).ok_or(refused_in(Status::NotUtf8, 3))?,
+        tmp: text_of(call.tmp.bytes).ok_or(refused_in(Status::NotUtf8, 4))?,
+        flag: text_of(call.flag.bytes).ok_or(refused_in(Status::NotUtf8, 5))?,
+        keep_dir: text_of(call.keep_dir.bytes).ok_or(refused_in(Status::NotUtf8, 6))?,
+    })
+}
+
+// Copies of the tables of a call, or the first that has a text that isn't UTF-8.
+fn tables_in(alloc: Global, cwd: &str, call: &PlanCall<'_>) -> Result<Tables, RefusedAt>
+    ensures { AnswersAt result (acceptance.tables_in cwd.now call.now) }
+{
+    let suffixes = words_of(alloc, call.suffixes)?.ok_or(refused_in(Status::NotUtf8, 8))?;
+    let variables = variables_of(alloc, call.variables)?.ok_or(refused_in(Status::NotUtf8, 7))?;
+    let found = entries_of(alloc, cwd, call.lookups)?.ok_or(refused_in(Status::NotUtf8, 9))?;
+    Ok(Tables {
+        suffixes,
+        variables,
+        found,
+    })
+}
+
+/// What a call says, or why it is refused before its dry runs are read. A number without a meaning is the first refusal, then a text that
+/// isn't UTF-8, then a directory that isn't absolute and plain.
+pub fn accept<'a>(alloc: Global, call: &PlanCall<'a>) -> Result<Accepted<'a>, RefusedAt>
+    ensures { AnswersAt (acceptance.answer_seen result) (acceptance.accepted call.now) }
+{
+    let host = host_in(call)?;
+    let texts = texts_in(call)?;
+    let tables = tables_in(alloc, texts.cwd, call)?;
+    refuse_misfit(alloc, odd_directory(texts))?;
+    Ok(Accepted {
+        host,
+        texts,
+        tables,
+    })
 }

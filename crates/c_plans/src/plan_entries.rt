@@ -1,11 +1,10 @@
 //! The commands of a plan as records.
 
-ghost use Rattle.std.specs.Prelude.{◌≡◌, ◌-◌, ◌^◌, ◌<◌, [], List, ℕ, IfOk, OnOk, length, map, vec_items};
+ghost use Rattle.std.specs.Prelude.{◌≡◌, ◌-◌, ◌^◌, ◌<◌, [], ℕ, IfOk, OnOk, length, map, vec_items};
 ghost use Rattle.texts.specs.Variables.{pair_of};
-ghost use Rattle.plans.specs.declared.origins.Origin.{Origin};
-ghost use Rattle.plans.specs.Listed.{listed};
+ghost use Rattle.compilers.specs.declared.plans.origins.Origin.{Origin};
+ghost use Rattle.compilers.specs.Listed.{listed};
 ghost use Rattle.command_files.specs.Numbered.{numbered};
-ghost use Rattle.plan_json.specs.Json.{origin_at};
 ghost use Rattle.c_texts.specs.Outcomes.{of_texts};
 ghost use Rattle.c_plans.specs.Records as spec;
 
@@ -13,37 +12,10 @@ use crate::record::GroupRecord;
 use crate::recorded::{Entry, Recorded};
 use c_texts::Range;
 use compilers::command::Cacheable;
-use plans::{Dropped, ListedCommand, NvccGeneratedSubcommand, Origin, PlanWithOrigins, Reason};
+use compilers::plans::{
+    Dropped, ListedCommand, NvccGeneratedSubcommand, Origin, PlanWithOrigins, Reason,
+};
 use std::alloc::{AllocError, Global};
-
-fn reason_number(reason: Reason) -> u32
-    ensures { result ≡ spec.reason_number reason }
-{
-    match reason {
-        Reason::NotCuda => 1,
-        Reason::NoCiccGroup => 2,
-        Reason::NoPtxasGroup => 3,
-        Reason::Superseded => 4,
-    }
-}
-
-fn cacheable_number(cacheable: Cacheable) -> u32
-    ensures { result ≡ spec.cacheable_number cacheable }
-{
-    match cacheable {
-        Cacheable::Yes => 1,
-        Cacheable::No => 0,
-    }
-}
-
-fn origin_of(origins: &[Origin], id: usize) -> Origin
-    ensures { result ≡ origin_at origins.now id }
-{
-    match origins.get(id) {
-        Some(origin) => *origin,
-        None => Origin { line: 0, run: 0 },
-    }
-}
 
 #[derive(Clone, Copy)]
 struct Shared<'a> {
@@ -80,11 +52,19 @@ fn are_same(some: &[(String, String)], others: &[(String, String)]) -> bool
     }
 }
 
-fn command_entry<'a>(origin: Origin, shared: Shared<'_>, listed: &ListedCommand<'a>) -> Entry<'a>
-    ensures { (origins : List Origin) (id : ℕ) → origin ≡ origin_at origins id
-        → spec.entry_seen result ≡ spec.command_entry origins (spec.shared_seen shared.entry) id listed.now }
+fn command_entry<'a>(
+    origins: &[Origin],
+    shared: Shared<'_>,
+    id: usize,
+    listed: &ListedCommand<'a>,
+) -> Entry<'a>
+    ensures { spec.entry_seen result ≡ spec.command_entry origins.now (spec.shared_seen shared.entry) id listed.now }
 {
     let command: &'a NvccGeneratedSubcommand = listed.command;
+    let origin = match origins.get(id) {
+        Some(origin) => *origin,
+        None => Origin { line: 0, run: 0 },
+    };
     Entry {
         program: command.exe.as_str(),
         cwd: command.cwd.as_str(),
@@ -94,7 +74,10 @@ fn command_entry<'a>(origin: Origin, shared: Shared<'_>, listed: &ListedCommand<
         run: origin.run,
         line: origin.line,
         reason: 0,
-        cacheable: cacheable_number(command.cacheable),
+        cacheable: match command.cacheable {
+            Cacheable::Yes => 1,
+            Cacheable::No => 0,
+        },
         shared: if are_same(command.env_vars.as_slice(), shared.variables) {
             Some(shared.texts)
         } else {
@@ -115,7 +98,12 @@ fn dropped_entry<'a>(groups: usize, dropped: &'a Dropped) -> Entry<'a>
         group: groups,
         run: dropped.run,
         line: dropped.line,
-        reason: reason_number(dropped.reason),
+        reason: match dropped.reason {
+            Reason::NotCuda => 1,
+            Reason::NoCiccGroup => 2,
+            Reason::NoPtxasGroup => 3,
+            Reason::Superseded => 4,
+        },
         cacheable: 0,
         shared: None,
     }
@@ -131,7 +119,7 @@ fn push_commands(
         ≡ spec.with_entries recorded.old (numbered (spec.command_entry origins.now (spec.shared_seen shared.entry)) 0 commands.now)) }
 {
     for (id, listed) in commands.iter().enumerate() {
-        recorded.push(command_entry(origin_of(origins, id), shared, listed))?;
+        recorded.push(command_entry(origins, shared, id, listed))?;
     }
     Ok(())
 }

@@ -1,43 +1,23 @@
 //! Planning the two dry runs of a call for a program that runs the commands.
 
-ghost use Rattle.std.specs.Prelude.{◌≡◌, IfOk};
 ghost use Rattle.c_plans.specs.Acceptance.{accepted_seen};
 ghost use Rattle.c_plans.specs.Places.{AnswersAt};
 ghost use Rattle.c_plans.specs.PlanSteps as spec;
 ghost use Rattle.c_plans.specs.StepBuffers.{GivesSteps};
 
-use crate::accepted::{Accepted, accept};
-use crate::cause::{message_at, status_within};
 use crate::fitness::{misfit_of, misfit_of_plan};
-use crate::place::place_of;
-use crate::plan_call::PlanCall;
+use crate::plan_call::{Accepted, PlanCall, accept};
 use crate::planning::planned;
-use crate::record::{CommandRecord, GroupRecord};
-use crate::refused_at::{RefusedAt, refuse_misfit};
-use crate::step_record::{StepRecord, StepsAnswer};
+use crate::record::{CommandRecord, GroupRecord, StepRecord, StepsAnswer};
+use crate::refused_at::{RefusedAt, message_at, place_of, refuse_misfit, status_within};
 use crate::stepped::{Stepped, write_steps};
 use crate::steps::steps_of;
 use c_texts::{Range, Refused};
+use compilers::plans::PlanWithOrigins;
 use dry_runs::LimitedFault;
-use plans::PlanWithOrigins;
 use std::alloc::{AllocError, Global};
 use texts::fault::Fault;
 use texts::text::Text;
-
-// The refusal of a fault of planning: its place, its status and its message.
-fn refused_fault(
-    alloc: Global,
-    call: &PlanCall<'_>,
-    accepted: &Accepted<'_>,
-    fault: &LimitedFault,
-) -> Result<RefusedAt, AllocError>
-    ensures { IfOk result (λ at. at ≡ spec.refused_fault call.now (accepted_seen accepted.now) fault.now) }
-{
-    let place = place_of(alloc, call, accepted, fault)?;
-    let text = message_at(alloc, call.limit, place, fault)?;
-    let why = Refused::Told(status_within(fault), Text::new(text));
-    Ok(RefusedAt { place, why })
-}
 
 // The plan of a call that is accepted, or the refusal of the fault of a plan that there isn't.
 fn plan_at(
@@ -50,7 +30,12 @@ fn plan_at(
     match planned(alloc, call, accepted) {
         Ok(plan) => Ok(plan),
         Err(LimitedFault::Fault(Fault::Memory)) => Err(RefusedAt::from(AllocError)),
-        Err(fault) => Err(refused_fault(alloc, call, accepted, &fault)?),
+        Err(fault) => {
+            let place = place_of(alloc, call, accepted, &fault)?;
+            let text = message_at(alloc, call.limit, place, &fault)?;
+            let why = Refused::Told(status_within(&fault), Text::new(text));
+            Err(RefusedAt { place, why })
+        }
     }
 }
 

@@ -1,28 +1,27 @@
-//! Planning the two dry runs of a call.
+//! Planning the two dry runs of a call, within its limit.
 
-ghost use Rattle.std.specs.Prelude.{◌≡◌, List, ℕ, Result, map, string_bytes};
-ghost use Rattle.texts.specs.Fault.{UnlessMemory};
-ghost use Rattle.canonical_names.specs.FurtherSuffixes.{all_suffixes};
-ghost use Rattle.dry_runs.specs.Limit.{UnlessMemoryWithin};
-ghost use Rattle.plan_scripts.specs.declared.refusal.Refusal.{Refusal};
-ghost use Rattle.plan_scripts.specs.Answers as scripts;
-ghost use Rattle.c_texts.specs.Outcomes.{GivesText};
-ghost use Rattle.c_texts.specs.Refusals.{Answers};
+ghost use Rattle.std.specs.Prelude.{◌≡◌, List, ℕ, Result};
 ghost use Rattle.c_plans.specs.Acceptance.{accepted_of, accepted_seen};
+ghost use Rattle.c_plans.specs.Limits as limits;
 ghost use Rattle.c_plans.specs.Limits.{within_limit, without_limit};
 ghost use Rattle.c_plans.specs.PlanCalls.{texts_seen};
 ghost use Rattle.c_plans.specs.Planning as spec;
+ghost use Rattle.c_texts.specs.Outcomes.{GivesText};
+ghost use Rattle.c_texts.specs.Refusals.{Answers};
+ghost use Rattle.canonical_names.specs.FurtherSuffixes.{all_suffixes};
+ghost use Rattle.dry_runs.specs.Limit.{UnlessMemoryWithin};
+ghost use Rattle.dry_runs.specs.declared.limit.LimitedFault.{LimitedFault};
+ghost use Rattle.plan_texts.specs.Answers as scripts;
+ghost use Rattle.plan_texts.specs.declared.refusal.Refusal.{Refusal};
 
-use crate::accepted::{Accepted, accept};
-use crate::limits::or_refused_within;
-use crate::plan_call::{PlanCall, Tables, Texts, if_flag};
-use c_texts::{Refused, Status, TextAnswer, write_text};
+use crate::plan_call::{Accepted, PlanCall, Tables, Texts, accept, if_flag};
+use c_texts::{Refused, Status, TextAnswer, refused_by, write_text};
 use canonical_names::{Suffixes, all_suffixes};
 use command_groups::{CallToPlan, plan_with_origins, plan_with_origins_within};
 use compilers::compiler::NvccHostCompiler;
+use compilers::plans::PlanWithOrigins;
 use dry_runs::LimitedFault;
-use plan_scripts::{Format, Refusal};
-use plans::PlanWithOrigins;
+use plan_texts::{Format, Refusal};
 use std::alloc::Global;
 use texts::fault::Fault;
 use texts::text::Text;
@@ -36,16 +35,6 @@ fn form_of(number: u32) -> Option<Format>
         2 => Some(Format::Shell),
         3 => Some(Format::Text),
         _ => None,
-    }
-}
-
-// The standard suffixes, with those of the call behind them. Without such they are as they were written: renaming is faster with these.
-fn suffixes_of(alloc: Global, further: &[String]) -> Result<Suffixes, Fault>
-    ensures { UnlessMemory result (all_suffixes (map string_bytes further.now)) }
-{
-    match further {
-        [] => Ok(Suffixes::standard()),
-        _ => all_suffixes(alloc, further),
     }
 }
 
@@ -88,7 +77,11 @@ pub fn planned(
     ensures { UnlessMemoryWithin result (spec.planned call.now (accepted_seen accepted.now)) }
 {
     let (host, texts, tables) = (accepted.host, accepted.texts, &accepted.tables);
-    let suffixes = suffixes_of(alloc, tables.suffixes.as_slice())?;
+    // Without suffixes of its own a call has the standard ones as they are written: renaming is faster with them.
+    let suffixes = match tables.suffixes.as_slice() {
+        [] => Suffixes::standard(),
+        further => all_suffixes(alloc, further)?,
+    };
     let planned = planned_with(alloc, call, host, texts, tables, &suffixes);
     // Dropped by a call: see "Explicit drops" in docs/ARCHITECTURE.md.
     drop(suffixes);
@@ -147,4 +140,23 @@ pub fn plan(alloc: Global, call: &PlanCall<'_>, form: u32, out: &mut [u8]) -> Te
     ensures { GivesText (spec.plan_outcome call.now form) result out.old out.new }
 {
     write_text(plan_text(alloc, call, form), out)
+}
+
+/// What there is, or the refusal of a fault of reading within a limit. Running out of memory is one of its own.
+pub(crate) fn or_refused_within<T: Drop>(
+    alloc: Global,
+    limit: usize,
+    answer: Result<T, LimitedFault>,
+) -> Result<T, Refused>
+    ensures { (expected : Result T LimitedFault) → UnlessMemoryWithin answer expected → Answers result (limits.or_refused_within limit expected) }
+{
+    match answer {
+        Ok(found) => Ok(found),
+        Err(LimitedFault::Fault(Fault::Memory)) => Err(Refused::Memory),
+        Err(LimitedFault::Fault(fault)) => Err(refused_by(alloc, &fault)?),
+        Err(LimitedFault::TooLong { run, line }) => {
+            let why = format!(in alloc; "run {run} line {line}: over the limit of {limit} bytes")?;
+            Err(Refused::Told(Status::OverLimit, Text::new(why)))
+        }
+    }
 }

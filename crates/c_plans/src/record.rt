@@ -1,4 +1,4 @@
-//! The records of a plan, and of the place of a refusal.
+//! The records of a plan, of what a program that runs its commands has to know, and of the place of a refusal.
 
 use c_texts::Range;
 
@@ -40,7 +40,7 @@ pub struct CommandRecord {
 
 /// Where a call is refused.
 #[repr(C)]
-#[derive(Clone, Copy, Debug)]
+#[derive(Clone, Copy, Debug, Default)]
 pub struct PlaceRecord {
     /// The dry run of the line that is refused, 1 or 2, else 0.
     pub run: usize,
@@ -50,4 +50,44 @@ pub struct PlaceRecord {
     pub field: u32,
     /// 0.
     pub reserved: u32,
+}
+
+/// What a program that runs a command of a group has to know, beside its `CommandRecord`. Paths are elements of the list of texts.
+#[repr(C)]
+#[derive(Clone, Copy, Debug)]
+pub struct StepRecord {
+    /// Which elements of the list of numbers are those of the commands that have to end before it starts, in ascending order.
+    pub needs: Range,
+    /// Which texts are the paths of the files that it reads.
+    pub reads: Range,
+    /// Which texts are the paths of the files that it writes.
+    pub writes: Range,
+    /// Which texts are the paths of the files that it may write or leave out.
+    pub may_write: Range,
+    /// The number of its tool.
+    pub tool: u32,
+    /// 0 if these are all files of the compilation that it touches, else the number of the reason why they aren't.
+    pub missing: u32,
+}
+
+/// The answer of [`plan_steps`](crate::plan_steps).
+#[repr(C)]
+#[derive(Clone, Copy, Debug, Default)]
+pub struct StepsAnswer {
+    /// 0, or the number of a refusal.
+    pub status: i32,
+    /// Where the call is refused.
+    pub place: PlaceRecord,
+    /// How many groups there are, written or not.
+    pub groups: usize,
+    /// How many commands there are.
+    pub commands: usize,
+    /// How many commands are in groups.
+    pub steps: usize,
+    /// How many needs there are.
+    pub numbers: usize,
+    /// How many texts there are.
+    pub ranges: usize,
+    /// The bytes of all of them, or of the refusal's text.
+    pub length: usize,
 }

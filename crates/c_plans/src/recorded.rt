@@ -117,13 +117,6 @@ impl Recorded {
         }
     }
 
-    /// How many commands there are.
-    pub(crate) fn commands_count(&self) -> usize
-        ensures { result ≡ length self.now.1.1 }
-    {
-        self.commands.len()
-    }
-
     /// Adds the texts of variables that commands share, and says which they are.
     pub(crate) fn share(&mut self, variables: &[(String, String)]) -> Result<Range, AllocError>
         ensures texts { OnOk result (self.new ≡ (with_texts self.old.0 (spec.variable_texts (map pair_of variables.now)), self.old.1)) }

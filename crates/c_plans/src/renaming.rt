@@ -1,40 +1,16 @@
 //! Canonical names of generated files.
 
-ghost use Rattle.std.specs.Prelude.{◌≡◌, [], IfOk, map, string_bytes};
-ghost use Rattle.canonical_names.specs.FurtherSuffixes.{all_suffixes};
-ghost use Rattle.canonical_names.specs.Renaming.{renamed_words};
-ghost use Rattle.c_texts.specs.Failures.{or_refused};
+ghost use Rattle.std.specs.Prelude.{map};
 ghost use Rattle.c_texts.specs.Memory.{bytes_of};
-ghost use Rattle.c_texts.specs.Outcomes.{GivesList, of_texts};
+ghost use Rattle.c_texts.specs.Outcomes.{GivesList};
 ghost use Rattle.c_texts.specs.Refusals.{Answers};
 ghost use Rattle.c_plans.specs.Renaming as spec;
 
 use c_texts::{
     InputText, ListAnswer, Outcome, Range, Refused, Status, or_refused, words_of, write_list,
 };
-use canonical_names::{Renames, Suffixes, all_suffixes, remap_generated_filenames};
-use std::alloc::{AllocError, Global};
-
-fn renamed_list(alloc: Global, words: &[String], suffixes: &Suffixes) -> Result<Outcome, AllocError>
-    ensures { IfOk result (λ outcome. outcome ≡ of_texts (renamed_words suffixes.now [] (map string_bytes words.now))) }
-{
-    let mut renames = Renames::new(alloc, suffixes)?;
-    let renamed = remap_generated_filenames(alloc, words, &mut renames)?;
-    Outcome::of_texts(alloc, renamed.as_slice())
-}
-
-fn suffixes_with(alloc: Global, further: &[String]) -> Result<Suffixes, Refused>
-    ensures { Answers result (or_refused (all_suffixes (map string_bytes further.now))) }
-{
-    or_refused(alloc, all_suffixes(alloc, further))
-}
-
-fn remapped(alloc: Global, words: &[String], further: &[String]) -> Result<Outcome, Refused>
-    ensures { Answers result (spec.remapped (map string_bytes words.now) (map string_bytes further.now)) }
-{
-    let suffixes = suffixes_with(alloc, further)?;
-    Ok(renamed_list(alloc, words, &suffixes)?)
-}
+use canonical_names::{Renames, all_suffixes, remap_generated_filenames};
+use std::alloc::Global;
 
 /// What [`remap`] tells.
 pub fn remapped_words(
@@ -45,8 +21,11 @@ pub fn remapped_words(
     ensures { Answers result (spec.remapped_words (map bytes_of words.now) (map bytes_of suffixes.now)) }
 {
     let words = words_of(alloc, words)?.ok_or(Refused::Plain(Status::NotUtf8))?;
-    let suffixes = words_of(alloc, suffixes)?.ok_or(Refused::Plain(Status::NotUtf8))?;
-    remapped(alloc, words.as_slice(), suffixes.as_slice())
+    let further = words_of(alloc, suffixes)?.ok_or(Refused::Plain(Status::NotUtf8))?;
+    let suffixes = or_refused(alloc, all_suffixes(alloc, further.as_slice()))?;
+    let mut renames = Renames::new(alloc, &suffixes)?;
+    let renamed = remap_generated_filenames(alloc, words.as_slice(), &mut renames)?;
+    Ok(Outcome::of_texts(alloc, renamed.as_slice())?)
 }
 
 /// Lists words with canonical names of generated files, as `remap_generated_filenames`: as many words, in their order. The

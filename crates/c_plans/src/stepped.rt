@@ -1,6 +1,6 @@
 //! A plan's records with what each command reads, writes and needs, and writing them into the caller's memory.
 
-ghost use Rattle.std.specs.Prelude.{◌≡◌, ◌++◌, [], ℕ, List, true, IfOk, OnOk, Result, length, map, string_bytes};
+ghost use Rattle.std.specs.Prelude.{◌≡◌, ℕ, List, true, IfOk, OnOk, Result, length};
 ghost use Rattle.c_texts.specs.declared.memory.Range.{Range};
 ghost use Rattle.c_texts.specs.Memory.{fits, filled};
 ghost use Rattle.c_texts.specs.Outcomes.{with_texts};
@@ -9,17 +9,16 @@ ghost use Rattle.c_plans.specs.declared.record.CommandRecord.{CommandRecord};
 ghost use Rattle.c_plans.specs.declared.record.GroupRecord.{GroupRecord};
 ghost use Rattle.c_plans.specs.declared.refused_at.RefusedAt.{RefusedAt};
 ghost use Rattle.c_plans.specs.Places.{AnswersAt};
-ghost use Rattle.c_plans.specs.declared.step_record.StepRecord.{StepRecord};
+ghost use Rattle.c_plans.specs.declared.record.StepRecord.{StepRecord};
 ghost use Rattle.c_plans.specs.Steps as spec;
 ghost use Rattle.c_plans.specs.StepBuffers as buffers;
 
-use crate::record::{CommandRecord, GroupRecord};
+use crate::record::{CommandRecord, GroupRecord, StepRecord, StepsAnswer};
 use crate::recorded::Recorded;
 use crate::refused_at::{RefusedAt, nowhere};
-use crate::step_record::{StepRecord, StepsAnswer};
 use c_texts::{Outcome, Range};
 use command_files::CommandFiles;
-use std::alloc::{AllocError, Global};
+use std::alloc::AllocError;
 use std::marker::Model;
 
 /// A plan's records, and what else there is to know of its commands.
@@ -51,19 +50,6 @@ pub(crate) struct Extra<'a> {
     pub(crate) missing: u32,
 }
 
-// Adds numbers, and says which elements of the list they are.
-fn push_numbers(numbers: &mut Vec<usize>, more: &[usize]) -> Result<Range, AllocError>
-    ensures numbers { OnOk result (numbers.new.items ≡ numbers.old.items ++ more.now) }
-    ensures range { IfOk result (λ range. range ≡ record { offset = length numbers.old.items; length = length more.now }) }
-{
-    let offset = numbers.len();
-    numbers.extend_from_slice(more)?;
-    Ok(Range {
-        offset,
-        length: more.len(),
-    })
-}
-
 // Adds the texts of a command's files, and makes its record, given which numbers are its needs.
 fn push_files(texts: &mut Outcome, needs: Range, extra: Extra<'_>) -> Result<StepRecord, AllocError>
     ensures texts { OnOk result (texts.new ≡ with_texts texts.old (spec.file_texts (spec.extra_seen extra.entry))) }
@@ -83,29 +69,15 @@ fn push_files(texts: &mut Outcome, needs: Range, extra: Extra<'_>) -> Result<Ste
 }
 
 impl Stepped {
-    /// Records alone.
-    pub(crate) fn of_recorded(alloc: Global, recorded: Recorded) -> Stepped
-        ensures { result ≡ spec.of_recorded recorded }
-    {
-        Stepped {
-            recorded,
-            steps: Vec::new(alloc),
-            numbers: Vec::new(alloc),
-        }
-    }
-
-    /// How many commands there are so far.
-    pub(crate) fn count(&self) -> usize
-        ensures { result ≡ length self.now.steps }
-    {
-        self.steps.len()
-    }
-
     /// Adds what there is to know of a command.
     pub(crate) fn push(&mut self, extra: Extra<'_>) -> Result<(), AllocError>
         ensures { OnOk result (self.new ≡ spec.with_extra self.old (spec.extra_seen extra.entry)) }
     {
-        let needs = push_numbers(&mut self.numbers, extra.needs)?;
+        let needs = Range {
+            offset: self.numbers.len(),
+            length: extra.needs.len(),
+        };
+        self.numbers.extend_from_slice(extra.needs)?;
         let record = push_files(&mut self.recorded.outcome, needs, extra)?;
         self.steps.push(record)?;
         Ok(())
@@ -190,12 +162,8 @@ fn tell_refusal(refused: &RefusedAt, out: &mut [u8]) -> StepsAnswer
     StepsAnswer {
         status: told.status,
         place: refused.place,
-        groups: 0,
-        commands: 0,
-        steps: 0,
-        numbers: 0,
-        ranges: 0,
         length: told.length,
+        ..StepsAnswer::default()
     }
 }
 

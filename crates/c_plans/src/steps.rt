@@ -3,15 +3,14 @@
 ghost use Rattle.std.specs.Prelude.{◌≡◌, IfOk, OnOk, map, vec_items};
 ghost use Rattle.command_files.specs.Numbered.{numbered};
 ghost use Rattle.command_files.specs.Order.{needs_at as needs_of};
-ghost use Rattle.plans.specs.Listed.{listed};
-ghost use Rattle.c_plans.specs.Records as records;
+ghost use Rattle.compilers.specs.Listed.{listed};
 ghost use Rattle.c_plans.specs.Steps as spec;
 
 use crate::plan_entries::records_of;
 use crate::stepped::{Extra, Stepped};
 use c_texts::tool_number;
 use command_files::{CommandFiles, files_and_needs, files_of, preprocesses};
-use plans::{ListedCommand, NvccGeneratedSubcommand, PlanWithOrigins, Program};
+use compilers::plans::{ListedCommand, NvccGeneratedSubcommand, PlanWithOrigins, Program};
 use std::alloc::{AllocError, Global};
 
 /// What is known of all commands of a plan.
@@ -105,27 +104,6 @@ fn push_commands(
     Ok(())
 }
 
-fn with_steps(
-    alloc: Global,
-    planned: &PlanWithOrigins,
-    known: Known<'_>,
-) -> Result<Stepped, AllocError>
-    ensures { IfOk result (λ stepped. stepped ≡ spec.with_extras (spec.of_recorded (records.records_of planned.now))
-        (numbered (spec.extra_of (spec.known_seen known.entry)) 0 (listed planned.now.plan.groups))) }
-{
-    let commands = planned.plan.groups.listed(alloc)?;
-    let recorded = records_of(alloc, planned)?;
-    let mut stepped = Stepped::of_recorded(alloc, recorded);
-    match push_commands(alloc, &mut stepped, known, commands.as_slice()) {
-        Ok(()) => Ok(stepped),
-        Err(fault) => {
-            // Dropped by a call: see "Explicit drops" in docs/ARCHITECTURE.md.
-            drop(stepped);
-            Err(fault)
-        }
-    }
-}
-
 /// A plan as records, with what each command reads, writes and needs.
 pub(crate) fn steps_of(alloc: Global, planned: &PlanWithOrigins) -> Result<Stepped, AllocError>
     ensures { IfOk result (λ stepped. stepped ≡ spec.steps_of planned.now) }
@@ -135,5 +113,18 @@ pub(crate) fn steps_of(alloc: Global, planned: &PlanWithOrigins) -> Result<Stepp
         needs: both.needs.as_slice(),
         files: both.files.as_slice(),
     };
-    with_steps(alloc, planned, known)
+    let commands = planned.plan.groups.listed(alloc)?;
+    let mut stepped = Stepped {
+        recorded: records_of(alloc, planned)?,
+        steps: Vec::new(alloc),
+        numbers: Vec::new(alloc),
+    };
+    match push_commands(alloc, &mut stepped, known, commands.as_slice()) {
+        Ok(()) => Ok(stepped),
+        Err(fault) => {
+            // Dropped by a call: see "Explicit drops" in docs/ARCHITECTURE.md.
+            drop(stepped);
+            Err(fault)
+        }
+    }
 }

@@ -1,5 +1,5 @@
 -- Texts behind other texts.
-use Rattle.std.proofs.Common.{◌≡◌, ◌++◌, ◌+◌, ◌∷◌, [], ℕ, suc, List, map, length, refl, sym, ap, ◌∙◌, arith, length-append, append_assoc, append-nil}
+use Rattle.std.proofs.Common.{◌≡◌, ◌++◌, ◌+◌, ◌∷◌, [], ℕ, suc, List, map, length, refl, sym, ap, ◌∙◌, arith, length-append, append_assoc}
 use Rattle.std.specs.List.{concat}
 use Rattle.c_texts.specs.Memory.{ranges_at}
 use Rattle.c_texts.specs.Outcomes.{Outcome, with_texts}
@@ -25,10 +25,6 @@ concat-append (x ∷ xs) ys = ap (λ t. x ++ t) (concat-append xs ys) ∙ sym (a
 -- texts behind texts
 pub texts-then : (outcome : Outcome) (xs ys : List (List ℕ)) → with_texts (with_texts outcome xs) ys ≡ with_texts outcome (xs ++ ys)
 texts-then outcome xs ys = simp (append_assoc, length-append, ranges-append, concat-append)
-
--- no further texts
-pub with-none : (outcome : Outcome) → outcome ≡ with_texts outcome []
-with-none outcome = λ i. (outcome.0, (sym (append-nil outcome.1.0) i, sym (append-nil outcome.1.1) i))
 
 -- how many ranges there are, behind further texts
 pub count-then : (outcome : Outcome) (xs : List (List ℕ)) → length (with_texts outcome xs).1.0 ≡ length outcome.1.0 + length xs

@@ -1,7 +1,7 @@
 -- What a caller passes for the key of a command, and what it gets.
 use Rattle.std.specs.Prelude.{ℕ, List, ◌==◌, ◌&&◌, nat_le, if◌then◌else◌, length, map, Option, None, ok_or, Result, codes}
 use Rattle.texts.specs.Results.{and_then}
-use Rattle.c_texts.specs.declared.key_call.KeyCall.{KeyCall}
+use Rattle.c_texts.specs.declared.keying.KeyCall.{KeyCall}
 use Rattle.c_texts.specs.declared.refusal.Refused.{Refused}
 use Rattle.c_texts.specs.declared.refusal.Refused.TheVariants.{Told}
 use Rattle.c_texts.specs.declared.status.Status.TheVariants.{BadLine, BadNumber}
@@ -12,7 +12,7 @@ use Rattle.c_texts.specs.Tools.{program_of}
 use Rattle.c_texts.specs.Variables.{pair_of}
 use Rattle.command_keys.specs.Keys.{key_of, most_roots}
 use Rattle.command_keys.specs.ToolVariables.{tool_variables}
-use Rattle.plans.specs.declared.program.Program.{Program}
+use Rattle.compilers.specs.declared.plans.program.Program.{Program}
 
 -- the tool of a call, if its numbers have a meaning: there are letters for at most 26 roots
 abbrev pub tool_in : KeyCall → Option Program

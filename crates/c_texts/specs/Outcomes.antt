@@ -57,8 +57,7 @@ TellsList outcome answer ranges ranges' bytes bytes' =
 
 -- It tells the expected outcome, or that an allocation failed.
 abbrev pub GivesText : Outcome → TextAnswer → List ℕ → List ℕ → Type 0
-GivesText expected answer bytes bytes' =
-    TellsText expected answer bytes bytes' ⊎ TellsText (refused Memory) answer bytes bytes'
+GivesText expected answer bytes bytes' = TellsText expected answer bytes bytes' ⊎ TellsText (refused Memory) answer bytes bytes'
 
 abbrev pub GivesList : Outcome → ListAnswer → List Range → List Range → List ℕ → List ℕ → Type 0
 GivesList expected answer ranges ranges' bytes bytes' =

@@ -5,12 +5,12 @@ use Rattle.schedules.specs.Scheduled.{next, running, is_over}
 use Rattle.schedules.specs.Told.{told}
 use Rattle.c_texts.specs.declared.status.Status.TheVariants.{Success, BadNumber}
 use Rattle.c_texts.specs.Statuses.{number}
-use Rattle.c_texts.specs.declared.schedule_answer.ScheduleAnswer.{ScheduleAnswer}
-use Rattle.c_texts.specs.declared.schedule_answer.ProgressAnswer.{ProgressAnswer}
-use Rattle.c_texts.specs.declared.schedule_answer.ToldAnswer.{ToldAnswer}
+use Rattle.c_texts.specs.declared.schedule_call.ScheduleAnswer.{ScheduleAnswer}
+use Rattle.c_texts.specs.declared.schedule_call.ProgressAnswer.{ProgressAnswer}
+use Rattle.c_texts.specs.declared.schedule_call.ToldAnswer.{ToldAnswer}
 use Rattle.c_texts.specs.declared.schedule_call.ScheduleCall.{ScheduleCall}
-use Rattle.c_texts.specs.declared.schedule_reason.Reason.{Reason}
-use Rattle.c_texts.specs.declared.schedule_reason.Reason.TheVariants as reasons
+use Rattle.c_texts.specs.declared.schedule_number.Reason.{Reason}
+use Rattle.c_texts.specs.declared.schedule_number.Reason.TheVariants as reasons
 use Rattle.c_texts.specs.ScheduleCalls.{seen, states_of, is_schedule}
 use Rattle.c_texts.specs.ScheduleNumbers.{reason_number, plan_number}
 

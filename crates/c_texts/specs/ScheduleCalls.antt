@@ -8,8 +8,8 @@ use Rattle.schedules.specs.Graphs.{moved, first_late}
 use Rattle.schedules.specs.Scheduled.{Scheduled, start_refusal, end_refusal}
 use Rattle.c_texts.specs.declared.schedule_call.ScheduledCommand.{ScheduledCommand}
 use Rattle.c_texts.specs.declared.schedule_call.ScheduleCall.{ScheduleCall}
-use Rattle.c_texts.specs.declared.schedule_reason.Reason.{Reason}
-use Rattle.c_texts.specs.declared.schedule_reason.Reason.TheVariants as reasons
+use Rattle.c_texts.specs.declared.schedule_number.Reason.{Reason}
+use Rattle.c_texts.specs.declared.schedule_number.Reason.TheVariants as reasons
 use Rattle.c_texts.specs.ScheduleNumbers.{state_of, is_state, after_failure_of, is_after_failure, outcome_of}
 
 -- the numbers of the commands that a command needs, behind those of earlier plans

@@ -1,5 +1,5 @@
 -- What the numbers of a schedule's states, settings and refusals mean.
-use Rattle.std.specs.Prelude.{ℕ, Bool, nat_le, ◌==◌, if◌then◌else◌, Option, Some, None, is_some}
+use Rattle.std.specs.Prelude.{ℕ, Bool, nat_le, ◌==◌, if◌then◌else◌, Option, Some, None}
 use Rattle.schedules.specs.declared.command.AfterFailure.{AfterFailure}
 use Rattle.schedules.specs.declared.command.AfterFailure.TheVariants.{StartNothing, StartEarlier, GoOn}
 use Rattle.schedules.specs.declared.command.CommandState.{CommandState}
@@ -8,10 +8,9 @@ use Rattle.schedules.specs.declared.command.Outcome.{Outcome}
 use Rattle.schedules.specs.declared.command.Outcome.TheVariants as outcomes
 use Rattle.schedules.specs.declared.command.PlanStatus.{PlanStatus}
 use Rattle.schedules.specs.declared.command.PlanStatus.TheVariants as plans
-use Rattle.schedules.specs.declared.command.Refused.{Refused}
 use Rattle.schedules.specs.declared.command.Refused.TheVariants as refusals
-use Rattle.c_texts.specs.declared.schedule_reason.Reason.{Reason}
-use Rattle.c_texts.specs.declared.schedule_reason.Reason.TheVariants as reasons
+use Rattle.c_texts.specs.declared.schedule_number.Reason.{Reason}
+use Rattle.c_texts.specs.declared.schedule_number.Reason.TheVariants as reasons
 
 -- the state of a command with this number: memory that is zero is that of commands of which none has started
 abbrev pub state_of : ℕ → CommandState
@@ -41,21 +40,14 @@ outcome_of n =
     else if n == 4 then Some outcomes.Cancelled
     else None
 
-abbrev pub is_outcome : ℕ → Bool
-is_outcome n = is_some (outcome_of n)
-
--- the number of a refusal of schedules
-abbrev pub refusal_number : Refused → ℕ
-refusal_number refusals.NoSuchCommand = 1
-refusal_number refusals.StartedBefore = 2
-refusal_number refusals.NeedsUnmet = 3
-refusal_number refusals.HeldBack = 4
-refusal_number refusals.NoSlot = 5
-refusal_number refusals.NotRunning = 6
-
 -- the number of a reason
 abbrev pub reason_number : Reason → ℕ
-reason_number (reasons.Refused refused) = refusal_number refused
+reason_number (reasons.Refused refusals.NoSuchCommand) = 1
+reason_number (reasons.Refused refusals.StartedBefore) = 2
+reason_number (reasons.Refused refusals.NeedsUnmet) = 3
+reason_number (reasons.Refused refusals.HeldBack) = 4
+reason_number (reasons.Refused refusals.NoSlot) = 5
+reason_number (reasons.Refused refusals.NotRunning) = 6
 reason_number reasons.BadSchedule = 7
 reason_number (reasons.NeedsLater command) = 8
 reason_number reasons.BadOutcome = 9

@@ -1,8 +1,8 @@
 -- The calls on shell words.
 use Rattle.std.specs.Prelude.{ℕ, List, Result, Ok, map, encode_utf8_all}
 use Rattle.std.specs.Str.{chars}
-use Rattle.shell_words.specs.Shell.Splitting.{shell_words}
-use Rattle.shell_words.specs.Shell.Quoting.{quoted}
+use Rattle.texts.specs.Shell.Splitting.{shell_words}
+use Rattle.texts.specs.Shell.Quoting.{quoted}
 use Rattle.texts.specs.Results.{and_then}
 use Rattle.c_texts.specs.declared.refusal.Refused.{Refused}
 use Rattle.c_texts.specs.declared.status.Status.TheVariants.{NotUtf8, OpenQuote}

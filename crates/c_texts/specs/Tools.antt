@@ -1,8 +1,8 @@
 -- The numbers of the programs that commands run, as `zigrunk_step` has them. 3 to 5 are tools whose lines `c_lines` reads, and that no
 -- command of a plan runs.
 use Rattle.std.specs.Prelude.{◌≡◌, ℕ, ◌==◌, if◌then◌else◌, Option, Some, None, refl}
-use Rattle.plans.specs.declared.program.Program.{Program}
-use Rattle.plans.specs.declared.program.Program.TheVariants.{Cicc, Cudafe, Ptxas, Fatbinary, Nvlink, Other}
+use Rattle.compilers.specs.declared.plans.program.Program.{Program}
+use Rattle.compilers.specs.declared.plans.program.Program.TheVariants.{Cicc, Cudafe, Ptxas, Fatbinary, Nvlink, Other}
 
 abbrev pub tool_number : Program → ℕ
 tool_number Cicc = 0

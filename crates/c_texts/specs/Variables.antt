@@ -12,10 +12,6 @@ pair_of variable = (bytes_of variable.name, bytes_of variable.value)
 abbrev pub is_utf8_pair : Variable → Bool
 is_utf8_pair variable = is_utf8 (bytes_of variable.name) && is_utf8 (bytes_of variable.value)
 
--- a variable, if its texts are UTF-8
-abbrev pub valid_pair : Variable → Option (List ℕ × List ℕ)
-valid_pair variable = if is_utf8_pair variable then Some (pair_of variable) else None
-
 -- variables of the caller, if their texts are UTF-8
 abbrev pub variables_of : List Variable → Option (List (List ℕ × List ℕ))
 variables_of variables = if list_all is_utf8_pair variables then Some (map pair_of variables) else None

@@ -8,17 +8,33 @@ ghost use Rattle.c_texts.specs.Variables.{pair_of};
 ghost use Rattle.command_keys.specs.Keys.{shown, shown_variable};
 ghost use Rattle.c_texts.specs.KeyCalls as spec;
 
-use crate::key_call::{KeyCall, tool_in};
 use crate::memory::{InputText, TextAnswer};
 use crate::outcome::tell_text;
 use crate::refusal::Refused;
 use crate::status::Status;
+use crate::tool::program_of;
 use crate::variables::Variable;
-use command_keys::tool_variables;
-use plans::Program;
+use command_keys::{MOST_ROOTS, tool_variables};
+use compilers::plans::Program;
 use std::alloc::{AllocError, Global};
 use texts::bytes::Bytes;
 use texts::text::Text;
+
+/// A call that writes the key of a command.
+#[repr(C)]
+#[derive(Clone, Copy, Debug)]
+pub struct KeyCall<'a> {
+    /// The words, the program first.
+    pub words: &'a [InputText<'a>],
+    /// The environment that the command runs in.
+    pub variables: &'a [Variable<'a>],
+    /// The directories whose paths don't count.
+    pub roots: &'a [InputText<'a>],
+    /// The number of the tool.
+    pub tool: u32,
+    /// 0.
+    pub reserved: u32,
+}
 
 // Texts of the caller.
 fn texts_of<'a>(alloc: Global, texts: &[InputText<'a>]) -> Result<Vec<&'a [u8]>, AllocError>
@@ -65,7 +81,10 @@ fn key_by(alloc: Global, tool: Program, call: &KeyCall<'_>) -> Result<Option<Vec
 fn key_in(alloc: Global, call: &KeyCall<'_>) -> Result<Bytes, Refused>
     ensures { Answers result (spec.key_in call.now) }
 {
-    let tool = tool_in(call).ok_or(Refused::Plain(Status::BadNumber))?;
+    if call.reserved != 0 || call.roots.len() > MOST_ROOTS {
+        return Err(Refused::Plain(Status::BadNumber));
+    }
+    let tool = program_of(call.tool).ok_or(Refused::Plain(Status::BadNumber))?;
     match key_by(alloc, tool, call)? {
         Some(key) => Ok(Bytes::from_vec(key)),
         None => {

@@ -10,19 +10,15 @@
 #![tactic(auto)]
 
 mod failure;
-mod key_call;
 mod keying;
 pub mod laws;
 mod memory;
 mod outcome;
 mod refusal;
 pub mod schedule;
-mod schedule_answer;
 mod schedule_call;
-mod schedule_graph;
 mod schedule_number;
 mod schedule_ready;
-mod schedule_reason;
 mod schedule_state;
 mod shell;
 mod status;
@@ -31,14 +27,14 @@ mod variables;
 mod versions;
 
 pub use failure::{or_refused, refused_by, status_of};
-pub use key_call::KeyCall;
-pub use keying::command_key;
+pub use keying::{KeyCall, command_key};
 pub use memory::{InputText, ListAnswer, Range, TextAnswer, text_of, words_of};
 pub use outcome::{Outcome, tell_text, write_list, write_text};
 pub use refusal::Refused;
-pub use schedule_answer::{ProgressAnswer, ScheduleAnswer, ToldAnswer};
-pub use schedule_call::{ScheduleCall, ScheduledCommand};
-pub use schedule_reason::Reason;
+pub use schedule_call::{
+    ProgressAnswer, ScheduleAnswer, ScheduleCall, ScheduledCommand, ToldAnswer,
+};
+pub use schedule_number::Reason;
 pub use shell::{quote, quoted_text, split, split_words};
 pub use status::{Status, message};
 pub use tool::{program_of, tool_number};

@@ -17,7 +17,7 @@ pub struct InputText<'a> {
 
 /// A part of what a call wrote: bytes of the text, or elements of a list.
 #[repr(C)]
-#[derive(Clone, Copy, Debug)]
+#[derive(Clone, Copy, Debug, Default)]
 pub struct Range {
     /// The number of the first one, from 0.
     pub offset: usize,

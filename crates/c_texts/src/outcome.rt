@@ -1,8 +1,6 @@
 //! What calls end with, and how they tell the caller.
 
-ghost use Rattle.std.specs.Prelude.{◌≡◌, ◌++◌, [], ◌∷◌, List, ℕ, map, IfOk, OnOk, Result, length, string_bytes};
-ghost use Rattle.std.specs.List.{concat};
-ghost use Rattle.c_texts.specs.Memory as memory;
+ghost use Rattle.std.specs.Prelude.{◌≡◌, [], ◌∷◌, List, ℕ, map, IfOk, OnOk, Result, length, string_bytes};
 ghost use Rattle.c_texts.specs.declared.refusal.Refused.{Refused};
 ghost use Rattle.c_texts.specs.Outcomes as spec;
 ghost use Rattle.c_texts.specs.Refusals.{Answers, ended, ended_text};

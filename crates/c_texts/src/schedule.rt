@@ -1,19 +1,18 @@
 //! The calls on a schedule.
 
-ghost use Rattle.std.specs.Prelude.{◌≡◌, ◌<◌, length, replicate, slice_set, Ok, Some, None, true, false, MatchResult};
+ghost use Rattle.std.specs.Prelude.{◌≡◌, ◌<◌, length, replicate, slice_set, Ok, Some, None, MatchResult};
 ghost use Rattle.std.specs.List.{list_all};
 ghost use Rattle.c_texts.specs.ScheduleAnswers as answers;
 ghost use Rattle.c_texts.specs.ScheduleCalls as spec;
 ghost use Rattle.c_texts.specs.ScheduleNumbers as numbers;
 ghost use Rattle.schedules.specs.Scheduled as schedules;
-ghost use Rattle.c_texts.specs.declared.schedule_reason.Reason.TheVariants.{BadOutcome};
+ghost use Rattle.c_texts.specs.declared.schedule_number.Reason.TheVariants.{BadOutcome};
 
-use crate::schedule_answer::{ProgressAnswer, ScheduleAnswer, ToldAnswer, denied, named, noted};
-use crate::schedule_call::ScheduleCall;
-use crate::schedule_graph::{are_met, first_late};
-use crate::schedule_number::{RUNNING, after_failure_of, plan_number};
-use crate::schedule_ready::{is_over, next_of};
-use crate::schedule_reason::Reason;
+use crate::schedule_call::{
+    ProgressAnswer, ScheduleAnswer, ScheduleCall, ToldAnswer, denied, named,
+};
+use crate::schedule_number::{RUNNING, Reason, after_failure_of, plan_number};
+use crate::schedule_ready::{are_met, first_late, is_over, next_of};
 use crate::schedule_state::{is_running, is_waiting, limit, running, told as told_of};
 use crate::status::Status;
 use schedules::Refused;
@@ -42,30 +41,6 @@ fn is_schedule(call: &ScheduleCall<'_>, states: &[u8]) -> bool
     is_numbered(call, states) && are_states(states)
 }
 
-// That a record and states have a meaning.
-fn check_schedule(call: &ScheduleCall<'_>, states: &[u8]) -> Result<(), Reason>
-    ensures { result ≡ spec.if_schedule call.now states.now (Ok tt) }
-{
-    if is_schedule(call, states) {
-        Ok(())
-    } else {
-        Err(Reason::BadSchedule)
-    }
-}
-
-// That a graph can be a schedule.
-fn check_graph(call: &ScheduleCall<'_>, states: &[u8]) -> Result<(), Reason>
-    ensures { result ≡ spec.begun call.now states.now }
-{
-    if !is_numbered(call, states) {
-        return Err(Reason::BadSchedule);
-    }
-    match first_late(call.commands) {
-        Some(command) => Err(Reason::NeedsLater(command)),
-        None => Ok(()),
-    }
-}
-
 // That a command may start now.
 fn check_start(call: &ScheduleCall<'_>, states: &[u8], command: usize) -> Result<(), Refused>
     ensures { MatchResult result
@@ -87,79 +62,19 @@ fn check_start(call: &ScheduleCall<'_>, states: &[u8], command: usize) -> Result
     }
 }
 
-// That a command may end now.
-fn check_end(call: &ScheduleCall<'_>, states: &[u8], command: usize) -> Result<(), Refused>
-    ensures { MatchResult result
-        (λ _. (schedules.end_refusal (spec.seen call.now states.now) command ≡ None) × (command < length states.now))
-        (λ refused. schedules.end_refusal (spec.seen call.now states.now) command ≡ Some refused) }
-{
-    if command >= states.len() {
-        Err(Refused::NoSuchCommand)
-    } else if !is_running(states, command) {
-        Err(Refused::NotRunning)
-    } else {
-        Ok(())
-    }
-}
-
-// The byte of the state in which a command ends.
-fn check_outcome(outcome: u32) -> Result<u8, Reason>
-    ensures { MatchResult result
-        (λ byte. (byte ≡ outcome) × (numbers.is_outcome outcome ≡ true))
-        (λ reason. (reason ≡ BadOutcome) × (numbers.is_outcome outcome ≡ false)) }
-{
-    match outcome {
-        2 => Ok(2),
-        3 => Ok(3),
-        4 => Ok(4),
-        _ => Err(Reason::BadOutcome),
-    }
-}
-
-// Notes that no command has started.
-fn note_begin(call: &ScheduleCall<'_>, states: &mut [u8]) -> Result<(), Reason>
-    ensures answer { result ≡ spec.begun call.now states.old }
-    ensures states { states.new ≡ spec.if_accepted result (replicate (length states.old) 0) states.old }
-{
-    check_graph(call, states)?;
-    states.fill(0);
-    Ok(())
-}
-
-// Notes that a command has started.
-fn note_start(call: &ScheduleCall<'_>, states: &mut [u8], command: usize) -> Result<(), Reason>
-    ensures answer { result ≡ spec.started call.now states.old command }
-    ensures states { states.new ≡ spec.if_accepted result (slice_set states.old command 1) states.old }
-{
-    check_schedule(call, states)?;
-    check_start(call, states, command)?;
-    states[command] = RUNNING;
-    Ok(())
-}
-
-// Notes that a command has ended.
-fn note_end(
-    call: &ScheduleCall<'_>,
-    states: &mut [u8],
-    command: usize,
-    outcome: u32,
-) -> Result<(), Reason>
-    ensures answer { result ≡ spec.ended call.now states.old command outcome }
-    ensures states { states.new ≡ spec.if_accepted result (slice_set states.old command outcome) states.old }
-{
-    check_schedule(call, states)?;
-    let state = check_outcome(outcome)?;
-    check_end(call, states, command)?;
-    states[command] = state;
-    Ok(())
-}
-
 /// Makes the states those of a schedule before its first command. Refuses a graph in which a command isn't after all that it needs.
 pub fn begin(call: &ScheduleCall<'_>, states: &mut [u8]) -> ScheduleAnswer
     ensures answer { result ≡ answers.noted (spec.begun call.now states.old) }
     ensures states { states.new ≡ spec.if_accepted (spec.begun call.now states.old) (replicate (length states.old) 0) states.old }
 {
-    noted(note_begin(call, states))
+    if !is_numbered(call, states) {
+        return denied(Reason::BadSchedule);
+    }
+    if let Some(command) = first_late(call.commands) {
+        return denied(Reason::NeedsLater(command));
+    }
+    states.fill(0);
+    named(0)
 }
 
 /// The command that may start next, as `schedules::Schedule::next`, or how many there are.
@@ -180,7 +95,16 @@ pub fn started(call: &ScheduleCall<'_>, states: &mut [u8], command: usize) -> Sc
     ensures answer { result ≡ answers.noted (spec.started call.now states.old command) }
     ensures states { states.new ≡ spec.if_accepted (spec.started call.now states.old command) (slice_set states.old command 1) states.old }
 {
-    noted(note_start(call, states, command))
+    if !is_schedule(call, states) {
+        return denied(Reason::BadSchedule);
+    }
+    match check_start(call, states, command) {
+        Ok(()) => {
+            states[command] = RUNNING;
+            named(0)
+        }
+        Err(refused) => denied(Reason::Refused(refused)),
+    }
 }
 
 /// Notes that a command has ended, as `schedules::Schedule::ended`. `outcome` is the number of its state from then on: that of a
@@ -194,7 +118,24 @@ pub fn ended(
     ensures answer { result ≡ answers.noted (spec.ended call.now states.old command outcome) }
     ensures states { states.new ≡ spec.if_accepted (spec.ended call.now states.old command outcome) (slice_set states.old command outcome) states.old }
 {
-    noted(note_end(call, states, command, outcome))
+    if !is_schedule(call, states) {
+        return denied(Reason::BadSchedule);
+    }
+    // The byte of the state in which the command ends.
+    let state = match outcome {
+        2 => 2,
+        3 => 3,
+        4 => 4,
+        _ => return denied(Reason::BadOutcome),
+    };
+    if command >= states.len() {
+        return denied(Reason::Refused(Refused::NoSuchCommand));
+    }
+    if !is_running(states, command) {
+        return denied(Reason::Refused(Refused::NotRunning));
+    }
+    states[command] = state;
+    named(0)
 }
 
 /// How many commands run, and whether nothing runs and nothing may start.

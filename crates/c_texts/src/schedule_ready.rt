@@ -1,16 +1,17 @@
-//! The command that may start next.
+//! What commands need, and the command that may start next.
 
 ghost use Rattle.std.specs.Prelude.{◌≡◌, ◌<◌, length, map};
+ghost use Rattle.c_texts.specs.ScheduleCalls as spec;
+ghost use Rattle.c_texts.specs.ScheduleNumbers.{after_failure_of};
+ghost use Rattle.schedules.specs.Entered as entered;
+ghost use Rattle.schedules.specs.Graphs as graphs;
 ghost use Rattle.schedules.specs.Scheduled as schedules;
 ghost use Rattle.schedules.specs.States as states;
 ghost use Rattle.schedules.specs.Tournament as tournament;
-ghost use Rattle.c_texts.specs.ScheduleCalls as spec;
-ghost use Rattle.c_texts.specs.ScheduleNumbers.{after_failure_of};
 
 use crate::schedule_call::{ScheduleCall, ScheduledCommand};
-use crate::schedule_graph::are_met;
 use crate::schedule_number::after_failure_of;
-use crate::schedule_state::{is_waiting, limit, running};
+use crate::schedule_state::{has_succeeded, is_waiting, limit, running};
 
 // Whether the second of two commands has a greater priority than the first, or the same and a lower number.
 fn precedes(commands: &[ScheduledCommand<'_>], first: usize, second: usize) -> bool
@@ -80,4 +81,36 @@ pub(crate) fn is_over(call: &ScheduleCall<'_>, bytes: &[u8]) -> bool
     ensures { result ≡ schedules.is_over (spec.seen call.now bytes.now) }
 {
     running(bytes) == 0 && next_of(call, bytes).is_none()
+}
+
+// Whether all numbers, counted on from those of earlier plans, are below a number.
+fn are_below(count: usize, first: usize, needs: &[usize]) -> bool
+    ensures { result ≡ entered.are_below count (map (graphs.moved first) needs.now) }
+{
+    needs.iter().all(|need| need.saturating_add(first) < count)
+}
+
+/// The first command that needs one which isn't earlier.
+pub(crate) fn first_late(commands: &[ScheduledCommand<'_>]) -> Option<usize>
+    ensures { result ≡ graphs.first_late 0 (map spec.needs_of commands.now) }
+{
+    for (number, command) in commands.iter().enumerate() {
+        if !are_below(number, command.first, command.needs) {
+            return Some(number);
+        }
+    }
+    None
+}
+
+/// Whether all that a command needs have succeeded.
+pub(crate) fn are_met(commands: &[ScheduledCommand<'_>], bytes: &[u8], command: usize) -> bool
+    ensures { result ≡ schedules.are_met (map spec.needs_of commands.now) (spec.states_of bytes.now) command }
+{
+    match commands.get(command) {
+        Some(scheduled) => {
+            let mut needs = scheduled.needs.iter();
+            needs.all(|need| has_succeeded(bytes, need.saturating_add(scheduled.first)))
+        }
+        None => true,
+    }
 }

@@ -41,30 +41,13 @@ pub(crate) fn has_succeeded(bytes: &[u8], command: usize) -> bool
     matches!(state_at(bytes, command), CommandState::Succeeded)
 }
 
-// Whether this is the byte of a command that runs.
-fn runs(byte: u8) -> bool
-    ensures { result ≡ states.is_running (state_of byte) }
-{
-    matches!(state_of(byte), CommandState::Running)
-}
-
-// Whether this is the byte of a command that ended without success.
-fn is_bad(byte: u8) -> bool
-    ensures { result ≡ states.is_bad (state_of byte) }
-{
-    matches!(
-        state_of(byte),
-        CommandState::Failed | CommandState::Cancelled
-    )
-}
-
 /// How many commands run.
 pub(crate) fn running(bytes: &[u8]) -> usize
     ensures { result ≡ schedules.running (states_of bytes.now) }
 {
     let mut count = 0;
     for byte in bytes {
-        if runs(*byte) {
+        if matches!(state_of(*byte), CommandState::Running) {
             count += 1;
         }
     }
@@ -76,7 +59,10 @@ fn first_bad(bytes: &[u8]) -> usize
     ensures { result ≡ states.first_bad (states_of bytes.now) }
 {
     for (number, byte) in bytes.iter().enumerate() {
-        if is_bad(*byte) {
+        if matches!(
+            state_of(*byte),
+            CommandState::Failed | CommandState::Cancelled
+        ) {
             return number;
         }
     }

@@ -3,7 +3,7 @@
 ghost use Rattle.std.specs.Prelude.{◌≡◌};
 ghost use Rattle.c_texts.specs.Tools as spec;
 
-use plans::Program;
+use compilers::plans::Program;
 
 /// The number of a program.
 pub fn tool_number(program: Program) -> u32

@@ -1,7 +1,6 @@
 //! Environment variables of the caller.
 
-ghost use Rattle.std.specs.Prelude.{◌≡◌, IfOk, option_map};
-ghost use Rattle.texts.specs.Variables.{pair_of as held_pair};
+ghost use Rattle.std.specs.Prelude.{◌≡◌, IfOk};
 ghost use Rattle.c_texts.specs.Variables as spec;
 
 use crate::memory::{InputText, text_of};
@@ -18,30 +17,17 @@ pub struct Variable<'a> {
     pub value: InputText<'a>,
 }
 
-// A copy of a variable, if its texts are UTF-8.
-fn pair_of(alloc: Global, row: &Variable<'_>) -> Result<Option<(String, String)>, AllocError>
-    ensures { IfOk result (λ pair. option_map held_pair pair ≡ spec.valid_pair row.now) }
-{
-    let Some(name) = text_of(row.name.bytes) else {
-        return Ok(None);
-    };
-    let Some(value) = text_of(row.value.bytes) else {
-        return Ok(None);
-    };
-    let name = String::from_str(alloc, name)?;
-    Ok(Some((name, String::from_str(alloc, value)?)))
-}
-
 /// Copies of variables, if all their texts are UTF-8.
 pub fn variables_of(alloc: Global, rows: &[Variable<'_>]) -> Result<Option<Variables>, AllocError>
     ensures { IfOk result (λ variables. variables ≡ spec.variables_of rows.now) }
 {
     let mut variables = Variables::new(alloc);
     for row in rows {
-        let Some((name, value)) = pair_of(alloc, row)? else {
+        let (Some(name), Some(value)) = (text_of(row.name.bytes), text_of(row.value.bytes)) else {
             return Ok(None);
         };
-        variables.push(name, value)?;
+        let name = String::from_str(alloc, name)?;
+        variables.push(name, String::from_str(alloc, value)?)?;
     }
     Ok(Some(variables))
 }

@@ -5,13 +5,13 @@ use Rattle.std.proofs.lemmas.Bool.{false≢true, and_from, or_right}
 use Rattle.std.proofs.lemmas.List.Folds.{list_any-append}
 use Rattle.std.proofs.lemmas.Slice.Eq.{bytes_eq-Decides}
 use Rattle.std.proofs.Math.Bool.{or_assoc, or-false, or-true}
-use Rattle.command_lines.specs.CommandLines.{CommandLine}
+use Rattle.compilers.specs.CommandLines.{CommandLine}
 use Rattle.canonical_names.specs.Alike.{holds, is_clean_word}
 use Rattle.canonical_names.specs.Counted.{has_class}
 use Rattle.canonical_names.specs.Generated.{core_of, class_of_name, generated_name, is_generated, begins_with_dash}
 use Rattle.canonical_names.specs.Renaming.{names_of_run}
 use Rattle.canonical_names.specs.Appearances.{appearances}
-use Rattle.canonical_names.proofs.RankLemmas.{add, run-names}
+use Rattle.canonical_names.proofs.CanonicalLemmas.{add, run-names}
 use Rattle.canonical_names.proofs.ReferenceLemmas.{no-suffix-no_names}
 
 -- the names that appear have a class

@@ -2,14 +2,14 @@
 use Rattle.std.proofs.Common.{◌≡◌, ℕ, ◌++◌, true, false, List, [], ◌∷◌, Option, Some, None, is_some, map, refl, ap, sym, ◌∙◌, fold, option_map, arith}
 use Rattle.std.specs.List.{list_any, list_all, filter_map}
 use Rattle.std.proofs.lemmas.Bool.{and_parts, or_parts, or_from, not-true}
-use Rattle.command_lines.specs.CommandLines.{CommandLine, words_of_command}
+use Rattle.compilers.specs.CommandLines.{CommandLine, words_of_command}
 use Rattle.canonical_names.specs.Generated.{head_of, core_of, class_of, generated_name}
 use Rattle.canonical_names.specs.Renaming.{seen_after_word, seen_after, names_of_run, renamed_word, renamed_words, renamed_after}
 use Rattle.texts.specs.Lists.{with_name}
 use Rattle.canonical_names.specs.Appearances.{appearances}
 use Rattle.canonical_names.specs.Alike.{holds, is_clean_word}
 use Rattle.canonical_names.specs.CanonicalNames.{core_by_all, word_by_all, command_by_all, CleanRunIsAMap}
-use Rattle.canonical_names.proofs.RankLemmas.{add, fold-append, words-names, run-names, fold-front, rank-stable}
+use Rattle.canonical_names.proofs.CanonicalLemmas.{add, fold-append, words-names, run-names, fold-front, rank-stable}
 use Rattle.canonical_names.proofs.RewriteLemmas.{other-words_stay}
 
 -- what a word doesn't hold, its core doesn't hold

@@ -14,8 +14,7 @@ use Rattle.canonical_names.specs.Counted.{old_names, count_of, has_class, IsCoun
 use Rattle.canonical_names.specs.Generated.{class_of_name}
 use Rattle.canonical_names.specs.Renaming.{rank, canonical_file, canonical_in, canonical_or, canonical_name}
 use Rattle.canonical_names.specs.SuffixRule.{is_apart, are_apart, are_suffixes}
-use Rattle.canonical_names.proofs.CanonicalLemmas.{no-member, head-member, tail-member, member-cases, canonical-at, find-found}
-use Rattle.canonical_names.proofs.RankLemmas.{bytes_eq-itself, any-turned, rank-absent, rank-found, rank-settled}
+use Rattle.canonical_names.proofs.CanonicalLemmas.{no-member, head-member, tail-member, member-cases, canonical-at, find-found, bytes_eq-itself, any-turned, rank-absent, rank-found, rank-settled}
 use Rattle.canonical_names.proofs.SuffixLemmas.{one-end, all-apart}
 
 -- what is found in the map

@@ -8,7 +8,7 @@ use Rattle.std.proofs.Math.Seq.{take-length}
 use Rattle.texts.specs.Path.{lacks}
 use Rattle.canonical_names.specs.Alike.{holds}
 use Rattle.canonical_names.specs.SuffixRule.{is_suffix}
-use Rattle.canonical_names.proofs.RankLemmas.{eqb-turned}
+use Rattle.canonical_names.proofs.CanonicalLemmas.{eqb-turned}
 use Rattle.canonical_names.proofs.ReplaceLemmas.{holds-split}
 
 -- a suffix is a dot, and something behind it

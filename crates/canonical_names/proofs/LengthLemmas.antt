@@ -1,7 +1,7 @@
 -- References replaced by the lengths of their names: the longest that stand in a text, then those next to them.
 use Rattle.std.proofs.Common.{◌≡◌, ℕ, ◌-◌, ◌<◌, ◌≤◌, ◌++◌, true, false, not, cond, List, [], ◌∷◌, refl, ap, sym, ◌∙◌, eqb, nat_le, length, fold, filter, arith}
 use Rattle.std.specs.List.{AllByRecursion}
-use Rattle.command_lines.specs.Replacing.{replaced}
+use Rattle.compilers.specs.Replacing.{replaced}
 use Rattle.canonical_names.specs.Alike.{holds}
 use Rattle.canonical_names.specs.Counted.{old_names}
 use Rattle.canonical_names.specs.References.{replaced_by, replaced_by_all, insert_pair, longest_pairs_first, replaced_of, replaced_by_length, longer, longest_in}

@@ -1,10 +1,10 @@
 -- Runs for which the laws of renaming fail once a premise is left out.
-use Rattle.std.proofs.Common.{◌≡◌, ℕ, List, [], ◌∷◌, Bool, true, false, get_or, Option, None, map, refl, sym, ap, ◌∙◌, codes, Contains, bytes_eq, arith}
+use Rattle.std.proofs.Common.{◌≡◌, ℕ, List, [], ◌∷◌, Bool, true, false, map, refl, sym, ap, ◌∙◌, codes, Contains, bytes_eq, arith}
 use Rattle.std.specs.Cmp.Lexicographic.{pointwise}
 use Rattle.std.proofs.lemmas.Bool.{false≢true}
 use Rattle.std.proofs.lemmas.List.Elements.{All-from_recursion, All-contains}
 use Rattle.texts.specs.Path.{folder_of}
-use Rattle.command_lines.specs.CommandLines.{CommandLine, words_of_command}
+use Rattle.compilers.specs.CommandLines.{CommandLine, words_of_command}
 use Rattle.canonical_names.specs.Alike.{IsRenaming, Alike}
 use Rattle.canonical_names.specs.AlikeExamples.{run_with}
 use Rattle.canonical_names.specs.Generated.{standard_suffixes, class_of_name}
@@ -100,9 +100,6 @@ canonical_reference = naming a (codes "-x_0.cpp1.ii")
 
 abbrev own_reference : List CommandLine
 own_reference = naming b (codes "-b.cpp1.ii")
-
-abbrev core_told : List (ℕ × List ℕ × List (List ℕ × Option (List ℕ) × List ℕ)) → List ℕ
-core_told told = (get_or (get_or told 0 (0, [], [])).2 1 ([], None, [])).2
 
 pub one_run_second_clean : OneRunIsAlikeSecondUnclean → ⊥
 one_run_second_clean law =

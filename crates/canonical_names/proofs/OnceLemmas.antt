@@ -4,18 +4,16 @@ use Rattle.std.specs.List.{Contains, All, AllByRecursion, ends_with, filter_map}
 use Rattle.std.proofs.lemmas.List.Elements.{All-nil, All-contains}
 use Rattle.texts.specs.Lists.{with_name}
 use Rattle.texts.specs.Path.{joined, folder_of}
-use Rattle.command_lines.specs.CommandLines.{CommandLine, words_of_command}
-use Rattle.command_lines.specs.Replacing.{replaced, replaced_past}
+use Rattle.compilers.specs.CommandLines.{CommandLine, words_of_command}
+use Rattle.compilers.specs.Replacing.{replaced, replaced_past}
 use Rattle.canonical_names.specs.Generated.{head_of, core_of, class_of, class_of_name, generated_name, begins_with_dash}
 use Rattle.canonical_names.specs.Renaming.{canonical_file, canonical_name, rank, longest_first, rewritten, renamed_core, renamed_words, renamed_after, renamed, seen_after_word, seen_after, names_of_run}
 use Rattle.canonical_names.specs.Alike.{core_through, IsRenaming}
 use Rattle.canonical_names.specs.CanonicalNames.{AreSuffixes, core_by_all, word_by_all, command_by_all, RenamedOnceForAll}
 use Rattle.canonical_names.proofs.CountedLemmas.{member-among}
-use Rattle.canonical_names.proofs.AgainLemmas.{told-word, canonical-renaming}
-use Rattle.canonical_names.proofs.AlikeLemmas.{ToldWord, added-member, add-mapped, within-all, rank-mapped}
-use Rattle.canonical_names.proofs.CanonicalLemmas.{HasClass, run-all, canonical-at, head-member, tail-member, find-found}
+use Rattle.canonical_names.proofs.AlikeLemmas.{told-word, canonical-renaming, ToldWord, added-member, add-mapped, within-all, rank-mapped}
+use Rattle.canonical_names.proofs.CanonicalLemmas.{HasClass, run-all, canonical-at, head-member, tail-member, find-found, add, fold-append, words-names, run-names, fold-front, rank-found, rank-stable}
 use Rattle.canonical_names.proofs.CleanLemmas.{clean-run_is_a_map}
-use Rattle.canonical_names.proofs.RankLemmas.{add, fold-append, words-names, run-names, fold-front, rank-found, rank-stable}
 use Rattle.canonical_names.proofs.ReplaceLemmas.{starts-split}
 use Rattle.canonical_names.proofs.RewriteLemmas.{fold-each}
 

@@ -2,7 +2,7 @@
 use Rattle.std.proofs.Common.{◌≡◌, ℕ, ◌+◌, ◌-◌, ◌<◌, ◌++◌, true, false, List, [], ◌∷◌, Option, is_some, map, refl, ap, sym, ◌∙◌, subst, nat_eq, length, fold, take, arith, append_assoc, length-append}
 use Rattle.std.specs.List.{list_any, list_all, ends_with, AllByRecursion, Contains}
 use Rattle.std.proofs.lemmas.Bool.{false≢true}
-use Rattle.command_lines.specs.Replacing.{replaced}
+use Rattle.compilers.specs.Replacing.{replaced}
 use Rattle.canonical_names.specs.Alike.{holds}
 use Rattle.canonical_names.specs.Counted.{has_class, with_canonical}
 use Rattle.canonical_names.specs.Generated.{class_of_name}

@@ -1,6 +1,6 @@
 -- Words renamed one after the other.
 use Rattle.std.proofs.Common.{◌≡◌, ℕ, ◌+◌, suc, zero, List, [], ◌∷◌, ◌++◌, map, drop, take, append_assoc, refl, ap, ◌∙◌, add-one, arith}
-use Rattle.command_lines.specs.CommandLines.{CommandLine, words_of_command}
+use Rattle.compilers.specs.CommandLines.{CommandLine, words_of_command}
 use Rattle.canonical_names.specs.Renaming.{renamed_word, renamed_words, seen_after_word, seen_after, with_words, renamed_after}
 
 -- one more of what stands in front

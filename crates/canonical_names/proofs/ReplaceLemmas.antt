@@ -8,9 +8,9 @@ use Rattle.std.proofs.lemmas.Bool.{false≢true, or_right}
 use Rattle.std.proofs.lemmas.Slice.Eq.{bytes_eq-Decides}
 use Rattle.std.proofs.lemmas.Str.Pattern.{contains_text}
 use Rattle.std.proofs.Math.Seq.{drop-append_seam}
-use Rattle.command_lines.specs.Replacing.{replaced, replaced_past}
+use Rattle.compilers.specs.Replacing.{replaced, replaced_past}
 use Rattle.canonical_names.specs.Alike.{holds}
-use Rattle.canonical_names.proofs.RankLemmas.{bytes_eq-itself}
+use Rattle.canonical_names.proofs.CanonicalLemmas.{bytes_eq-itself}
 use Rattle.canonical_names.proofs.RewriteLemmas.{replaced-none}
 
 -- a text begins with what it was put together from

@@ -2,7 +2,7 @@
 use Rattle.std.proofs.Common.{◌≡◌, ℕ, ◌++◌, false, List, [], ◌∷◌, refl, ap, ◌∙◌, fold, arith}
 use Rattle.std.specs.List.{list_any, AllByRecursion}
 use Rattle.std.proofs.lemmas.Bool.{or_parts, cond_both}
-use Rattle.command_lines.specs.Replacing.{replaced}
+use Rattle.compilers.specs.Replacing.{replaced}
 use Rattle.canonical_names.specs.Generated.{head_of, core_of}
 use Rattle.canonical_names.specs.Renaming.{insert_by_length, longest_first, canonical_name, renamed_core}
 use Rattle.canonical_names.specs.Alike.{holds}

@@ -10,7 +10,7 @@ use Rattle.texts.specs.Variables.{pair_of}
 use Rattle.canonical_names.specs.Alike.{holds}
 use Rattle.canonical_names.specs.Counted.{old_names}
 use Rattle.canonical_names.specs.References.{longer, longest_in, stand_of, window_is, windows_are}
-use Rattle.canonical_names.proofs.RankLemmas.{bytes_eq-turned}
+use Rattle.canonical_names.proofs.CanonicalLemmas.{bytes_eq-turned}
 use Rattle.canonical_names.proofs.LengthLemmas.{longest-bound, longer-least, fold-more}
 
 -- tests of all names

@@ -2,7 +2,7 @@
 use Rattle.std.specs.Prelude.{◌≡◌, ℕ, List, [], ◌∷◌, map, Bool, not, ◌||◌, nat_eq, Option, Some, None, Contains, bytes_eq}
 use Rattle.std.specs.List.{list_any, list_all, starts_with}
 use Rattle.texts.specs.Path.{folder_of}
-use Rattle.command_lines.specs.CommandLines.{CommandLine, line_of, program_of, words_of_command}
+use Rattle.compilers.specs.CommandLines.{CommandLine, line_of, program_of, words_of_command}
 use Rattle.canonical_names.specs.Generated.{head_of, core_of, class_of, class_of_name, is_generated}
 use Rattle.canonical_names.specs.Renaming.{names_of_run}
 

@@ -3,11 +3,11 @@ use Rattle.std.proofs.Common.{◌≡◌, ℕ, ◌++◌, List, [], ◌∷◌, tru
 use Rattle.std.proofs.lemmas.Bool.{false≢true}
 use Rattle.std.proofs.lemmas.List.Elements.{All-from_recursion, All-contains}
 use Rattle.texts.specs.Path.{folder_of}
-use Rattle.command_lines.specs.CommandLines.{CommandLine}
+use Rattle.compilers.specs.CommandLines.{CommandLine}
 use Rattle.canonical_names.specs.Generated.{standard_suffixes, class_of_name}
 use Rattle.canonical_names.specs.Renaming.{names_of_run}
 use Rattle.canonical_names.specs.Alike.{is_clean, Alike}
-use Rattle.command_lines.specs.OneKernel.{one_kernel_commands, one_kernel_elsewhere_commands}
+use Rattle.compilers.specs.OneKernel.{one_kernel_commands, one_kernel_elsewhere_commands}
 
 -- a run of one command with these words
 abbrev pub run_with : List (List ℕ) → List CommandLine

@@ -2,7 +2,7 @@
 use Rattle.std.specs.Prelude.{◌≡◌, ℕ, List, [], ◌∷◌, ◌++◌, true, false, nat_eq, length, fold, if◌then◌else◌, map, Option, Some, None, codes, bytes_eq}
 use Rattle.std.specs.List.{Contains, ends_with, filter, list_any}
 use Rattle.texts.specs.Path.{is_bare, folder_of}
-use Rattle.command_lines.specs.CommandLines.{CommandLine, words_of_command}
+use Rattle.compilers.specs.CommandLines.{CommandLine, words_of_command}
 use Rattle.canonical_names.specs.Generated.{standard_suffixes, head_of, core_of, class_of, class_of_name}
 use Rattle.canonical_names.specs.Renaming.{names_of_run, rank, canonical_in, canonical_name, with_words, renamed_word, renamed}
 use Rattle.texts.specs.Lists.{with_name}

@@ -3,6 +3,7 @@ pub mod AlikeExamples
 pub mod Appearances
 pub mod CanonicalNames
 pub mod Counted
+pub mod Directories
 pub mod FurtherSuffixes
 pub mod Generated
 pub mod References

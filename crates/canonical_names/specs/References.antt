@@ -1,7 +1,7 @@
 -- References to generated names within words.
 use Rattle.std.specs.Prelude.{ℕ, List, [], ◌∷◌, Bool, false, ◌==◌, ◌&&◌, ◌||◌, nat_lt, nat_le, fold, length, take, if◌then◌else◌, bytes_eq}
 use Rattle.std.specs.List.{list_any}
-use Rattle.command_lines.specs.Replacing.{replaced}
+use Rattle.compilers.specs.Replacing.{replaced}
 use Rattle.canonical_names.specs.Alike.{holds}
 
 -- a text with the first name of each pair replaced by the second, one after the other

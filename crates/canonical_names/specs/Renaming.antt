@@ -2,9 +2,9 @@
 use Rattle.std.specs.Prelude.{ℕ, ◌+◌, List, [], ◌∷◌, ◌++◌, nat_eq, nat_lt, length, if◌then◌else◌, Option, Some, None, fold, codes, bytes_eq}
 use Rattle.std.specs.List.{ends_with}
 use Rattle.texts.specs.Path.{joined, folder_of}
-use Rattle.command_lines.specs.CommandLines.{CommandLine, line_of, program_of, words_of_command}
+use Rattle.compilers.specs.CommandLines.{CommandLine, line_of, program_of, words_of_command}
 use Rattle.canonical_names.specs.Generated.{head_of, core_of, class_of, class_of_name, generated_name}
-use Rattle.command_lines.specs.Replacing.{replaced}
+use Rattle.compilers.specs.Replacing.{replaced}
 use Rattle.texts.specs.Lists.{with_name}
 use Rattle.texts.specs.Numeral.{numeral}
 

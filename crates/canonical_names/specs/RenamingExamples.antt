@@ -1,7 +1,7 @@
 -- Renamings worked out by hand.
 use Rattle.std.specs.Prelude.{◌≡◌, ℕ, List, [], ◌∷◌, codes}
 use Rattle.canonical_names.specs.Generated.{standard_suffixes}
-use Rattle.command_lines.specs.OneKernel.{one_kernel_commands, one_kernel_elsewhere_commands, one_kernel_canonical}
+use Rattle.compilers.specs.OneKernel.{one_kernel_commands, one_kernel_elsewhere_commands, one_kernel_canonical}
 use Rattle.canonical_names.specs.Renaming.{renamed, renamed_words}
 
 -- the words of a run of one command, renamed

@@ -1,7 +1,7 @@
 -- The laws of renaming, each without one of its premises. None of these holds.
 use Rattle.std.specs.Prelude.{◌≡◌, ℕ, List, true, map, Contains}
 use Rattle.texts.specs.Path.{folder_of}
-use Rattle.command_lines.specs.CommandLines.{CommandLine}
+use Rattle.compilers.specs.CommandLines.{CommandLine}
 use Rattle.canonical_names.specs.Alike.{is_clean, command_through, Alike}
 use Rattle.canonical_names.specs.CanonicalNames.{AreSuffixes}
 use Rattle.canonical_names.specs.Generated.{class_of_name}

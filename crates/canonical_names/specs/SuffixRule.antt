@@ -38,36 +38,17 @@ abbrev pub AcceptedAreSuffixes : Type 0
 AcceptedAreSuffixes = (suffixes : List (List ℕ)) → are_suffixes suffixes ≡ true → AreSuffixes suffixes
 
 -- Examples: the standard suffixes, and one more; then an empty list, one without cicc's input, suffixes that overlap or
--- are listed twice, and texts that aren't suffixes.
+-- are listed twice, and texts that aren't suffixes: an empty one, one with a slash, without a dot, and with one at the end.
 pub standard_are_accepted : are_suffixes standard_suffixes ≡ true
 standard_are_accepted = refl
 
 pub one_more_is_accepted : are_suffixes (codes ".cudafe1.gpu" ∷ standard_suffixes) ≡ true
 one_more_is_accepted = refl
 
-pub none_are_refused : are_suffixes [] ≡ false
-none_are_refused = refl
+pub odd_lists_are_refused :
+    list_any are_suffixes ([] ∷ (codes ".cpp4.ii" ∷ []) ∷ (codes ".gpu" ∷ codes ".cudafe1.gpu" ∷ standard_suffixes) ∷ []) ≡ false
+odd_lists_are_refused = refl
 
-pub lone_host_input_is_refused : are_suffixes (codes ".cpp4.ii" ∷ []) ≡ false
-lone_host_input_is_refused = refl
-
-pub overlap_is_refused : are_suffixes (codes ".ii" ∷ standard_suffixes) ≡ false
-overlap_is_refused = refl
-
-pub second_place_is_refused : are_suffixes (codes ".cpp1.ii" ∷ standard_suffixes) ≡ false
-second_place_is_refused = refl
-
-pub two_that_overlap_are_refused : are_suffixes (codes ".gpu" ∷ codes ".cudafe1.gpu" ∷ standard_suffixes) ≡ false
-two_that_overlap_are_refused = refl
-
-pub empty_suffix_is_refused : are_suffixes ([] ∷ standard_suffixes) ≡ false
-empty_suffix_is_refused = refl
-
-pub suffix_with_a_slash_is_refused : are_suffixes (codes ".a/b" ∷ standard_suffixes) ≡ false
-suffix_with_a_slash_is_refused = refl
-
-pub suffix_without_a_dot_is_refused : are_suffixes (codes "gpu" ∷ standard_suffixes) ≡ false
-suffix_without_a_dot_is_refused = refl
-
-pub suffix_that_ends_in_a_dot_is_refused : are_suffixes (codes ".x." ∷ standard_suffixes) ≡ false
-suffix_that_ends_in_a_dot_is_refused = refl
+pub odd_suffixes_are_refused :
+    list_any (λ suffix. are_suffixes (suffix ∷ standard_suffixes)) (codes ".ii" ∷ codes ".cpp1.ii" ∷ [] ∷ codes ".a/b" ∷ codes "gpu" ∷ codes ".x." ∷ []) ≡ false
+odd_suffixes_are_refused = refl

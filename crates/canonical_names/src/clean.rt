@@ -1,9 +1,8 @@
 //! Clean runs: only generated words contain generated names.
 
-ghost use Rattle.std.specs.Prelude.{◌≡◌, map, string_bytes, option_copied};
+ghost use Rattle.std.specs.Prelude.{◌≡◌, map, string_bytes};
 ghost use Rattle.std.specs.List.{list_any, list_all, filter_map};
-ghost use Rattle.texts.specs.Lists.{is_some_and};
-ghost use Rattle.command_lines.specs.CommandLines.{line_seen};
+ghost use Rattle.compilers.specs.CommandLines.{line_seen};
 ghost use Rattle.canonical_names.specs.Alike as spec;
 ghost use Rattle.canonical_names.specs.Generated as generated;
 ghost use Rattle.canonical_names.specs.Renaming.{names_of_run};
@@ -11,7 +10,7 @@ ghost use Rattle.canonical_names.specs.Appearances.{appearances};
 
 use crate::references::holds;
 use crate::suffixes::Suffixes;
-use command_lines::DryRun;
+use compilers::dry_run::DryRun;
 
 // Whether a text contains a generated name of a command.
 fn holds_name_of(text: &str, words: &[String], suffixes: &Suffixes) -> bool
@@ -19,24 +18,14 @@ fn holds_name_of(text: &str, words: &[String], suffixes: &Suffixes) -> bool
         ≡ list_any (λ n. spec.holds n text.now) (filter_map (generated.generated_name suffixes.now) (map string_bytes words.now)) }
 {
     for word in words {
-        if is_held(text, suffixes.generated_name(word.as_str())) {
-            return true;
+        match suffixes.generated_name(word.as_str()) {
+            Some(name) if holds(text, name) => return true,
+            _ => {}
         }
     }
     false
 }
 
-// Whether there is a name, and a text contains it.
-fn is_held(text: &str, name: Option<&str>) -> bool
-    ensures { result ≡ is_some_and (λ n. spec.holds n text.now) (option_copied name.entry) }
-{
-    match name {
-        None => false,
-        Some(name) => holds(text, name),
-    }
-}
-
-// Whether a text contains a generated name of a run.
 fn holds_name(text: &str, commands: &[(usize, String, Vec<String>)], suffixes: &Suffixes) -> bool
     ensures { result ≡ list_any (λ n. spec.holds n text.now) (appearances suffixes.now (map line_seen commands.now)) }
 {

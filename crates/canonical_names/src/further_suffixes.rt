@@ -10,7 +10,6 @@ use std::alloc::{AllocError, Global};
 use texts::fault::Fault;
 use texts::words::Words;
 
-// Adds a suffix, if there is one.
 fn push_suffix(alloc: Global, words: &mut Words, suffix: Option<&str>) -> Result<(), AllocError>
     ensures { OnOk result (words.new ≡ words.old ++ option_to_list (option_copied suffix.entry)) }
 {
@@ -20,7 +19,6 @@ fn push_suffix(alloc: Global, words: &mut Words, suffix: Option<&str>) -> Result
     }
 }
 
-// The words of a list of suffixes.
 fn words_of(alloc: Global, suffixes: &Suffixes) -> Result<Words, AllocError>
     ensures { IfOk result (λ words. words ≡ suffixes.now) }
 {

@@ -6,12 +6,11 @@ ghost use Rattle.texts.specs.Variables.{pair_of};
 ghost use Rattle.canonical_names.specs.Alike as alike;
 ghost use Rattle.canonical_names.specs.Counted.{old_names};
 ghost use Rattle.canonical_names.specs.References as spec;
-ghost use Rattle.command_lines.specs.Replacing.{replaced};
+ghost use Rattle.compilers.specs.Replacing.{replaced};
 
 use indexmap::IndexMap;
 use std::alloc::{AllocError, Global};
 
-// Whether `text` contains `part`.
 pub(crate) fn holds(text: &str, part: &str) -> bool
     ensures { result ≡ alike.holds part.now text.now }
 {

@@ -1,7 +1,7 @@
 //! Replaces generated names in the words of commands by canonical ones.
 
 ghost use Rattle.std.specs.Prelude.{◌≡◌, ◌⊎◌, ◌++◌, ◌∷◌, [], ℕ, map, take, IfOk, OnOk, OnErr, string_bytes, option_map, unwrap_or};
-ghost use Rattle.command_lines.specs.CommandLines.{line_seen, words_of_command};
+ghost use Rattle.compilers.specs.CommandLines.{line_seen, words_of_command};
 ghost use Rattle.texts.specs.Lists.{with_name};
 ghost use Rattle.canonical_names.specs.Counted.{class_of_core};
 ghost use Rattle.canonical_names.specs.Renaming as spec;
@@ -9,11 +9,10 @@ ghost use Rattle.canonical_names.specs.Renaming as spec;
 use crate::renames::Renames;
 use crate::suffixes::Suffixes;
 use crate::words::{core, with_head};
-use command_lines::Commands;
+use compilers::dry_run::Commands;
 use std::alloc::{AllocError, Global};
 use texts::words::Words;
 
-// The new core of a word, by its core.
 fn remap_core(alloc: Global, text: &str, renames: &mut Renames) -> Result<String, AllocError>
     ensures text { IfOk result (λ new. string_bytes new
         ≡ spec.renamed_core renames.old.0 renames.old.1 text.now (class_of_core renames.old.0 text.now)) }
@@ -45,7 +44,6 @@ fn remap_word(
     Ok(Some(with_head(alloc, word, new)?))
 }
 
-// The new text of a word, or a copy of the word if there is none.
 fn or_copy(alloc: Global, new: Option<String>, word: &str) -> Result<String, AllocError>
     ensures { IfOk result (λ t. string_bytes t ≡ unwrap_or (option_map string_bytes new) word.now) }
 {
@@ -104,7 +102,6 @@ fn remap_words(
     Ok(renamed)
 }
 
-// Appends a command, its words renamed.
 fn push_remapped(
     alloc: Global,
     command: (usize, String, Vec<String>),

@@ -1,6 +1,6 @@
 //! The canonical names of generated files.
 
-ghost use Rattle.std.specs.Prelude.{◌≡◌, ◌⊎◌, ◌<◌, ◌∷◌, [], ◌++◌, ⊤, map, length, codes, IfOk, OnOk, OnErr, MatchOption, Some, None, if◌then◌else◌, false, true, replicate, ◌^◌, ◌==◌, IsTrue, string_bytes, bytes_eq};
+ghost use Rattle.std.specs.Prelude.{◌≡◌, ◌⊎◌, ◌<◌, ◌∷◌, [], ◌++◌, ⊤, map, length, codes, IfOk, OnOk, OnErr, MatchOption, Some, None, if◌then◌else◌, false, true, ◌^◌, ◌==◌, IsTrue, string_bytes, bytes_eq};
 ghost use Rattle.std.specs.List.{list_any, slice_get};
 ghost use Rattle.texts.specs.Lists.{with_name};
 ghost use Rattle.texts.specs.Path.{joined, folder_of};
@@ -61,20 +61,13 @@ fn canonical_name(
     join(alloc, folder, file.as_str())
 }
 
-// As many zeros.
-fn zeros(alloc: Global, count: usize) -> Result<Vec<usize>, AllocError>
-    ensures { IfOk result (λ v. v.items ≡ replicate count 0) }
-{
-    vec![in alloc; 0; count]
-}
-
 impl Renames {
     /// No names, and a copy of the list of suffixes.
     pub fn new(alloc: Global, suffixes: &Suffixes) -> Result<Renames, AllocError>
         ensures { IfOk result (λ r. r ≡ (suffixes.now, [])) }
     {
         suffixes.keeps_the_rule();
-        let counts = zeros(alloc, suffixes.len())?;
+        let counts = vec![in alloc; 0; suffixes.len()]?;
         let suffixes = suffixes.try_clone(alloc)?;
         let names = IndexMap::new(alloc);
         Ok(Renames {
@@ -170,7 +163,6 @@ impl Renames {
         Ok(answer)
     }
 
-    // How many names end in the suffix at the index `class`.
     fn count(&self, class: usize) -> usize
         requires { class < length self.now.0 }
         ensures value { IsCount self.now.0 self.now.1 class result }

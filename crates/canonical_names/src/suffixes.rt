@@ -40,7 +40,6 @@ impl Model for Suffixes {
     ghost invariant = { λ s. are_suffixes (suffixes_or_standard s.handed) ≡ true };
 }
 
-// A suffix of nvcc's files, by its index.
 fn standard_suffix(index: usize) -> Option<&'static str>
     ensures { option_copied result ≡ slice_get standard_suffixes index }
 {
@@ -115,12 +114,6 @@ fn holds(list: &[String], suffix: &str) -> bool
     list.iter().any(|text| suffix == text.as_str())
 }
 
-fn are_suffixes(list: &[String]) -> bool
-    ensures { result ≡ spec.are_suffixes (map string_bytes list.now) }
-{
-    are_each_suffixes(list) && are_apart(list) && holds(list, CICC_INPUT_SUFFIX)
-}
-
 impl Suffixes {
     /// The suffixes of the files that nvcc generates: `.cpp1.ii`, `.cpp4.ii`, `.cudafe1.c`,
     /// `.cudafe1.cpp` and `.cudafe1.stub.c`.
@@ -141,7 +134,7 @@ impl Suffixes {
     pub fn new(alloc: Global, list: &[String]) -> Result<Suffixes, Fault>
         ensures { UnlessMemory result (if spec.are_suffixes (map string_bytes list.now) then Ok (map string_bytes list.now) else Err BadSuffixes) }
     {
-        if !are_suffixes(list) {
+        if !(are_each_suffixes(list) && are_apart(list) && holds(list, CICC_INPUT_SUFFIX)) {
             return Err(Fault::BadSuffixes);
         }
         let words = Words::copy_of(alloc, list)?;
@@ -202,9 +195,7 @@ impl Suffixes {
         }
         None
     }
-}
 
-impl Suffixes {
     // How many bytes each suffix has at least.
     fn least_length(&self) -> usize
         ensures { list_all (λ s. nat_le result (length s)) self.now ≡ true }
@@ -244,7 +235,6 @@ impl Suffixes {
         }
     }
 
-    // Whether a text begins with what one of the suffixes has after its `.`.
     fn follow_dot(&self, text: &str) -> bool
         ensures { result ≡ list_any (λ s. starts_with nat_eq text.now (drop 1 s)) self.now }
     {
@@ -258,9 +248,7 @@ impl Suffixes {
         }
         false
     }
-}
 
-impl Suffixes {
     /// The name in a generated word: its core.
     pub fn generated_name<'a>(&self, word: &'a str) -> Option<&'a str>
         ensures { option_copied result ≡ generated.generated_name self.now word.now }
@@ -275,7 +263,6 @@ impl Suffixes {
         }
     }
 
-    // Whether a word is generated.
     pub(crate) fn is_generated(&self, word: &str) -> bool
         ensures { result ≡ generated.is_generated self.now word.now }
     {
@@ -296,7 +283,6 @@ fn follows_dot(text: &str, suffix: Option<&str>) -> bool
     }
 }
 
-// Whether there is a suffix, and a name ends in it.
 fn ends_in(name: &str, suffix: Option<&str>) -> bool
     ensures { result ≡ is_some_and (ends_with nat_eq name.now) (option_copied suffix.entry) }
 {
@@ -306,7 +292,6 @@ fn ends_in(name: &str, suffix: Option<&str>) -> bool
     }
 }
 
-// Whether there are two texts, and they are equal.
 fn are_equal(one: Option<&str>, other: Option<&str>) -> bool
     ensures { result ≡ is_some_and (λ a. is_some_and (bytes_eq a) (option_copied other.entry)) (option_copied one.entry) }
 {
@@ -316,7 +301,6 @@ fn are_equal(one: Option<&str>, other: Option<&str>) -> bool
     }
 }
 
-// The word of a list at an index.
 fn word_at(words: &[String], index: usize) -> Option<&str>
     ensures { option_copied result ≡ slice_get (map string_bytes words.now) index }
 {

@@ -7,14 +7,12 @@ ghost use Rattle.canonical_names.specs.Generated as spec;
 
 use std::alloc::{AllocError, Global};
 
-// Whether a word begins with `-Fi`.
 pub(crate) fn is_marked(word: &str) -> bool
     ensures { result ≡ starts_with nat_eq word.now (codes "-Fi") }
 {
     word.as_bytes().starts_with(b"-Fi")
 }
 
-// A word without the `-Fi` that it begins with.
 fn unmarked(word: &str) -> Option<&str>
     ensures { option_copied result ≡ rest_after (codes "-Fi") word.now }
 {

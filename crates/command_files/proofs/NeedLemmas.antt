@@ -16,8 +16,7 @@ length-needs_behind needed earlier (x ∷ xs) = ap suc (length-needs_behind need
 pub needs_at_place : {X : Type 0} (needed : X → X → Bool) (d : X) (earlier xs : List X) (k : ℕ) → k < length xs → get_or (needs_behind needed earlier xs) k [] ≡ numbers_where (λ e. needed e (get_or xs k d)) 0 (earlier ++ take k xs)
 needs_at_place needed d earlier [] k h = absurd (omega arith)
 needs_at_place needed d earlier (x ∷ xs) zero h = ap (numbers_where (λ e. needed e x) 0) (sym (append-nil earlier))
-needs_at_place needed d earlier (x ∷ xs) (suc k) h =
-    simp (append_assoc, (needs_at_place needed d (earlier ++ x ∷ []) xs k (omega arith)))
+needs_at_place needed d earlier (x ∷ xs) (suc k) h = simp (append_assoc, (needs_at_place needed d (earlier ++ x ∷ []) xs k (omega arith)))
 
 -- all numbers of those that pass are numbers of the list
 pub numbers_below : {X : Type 0} (test : X → Bool) (n : ℕ) (xs : List X) (m : ℕ) → is_in (numbers_where test n xs) m ≡ true → m < n + length xs
@@ -53,8 +52,7 @@ needs_hold test plan = grind (arith, length-needs_behind, needs_each)
 
 pub all_from : (test : ℕ → Bool) (ns : List ℕ) → ((m : ℕ) → is_in ns m ≡ true → test m ≡ true) → list_all test ns ≡ true
 all_from test [] f = refl
-all_from test (n ∷ ns) f =
-    simp (in_both, in_first, eq-eqb, in_second, (all_from test ns (λ m e. f m (in_second (n == m) (is_in ns m) e))))
+all_from test (n ∷ ns) f = simp (in_both, in_first, eq-eqb, in_second, (all_from test ns (λ m e. f m (in_second (n == m) (is_in ns m) e))))
 
 ready_in_order : (needs : ℕ → List ℕ) (bound : ℕ) → ((j m : ℕ) → j < bound → is_in (needs j) m ≡ true → m < j) → (done : List ℕ) (a n : ℕ) → a + n ≡ bound → ((m : ℕ) → m < a → is_in done m ≡ true) → is_ready needs done (range_with_len a n) ≡ true
 ready_in_order needs bound earlier done a zero e known = refl

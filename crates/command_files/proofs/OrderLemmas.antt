@@ -274,8 +274,7 @@ agree : (files : ℕ → Files) (needs : ℕ → List ℕ) (effects : ℕ → Ef
     → Exchanged files effects needs ps → is_ready needs done os ≡ true
     → (c : Contents) → Same files effects os ps c
 agree files needs effects [] [] done distinct same fresh swaps ready c = record { leaves = refl; reads = λ k. refl }
-agree files needs effects [] (x ∷ xs) done distinct same fresh swaps ready c =
-    grind (arith, (times-nil x), (times-cons x x xs), (same x))
+agree files needs effects [] (x ∷ xs) done distinct same fresh swaps ready c = grind (arith, (times-nil x), (times-cons x x xs), (same x))
 agree files needs effects (p ∷ ps) os done distinct same fresh swaps ready c =
     let counted : 1 ≤ times p (p ∷ ps) = times-in p (p ∷ ps) (at_head p ps) in
     let count = same p in

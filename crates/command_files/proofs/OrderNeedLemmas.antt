@@ -1,9 +1,9 @@
 -- Two commands each that may not change places.
-use Rattle.std.proofs.Common.{◌≡◌, ℕ, zero, suc, ◌<◌, List, [], ◌∷◌, Bool, true, false, cond, ◌||◌, Some, None, length, refl, sym, ap, ◌∙◌, arith, bytes_eq}
+use Rattle.std.proofs.Common.{◌≡◌, ℕ, zero, suc, ◌<◌, List, [], ◌∷◌, Bool, true, false, cond, ◌||◌, Some, None, length, refl, arith, bytes_eq}
 use Rattle.std.proofs.lemmas.Bool.{false≢true, or_parts}
 use Rattle.std.proofs.lemmas.List.Sorted.{IsPermutation-append_comm}
-use Rattle.command_files.specs.Files.{Files, is_among, touches}
-use Rattle.command_files.specs.Order.{needs_by, IsOrder, are_ordered, Contents, Effect, writers, files_at, StaysWithin, OrdersAgree}
+use Rattle.command_files.specs.Files.{Files}
+use Rattle.command_files.specs.Order.{needs_by, IsOrder, Contents, Effect, files_at, StaysWithin, OrdersAgree}
 use Rattle.command_files.specs.OrderNeeds.{but_reads_written, but_writes_read, but_writes_written}
 use Rattle.command_files.proofs.OrderLemmas.{in_either, in_first}
 use Rattle.command_files.proofs.NeedLemmas.{needs_hold}

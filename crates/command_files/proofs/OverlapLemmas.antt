@@ -1,8 +1,8 @@
 -- Commands that overlap are commands cut into parts.
-use Rattle.std.proofs.Common.{◌≡◌, ℕ, zero, suc, ◌<◌, ◌≤◌, List, [], ◌∷◌, false, true, ◌||◌, ◌==◌, map, length, get_or, refl, sym, ap, ◌∙◌, arith}
+use Rattle.std.proofs.Common.{◌≡◌, ℕ, zero, suc, ◌<◌, ◌≤◌, List, [], ◌∷◌, true, length, get_or, refl, ap, arith}
 use Rattle.std.proofs.lemmas.Bool.{false≢true, eq-eqb}
 use Rattle.command_files.specs.Files.{Files, must_follow}
-use Rattle.command_files.specs.Order.{is_in, needs_at, files_at, Hold}
+use Rattle.command_files.specs.Order.{files_at, Hold}
 use Rattle.command_files.specs.Overlap.{ArePartsOf, part_follows, part_needs, part_records, OverlapsAgree}
 use Rattle.command_files.proofs.NeedLemmas.{length-needs_behind, needs_each}
 use Rattle.command_files.proofs.OrderLemmas.{runs_agree}

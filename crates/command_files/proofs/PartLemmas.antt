@@ -1,20 +1,12 @@
--- Paths of words, one more at a time; the parts of an image, cut at its first comma.
-use Rattle.std.proofs.Common.{◌≡◌, ℕ, suc, ◌+◌, List, [], ◌∷◌, ◌++◌, map, drop, drop-cons, add-one, append_assoc, sym, Option, Bor, MatchOption, ap, ◌∙◌, ◌<◌, length, false, eqb, get_or, arith, All, ne_eqb}
+-- The parts of an image, cut at its first comma.
+use Rattle.std.proofs.Common.{◌≡◌, ℕ, List, [], ◌∷◌, Option, Bor, MatchOption, ap, ◌∙◌, ◌<◌, length, false, eqb, get_or, arith, All, ne_eqb}
 use Rattle.std.proofs.lemmas.Grind.{get_or_default_zero}
 use Rattle.std.proofs.lemmas.List.Splits.{slice_split_none, slice_split_at}
 use Rattle.std.proofs.lemmas.Str.Pattern.{IsSplitOnceResult, split_parts}
-use Rattle.command_files.specs.CommandFiles.{joined_option, paths_by, parts_of}
+use Rattle.command_files.specs.CommandFiles.{parts_of}
 
 all-other : (c : ℕ) (xs : List ℕ) → ((i : ℕ) → i < length xs → get_or xs i 0 ≡ c → ⊥) → All (λ b. eqb b c ≡ false) xs
 all-other c xs h = λ k d within. ap (λ x. eqb x c) (get_or_default_zero xs k d within) ∙ ne_eqb (get_or xs k 0) c (h k within)
 
 pub first-part : (image : List ℕ) (r : Option (Bor (List ℕ) × Bor (List ℕ))) → IsSplitOnceResult 44 image r → MatchOption r (parts_of image ≡ image ∷ []) (λ x. parts_of image ≡ x.0.now ∷ parts_of x.1.now)
 first-part image r h = grind (arith, slice_split_none, all-other, split_parts, slice_split_at)
-
--- a loop over words that adds the path of each: one more word
-pub paths-next : {X : Type 0} (seen : X → List ℕ) (cwd : List ℕ) (path_of : List ℕ → Option (List ℕ)) (words : List X) (i : ℕ) (item : X) (done new target : List (List ℕ)) (path : Option (List ℕ)) →
-    i < length words → item ≡ get_or words i item → path_of (seen item) ≡ path → new ≡ done ++ joined_option cwd path →
-    done ++ paths_by cwd path_of (map seen (drop i words)) ≡ target → new ++ paths_by cwd path_of (map seen (drop (i + 1) words)) ≡ target
-paths-next seen cwd path_of words i item done new target path within is told put h =
-    let front : drop i words ≡ item ∷ drop (i + 1) words = rw add-one (drop-cons words i item within ∙ ap (λ w. w ∷ drop (suc i) words) (sym is)) in
-    grind (arith, append_assoc)

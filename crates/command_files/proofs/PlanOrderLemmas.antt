@@ -5,9 +5,9 @@ use Rattle.std.proofs.lemmas.Bool.{false≢true, and_parts, eqb-true, eq-eqb, lt
 use Rattle.std.proofs.lemmas.List.{map-append}
 use Rattle.std.proofs.lemmas.List.Folds.{list_all-append}
 use Rattle.std.proofs.lemmas.List.Sorted.{IsPermutation-refl}
-use Rattle.plans.specs.declared.plan.NvccGeneratedSubcommand.{NvccGeneratedSubcommand}
-use Rattle.plans.specs.declared.plan.Plan.{Plan}
-use Rattle.plans.specs.Listed.{Listed, listed_group, listed_from}
+use Rattle.compilers.specs.declared.plans.plan.NvccGeneratedSubcommand.{NvccGeneratedSubcommand}
+use Rattle.compilers.specs.declared.plans.plan.Plan.{Plan}
+use Rattle.compilers.specs.Listed.{Listed, listed_group, listed_from}
 use Rattle.command_files.specs.declared.steps.Role.{Role}
 use Rattle.command_files.specs.declared.steps.Role.TheVariants as roles
 use Rattle.command_files.specs.declared.steps.Step.{Step}

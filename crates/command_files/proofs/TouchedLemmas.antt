@@ -109,8 +109,7 @@ touching_all_noted n readers writers (p ∷ some) paths = touching_all_noted n r
 
 touching_either_both : (n : ℕ) (readers writers : Numbers) (some others : List (List ℕ)) → touching_either n readers writers some ++ touching_either n readers writers others ≡ touching_either n readers writers (some ++ others)
 touching_either_both n readers writers [] others = refl
-touching_either_both n readers writers (p ∷ paths) others =
-    simp (append_assoc, (touching_either_both n readers writers paths others))
+touching_either_both n readers writers (p ∷ paths) others = simp (append_assoc, (touching_either_both n readers writers paths others))
 
 -- touching files and further ones
 pub touching_both : (n : ℕ) (readers writers : Numbers) (some others : List (List ℕ)) →

@@ -1,18 +1,18 @@
 -- The files that a planned command reads and writes according to its words.
-use Rattle.std.specs.Prelude.{◌≡◌, ℕ, List, [], ◌∷◌, ◌++◌, true, false, ◌==◌, ◌||◌, nat_eq, length, if◌then◌else◌, Option, Some, None, refl, codes, option_and_then, bytes_eq}
+use Rattle.std.specs.Prelude.{◌≡◌, ℕ, List, [], ◌∷◌, ◌++◌, Bool, true, false, ◌==◌, ◌||◌, nat_eq, length, if◌then◌else◌, Option, Some, None, refl, codes, option_and_then, bytes_eq}
+use Rattle.std.specs.Bool.{beq}
 use Rattle.std.specs.List.{slice_split, starts_with}
 use Rattle.texts.specs.Lists.{word_after, rest_after}
 use Rattle.texts.specs.Path.{joined}
 use Rattle.compilers.specs.Compiler.{Reading, accepted, cannot_cache, not_compilation}
-use Rattle.compilers.specs.declared.arguments.ParsedArguments.{ParsedArguments}
 use Rattle.compilers.specs.declared.outputs.ArtifactDescriptor.{ArtifactDescriptor}
 use Rattle.device_lines.specs.Cicc.{cicc_answer}
 use Rattle.device_lines.specs.CudaFE.{cudafe_answer}
 use Rattle.device_lines.specs.Ptxas.{ptxas_answer}
 use Rattle.command_files.specs.declared.files.CommandFiles.{CommandFiles}
-use Rattle.plans.specs.declared.program.Program.{Program}
-use Rattle.plans.specs.declared.program.Program.TheVariants as programs
-use Rattle.plans.specs.Programs.{program_at}
+use Rattle.compilers.specs.declared.plans.program.Program.{Program}
+use Rattle.compilers.specs.declared.plans.program.Program.TheVariants as programs
+use Rattle.compilers.specs.Programs.{program_at}
 
 -- the path of a text that is looked up from a folder, if there is one
 abbrev pub joined_option : List ℕ → Option (List ℕ) → List (List ℕ)
@@ -26,30 +26,19 @@ paths_by cwd path_of (w ∷ ws) = joined_option cwd (path_of w) ++ paths_by cwd 
 
 -- Lines of cicc, ptxas and cudafe++, by their readers.
 
--- the paths of the outputs that a command writes for certain, and of those that it may leave out
-abbrev pub certain_paths : List (List ℕ × ArtifactDescriptor) → List (List ℕ)
-certain_paths [] = []
-certain_paths (o ∷ os) = if o.1.optional then certain_paths os else o.1.path ∷ certain_paths os
-
-abbrev pub optional_paths : List (List ℕ × ArtifactDescriptor) → List (List ℕ)
-optional_paths [] = []
-optional_paths (o ∷ os) = if o.1.optional then o.1.path ∷ optional_paths os else optional_paths os
-
--- a line that was read: its input and the files that count for its outputs are read, its outputs are written
-abbrev pub files_of_arguments : List ℕ → ParsedArguments → CommandFiles
-files_of_arguments cwd p = record {
-  reads = joined cwd p.input ∷ p.extra_hash_files;
-  writes = certain_paths p.outputs;
-  may_write = optional_paths p.outputs;
-  complete = true;
-}
+-- the paths of the outputs that a command may leave out, or of those that it writes for certain
+abbrev pub paths_of : Bool → List (List ℕ × ArtifactDescriptor) → List (List ℕ)
+paths_of optional [] = []
+paths_of optional (o ∷ os) = if beq o.1.optional optional then o.1.path ∷ paths_of optional os else paths_of optional os
 
 -- nothing is known of a line that can't be read
 abbrev pub unknown_files : CommandFiles
 unknown_files = record { reads = []; writes = []; may_write = []; complete = false }
 
+-- if its reader accepts a line, a command reads the input and the files that count for its outputs, and writes its outputs
 abbrev pub files_of_reading : List ℕ → Reading → CommandFiles
-files_of_reading cwd (accepted p) = files_of_arguments cwd p
+files_of_reading cwd (accepted p) =
+    record { reads = joined cwd p.input ∷ p.extra_hash_files; writes = paths_of false p.outputs; may_write = paths_of true p.outputs; complete = true }
 files_of_reading cwd (cannot_cache text word) = unknown_files
 files_of_reading cwd not_compilation = unknown_files
 
@@ -59,12 +48,6 @@ with_written f more = record { reads = f.reads; writes = f.writes ++ more; may_w
 
 abbrev pub cicc_files : List ℕ → List (List ℕ) → CommandFiles
 cicc_files cwd words = with_written (files_of_reading cwd (cicc_answer cwd words)) (joined_option cwd (word_after (codes "-olto") words))
-
-abbrev pub cudafe_files : List ℕ → List (List ℕ) → CommandFiles
-cudafe_files cwd words = files_of_reading cwd (cudafe_answer cwd words)
-
-abbrev pub ptxas_files : List ℕ → List (List ℕ) → CommandFiles
-ptxas_files cwd words = files_of_reading cwd (ptxas_answer cwd words)
 
 -- Lines of fatbinary.
 
@@ -106,13 +89,11 @@ abbrev pub word_before : List ℕ → Option (List ℕ) → List (List ℕ) → 
 word_before word before [] = None
 word_before word before (w ∷ ws) = if bytes_eq word w then before else word_before word (Some w) ws
 
--- a word that is no option
-abbrev pub no_option : List ℕ → Option (List ℕ)
-no_option word = if (length word == 0) || starts_with nat_eq word (codes "-") then None else Some word
-
--- the input stands right before `-o`; other files may be read too: headers, libraries
+-- the input stands right before `-o`, and is no option; other files may be read too: headers, libraries
 abbrev pub host_input : List (List ℕ) → Option (List ℕ)
-host_input words = option_and_then no_option (word_before (codes "-o") None words)
+host_input words =
+    option_and_then (λ word. if (length word == 0) || starts_with nat_eq word (codes "-") then None else Some word)
+    (word_before (codes "-o") None words)
 
 abbrev pub host_files : List ℕ → List (List ℕ) → CommandFiles
 host_files cwd words = record {
@@ -127,8 +108,8 @@ host_files cwd words = record {
 -- by the program
 abbrev pub files_of_program : Program → List ℕ → List (List ℕ) → CommandFiles
 files_of_program programs.Cicc cwd words = cicc_files cwd words
-files_of_program programs.Cudafe cwd words = cudafe_files cwd words
-files_of_program programs.Ptxas cwd words = ptxas_files cwd words
+files_of_program programs.Cudafe cwd words = files_of_reading cwd (cudafe_answer cwd words)
+files_of_program programs.Ptxas cwd words = files_of_reading cwd (ptxas_answer cwd words)
 files_of_program programs.Fatbinary cwd words = fatbinary_files cwd words
 files_of_program programs.Nvlink cwd words = host_files cwd words
 files_of_program programs.Other cwd words = host_files cwd words

@@ -98,8 +98,7 @@ pub record StaysWithin (plan : List Files) (needs : List (List ℕ)) (n : ℕ) (
 
 -- all commands stay within their records but those that have one place: these may read and change any file
 abbrev pub AllStayWithin : List Files → List (List ℕ) → (ℕ → Effect) → Type 0
-AllStayWithin plan needs effects =
-    (n : ℕ) → n < length plan → has_one_place needs n ≡ false → StaysWithin plan needs n (effects n)
+AllStayWithin plan needs effects = (n : ℕ) → n < length plan → has_one_place needs n ≡ false → StaysWithin plan needs n (effects n)
 
 -- one order does what another one does: it leaves the same in every file, and each command reads the same
 pub record DoesTheSame (plan : List Files) (effects : ℕ → Effect) (contents : Contents) (one other : List ℕ) : Type 0 where

@@ -3,13 +3,13 @@ use Rattle.std.specs.Prelude.{◌≡◌, ℕ, ◌+◌, ◌-◌, List, [], ◌∷
 use Rattle.std.specs.List.{list_any}
 use Rattle.texts.specs.Rows.{spaced}
 use Rattle.compilers.specs.declared.command.Cacheable.TheVariants.{Yes}
-use Rattle.plans.specs.declared.plan.NvccGeneratedSubcommand.{NvccGeneratedSubcommand}
-use Rattle.plans.specs.declared.plan.Plan.{Plan}
-use Rattle.plans.specs.Listed.{Listed, listed}
+use Rattle.compilers.specs.declared.plans.plan.NvccGeneratedSubcommand.{NvccGeneratedSubcommand}
+use Rattle.compilers.specs.declared.plans.plan.Plan.{Plan}
+use Rattle.compilers.specs.Listed.{Listed, listed}
 use Rattle.command_files.specs.declared.files.CommandFiles.{CommandFiles}
-use Rattle.plans.specs.declared.program.Program.{Program}
-use Rattle.plans.specs.declared.program.Program.TheVariants as programs
-use Rattle.plans.specs.Programs.{program_at}
+use Rattle.compilers.specs.declared.plans.program.Program.{Program}
+use Rattle.compilers.specs.declared.plans.program.Program.TheVariants as programs
+use Rattle.compilers.specs.Programs.{program_at}
 use Rattle.command_files.specs.declared.steps.Role.{Role}
 use Rattle.command_files.specs.declared.steps.Role.TheVariants as roles
 use Rattle.command_files.specs.declared.steps.Step.{Step}

@@ -1,6 +1,6 @@
 //! The files that a planned command reads and writes according to its words.
 
-ghost use Rattle.std.specs.Prelude.{◌≡◌, ◌<◌, ◌++◌, ◌∷◌, [], ℕ, List, Option, length, map, codes, IfOk, IfSome, MatchOption, OnOk, string_bytes, option_copied, option_map};
+ghost use Rattle.std.specs.Prelude.{◌≡◌, ◌<◌, ◌++◌, ◌∷◌, [], ℕ, List, Option, length, map, IfOk, IfSome, MatchOption, OnOk, string_bytes, option_copied, option_map};
 ghost use Rattle.texts.specs.Lists.{rest_after};
 ghost use Rattle.compilers.specs.declared.arguments.ParsedArguments.{ParsedArguments};
 ghost use Rattle.device_lines.specs.LineFiles.{files_of as line_files};
@@ -8,8 +8,8 @@ ghost use Rattle.device_lines.specs.Reading.{reading_as_answer};
 ghost use Rattle.command_files.specs.CommandFiles as spec;
 
 use compilers::outputs::Outputs;
+use compilers::plans::{NvccGeneratedSubcommand, Program};
 use device_lines::{LineFiles, cicc_line_files, cudafe_line_files, ptxas_line_files};
-use plans::{NvccGeneratedSubcommand, Program};
 use std::alloc::{AllocError, Global};
 use texts::text::join;
 use texts::words::{Words, word_after};
@@ -43,26 +43,13 @@ fn push_joined(
     }
 }
 
-// The paths of the outputs that a command writes for certain.
-fn certain_paths(alloc: Global, outputs: &Outputs) -> Result<Words, AllocError>
-    ensures { IfOk result (λ paths. paths ≡ spec.certain_paths outputs.now) }
+// The paths of the outputs that a command may leave out, or of the others.
+fn paths_of(alloc: Global, optional: bool, outputs: &Outputs) -> Result<Words, AllocError>
+    ensures { IfOk result (λ paths. paths ≡ spec.paths_of optional outputs.now) }
 {
     let mut paths = Words::new(alloc);
     for (_, file) in outputs.iter() {
-        if !file.optional {
-            paths.push_str(alloc, file.path.as_str())?;
-        }
-    }
-    Ok(paths)
-}
-
-// The paths of the outputs that a command may leave out.
-fn optional_paths(alloc: Global, outputs: &Outputs) -> Result<Words, AllocError>
-    ensures { IfOk result (λ paths. paths ≡ spec.optional_paths outputs.now) }
-{
-    let mut paths = Words::new(alloc);
-    for (_, file) in outputs.iter() {
-        if file.optional {
+        if file.optional == optional {
             paths.push_str(alloc, file.path.as_str())?;
         }
     }
@@ -81,23 +68,16 @@ fn all_written(alloc: Global, reads: Words, writes: Words, complete: bool) -> Co
     }
 }
 
-// No files, of a line that can't be read.
-fn unknown_files(alloc: Global) -> CommandFiles
-    ensures { result ≡ spec.unknown_files }
-{
-    all_written(alloc, Words::new(alloc), Words::new(alloc), false)
-}
-
 // The files of a device tool's line, if it could be read.
 fn files_of_line(alloc: Global, line: Option<LineFiles>) -> Result<CommandFiles, AllocError>
     ensures { (cwd : List ℕ) (p : Option ParsedArguments) → line ≡ option_map (line_files cwd) p
         → IfOk result (λ files. files ≡ spec.files_of_reading cwd (reading_as_answer p)) }
 {
     match line {
-        None => Ok(unknown_files(alloc)),
+        None => Ok(all_written(alloc, Words::new(alloc), Words::new(alloc), false)),
         Some(line) => Ok(CommandFiles {
-            writes: certain_paths(alloc, &line.outputs)?,
-            may_write: optional_paths(alloc, &line.outputs)?,
+            writes: paths_of(alloc, false, &line.outputs)?,
+            may_write: paths_of(alloc, true, &line.outputs)?,
             reads: line.reads,
             complete: true,
         }),
@@ -111,20 +91,6 @@ fn cicc_files(alloc: Global, cwd: &str, words: &[String]) -> Result<CommandFiles
     let mut files = files_of_line(alloc, cicc_line_files(alloc, words, cwd)?)?;
     push_joined(alloc, &mut files.writes, cwd, word_after(words, "-olto"))?;
     Ok(files)
-}
-
-// The files of a cudafe++ line.
-fn cudafe_files(alloc: Global, cwd: &str, words: &[String]) -> Result<CommandFiles, AllocError>
-    ensures { IfOk result (λ files. files ≡ spec.cudafe_files cwd.now (map string_bytes words.now)) }
-{
-    files_of_line(alloc, cudafe_line_files(alloc, words, cwd)?)
-}
-
-// The files of a ptxas line.
-fn ptxas_files(alloc: Global, cwd: &str, words: &[String]) -> Result<CommandFiles, AllocError>
-    ensures { IfOk result (λ files. files ≡ spec.ptxas_files cwd.now (map string_bytes words.now)) }
-{
-    files_of_line(alloc, ptxas_line_files(alloc, words, cwd)?)
 }
 
 // What follows a text that a word begins with.
@@ -190,22 +156,14 @@ fn image_files(alloc: Global, cwd: &str, words: &[String]) -> Result<Words, Allo
     Ok(files)
 }
 
-// The files that a fatbinary line writes.
-fn written_by_fatbinary(alloc: Global, cwd: &str, words: &[String]) -> Result<Words, AllocError>
-    ensures { IfOk result (λ files. files ≡ (spec.fatbinary_files cwd.now (map string_bytes words.now)).writes) }
-{
-    let mut files = Words::new(alloc);
-    push_paths_behind(alloc, &mut files, cwd, "--create=", words)?;
-    push_paths_behind(alloc, &mut files, cwd, "--embedded-fatbin=", words)?;
-    Ok(files)
-}
-
 // The files of a fatbinary line.
 fn fatbinary_files(alloc: Global, cwd: &str, words: &[String]) -> Result<CommandFiles, AllocError>
     ensures { IfOk result (λ files. files ≡ spec.fatbinary_files cwd.now (map string_bytes words.now)) }
 {
     let reads = image_files(alloc, cwd, words)?;
-    let writes = written_by_fatbinary(alloc, cwd, words)?;
+    let mut writes = Words::new(alloc);
+    push_paths_behind(alloc, &mut writes, cwd, "--create=", words)?;
+    push_paths_behind(alloc, &mut writes, cwd, "--embedded-fatbin=", words)?;
     Ok(all_written(alloc, reads, writes, true))
 }
 
@@ -223,10 +181,11 @@ fn word_before<'a>(words: &'a [String], option: &str) -> Option<&'a str>
     None
 }
 
-// The word itself, if it is no option.
-fn no_option(word: &str) -> Option<&str>
-    ensures { option_copied result ≡ spec.no_option word.now }
+// The input of a host compiler's line: the word right before `-o`, unless it is an option.
+fn host_input(words: &[String]) -> Option<&str>
+    ensures { option_copied result ≡ spec.host_input (map string_bytes words.now) }
 {
+    let word = word_before(words, "-o")?;
     if word.is_empty() || word.as_bytes().starts_with(b"-") {
         None
     } else {
@@ -234,38 +193,15 @@ fn no_option(word: &str) -> Option<&str>
     }
 }
 
-// The input of a host compiler's line: the word right before `-o`.
-fn host_input(words: &[String]) -> Option<&str>
-    ensures { option_copied result ≡ spec.host_input (map string_bytes words.now) }
-{
-    no_option(word_before(words, "-o")?)
-}
-
-// The files that an nvlink line or a host compiler's line writes.
-fn written_by_host(alloc: Global, cwd: &str, words: &[String]) -> Result<Words, AllocError>
-    ensures { IfOk result (λ files. files ≡ (spec.host_files cwd.now (map string_bytes words.now)).writes) }
-{
-    let mut files = Words::new(alloc);
-    push_joined(alloc, &mut files, cwd, word_after(words, "-o"))?;
-    push_paths_behind(alloc, &mut files, cwd, "--register-link-binaries=", words)?;
-    Ok(files)
-}
-
-// The files that an nvlink line or a host compiler's line reads: its input.
-fn read_by_host(alloc: Global, cwd: &str, words: &[String]) -> Result<Words, AllocError>
-    ensures { IfOk result (λ files. files ≡ (spec.host_files cwd.now (map string_bytes words.now)).reads) }
-{
-    let mut files = Words::new(alloc);
-    push_joined(alloc, &mut files, cwd, host_input(words))?;
-    Ok(files)
-}
-
 // The files of an nvlink line or a host compiler's line.
 fn host_files(alloc: Global, cwd: &str, words: &[String]) -> Result<CommandFiles, AllocError>
     ensures { IfOk result (λ files. files ≡ spec.host_files cwd.now (map string_bytes words.now)) }
 {
-    let reads = read_by_host(alloc, cwd, words)?;
-    let writes = written_by_host(alloc, cwd, words)?;
+    let mut reads = Words::new(alloc);
+    push_joined(alloc, &mut reads, cwd, host_input(words))?;
+    let mut writes = Words::new(alloc);
+    push_joined(alloc, &mut writes, cwd, word_after(words, "-o"))?;
+    push_paths_behind(alloc, &mut writes, cwd, "--register-link-binaries=", words)?;
     Ok(all_written(alloc, reads, writes, false))
 }
 
@@ -299,8 +235,8 @@ pub fn files_by(
     let cwd = command.cwd.as_str();
     match program {
         Program::Cicc => cicc_files(alloc, cwd, words),
-        Program::Cudafe => cudafe_files(alloc, cwd, words),
-        Program::Ptxas => ptxas_files(alloc, cwd, words),
+        Program::Cudafe => files_of_line(alloc, cudafe_line_files(alloc, words, cwd)?),
+        Program::Ptxas => files_of_line(alloc, ptxas_line_files(alloc, words, cwd)?),
         Program::Fatbinary => fatbinary_files(alloc, cwd, words),
         Program::Nvlink | Program::Other => host_files(alloc, cwd, words),
     }

@@ -4,11 +4,9 @@
 mod files;
 pub mod laws;
 mod needed;
-mod orders;
 mod steps;
 mod touched;
 
 pub use files::{CommandFiles, files_of};
-pub use needed::{CommandNeeds, FilesAndNeeds, files_and_needs, needs};
-pub use orders::keeps_orders;
-pub use steps::{files_of_plan, preprocesses};
+pub use needed::{CommandNeeds, FilesAndNeeds, files_and_needs, keeps_orders, needs};
+pub use steps::{files_of_plan, has_word, preprocesses};

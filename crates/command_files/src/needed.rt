@@ -1,16 +1,17 @@
-//! What each command of a plan needs.
+//! What each command of a plan needs, and whether records say enough to run the commands in other orders.
 
-ghost use Rattle.std.specs.Prelude.{◌≡◌, ◌++◌, IfOk, OnOk, map, vec_items};
+ghost use Rattle.std.specs.Prelude.{◌≡◌, ◌++◌, IfOk, OnOk, map, vec_items, ◌||◌};
 ghost use Rattle.std.specs.List.Sorted.{IsStrictlyIncreasing};
-ghost use Rattle.command_files.specs.declared.steps.Role.TheVariants.{DeviceStep, Final};
 ghost use Rattle.command_files.specs.Order.{needs_by};
 ghost use Rattle.command_files.specs.PlanNeeds.{role_needs, step_needs, plan_files, plan_needs};
+ghost use Rattle.command_files.specs.PlanOrders as orders;
 ghost use Rattle.command_files.specs.Touched as spec;
+ghost use Rattle.command_files.specs.declared.steps.Role.TheVariants.{DeviceStep, Final};
 
 use crate::files::CommandFiles;
 use crate::steps::{Role, Step, files_of_steps, steps_of};
 use crate::touched::{Touched, push_below};
-use plans::Plan;
+use compilers::plans::Plan;
 use std::alloc::{AllocError, Global};
 use std::marker::Model;
 
@@ -42,14 +43,10 @@ impl CommandNeeds {
 fn needs_role(role: Role, earlier: Role) -> bool
     ensures { result ≡ role_needs role earlier }
 {
-    match role {
-        Role::Plain | Role::FrontStep => false,
-        Role::DeviceStep => match earlier {
-            Role::FrontStep => true,
-            Role::Plain | Role::DeviceStep | Role::Final => false,
-        },
-        Role::Final => true,
-    }
+    matches!(
+        (role, earlier),
+        (Role::DeviceStep, Role::FrontStep) | (Role::Final, _)
+    )
 }
 
 // The numbers of the commands whose roles a role needs.
@@ -72,17 +69,6 @@ pub struct RoleNeeds {
     pub fronts: Vec<usize>,
     /// What commands of the final group need.
     pub all: Vec<usize>,
-}
-
-// What the roles of commands make them need.
-fn role_needs_of(alloc: Global, steps: &[Step]) -> Result<RoleNeeds, AllocError>
-    ensures fronts { IfOk result (λ needs. needs.fronts.items ≡ spec.role_numbers DeviceStep steps.now) }
-    ensures all { IfOk result (λ needs. needs.all.items ≡ spec.role_numbers Final steps.now) }
-{
-    Ok(RoleNeeds {
-        fronts: role_numbers(alloc, Role::DeviceStep, steps)?,
-        all: role_numbers(alloc, Role::Final, steps)?,
-    })
 }
 
 // The numbers of the commands that a role needs.
@@ -148,7 +134,10 @@ fn each_once(numbers: Vec<usize>) -> Vec<usize>
 fn needs_of_steps(alloc: Global, steps: &[Step]) -> Result<Vec<Vec<usize>>, AllocError>
     ensures { IfOk result (λ needs. map vec_items needs.items ≡ needs_by step_needs steps.now) }
 {
-    let by_role = role_needs_of(alloc, steps)?;
+    let by_role = RoleNeeds {
+        fronts: role_numbers(alloc, Role::DeviceStep, steps)?,
+        all: role_numbers(alloc, Role::Final, steps)?,
+    };
     let mut touched = Touched::with_capacity(alloc, steps.len())?;
     let mut needs = Vec::with_capacity(alloc, steps.len())?;
     for (number, step) in steps.iter().enumerate() {
@@ -193,4 +182,24 @@ pub fn files_and_needs(alloc: Global, plan: &Plan) -> Result<FilesAndNeeds, Allo
         files: files_of_steps(alloc, steps)?,
         needs: CommandNeeds { needs },
     })
+}
+
+// Whether a role is that of the final group.
+fn is_final(role: Role) -> bool
+    ensures { result ≡ orders.is_final role }
+{
+    matches!(role, Role::Final)
+}
+
+/// Whether the records of a plan's commands say enough of them, so that they may run in each order that follows their needs.
+///
+/// Final commands need all before them, so nothing is asked of their records. Each other command must have a complete record
+/// ([`CommandFiles`](crate::CommandFiles)), or the word `-E`: a preprocess step reads headers too, and no command of a plan
+/// writes these. It isn't so, for example, if a line of cicc can't be read. `laws::plan_orders` says what follows.
+pub fn keeps_orders(alloc: Global, plan: &Plan) -> Result<bool, AllocError>
+    ensures { IfOk result (λ keeps. keeps ≡ orders.keeps_orders plan.now) }
+{
+    let steps = steps_of(alloc, plan)?;
+    let mut rest = steps.as_slice().iter();
+    Ok(rest.all(|step| is_final(step.role) || step.files.complete || step.preprocesses))
 }

@@ -1,10 +1,11 @@
 //! The commands of a plan, as what their needs depend on.
 
 ghost use Rattle.std.specs.Prelude.{◌≡◌, IfOk, map, string_bytes};
+ghost use Rattle.command_files.specs.Files.{is_among};
 ghost use Rattle.command_files.specs.PlanNeeds as spec;
 
 use crate::files::{CommandFiles, files_by};
-use plans::{NvccGeneratedSubcommand, Plan, Program};
+use compilers::plans::{NvccGeneratedSubcommand, Plan, Program};
 use std::alloc::{AllocError, Global};
 
 /// What a command does in its plan, as far as others wait for it or it waits for others whatever the files.
@@ -29,17 +30,7 @@ pub struct Step {
     pub preprocesses: bool,
 }
 
-// Whether a program is a host compiler, as nvlink counts here.
-fn is_host_compiler(program: Program) -> bool
-    ensures { result ≡ spec.is_host_compiler program }
-{
-    match program {
-        Program::Cicc | Program::Cudafe | Program::Ptxas | Program::Fatbinary => false,
-        Program::Nvlink | Program::Other => true,
-    }
-}
-
-// The role of a command in the group numbered `group` of `count`. `compiles`: whether its program is a host compiler.
+// The role of a command in the group numbered `group` of `count`. `compiles`: whether its program is a host compiler, as nvlink counts here.
 fn role_of(count: usize, group: usize, compiles: bool) -> Role
     ensures { result ≡ spec.role_of count group compiles }
 {
@@ -58,16 +49,23 @@ fn role_of(count: usize, group: usize, compiles: bool) -> Role
     }
 }
 
-/// Whether words ask a host compiler to preprocess only, as the words of nvcc's steps do, by `-E`.
-pub fn preprocesses(words: &[String]) -> bool
-    ensures { result ≡ spec.preprocesses (map string_bytes words.now) }
+/// Whether a word is among words, or a path among paths.
+pub fn has_word(words: &[String], word: &str) -> bool
+    ensures { result ≡ is_among (map string_bytes words.now) word.now }
 {
-    for word in words {
-        if "-E" == word.as_str() {
+    for other in words {
+        if word == other.as_str() {
             return true;
         }
     }
     false
+}
+
+/// Whether words ask a host compiler to preprocess only, as the words of nvcc's steps do, by `-E`.
+pub fn preprocesses(words: &[String]) -> bool
+    ensures { result ≡ spec.preprocesses (map string_bytes words.now) }
+{
+    has_word(words, "-E")
 }
 
 // A command of the group numbered `group` of `count`.
@@ -82,7 +80,11 @@ fn step_of(
     let program = Program::at(command.exe.as_str());
     Ok(Step {
         files: files_by(alloc, program, command)?,
-        role: role_of(count, group, is_host_compiler(program)),
+        role: role_of(
+            count,
+            group,
+            matches!(program, Program::Nvlink | Program::Other),
+        ),
         preprocesses: preprocesses(command.args.as_slice()),
     })
 }

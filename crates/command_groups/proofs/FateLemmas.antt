@@ -5,7 +5,7 @@ use Rattle.std.proofs.lemmas.Bool.{false≢true, or_from, or_left, or_right, or_
 use Rattle.std.proofs.lemmas.Slice.Eq.{bytes_eq-Decides}
 use Rattle.std.proofs.lemmas.List.Sorted.{IsPermutation-refl, IsPermutation-sym, IsPermutation-trans, IsPermutation-cons, IsPermutation-map, IsPermutation-middle, IsPermutation-append_left, IsPermutation-append_right}
 use Rattle.std.proofs.lemmas.List.Folds.{list_any-append}
-use Rattle.plans.specs.declared.plan.Reason.{Reason}
+use Rattle.compilers.specs.declared.plans.plan.Reason.{Reason}
 use Rattle.texts.specs.Lists.{is_some_and, with_name}
 use Rattle.command_groups.specs.Stage.{Stage, StagedCommand, opens}
 use Rattle.command_groups.specs.Fate.{Fate, front, device, final, ungrouped, PlacedCommand, is_device, opens_name, opened_names, device_or, place_of, placed_after, places, fate_of, with_fates, fates}

@@ -6,16 +6,15 @@ use Rattle.std.proofs.lemmas.List.{length-replicate}
 use Rattle.texts.specs.Lists.{is_some_and}
 use Rattle.command_groups.specs.declared.openings.Opening.{Opening}
 use Rattle.command_groups.specs.declared.labels.Label.{Label}
-use Rattle.plans.specs.declared.origins.Origin.{Origin}
-use Rattle.plans.specs.declared.plan.Dropped.{Dropped}
-use Rattle.plans.specs.declared.plan.Reason.{Reason}
-use Rattle.plans.specs.declared.plan.Reason.TheVariants.{Superseded}
+use Rattle.compilers.specs.declared.plans.origins.Origin.{Origin}
+use Rattle.compilers.specs.declared.plans.plan.Dropped.{Dropped}
+use Rattle.compilers.specs.declared.plans.plan.Reason.{Reason}
+use Rattle.compilers.specs.declared.plans.plan.Reason.TheVariants.{Superseded}
 use Rattle.command_groups.specs.Stage.{StagedCommand}
 use Rattle.command_groups.specs.Fate.{Fate, device, ungrouped, PlacedCommand, is_device}
 use Rattle.command_groups.specs.Plan.{PlanSetting, subcommand_of, is_front, is_final, of_fate, dropped_by, plan_of_staged}
 use Rattle.command_groups.specs.Openings.{Opened, names_of}
-use Rattle.command_groups.specs.Labels.{Labelled, grouped}
-use Rattle.command_groups.specs.Groups.{fate_at, fate_by, settled, dropped_for, group_of_label, put_at, with_grouped, with_dropped, no_groups, CutState, with_labelled, plan_by_labels}
+use Rattle.command_groups.specs.Groups.{Labelled, grouped, fate_at, fate_by, settled, dropped_for, group_of_label, put_at, with_grouped, with_dropped, no_groups, CutState, with_labelled, plan_by_labels}
 use Rattle.command_groups.specs.Origins.{origin_of, origins_by, origins_of_placed, origins_of_staged}
 use Rattle.command_groups.proofs.FateLemmas.{Distinct, same_text, equal_texts}
 use Rattle.command_groups.proofs.LabelLemmas.{labels_are_fates, names_are_opened, names_are_distinct, stands}

@@ -1,13 +1,9 @@
-pub mod EntryLemmas
 pub mod FateLemmas
 pub mod GroupLemmas
 pub mod LabelLemmas
 pub mod MergeLemmas
 pub mod OpenerLemmas
-pub mod OpeningLemmas
 pub mod PlanLemmas
 pub mod PlanNeedLemmas
-pub mod PlanningLemmas
 pub mod PutLemmas
-pub mod RisingLemmas
 pub mod WordLemmas

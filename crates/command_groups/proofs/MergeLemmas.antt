@@ -7,7 +7,7 @@ use Rattle.std.proofs.lemmas.List.Elements.{recursion_from_All, All-from_recursi
 use Rattle.std.proofs.lemmas.List.Sums.{sum_by-cons, sum_by-append}
 use Rattle.std.proofs.lemmas.List.Sorted.{IsPermutation-refl, IsPermutation-sym, IsPermutation-trans, IsPermutation-cons, IsPermutation-middle, All-permutation, sum_by-IsPermutation}
 use Rattle.std.proofs.Math.Bool.{and-false}
-use Rattle.command_lines.specs.CommandLines.{CommandLine, line_of}
+use Rattle.compilers.specs.CommandLines.{CommandLine, line_of}
 use Rattle.command_groups.specs.Merge.{MergedCommand, selected, is_nvcc_stem, is_host_stem, of_run, is_in_order, put_in_order, in_order, merged}
 use Rattle.command_groups.specs.MergeLaws.{InOrder, MergedIsInOrder, MergedAreTheSelected, Rises, is_before, RisesInOrder}
 use Rattle.command_groups.proofs.FateLemmas.{one_of}

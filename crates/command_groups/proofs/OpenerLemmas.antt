@@ -5,7 +5,7 @@ use Rattle.std.proofs.lemmas.Bool.{false≢true, or_parts}
 use Rattle.std.proofs.lemmas.List.Elements.{All-from_recursion, All-contains}
 use Rattle.texts.specs.Lists.{is_some_and, with_name}
 use Rattle.canonical_names.proofs.CanonicalLemmas.{head-member, tail-member}
-use Rattle.plans.specs.declared.plan.Reason.TheVariants.{Superseded}
+use Rattle.compilers.specs.declared.plans.plan.Reason.TheVariants.{Superseded}
 use Rattle.command_groups.specs.Merge.{is_in_order}
 use Rattle.command_groups.specs.MergeLaws.{InOrder}
 use Rattle.command_groups.specs.Stage.{Stage, linking, splitting, device_compiling, assembling, preprocessing, host_compiling, foreign, StagedCommand, opens}

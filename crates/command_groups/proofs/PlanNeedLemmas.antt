@@ -4,14 +4,14 @@ use Rattle.std.specs.Cmp.Lexicographic.{pointwise}
 use Rattle.std.specs.List.{list_any}
 use Rattle.std.proofs.lemmas.Bool.{false≢true}
 use Rattle.compilers.specs.declared.compiler.NvccHostCompiler.TheVariants.{Gcc}
-use Rattle.command_lines.specs.CommandLines.{CommandLine}
-use Rattle.command_lines.specs.OneKernel.{at}
+use Rattle.compilers.specs.CommandLines.{CommandLine}
+use Rattle.compilers.specs.OneKernel.{at}
 use Rattle.canonical_names.specs.Alike.{Alike}
 use Rattle.canonical_names.specs.AlikeExamples.{run_with}
 use Rattle.canonical_names.specs.Generated.{standard_suffixes}
 use Rattle.canonical_names.proofs.CanonicalLemmas.{standard-are_suffixes}
 use Rattle.canonical_names.proofs.NeedLemmas.{naming, one_name, clean_to_unclean, unclean_to_clean, two_names, one_name_twice, two_become_one, in_folder, in_no_folder, folder_goes}
-use Rattle.plans.specs.declared.plan.Plan.{Plan}
+use Rattle.compilers.specs.declared.plans.plan.Plan.{Plan}
 use Rattle.command_groups.specs.Plan.{PlanSetting}
 use Rattle.command_groups.specs.PlanLaws.{AreCleanAndAlike}
 use Rattle.command_groups.specs.PlanNeeds.{PlansAgreeFirstUnclean, PlansAgreeSecondUnclean, PlansAgreeByAnyMap, PlansAgreeInOtherFolders, PlansAgreeWithKeepDirectory, PlansAgreeWithAnyVariables}

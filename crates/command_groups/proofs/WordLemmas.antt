@@ -2,7 +2,7 @@
 use Rattle.std.proofs.Common.{◌≡◌, ℕ, suc, Bool, List, [], ◌∷◌, map, refl, arith, String, string_bytes, Global, Option, Some, None, option_map, if◌then◌else◌, insert, remove, bytes_eq}
 use Rattle.std.proofs.lemmas.Option.{none-some}
 use Rattle.command_groups.specs.Stage.{with_word_before, without_first_word}
-use Rattle.command_groups.specs.WordPlace.{word_place}
+use Rattle.command_groups.specs.Views.{word_place}
 
 abbrev Words : Type 0
 Words = List (String Global)

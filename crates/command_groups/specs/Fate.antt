@@ -1,8 +1,8 @@
 -- Where each merged command goes: its place, by the commands before it, and its fate, by the steps after it too.
 use Rattle.std.specs.Prelude.{ℕ, List, [], ◌∷◌, ◌++◌, Bool, true, false, not, ◌&&◌, ◌||◌, if◌then◌else◌, Option, Some, None, find, bytes_eq}
 use Rattle.std.specs.List.{list_any, fold}
-use Rattle.plans.specs.declared.plan.Reason.{Reason}
-use Rattle.plans.specs.declared.plan.Reason.TheVariants.{NotCuda, NoCiccGroup, NoPtxasGroup, Superseded}
+use Rattle.compilers.specs.declared.plans.plan.Reason.{Reason}
+use Rattle.compilers.specs.declared.plans.plan.Reason.TheVariants.{NotCuda, NoCiccGroup, NoPtxasGroup, Superseded}
 use Rattle.texts.specs.Lists.{last_of, with_name, is_some_and}
 use Rattle.command_groups.specs.Stage.{Stage, linking, splitting, device_compiling, assembling, preprocessing, host_compiling, foreign, StagedCommand, opens}
 

@@ -1,15 +1,9 @@
 pub mod EntryView
-pub mod EnvironmentPlace
 pub mod Fate
 pub mod FateLaws
 pub mod Groups
-pub mod GroupsView
-pub mod Labels
-pub mod LabelsView
-pub mod MadeView
 pub mod Merge
 pub mod MergeLaws
-pub mod MergedView
 pub mod Openings
 pub mod Origins
 pub mod Plan
@@ -20,8 +14,6 @@ pub mod PlanOfBytes
 pub mod PlanOfBytesExamples
 pub mod PlanWithin
 pub mod PlanWithinExamples
-pub mod SettingView
 pub mod Stage
-pub mod StageView
-pub mod WordPlace
-pub use Rattle.plans.specs.Reasons
+pub mod Views
+pub use Rattle.compilers.specs.Reasons

@@ -2,7 +2,7 @@
 use Rattle.std.specs.Prelude.{ℕ, List, [], ◌∷◌, ◌++◌, Bool, not, ◌&&◌, ◌||◌, ◌==◌, nat_lt, nat_le, if◌then◌else◌, map, filter, codes, bytes_eq}
 use Rattle.std.specs.List.{list_any}
 use Rattle.texts.specs.Path.{file_stem_of}
-use Rattle.command_lines.specs.CommandLines.{CommandLine, line_of, program_of, words_of_command}
+use Rattle.compilers.specs.CommandLines.{CommandLine, line_of, program_of, words_of_command}
 use Rattle.texts.specs.Lists.{is_some_and}
 
 -- the stems of nvcc's own tools

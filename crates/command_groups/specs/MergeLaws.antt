@@ -1,7 +1,7 @@
 -- What is claimed of the merged list, for all runs.
 use Rattle.std.specs.Prelude.{◌≡◌, ℕ, List, [], ◌∷◌, ◌++◌, Bool, true, ◌&&◌, ◌||◌, ◌==◌, nat_lt, map, IsPermutation}
 use Rattle.std.specs.List.{list_all}
-use Rattle.command_lines.specs.CommandLines.{CommandLine}
+use Rattle.compilers.specs.CommandLines.{CommandLine}
 use Rattle.command_groups.specs.Merge.{MergedCommand, selected, is_nvcc_stem, is_host_stem, of_run, is_in_order, merged}
 
 -- commands stand in order of line and run: each with all that follow it

@@ -2,13 +2,13 @@
 use Rattle.std.specs.Prelude.{◌≡◌, ℕ, List, ◌++◌, map, Bool, Option, Result, Ok, Err, flat_map}
 use Rattle.texts.specs.declared.fault.Fault.{Fault}
 use Rattle.dry_runs.specs.declared.parsed_runs.ParsedRuns.{ParsedRuns}
-use Rattle.command_lines.specs.CommandLines.{CommandLine}
+use Rattle.compilers.specs.CommandLines.{CommandLine}
 use Rattle.dry_runs.specs.DryRun.{LookUp, dry_run_of}
 use Rattle.dry_runs.specs.Environment.{Variable}
 use Rattle.dry_runs.specs.Parsed.{both_parsed, resolved}
-use Rattle.plans.specs.declared.origins.Origin.{Origin}
-use Rattle.plans.specs.declared.origins.PlanWithOrigins.{PlanWithOrigins}
-use Rattle.plans.specs.declared.plan.Plan.{Plan}
+use Rattle.compilers.specs.declared.plans.origins.Origin.{Origin}
+use Rattle.compilers.specs.declared.plans.origins.PlanWithOrigins.{PlanWithOrigins}
+use Rattle.compilers.specs.declared.plans.plan.Plan.{Plan}
 use Rattle.command_groups.specs.Stage.{StagedCommand}
 use Rattle.command_groups.specs.Fate.{Fate, PlacedCommand, is_device, opened_names, fates}
 use Rattle.command_groups.specs.Plan.{PlanSetting, is_front, is_final, of_fate, staged_commands, plan_of}

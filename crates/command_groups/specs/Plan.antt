@@ -1,10 +1,10 @@
 -- The plan of two dry runs.
 use Rattle.std.specs.Prelude.{ℕ, List, [], ◌∷◌, ◌++◌, Bool, true, false, ◌==◌, if◌then◌else◌, Option, Some, None, map, filter, filter_map, codes}
 use Rattle.compilers.specs.declared.compiler.NvccHostCompiler.{NvccHostCompiler}
-use Rattle.plans.specs.declared.plan.NvccGeneratedSubcommand.{NvccGeneratedSubcommand}
-use Rattle.plans.specs.declared.plan.Dropped.{Dropped}
-use Rattle.plans.specs.declared.plan.Plan.{Plan}
-use Rattle.command_lines.specs.CommandLines.{CommandLine}
+use Rattle.compilers.specs.declared.plans.plan.NvccGeneratedSubcommand.{NvccGeneratedSubcommand}
+use Rattle.compilers.specs.declared.plans.plan.Dropped.{Dropped}
+use Rattle.compilers.specs.declared.plans.plan.Plan.{Plan}
+use Rattle.compilers.specs.CommandLines.{CommandLine}
 use Rattle.command_groups.specs.Merge.{MergedCommand, merged}
 use Rattle.dry_runs.specs.Environment.{with_variables}
 use Rattle.command_groups.specs.Stage.{Stage, host_compiling, StagedCommand, staged, cacheable_mark}

@@ -5,13 +5,13 @@ use Rattle.compilers.specs.declared.command.Cacheable.{Cacheable}
 use Rattle.compilers.specs.declared.command.Cacheable.TheVariants.{Yes, No}
 use Rattle.compilers.specs.declared.compiler.NvccHostCompiler.{NvccHostCompiler}
 use Rattle.compilers.specs.declared.compiler.NvccHostCompiler.TheVariants.{Gcc, Msvc}
-use Rattle.plans.specs.declared.plan.NvccGeneratedSubcommand.{NvccGeneratedSubcommand}
-use Rattle.plans.specs.declared.plan.Dropped.{Dropped}
-use Rattle.plans.specs.declared.plan.Reason.{Reason}
-use Rattle.plans.specs.declared.plan.Reason.TheVariants.{NotCuda, NoCiccGroup, NoPtxasGroup, Superseded}
-use Rattle.plans.specs.declared.plan.Plan.{Plan}
-use Rattle.command_lines.specs.CommandLines.{CommandLine}
-use Rattle.command_lines.specs.OneKernel.{at, commands_of}
+use Rattle.compilers.specs.declared.plans.plan.NvccGeneratedSubcommand.{NvccGeneratedSubcommand}
+use Rattle.compilers.specs.declared.plans.plan.Dropped.{Dropped}
+use Rattle.compilers.specs.declared.plans.plan.Reason.{Reason}
+use Rattle.compilers.specs.declared.plans.plan.Reason.TheVariants.{NotCuda, NoCiccGroup, NoPtxasGroup, Superseded}
+use Rattle.compilers.specs.declared.plans.plan.Plan.{Plan}
+use Rattle.compilers.specs.CommandLines.{CommandLine}
+use Rattle.compilers.specs.OneKernel.{at, commands_of}
 use Rattle.command_groups.specs.Merge.{MergedCommand, merged}
 use Rattle.dry_runs.specs.Environment.{with_variables}
 use Rattle.command_groups.specs.Plan.{PlanSetting, plan_of}

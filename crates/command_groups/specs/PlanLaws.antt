@@ -1,13 +1,13 @@
 -- What is claimed of the plans of dry runs, for all of them.
 use Rattle.std.specs.Prelude.{◌≡◌, ℕ, List, [], ◌∷◌, ◌++◌, Bool, true, map, filter_map, Option, None, Ok, Err, IsPermutation}
 use Rattle.texts.specs.declared.fault.Fault.{Fault}
-use Rattle.command_lines.specs.CommandLines.{CommandLine}
+use Rattle.compilers.specs.CommandLines.{CommandLine}
 use Rattle.dry_runs.specs.DryRun.{LookUp, fault_of, meanings, dry_run_of}
 use Rattle.dry_runs.specs.DryRunLines.{numbered_lines}
 use Rattle.dry_runs.specs.Environment.{Variable}
 use Rattle.canonical_names.specs.Alike.{is_clean, Alike}
 use Rattle.canonical_names.specs.CanonicalNames.{AreSuffixes}
-use Rattle.plans.specs.declared.plan.Plan.{Plan}
+use Rattle.compilers.specs.declared.plans.plan.Plan.{Plan}
 use Rattle.command_groups.specs.Fate.{Fate, opened_names, fates}
 use Rattle.command_groups.specs.FateLaws.{regrouped}
 use Rattle.command_groups.specs.Merge.{of_run, selected, is_nvcc_stem, is_host_stem, merged}

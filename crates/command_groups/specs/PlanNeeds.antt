@@ -1,6 +1,6 @@
 -- The laws of plans with one premise left out of each. None of these is so.
 use Rattle.std.specs.Prelude.{◌≡◌, ℕ, List, Option, Some, None}
-use Rattle.command_lines.specs.CommandLines.{CommandLine}
+use Rattle.compilers.specs.CommandLines.{CommandLine}
 use Rattle.dry_runs.specs.Environment.{Variable}
 use Rattle.canonical_names.specs.CanonicalNames.{AreSuffixes}
 use Rattle.canonical_names.specs.RenamingNeeds.{AreAlikeFirstUnclean, AreAlikeSecondUnclean, AreCleanByAnyMap, AreCleanInOtherFolders}

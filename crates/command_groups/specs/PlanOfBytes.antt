@@ -1,8 +1,8 @@
 -- What two dry runs are planned as: a plan where both can be read, else why not.
 use Rattle.std.specs.Prelude.{ℕ, List, Option, Some, None, Result, Ok, Err}
 use Rattle.texts.specs.declared.fault.Fault.{Fault}
-use Rattle.plans.specs.declared.plan.Plan.{Plan}
-use Rattle.command_lines.specs.CommandLines.{CommandLine}
+use Rattle.compilers.specs.declared.plans.plan.Plan.{Plan}
+use Rattle.compilers.specs.CommandLines.{CommandLine}
 use Rattle.dry_runs.specs.DryRun.{LookUp, dry_run_of}
 use Rattle.dry_runs.specs.Environment.{Variable}
 use Rattle.command_groups.specs.Plan.{PlanSetting, plan_of}

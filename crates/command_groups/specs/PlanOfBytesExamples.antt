@@ -4,13 +4,13 @@ use Rattle.texts.specs.declared.fault.Fault.{Fault}
 use Rattle.texts.specs.declared.fault.Fault.TheVariants.{NoPath, BadShell}
 use Rattle.compilers.specs.declared.compiler.NvccHostCompiler.TheVariants.{Gcc}
 use Rattle.compilers.specs.declared.command.Cacheable.TheVariants.{Yes}
-use Rattle.plans.specs.declared.plan.Plan.{Plan}
-use Rattle.plans.specs.declared.plan.Reason.TheVariants.{NotCuda, NoCiccGroup, NoPtxasGroup}
+use Rattle.compilers.specs.declared.plans.plan.Plan.{Plan}
+use Rattle.compilers.specs.declared.plans.plan.Reason.TheVariants.{NotCuda, NoCiccGroup, NoPtxasGroup}
 use Rattle.dry_runs.specs.Computing.{dry_runs_compute}
 use Rattle.dry_runs.specs.FirstDir.{first_dir}
 use Rattle.canonical_names.specs.AlikeExamples.{one_kernel_is_alike}
 use Rattle.canonical_names.specs.Generated.{standard_suffixes}
-use Rattle.command_lines.specs.OneKernel as bytes
+use Rattle.compilers.specs.OneKernel as bytes
 use Rattle.command_groups.specs.PlanLaws.{AreAlikeTexts}
 use Rattle.command_groups.specs.PlanOfBytes.{planning_of}
 use Rattle.command_groups.specs.PlanExamples.{setting, path_set, one_kernel_plan, plan_with, runs, compiles, drops, step_and_cicc, superseded_pair, plan_of_step}

@@ -7,7 +7,7 @@ use Rattle.dry_runs.specs.declared.limit.LimitedFault.TheVariants.{TooLong}
 use Rattle.dry_runs.specs.declared.limit.LimitedFault.TheVariants as limited
 use Rattle.dry_runs.specs.FirstDir.{first_dir}
 use Rattle.canonical_names.specs.Generated.{standard_suffixes}
-use Rattle.plans.specs.declared.plan.Plan.{Plan}
+use Rattle.compilers.specs.declared.plans.plan.Plan.{Plan}
 use Rattle.command_groups.specs.PlanExamples.{setting, plan_with, compiles}
 use Rattle.command_groups.specs.PlanWithin.{planning_within}
 

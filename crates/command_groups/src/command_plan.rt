@@ -2,23 +2,20 @@
 
 ghost use Rattle.std.specs.Prelude.{◌≡◌, map, IfOk};
 ghost use Rattle.std.specs.Vec.Iter.{into_iter_items};
-ghost use Rattle.command_groups.specs.Labels.{grouped};
-ghost use Rattle.command_groups.specs.LabelsView.{grouping_seen};
-ghost use Rattle.command_groups.specs.MergedView.{command_seen};
+ghost use Rattle.command_groups.specs.Groups.{grouped};
+ghost use Rattle.command_groups.specs.Views.{grouping_seen, command_seen, setting_seen};
 ghost use Rattle.command_groups.specs.Origins.{origins_of_staged};
 ghost use Rattle.command_groups.specs.Plan.{plan_of_staged};
-ghost use Rattle.command_groups.specs.SettingView.{setting_seen};
 ghost use Rattle.command_groups.specs.Stage.{staged};
 
 use crate::groups::plan_by_labels;
 use crate::labels::Grouping;
 use crate::merged_commands::SelectedCommand;
 use crate::setting::Setting;
-use plans::PlanWithOrigins;
+use compilers::plans::PlanWithOrigins;
 use std::alloc::{AllocError, Global};
 use std::vec::IntoIter;
 
-// The merged commands, each with its label.
 fn label_all(
     alloc: Global,
     setting: &Setting<'_>,

@@ -3,16 +3,14 @@
 ghost use Rattle.std.specs.Prelude.{◌≡◌, ◌<◌, [], ◌∷◌, ◌++◌, ℕ, List, map, length, IfOk, IfSome, OnOk, string_bytes};
 ghost use Rattle.texts.specs.Variables.{pair_of};
 ghost use Rattle.dry_runs.specs.Environment as spec;
-ghost use Rattle.command_groups.specs.EnvironmentPlace.{variable_place};
+ghost use Rattle.command_groups.specs.Views.{variable_place, named_stage};
 ghost use Rattle.command_groups.specs.Plan.{environment_of};
-ghost use Rattle.command_groups.specs.StageView.{named_stage};
 
 use crate::stage::Stage;
 use std::alloc::{AllocError, Global};
 use std::marker::Model;
 use texts::variables::Variables;
 
-// The place of the first variable of a name.
 fn place_of(environment: &[(String, String)], name: &str) -> Option<usize>
     ensures place { result ≡ variable_place name.now (map pair_of environment.now) }
     ensures within { IfSome result (λ place. place < length environment.now) }

@@ -2,18 +2,15 @@
 
 ghost use Rattle.std.specs.Prelude.{◌≡◌, ℕ, ◌+◌, ◌<◌, ◌^◌, List, [], ◌∷◌, ◌++◌, map, fold, length, IfOk, OnOk, string_bytes, vec_items, flat_map};
 ghost use Rattle.command_groups.specs.Groups as spec;
-ghost use Rattle.command_groups.specs.GroupsView.{cut_seen};
-ghost use Rattle.command_groups.specs.LabelsView.{labelled_seen};
-ghost use Rattle.command_groups.specs.MergedView.{command_seen};
+ghost use Rattle.command_groups.specs.Views.{cut_seen, labelled_seen, command_seen, setting_seen};
 ghost use Rattle.command_groups.specs.Plan.{subcommand_of};
-ghost use Rattle.command_groups.specs.SettingView.{setting_seen};
 
 use crate::labels::{Label, LabelledCommand};
 use crate::merged_commands::SelectedCommand;
 use crate::openings::OpenedNames;
 use crate::setting::Setting;
 use crate::stage::cacheable_mark;
-use plans::{
+use compilers::plans::{
     Dropped, DroppedCommands, Groups, NvccGeneratedSubcommand, Origin, Origins, Plan,
     PlanWithOrigins, Reason,
 };
@@ -21,18 +18,6 @@ use std::alloc::{AllocError, Global};
 use texts::text::Text;
 use texts::words::Words;
 
-// Where the commands of a run are run.
-fn folder_of_run<'a>(setting: &Setting<'a>, run: usize) -> &'a str
-    ensures { result.now ≡ spec.folder_of (setting_seen setting.now) run }
-{
-    if run == 1 {
-        setting.call.tmp
-    } else {
-        setting.call.cwd
-    }
-}
-
-// A labelled command as a group holds it.
 fn subcommand(
     alloc: Global,
     setting: &Setting<'_>,
@@ -41,8 +26,10 @@ fn subcommand(
     ensures { IfOk result (λ c. c ≡ subcommand_of (setting_seen setting.now) (labelled_seen labelled).staged) }
 {
     let LabelledCommand { command, stage, .. } = labelled;
+    let call = setting.call;
+    let folder = if command.run == 1 { call.tmp } else { call.cwd };
     Ok(NvccGeneratedSubcommand {
-        cwd: Text::copy_of(alloc, folder_of_run(setting, command.run))?,
+        cwd: Text::copy_of(alloc, folder)?,
         env_vars: setting.environments.of_stage(alloc, stage)?,
         exe: Text::new(command.program),
         args: Words::from_vec(command.words),
@@ -50,7 +37,6 @@ fn subcommand(
     })
 }
 
-// A command that is in no group.
 fn dropped(command: SelectedCommand, reason: Reason) -> Dropped
     ensures { result ≡ spec.dropped_for reason (command_seen command) }
 {
@@ -60,16 +46,6 @@ fn dropped(command: SelectedCommand, reason: Reason) -> Dropped
         exe: Text::new(command.program),
         args: Words::from_vec(command.words),
         reason,
-    }
-}
-
-// Where a command of a group comes from.
-fn origin_of(command: &SelectedCommand) -> Origin
-    ensures { result ≡ record { line = command.now.line; run = command.now.run } }
-{
-    Origin {
-        line: command.line,
-        run: command.run,
     }
 }
 
@@ -101,7 +77,6 @@ fn empty_groups<T: Drop>(alloc: Global, names: usize) -> Result<Vec<Vec<T>>, All
     Ok(groups)
 }
 
-// Puts an element at the end of the group at a place.
 fn push_at<T: Drop>(groups: &mut Vec<Vec<T>>, place: usize, element: T) -> Result<(), AllocError>
     requires { place < length groups.old.items }
     ensures groups { OnOk result (map vec_items groups.new.items ≡ spec.put_at place element (map vec_items groups.old.items)) }
@@ -132,7 +107,6 @@ impl Cut {
         })
     }
 
-    // Takes the next command.
     fn take(
         &mut self,
         alloc: Global,
@@ -148,7 +122,8 @@ impl Cut {
     {
         match group_of(opened, labelled.label) {
             Ok(place) => {
-                push_at(&mut self.origins, place, origin_of(&labelled.command))?;
+                let (line, run) = (labelled.command.line, labelled.command.run);
+                push_at(&mut self.origins, place, Origin { line, run })?;
                 let command = subcommand(alloc, setting, labelled)?;
                 push_at(&mut self.groups, place, command)?;
             }
@@ -160,7 +135,6 @@ impl Cut {
     }
 }
 
-// Adds the origins of a group.
 fn push_all(origins: &mut Vec<Origin>, group: &[Origin]) -> Result<(), AllocError>
     ensures { OnOk result (origins.new.items ≡ origins.old.items ++ group.now) }
 {
@@ -170,7 +144,6 @@ fn push_all(origins: &mut Vec<Origin>, group: &[Origin]) -> Result<(), AllocErro
     Ok(())
 }
 
-// The origins of groups, one group after the other.
 fn in_plan_order(alloc: Global, groups: &[Vec<Origin>]) -> Result<Origins, AllocError>
     ensures { IfOk result (λ origins. origins ≡ flat_map (λ group. group) (map vec_items groups.now)) }
 {
@@ -181,7 +154,6 @@ fn in_plan_order(alloc: Global, groups: &[Vec<Origin>]) -> Result<Origins, Alloc
     Ok(Origins::from_vec(origins))
 }
 
-// What labelled commands are cut into.
 fn cut_of(
     alloc: Global,
     setting: &Setting<'_>,

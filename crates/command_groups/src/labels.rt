@@ -1,13 +1,10 @@
 //! The labels of merged commands: where each goes.
 
 ghost use Rattle.std.specs.Prelude.{◌≡◌, ◌∷◌, [], ◌++◌, map, length, IfOk, OnOk, string_bytes};
-ghost use Rattle.command_groups.specs.Labels as spec;
-ghost use Rattle.command_groups.specs.LabelsView.{grouping_seen};
-ghost use Rattle.command_groups.specs.MadeView.{made_seen};
-ghost use Rattle.command_groups.specs.MergedView.{command_seen};
+ghost use Rattle.command_groups.specs.Groups as spec;
+ghost use Rattle.command_groups.specs.Views.{grouping_seen, made_seen, command_seen, named_stage};
 ghost use Rattle.command_groups.specs.Stage.{staged, opened_name as opened_by};
-ghost use Rattle.plans.specs.declared.plan.Reason.TheVariants.{NoCiccGroup, NoPtxasGroup};
-ghost use Rattle.command_groups.specs.StageView.{named_stage};
+ghost use Rattle.compilers.specs.declared.plans.plan.Reason.TheVariants.{NoCiccGroup, NoPtxasGroup};
 
 use crate::merged_commands::SelectedCommand;
 use crate::openings::{MadeFiles, OpenedNames, Opening};
@@ -15,7 +12,7 @@ use crate::stage::{
     Stage, cicc_input, edited_words, last_word, opened_name, program_at, ptxas_input, stage_of,
 };
 use compilers::compiler::NvccHostCompiler;
-use plans::Reason;
+use compilers::plans::Reason;
 use std::alloc::{AllocError, Global};
 
 /// Where a command goes.
@@ -90,17 +87,6 @@ impl Grouping {
         Ok(device_label(opening, Reason::NoCiccGroup))
     }
 
-    // The label of a ptxas command.
-    fn label_ptxas(&self, words: &[String]) -> Label
-        ensures { result ≡ spec.device_label (spec.ptxas_opening self.now.opened (made_seen self.now.made) (map string_bytes words.now)) NoPtxasGroup }
-    {
-        let opening = match ptxas_input(words) {
-            None => None,
-            Some(path) => self.opened.first_live(self.made.of(path)),
-        };
-        device_label(opening, Reason::NoPtxasGroup)
-    }
-
     // The label of a preprocess step, which opens a group where its words name one.
     fn label_step(&mut self, alloc: Global, words: &[String]) -> Result<Label, AllocError>
         ensures label { IfOk result (λ label. label ≡ spec.step_label self.old.opened (length self.old.labelled.items) (opened_by (map string_bytes words.now))) }
@@ -114,7 +100,6 @@ impl Grouping {
         Ok(Label::Device(opening))
     }
 
-    // The label of a command, by its stage and its words.
     fn label(&mut self, alloc: Global, stage: Stage, words: &[String]) -> Result<Label, AllocError>
         ensures label { IfOk result (λ label. label ≡ spec.label_of self.old.opened (made_seen self.old.made) (length self.old.labelled.items) (named_stage stage (map string_bytes words.now))) }
         ensures opened { OnOk result (self.new.opened ≡ spec.opened_after self.old.opened (length self.old.labelled.items) (named_stage stage (map string_bytes words.now))) }
@@ -126,7 +111,13 @@ impl Grouping {
             Stage::Linking | Stage::HostCompiling => Ok(Label::Final),
             Stage::Foreign => Ok(Label::Ungrouped(Reason::NotCuda)),
             Stage::DeviceCompiling => self.label_cicc(alloc, words),
-            Stage::Assembling => Ok(self.label_ptxas(words)),
+            Stage::Assembling => {
+                let opening = match ptxas_input(words) {
+                    None => None,
+                    Some(path) => self.opened.first_live(self.made.of(path)),
+                };
+                Ok(device_label(opening, Reason::NoPtxasGroup))
+            }
             Stage::Preprocessing => self.label_step(alloc, words),
         }
     }

@@ -9,7 +9,7 @@ ghost use Rattle.command_groups.specs.PlanOfBytesExamples.{OneKernelFromBytes, O
 ghost use Rattle.command_groups.specs.PlanWithinExamples.{EachRunHasTheLimit, FirstRunIsTooLong, SecondRunIsTooLong, FirstRunDecides};
 ghost use Rattle.command_groups.specs.PlanExamples.{OneKernelPlan, NamesInAFolder, NamesAsTheyAre, EmptyRuns, HostCodeAlone, ReopenedGroup, SecondPtxas, SupersededCicc, StepMakesNoPtx, SharedPtx, PreprocessesForMsvc, CompilesForGcc, CiccLosesOneWord, CiccKeepsItsWords, NotForCuda, ProgramWithoutAStem, StepWithoutAnOutput, StepWithoutAFileName, OutputWithASlash, SecondGroupIsJoined, MergedByLineAndRun, FoldedEnvironment, MarkedTwice};
 
-pub use plans::laws::equality;
+pub use compilers::plan_laws::equality;
 
 /// Laws of the merged list: it is in order of line and run (`in_order`), and has the selected commands of both
 /// runs, each once (`selected`).

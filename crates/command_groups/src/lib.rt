@@ -12,14 +12,14 @@ mod plan;
 mod setting;
 mod stage;
 
+pub use compilers::plans::{
+    Dropped, DroppedCommands, Groups, NvccGeneratedSubcommand, Origin, Origins, Plan,
+    PlanWithOrigins, Reason,
+};
 pub use environment::with_variables;
 pub use plan::{
     group_nvcc_subcommands_by_compilation_stage,
     group_nvcc_subcommands_by_compilation_stage_within, plan_of_parsed, plan_with_origins,
     plan_with_origins_within,
-};
-pub use plans::{
-    Dropped, DroppedCommands, Groups, NvccGeneratedSubcommand, Origin, Origins, Plan,
-    PlanWithOrigins, Reason,
 };
 pub use setting::CallToPlan;

@@ -2,12 +2,12 @@
 
 ghost use Rattle.std.specs.Prelude.{◌≡◌, map, IfOk, IsPermutation, IsSorted};
 ghost use Rattle.std.specs.Vec.Iter.{into_iter_items};
-ghost use Rattle.command_lines.specs.CommandLines.{line_of};
+ghost use Rattle.compilers.specs.CommandLines.{line_of};
 ghost use Rattle.command_groups.specs.Merge as spec;
 ghost use Rattle.command_groups.specs.MergeLaws.{Rises, RisesInOrder};
-ghost use Rattle.command_groups.specs.MergedView.{command_seen, takes_stem};
+ghost use Rattle.command_groups.specs.Views.{command_seen, takes_stem};
 
-use command_lines::Commands;
+use compilers::dry_run::Commands;
 use itertools::Itertools;
 use std::alloc::{AllocError, Global};
 use std::vec::IntoIter;
@@ -26,20 +26,15 @@ pub struct SelectedCommand {
     pub words: Vec<String>,
 }
 
-/// Whether a stem is that of one of nvcc's own tools.
-fn is_nvcc_tool(stem: &str) -> bool
-    ensures { result ≡ spec.is_nvcc_stem stem.now }
-{
-    matches!(stem, "cicc" | "ptxas" | "cudafe++" | "nvlink" | "fatbinary")
-}
-
 // Whether a run gives a program: `own` says that it gives nvcc's own tools, else it gives all others.
 fn takes(own: bool, program: &str) -> bool
     ensures { result ≡ spec.is_taken (takes_stem own) program.now }
 {
     match file_stem(program) {
         None => false,
-        Some(stem) => is_nvcc_tool(stem) == own,
+        Some(stem) => {
+            matches!(stem, "cicc" | "ptxas" | "cudafe++" | "nvlink" | "fatbinary") == own
+        }
     }
 }
 
@@ -67,7 +62,6 @@ fn selected(
     Ok(taken)
 }
 
-// Commands sorted by line, run, program and words.
 fn in_order(
     alloc: Global,
     commands: Vec<SelectedCommand>,

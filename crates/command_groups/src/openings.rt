@@ -2,8 +2,8 @@
 
 ghost use Rattle.std.specs.Prelude.{◌≡◌, ◌<◌, ◌^◌, ℕ, List, [], length, IfOk, OnOk, bytes_eq};
 ghost use Rattle.indexmap.specs.IndexMap.{insert_entry};
-ghost use Rattle.command_groups.specs.Openings.{opening_at, opening_of, number_of, is_live as is_live_at, lower as lower_of, first_live as first_live_of, with_file};
-ghost use Rattle.command_groups.specs.MadeView.{made_seen};
+ghost use Rattle.command_groups.specs.Openings.{opening_at, opening_of, number_of, is_live as is_live_at, first_live as first_live_of, with_file};
+ghost use Rattle.command_groups.specs.Views.{made_seen};
 
 use indexmap::IndexMap;
 use std::alloc::{AllocError, Global};
@@ -90,23 +90,16 @@ impl OpenedNames {
     pub fn first_live(&self, openings: &[Opening]) -> Option<Opening>
         ensures { result ≡ first_live_of self.now openings.now }
     {
-        let mut first = None;
+        let mut first: Option<Opening> = None;
         for opening in openings {
             if self.is_live(*opening) {
-                first = Some(lower(first, *opening));
+                first = match first {
+                    Some(lower) if lower.number <= opening.number => Some(lower),
+                    _ => Some(*opening),
+                };
             }
         }
         first
-    }
-}
-
-// Of an opening and a further one, that of the lower number.
-fn lower(first: Option<Opening>, opening: Opening) -> Opening
-    ensures { result ≡ lower_of first opening }
-{
-    match first {
-        Some(first) if first.number <= opening.number => first,
-        _ => opening,
     }
 }
 

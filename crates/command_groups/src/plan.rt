@@ -4,27 +4,27 @@ ghost use Rattle.std.specs.Prelude.{◌≡◌, map, IfOk, Result, option_copied}
 ghost use Rattle.texts.specs.Fault.{UnlessMemory};
 ghost use Rattle.texts.specs.Variables.{pair_of};
 ghost use Rattle.dry_runs.specs.declared.limit.LimitedFault.{LimitedFault};
-ghost use Rattle.command_lines.specs.CommandLines.{line_of};
+ghost use Rattle.compilers.specs.CommandLines.{line_of};
 ghost use Rattle.dry_runs.specs.Limit.{UnlessMemoryWithin, dry_run_within};
 ghost use Rattle.dry_runs.specs.Parsed.{AreParsed, IsParsed, resolved};
 ghost use Rattle.dry_runs.specs.Reading.{dry_run_seen, dry_run_seen_within};
-ghost use Rattle.plans.specs.declared.origins.PlanWithOrigins.{PlanWithOrigins};
+ghost use Rattle.compilers.specs.declared.plans.origins.PlanWithOrigins.{PlanWithOrigins};
 ghost use Rattle.command_groups.specs.MergeLaws.{Rises};
 ghost use Rattle.command_groups.specs.Origins as origins;
 ghost use Rattle.command_groups.specs.Plan.{staged_commands, plan_of, plan_of_staged};
 ghost use Rattle.command_groups.specs.PlanOfBytes as spec;
 ghost use Rattle.command_groups.specs.PlanWithin as within;
-ghost use Rattle.command_groups.specs.SettingView.{call_seen, setting_seen};
+ghost use Rattle.command_groups.specs.Views.{call_seen, setting_seen};
 
 use crate::command_plan::plan_of_commands;
 use crate::environment::Environments;
 use crate::merged_commands::merge;
 use crate::setting::{CallToPlan, Setting};
 use canonical_names::{Suffixes, remap_commands};
-use command_lines::{Commands, DryRun};
 use compilers::compiler::NvccHostCompiler;
+use compilers::dry_run::{Commands, DryRun};
+use compilers::plans::{Plan, PlanWithOrigins};
 use dry_runs::{LimitedFault, ParsedRun, ParsedRuns, Which, parse_dry_runs, read_dry_run_within};
-use plans::{Plan, PlanWithOrigins};
 use std::alloc::{AllocError, Global};
 use texts::fault::Fault;
 
@@ -67,7 +67,6 @@ fn named(
     }
 }
 
-// The plan of the commands of two runs.
 fn plan_of_runs(
     alloc: Global,
     suffixes: &Suffixes,
@@ -86,7 +85,6 @@ fn plan_of_runs(
     plan_of_commands(alloc, setting, merge(alloc, first, second)?)
 }
 
-// The plan of two runs that were read.
 fn plan_of_dry_runs(
     alloc: Global,
     call: &CallToPlan<'_>,
@@ -132,7 +130,6 @@ pub fn plan_with_origins_within<W: Which>(
     Ok(planned)
 }
 
-// The plan alone.
 fn plan_alone<E>(planned: Result<PlanWithOrigins, E>) -> Result<Plan, E>
     ensures { result ≡ origins.plan_alone planned }
 {

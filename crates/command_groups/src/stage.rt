@@ -1,15 +1,13 @@
 //! What a merged command does in a compilation: its words as they are run, and its stage.
 
-ghost use Rattle.std.specs.Prelude.{◌≡◌, ◌<◌, ℕ, List, nat_eq, map, length, IfOk, IfSome, string_bytes, option_copied};
-ghost use Rattle.std.specs.List.{starts_with};
+ghost use Rattle.std.specs.Prelude.{◌≡◌, ◌<◌, ℕ, List, map, length, IfOk, IfSome, string_bytes, option_copied};
 ghost use Rattle.texts.specs.Lists.{last_of};
 ghost use Rattle.command_groups.specs.Stage as spec;
-ghost use Rattle.command_groups.specs.StageView.{kind_seen, named_stage};
-ghost use Rattle.command_groups.specs.WordPlace.{word_place};
+ghost use Rattle.command_groups.specs.Views.{kind_seen, named_stage, word_place};
 
 use compilers::command::Cacheable;
 use compilers::compiler::NvccHostCompiler;
-use plans::Program;
+use compilers::plans::Program;
 use std::alloc::{AllocError, Global};
 use texts::compilation_flags::asks_object;
 use texts::device_files::{is_cicc_input, is_ptxas_input};
@@ -23,7 +21,6 @@ pub fn program_at(path: &str) -> Program
     Program::at(path)
 }
 
-// Whether words include a word.
 fn has_word(words: &[String], word: &str) -> bool
     ensures { result ≡ spec.has_word word.now (map string_bytes words.now) }
 {
@@ -35,7 +32,6 @@ fn has_word(words: &[String], word: &str) -> bool
     false
 }
 
-// The place of the first word that is `word`.
 fn place_of_word(words: &[String], word: &str) -> Option<usize>
     ensures place { result ≡ word_place word.now (map string_bytes words.now) }
     ensures within { IfSome result (λ place. place < length words.now) }
@@ -70,7 +66,6 @@ fn with_word_before(
     Ok(edited)
 }
 
-// The words without the first that is `word`.
 fn without_first_word(word: &str, words: Vec<String>) -> Vec<String>
     ensures { map string_bytes result.items ≡ spec.without_first_word word.now (map string_bytes words.items) }
 {
@@ -82,32 +77,6 @@ fn without_first_word(word: &str, words: Vec<String>) -> Vec<String>
         }
     }
     edited
-}
-
-// cudafe++'s words as they are run.
-fn cudafe_words(alloc: Global, words: Vec<String>) -> Result<Vec<String>, AllocError>
-    ensures { IfOk result (λ edited. map string_bytes edited.items ≡ spec.cudafe_edit (map string_bytes words.items)) }
-{
-    if has_word(words.as_slice(), "--gen_module_id_file") {
-        return Ok(words);
-    }
-    with_word_before(
-        alloc,
-        "--gen_module_id_file",
-        "--module_id_file_name",
-        words,
-    )
-}
-
-// cicc's words as they are run under a compilation flag.
-fn cicc_words(flag: &str, words: Vec<String>) -> Vec<String>
-    ensures { map string_bytes result.items ≡ spec.cicc_edit flag.now (map string_bytes words.items) }
-{
-    if asks_object(flag) {
-        without_first_word("--gen_module_id_file", words)
-    } else {
-        words
-    }
 }
 
 /// The words of a program, as a plan runs them under a compilation flag.
@@ -124,8 +93,19 @@ pub fn edited_words(
     ensures { IfOk result (λ edited. map string_bytes edited.items ≡ spec.edited_by (kind_seen program) flag.now (map string_bytes words.items)) }
 {
     match program {
-        Program::Cudafe => cudafe_words(alloc, words),
-        Program::Cicc => Ok(cicc_words(flag, words)),
+        Program::Cudafe => {
+            let new = "--gen_module_id_file";
+            if has_word(words.as_slice(), new) {
+                return Ok(words);
+            }
+            with_word_before(alloc, new, "--module_id_file_name", words)
+        }
+        Program::Cicc => {
+            if asks_object(flag) {
+                return Ok(without_first_word("--gen_module_id_file", words));
+            }
+            Ok(words)
+        }
         Program::Fatbinary | Program::Nvlink | Program::Ptxas | Program::Other => Ok(words),
     }
 }
@@ -149,52 +129,33 @@ pub enum Stage {
     Foreign,
 }
 
-// Whether a word begins with a text.
-fn begins_with(word: &str, beginning: &str) -> bool
-    ensures { result ≡ starts_with nat_eq word.now beginning.now }
-{
-    word.starts_with(beginning)
-}
-
-// Whether a word defines a macro of CUDA's.
-fn defines_cuda(word: &str) -> bool
-    ensures { result ≡ spec.defines_cuda word.now }
-{
-    begins_with(word, "-D__CUDACC__")
-        || begins_with(word, "-D__NVCC__")
-        || begins_with(word, "-D__CUDA_ARCH__")
-        || begins_with(word, "-D__CUDA_ARCH_LIST__")
-}
-
-// Whether one of the words defines a macro of CUDA's.
 fn is_for_cuda(words: &[String]) -> bool
     ensures { result ≡ spec.is_for_cuda (map string_bytes words.now) }
 {
     for word in words {
-        if defines_cuda(word.as_str()) {
+        let bytes = word.as_bytes();
+        if bytes.starts_with(b"-D__CUDACC__")
+            || bytes.starts_with(b"-D__NVCC__")
+            || bytes.starts_with(b"-D__CUDA_ARCH__")
+            || bytes.starts_with(b"-D__CUDA_ARCH_LIST__")
+        {
             return true;
         }
     }
     false
 }
 
-// The option that makes a host compiler only preprocess.
-fn preprocess_word(host_compiler: NvccHostCompiler) -> &'static str
-    ensures { result.now ≡ spec.preprocess_word host_compiler }
-{
-    match host_compiler {
-        NvccHostCompiler::Gcc | NvccHostCompiler::Nvhpc => "-E",
-        NvccHostCompiler::Msvc => "-P",
-    }
-}
-
 // The stage of a program that isn't nvcc's own.
 fn host_stage(host_compiler: NvccHostCompiler, words: &[String]) -> Stage
     ensures { named_stage result (map string_bytes words.now) ≡ spec.host_stage host_compiler (map string_bytes words.now) }
 {
+    let preprocess_word = match host_compiler {
+        NvccHostCompiler::Gcc | NvccHostCompiler::Nvhpc => "-E",
+        NvccHostCompiler::Msvc => "-P",
+    };
     if !is_for_cuda(words) {
         Stage::Foreign
-    } else if has_word(words, preprocess_word(host_compiler)) {
+    } else if has_word(words, preprocess_word) {
         Stage::Preprocessing
     } else {
         Stage::HostCompiling

@@ -27,8 +27,7 @@ is_readable text = lacks 0 text.0 && nat_lt text.1 first_mark
 read-texts : (roots : List (List ℕ)) (texts : List Ended) → list_all is_readable texts ≡ true →
     read_from false (flat_map (key_of_text roots) texts) ≡ map (λ text. (parts roots text.0, text.1)) texts
 read-texts roots [] all = refl
-read-texts roots (text ∷ texts) all =
-    grind (arith, append_assoc, read-text, plain-past, (read-texts roots texts))
+read-texts roots (text ∷ texts) all = grind (arith, append_assoc, read-text, plain-past, (read-texts roots texts))
 
 all-append : {X : Type 0} (test : X → Bool) (xs ys : List X) → list_all test xs ≡ true → list_all test ys ≡ true → list_all test (xs ++ ys) ≡ true
 all-append test [] ys first second = second

@@ -1,8 +1,8 @@
 -- The root that counts is the innermost.
-use Rattle.std.proofs.Common.{◌≡◌, ◌≤◌, ℕ, zero, suc, ◌==◌, ◌&&◌, Bool, true, false, List, [], ◌∷◌, Some, fold, length, get_or, arith}
+use Rattle.std.proofs.Common.{◌≡◌, ◌≤◌, ℕ, zero, suc, ◌==◌, true, List, [], ◌∷◌, fold, length, get_or, arith}
 use Rattle.std.proofs.lemmas.Bool.{false≢true, and_parts}
 use Rattle.command_keys.specs.KeyLaws.{InnermostCounts}
-use Rattle.command_keys.specs.Marks.{begins_with, with_longer, longest, root_at, root_of}
+use Rattle.command_keys.specs.Marks.{begins_with, with_longer, longest, root_of}
 use Rattle.command_keys.proofs.MarkLemmas.{root-begins, root-found}
 
 -- a further root never makes it less

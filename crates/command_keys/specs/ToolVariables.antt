@@ -7,8 +7,8 @@
 -- library that LD_LIBRARY_PATH finds.
 use Rattle.std.specs.Prelude.{◌≡◌, ℕ, List, [], ◌∷◌, ◌++◌, if◌then◌else◌, Option, Some, None, refl, codes, flat_map, bytes_eq}
 use Rattle.texts.specs.Lists.{latest}
-use Rattle.plans.specs.declared.program.Program.{Program}
-use Rattle.plans.specs.declared.program.Program.TheVariants.{Cicc, Ptxas, Cudafe, Fatbinary, Nvlink, Other}
+use Rattle.compilers.specs.declared.plans.program.Program.{Program}
+use Rattle.compilers.specs.declared.plans.program.Program.TheVariants.{Cicc, Ptxas, Cudafe, Fatbinary, Nvlink, Other}
 
 -- The variables that the C library and its loader read in any tool: which other code is loaded, and with which instructions libm computes. cicc
 -- has libm compute constants: `cos(8.1764856122660277)` is another one without FMA.

@@ -4,7 +4,7 @@ ghost use Rattle.std.specs.Prelude.{◌≡◌, map, IfOk, option_copied};
 ghost use Rattle.command_keys.specs.Keys.{shown, shown_variable};
 ghost use Rattle.command_keys.specs.ToolVariables as spec;
 
-use plans::Program;
+use compilers::plans::Program;
 use std::alloc::{AllocError, Global};
 
 fn names_of(tool: Program) -> &'static [&'static str]

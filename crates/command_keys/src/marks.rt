@@ -1,6 +1,6 @@
 //! Texts in which marks replace roots.
 
-ghost use Rattle.std.specs.Prelude.{◌≡◌, [], ◌∷◌, ◌++◌, ◌<◌, ◌≤◌, Some, None, true, false, fold, map, length, OnOk, MatchOption};
+ghost use Rattle.std.specs.Prelude.{◌≡◌, [], ◌∷◌, ◌++◌, ◌<◌, ◌≤◌, Some, None, true, false, map, length, OnOk, MatchOption};
 ghost use Rattle.command_keys.specs.Fitting.{fits};
 ghost use Rattle.command_keys.specs.Keys.{key_of_part, key_of_text, shown};
 ghost use Rattle.command_keys.specs.Marks as spec;

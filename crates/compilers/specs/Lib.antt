@@ -1,4 +1,17 @@
+pub mod ArgsIter
 pub mod Arguments
+pub mod Calls
 pub mod Command
+pub mod CommandLines
 pub mod Compiler
+pub mod Items
+pub mod Listed
+pub mod LongestMatch
+pub mod OneKernel
 pub mod Outputs
+pub mod Programs
+pub mod Reasons
+pub mod Replacing
+pub mod Table
+pub mod Views
+pub mod WordsLaw

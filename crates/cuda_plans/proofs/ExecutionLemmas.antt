@@ -3,7 +3,7 @@ use Rattle.std.proofs.Common.{◌≡◌, ℕ, List, [], sym, subst, Result, Ok, 
 use Rattle.texts.specs.declared.fault.Fault.{Fault}
 use Rattle.texts.specs.declared.status.Output.{Output}
 use Rattle.texts.specs.Fault.{UnlessMemory}
-use Rattle.plans.specs.declared.plan.Plan.{Plan}
+use Rattle.compilers.specs.declared.plans.plan.Plan.{Plan}
 use Rattle.cuda_plans.specs.Schedule.{AccountEntry, Gains, RunsAs, ExecutesAs}
 
 -- a refusal of the planning, before anything ran

@@ -1,8 +1,7 @@
 -- Joined outputs: aggregation is associative, and the empty success is neutral.
 use Rattle.std.proofs.Common.{◌≡◌, ℕ, List, cond, refl, append_assoc, ℤ, append-nil, arith}
 use Rattle.texts.specs.Endings.{is_success}
-use Rattle.cuda_plans.specs.Outcome.{output_with}
-use Rattle.cuda_plans.specs.OutcomeLaws.{AggregationIsAssociative, EmptySuccessIsNeutralFirst, EmptySuccessIsNeutralLast}
+use Rattle.cuda_plans.specs.Outcome.{output_with, AggregationIsAssociative, EmptySuccessIsNeutralFirst, EmptySuccessIsNeutralLast}
 
 -- the first of two statuses that isn't success
 abbrev first_bad : ℤ → ℤ → ℤ

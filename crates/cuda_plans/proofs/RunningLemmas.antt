@@ -3,7 +3,7 @@ use Rattle.std.proofs.Common.{◌≡◌, ℕ, ◌+◌, List, [], ◌∷◌, ◌+
 use Rattle.std.proofs.lemmas.List.{append-nil, map-append}
 use Rattle.std.proofs.lemmas.List.Sums.{fold-append}
 use Rattle.std.specs.declared.alloc.AllocError.{AllocError}
-use Rattle.plans.specs.declared.plan.NvccGeneratedSubcommand.{NvccGeneratedSubcommand}
+use Rattle.compilers.specs.declared.plans.plan.NvccGeneratedSubcommand.{NvccGeneratedSubcommand}
 use Rattle.texts.specs.declared.status.Output.{Output}
 use Rattle.texts.specs.Endings.{is_success}
 use Rattle.cuda_plans.specs.Outcome.{aggregated}
@@ -86,8 +86,7 @@ more-left group index (e ∷ f ∷ es) c rest h = grind arith
 pub group-cut : (before middle after : List AccountEntry) (group index : ℕ) (c : NvccGeneratedSubcommand) (rest commands : List NvccGeneratedSubcommand) (output joined : Output)
     → GroupSoFar before middle group index (c ∷ rest) commands output joined → Gains middle after (λ account. OfGroup false group index account (c ∷ []))
     → Gains before after (λ account. OfGroup false group 0 account commands)
-group-cut before middle after group index c rest commands output joined s more =
-    grind (arith, append_assoc, more-left)
+group-cut before middle after group index c rest commands output joined s more = grind (arith, append_assoc, more-left)
 
 -- memory was refused for the joined output
 pub group-cut_joining : (before middle after : List AccountEntry) (group index : ℕ) (c : NvccGeneratedSubcommand) (rest commands : List NvccGeneratedSubcommand) (output joined : Output)

@@ -8,7 +8,7 @@ use Rattle.std.proofs.lemmas.List.Elements.{filter-append}
 use Rattle.std.proofs.lemmas.List.Folds.{list_any-append}
 use Rattle.std.proofs.lemmas.List.Sums.{fold-append}
 use Rattle.std.proofs.Math.Bool.{and-true, or-true, not-not, or-false}
-use Rattle.plans.specs.declared.plan.NvccGeneratedSubcommand.{NvccGeneratedSubcommand}
+use Rattle.compilers.specs.declared.plans.plan.NvccGeneratedSubcommand.{NvccGeneratedSubcommand}
 use Rattle.cuda_plans.specs.declared.runner.Place.{Place}
 use Rattle.texts.specs.declared.fault.Fault.TheVariants.{Process}
 use Rattle.texts.specs.declared.status.Output.{Output}
@@ -257,8 +257,7 @@ parts-next all passed own rest e = e ∙ sym (append_assoc passed own rest)
 
 -- the due steps of the earlier groups and of the next one
 due-next : (chunk : ℕ → ℕ) → Rises chunk → (account more : List AccountEntry) (group : ℕ) (passed own left : List Step) → OfGroupFrom group 0 more → Each (λ s. s.place.group < group) passed → filter (is_due chunk account) passed ≡ map step_of account → filter (is_due chunk (account ++ more)) own ≡ map step_of more ++ left → filter (is_due chunk (account ++ more)) (passed ++ own) ≡ map step_of (account ++ more) ++ left
-due-next chunk rises account more group passed own left entries earlier due next =
-    grind (arith, filter-append, still-due, append_assoc, map-append)
+due-next chunk rises account more group passed own left entries earlier due next = grind (arith, filter-append, still-due, append_assoc, map-append)
 
 pub plan-goes_on : (chunk : ℕ → ℕ) → Rises chunk → (before middle after : List AccountEntry) (all : List Step) (group : ℕ) (commands : List NvccGeneratedSubcommand) (groups : List (List NvccGeneratedSubcommand)) (last next : ℕ) (joined output : Output)
     → PlanSoFar chunk before middle all group (commands ∷ groups) last joined → next ≡ chunk group → last ≤ next → Free last next joined → Gains middle after (GroupEnds true group commands joined output)

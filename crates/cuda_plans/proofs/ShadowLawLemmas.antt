@@ -11,26 +11,23 @@ use Rattle.compilers.specs.declared.compiler.NvccHostCompiler.{NvccHostCompiler}
 use Rattle.texts.specs.DeviceFiles.{is_cicc_word}
 use Rattle.texts.specs.Lists.{is_some_and, first_word, word_after}
 use Rattle.texts.specs.Path.{joined, is_bare, file_name_of, file_stem_of}
-use Rattle.command_lines.specs.CommandLines.{CommandLine, program_of, words_of_command}
+use Rattle.compilers.specs.CommandLines.{CommandLine, program_of, words_of_command}
 use Rattle.canonical_names.specs.CanonicalNames.{AreSuffixes, word_by_all, command_by_all}
 use Rattle.canonical_names.specs.Generated.{core_of, generated_name, begins_with_dash}
 use Rattle.canonical_names.specs.Renaming.{canonical_file, canonical_name, rank, names_of_run}
 use Rattle.canonical_names.specs.Appearances.{appearances}
 use Rattle.cuda_plans.specs.Shadow.{is_plain_output}
 use Rattle.cuda_plans.specs.StepShadow.{step_names, is_step_shadow}
-use Rattle.canonical_names.proofs.AgainLemmas.{dash-unmarked}
-use Rattle.canonical_names.proofs.AgreeLemmas.{mapped-member}
-use Rattle.canonical_names.proofs.AlikeLemmas.{same-tests}
+use Rattle.canonical_names.proofs.AlikeLemmas.{dash-unmarked, mapped-member, same-tests}
 use Rattle.canonical_names.proofs.AppearanceLemmas.{names-tested}
-use Rattle.cuda_plans.proofs.StepShadowLemmas.{shadow-is_step_shadow}
-use Rattle.canonical_names.proofs.CanonicalLemmas.{canonical-at, no-member, head-member, tail-member, member-cases, find-found, rank-apart}
 use Rattle.canonical_names.proofs.CleanLemmas.{clean-run_is_a_map}
+use Rattle.cuda_plans.proofs.StepShadowLemmas.{shadow-is_step_shadow}
+use Rattle.canonical_names.proofs.CanonicalLemmas.{canonical-at, no-member, head-member, tail-member, member-cases, find-found, rank-apart, bytes_eq-itself, eqb-turned}
 use Rattle.cuda_plans.proofs.FileLemmas.{bare-relative}
-use Rattle.canonical_names.proofs.RankLemmas.{bytes_eq-itself, eqb-turned}
 use Rattle.cuda_plans.proofs.ShadowLemmas.{test-kept, class-by_end, plain-class, plain-word, bare-canonical, canonical-file_name, renamed-cicc, file-end, plain-outputs_stay_apart}
 use Rattle.cuda_plans.proofs.ShadowRankLemmas.{cicc-joined_name, step-names_keep_rank}
 use Rattle.canonical_names.proofs.SuffixLemmas.{each-member, any-member}
-use Rattle.plans.specs.declared.plan.Reason.TheVariants.{NoCiccGroup}
+use Rattle.compilers.specs.declared.plans.plan.Reason.TheVariants.{NoCiccGroup}
 use Rattle.command_groups.specs.Fate.{device, device_or, PlacedCommand, place_of, places, fates}
 use Rattle.command_groups.specs.Merge.{MergedCommand, of_run, is_taken, is_nvcc_stem, is_host_stem, selected, is_in_order, put_in_order, in_order, merged}
 use Rattle.command_groups.specs.MergeLaws.{InOrder}

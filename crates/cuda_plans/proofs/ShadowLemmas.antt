@@ -15,7 +15,7 @@ use Rattle.canonical_names.specs.Generated.{head_of, core_of, class_of, class_of
 use Rattle.canonical_names.specs.Renaming.{canonical_file, canonical_in, rank}
 use Rattle.cuda_plans.specs.Shadow.{is_cicc_file, is_plain_output}
 use Rattle.cuda_plans.specs.StepShadow.{PlainOutputsStayApart}
-use Rattle.canonical_names.proofs.AgainLemmas.{Unmarked, mark-turned, long-unmarked, one-unmarked, two-unmarked, dash-unmarked, dash-canonical, not-dash}
+use Rattle.canonical_names.proofs.AlikeLemmas.{Unmarked, mark-turned, long-unmarked, one-unmarked, two-unmarked, dash-unmarked, dash-canonical, not-dash}
 use Rattle.canonical_names.proofs.CanonicalLemmas.{ends-split, ends-append, two-ends, find-found, find-only, file-bare, canonical-front, canonical-split}
 use Rattle.cuda_plans.proofs.FileLemmas.{proper-behind, cicc-front, cicc-file, any-front, dash-file}
 use Rattle.canonical_names.proofs.ReplaceLemmas.{starts-split}

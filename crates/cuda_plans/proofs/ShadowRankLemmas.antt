@@ -10,7 +10,7 @@ use Rattle.texts.specs.Lists.{word_after}
 use Rattle.texts.specs.Path.{joined, is_bare}
 use Rattle.texts.proofs.EqualityLemmas.{lists}
 use Rattle.texts.proofs.PathLaw.{joined-cancels}
-use Rattle.command_lines.specs.CommandLines.{CommandLine, words_of_command}
+use Rattle.compilers.specs.CommandLines.{CommandLine, words_of_command}
 use Rattle.canonical_names.specs.Renaming.{rank, names_of_run}
 use Rattle.canonical_names.specs.Appearances.{appearances}
 use Rattle.cuda_plans.specs.Shadow.{is_plain_output}
@@ -19,7 +19,7 @@ use Rattle.canonical_names.proofs.AlikeLemmas.{same-tests}
 use Rattle.canonical_names.proofs.AppearanceLemmas.{all-append}
 use Rattle.cuda_plans.proofs.StepShadowLemmas.{joined-split}
 use Rattle.cuda_plans.proofs.FileLemmas.{cicc-front, bare-relative}
-use Rattle.canonical_names.proofs.RankLemmas.{add, bytes_eq-itself, run-names}
+use Rattle.canonical_names.proofs.CanonicalLemmas.{add, bytes_eq-itself, run-names}
 
 -- a name that is no input of cicc is another than one that is
 other-name : (n name : List ℕ) → is_cicc_word n ≡ false → is_cicc_word name ≡ true → bytes_eq n name ≡ false

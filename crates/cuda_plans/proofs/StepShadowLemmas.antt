@@ -8,7 +8,7 @@ use Rattle.texts.specs.DeviceFiles.{is_cicc_word}
 use Rattle.texts.specs.Lists.{word_after}
 use Rattle.texts.specs.Path.{joined, is_bare, is_absolute_path, separator_after}
 use Rattle.texts.proofs.EqualityLemmas.{lists}
-use Rattle.command_lines.specs.CommandLines.{words_of_command}
+use Rattle.compilers.specs.CommandLines.{words_of_command}
 use Rattle.canonical_names.specs.CanonicalNames.{AreSuffixes}
 use Rattle.canonical_names.specs.Counted.{has_class}
 use Rattle.canonical_names.specs.Generated.{class_of_name}
@@ -45,8 +45,7 @@ cicc-joined suffixes lawful folder n class =
 
 filter-joined : (suffixes : List (List ℕ)) → AreSuffixes suffixes → (folder : List ℕ) (names : List (List ℕ)) → list_all (has_class suffixes) names ≡ true → filter is_cicc_word (map (joined folder) names) ≡ map (joined folder) (filter is_cicc_word names)
 filter-joined suffixes lawful folder [] h = refl
-filter-joined suffixes lawful folder (n ∷ names) h =
-    grind (arith, cicc-joined, (filter-joined suffixes lawful folder names))
+filter-joined suffixes lawful folder (n ∷ names) h = grind (arith, cicc-joined, (filter-joined suffixes lawful folder names))
 
 all-kept : {A : Type 0} (test kept : A → Bool) (xs : List A) → list_all test xs ≡ true → list_all test (filter kept xs) ≡ true
 all-kept test kept [] h = refl

@@ -2,10 +2,10 @@
 use Rattle.std.specs.Prelude.{ℕ, List, Result}
 use Rattle.texts.specs.declared.fault.Fault.{Fault}
 use Rattle.dry_runs.specs.DryRun.{LookUp}
-use Rattle.plans.specs.declared.plan.Plan.{Plan}
+use Rattle.compilers.specs.declared.plans.plan.Plan.{Plan}
 use Rattle.command_groups.specs.Plan.{PlanSetting}
 use Rattle.command_groups.specs.PlanOfBytes.{planning_of}
-use Rattle.nvcc_commands.specs.declared.command.NvccCompileCommand.{NvccCompileCommand}
+use Rattle.host_lines.specs.declared.nvcc.command.NvccCompileCommand.{NvccCompileCommand}
 
 -- what a call is planned for
 abbrev pub setting_of : NvccCompileCommand → PlanSetting

@@ -4,7 +4,7 @@ use Rattle.texts.specs.declared.fault.Fault.{Fault}
 use Rattle.texts.specs.declared.fault.Fault.TheVariants.{Process, Runner}
 use Rattle.texts.specs.declared.status.Output.{Output}
 use Rattle.texts.specs.declared.status.CompileFinished.{CompileFinished}
-use Rattle.texts.specs.Endings.{status_of_signal, is_success, code_of_status, signal_of_status}
+use Rattle.texts.specs.Endings.{status_of_signal, is_success}
 use Rattle.texts.specs.Fault.{message_of}
 use Rattle.texts.specs.Path.{file_stem_of}
 use Rattle.texts.specs.Status.{status_of_code}
@@ -73,16 +73,10 @@ pub failure_after_success : aggregated (output_with (pos 0) (codes "a") [])
     (output_with (status_of_code (pos 2)) (codes "b") []) ≡ output_with (pos 512) (codes "ab") []
 failure_after_success = refl
 
--- a signal after a success: that signal, and no code
+-- a signal after a success: that signal
 pub signal_after_success : aggregated (output_with (pos 0) (codes "a") [])
     (output_with (status_of_signal (pos 9)) (codes "b") []) ≡ output_with (pos 9) (codes "ab") []
 signal_after_success = refl
-
-pub signal_is_told : signal_of_status (pos 9) ≡ Some (pos 9)
-signal_is_told = refl
-
-pub no_code_is_told : code_of_status (pos 9) ≡ None
-no_code_is_told = refl
 
 -- what the runner says is standard error, with code 1
 pub runner_says : output_of_fault (Runner (codes "no such compiler")) ≡ output_with (pos 256) [] (codes "no such compiler")
@@ -113,3 +107,14 @@ pub ended_without_a_stem : output_of_finished (codes "/")
     (record { retcode = None; signal = Some (pos 11); stdout = []; stderr = [] }) ≡
     output_with (pos 11) [] (codes "/ terminated (signal: 11)")
 ended_without_a_stem = refl
+
+-- three outputs are joined to one, whichever two come first
+abbrev pub AggregationIsAssociative : Type 0
+AggregationIsAssociative = (a b c : Output) → aggregated (aggregated a b) c ≡ aggregated a (aggregated b c)
+
+-- the empty success joined to an output leaves it, on either side
+abbrev pub EmptySuccessIsNeutralFirst : Type 0
+EmptySuccessIsNeutralFirst = (a : Output) → aggregated empty_success a ≡ a
+
+abbrev pub EmptySuccessIsNeutralLast : Type 0
+EmptySuccessIsNeutralLast = (a : Output) → aggregated a empty_success ≡ a

@@ -1,6 +1,6 @@
 -- The account of one group's commands: they run in order, up to the first whose answer fails.
 use Rattle.std.specs.Prelude.{◌≡◌, ℕ, ◌+◌, List, [], ◌∷◌, Bool, true, false, MatchBool}
-use Rattle.plans.specs.declared.plan.NvccGeneratedSubcommand.{NvccGeneratedSubcommand}
+use Rattle.compilers.specs.declared.plans.plan.NvccGeneratedSubcommand.{NvccGeneratedSubcommand}
 use Rattle.cuda_plans.specs.Schedule.{Step, AccountEntry, fails, step_of}
 
 -- a group's command at its place

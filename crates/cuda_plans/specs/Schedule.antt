@@ -6,8 +6,8 @@ use Rattle.texts.specs.declared.fault.Fault.TheVariants.{Process, Memory}
 use Rattle.texts.specs.declared.status.Output.{Output}
 use Rattle.texts.specs.Endings.{is_success}
 use Rattle.texts.specs.Fault.{UnlessMemory}
-use Rattle.plans.specs.declared.plan.NvccGeneratedSubcommand.{NvccGeneratedSubcommand}
-use Rattle.plans.specs.declared.plan.Plan.{Plan}
+use Rattle.compilers.specs.declared.plans.plan.NvccGeneratedSubcommand.{NvccGeneratedSubcommand}
+use Rattle.compilers.specs.declared.plans.plan.Plan.{Plan}
 use Rattle.cuda_plans.specs.declared.runner.Answer.{Answer}
 use Rattle.cuda_plans.specs.declared.runner.Place.{Place}
 use Rattle.cuda_plans.specs.Outcome.{output_of_answer, all_aggregated}

@@ -2,7 +2,7 @@
 use Rattle.std.specs.Prelude.{◌≡◌, ℕ, List, Bool, Result, Ok, Err, if◌then◌else◌, IsUtf8}
 use Rattle.std.specs.Borrow.{Bor}
 use Rattle.texts.specs.declared.fault.Fault.{Fault}
-use Rattle.command_lines.specs.CommandLines.{CommandLine}
+use Rattle.compilers.specs.CommandLines.{CommandLine}
 use Rattle.dry_runs.specs.Environment.{Variable, with_variables}
 use Rattle.canonical_names.specs.Renaming.{renamed}
 use Rattle.command_groups.specs.Merge.{selected}

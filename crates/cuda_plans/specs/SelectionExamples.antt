@@ -3,12 +3,12 @@ use Rattle.std.specs.Prelude.{◌≡◌, ℕ, List, [], ◌∷◌, ◌++◌, Boo
 use Rattle.texts.specs.Rows.{spaced}
 use Rattle.texts.specs.declared.fault.Fault.{Fault}
 use Rattle.texts.specs.declared.fault.Fault.TheVariants.{BadShell}
-use Rattle.command_lines.specs.CommandLines.{CommandLine}
+use Rattle.compilers.specs.CommandLines.{CommandLine}
 use Rattle.dry_runs.specs.Computing.{dry_runs_compute}
 use Rattle.dry_runs.specs.DryRun.{dry_run_of}
 use Rattle.dry_runs.specs.Environment.{Variable}
 use Rattle.dry_runs.specs.FirstDir.{first_dir}
-use Rattle.command_lines.specs.OneKernel.{one_kernel}
+use Rattle.compilers.specs.OneKernel.{one_kernel}
 use Rattle.canonical_names.specs.Generated.{standard_suffixes}
 use Rattle.cuda_plans.specs.Selection.{Read, selection_of, environment_behind}
 

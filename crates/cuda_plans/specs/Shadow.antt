@@ -4,7 +4,7 @@ use Rattle.std.specs.List.{list_all}
 use Rattle.std.specs.Cmp.Lexicographic.{pointwise}
 use Rattle.texts.specs.Path.{joined, is_bare, file_name_of}
 use Rattle.texts.specs.DeviceFiles.{is_cicc_word}
-use Rattle.command_lines.specs.CommandLines.{CommandLine, words_of_command}
+use Rattle.compilers.specs.CommandLines.{CommandLine, words_of_command}
 use Rattle.canonical_names.specs.Appearances.{appearances}
 use Rattle.canonical_names.specs.Generated.{begins_with_dash}
 use Rattle.texts.specs.Lists.{word_after}
@@ -20,10 +20,14 @@ abbrev pub is_plain_output : Option (List ℕ) → Bool
 is_plain_output None = true
 is_plain_output (Some word) = not (is_cicc_file (file_name_of word)) || (not (begins_with_dash word) && is_cicc_word word)
 
--- whether the second run shadows the first in a folder: the first run's generated names are bare, the second's are the
--- same ones joined to the folder, one by one, and the second run's outputs are plain
+-- whether names of the first run are bare, those of the second are the same ones joined to a folder, one by one, and the second run's
+-- outputs are plain
+abbrev pub are_shadows : List (List ℕ) → List (List ℕ) → List ℕ → List CommandLine → Bool
+are_shadows first second folder commands =
+    list_all is_bare first
+    && (pointwise bytes_eq second (map (joined folder) first)
+    && list_all (λ command. is_plain_output (word_after (codes "-o") (words_of_command command))) commands)
+
+-- whether the second run shadows the first in a folder, by all generated names
 abbrev pub is_shadow : List (List ℕ) → List CommandLine → List CommandLine → List ℕ → Bool
-is_shadow suffixes first second folder =
-    list_all is_bare (appearances suffixes first)
-    && (pointwise bytes_eq (appearances suffixes second) (map (joined folder) (appearances suffixes first))
-    && list_all (λ command. is_plain_output (word_after (codes "-o") (words_of_command command))) second)
+is_shadow suffixes first second folder = are_shadows (appearances suffixes first) (appearances suffixes second) folder second

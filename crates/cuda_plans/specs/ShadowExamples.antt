@@ -5,14 +5,14 @@ use Rattle.std.specs.List.{list_all}
 use Rattle.std.proofs.lemmas.List.Elements.{Contains-push}
 use Rattle.compilers.specs.declared.compiler.NvccHostCompiler.TheVariants.{Gcc}
 use Rattle.texts.specs.Path.{joined, is_bare}
-use Rattle.command_lines.specs.CommandLines.{CommandLine}
-use Rattle.command_lines.specs.OneKernel.{at, one_kernel_commands, one_kernel_in_temporary_commands}
+use Rattle.compilers.specs.CommandLines.{CommandLine}
+use Rattle.compilers.specs.OneKernel.{at, one_kernel_commands, one_kernel_in_temporary_commands}
 use Rattle.canonical_names.specs.Alike.{is_clean}
 use Rattle.canonical_names.specs.Generated.{standard_suffixes}
 use Rattle.canonical_names.specs.Appearances.{appearances}
 use Rattle.cuda_plans.specs.Shadow.{is_shadow}
 use Rattle.cuda_plans.specs.StepShadow.{is_step_shadow, bare_stub_commands}
-use Rattle.plans.specs.declared.plan.Reason.TheVariants.{NoCiccGroup, Superseded}
+use Rattle.compilers.specs.declared.plans.plan.Reason.TheVariants.{NoCiccGroup, Superseded}
 use Rattle.command_groups.specs.Fate.{Fate, front, device, final, ungrouped, fates}
 use Rattle.command_groups.specs.Plan.{PlanSetting, staged_commands}
 use Rattle.command_groups.specs.PlanOfBytes.{named}

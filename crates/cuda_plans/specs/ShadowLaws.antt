@@ -3,7 +3,7 @@ use Rattle.std.specs.Prelude.{◌≡◌, ℕ, ◌<◌, List, [], ◌∷◌, Bool
 use Rattle.compilers.specs.declared.compiler.NvccHostCompiler.{NvccHostCompiler}
 use Rattle.texts.specs.Lists.{is_some_and, word_after}
 use Rattle.texts.specs.Path.{joined, is_bare, is_absolute_path, file_stem_of}
-use Rattle.command_lines.specs.CommandLines.{CommandLine, line_of, program_of, words_of_command}
+use Rattle.compilers.specs.CommandLines.{CommandLine, line_of, program_of, words_of_command}
 use Rattle.canonical_names.specs.Alike.{is_clean}
 use Rattle.canonical_names.specs.CanonicalNames.{AreSuffixes, command_by_all}
 use Rattle.canonical_names.specs.Generated.{begins_with_dash}

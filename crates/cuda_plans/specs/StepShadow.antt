@@ -1,30 +1,23 @@
 -- Shadow runs by the inputs of cicc alone: the files that preprocess steps write and cicc reads.
-use Rattle.std.specs.Prelude.{◌≡◌, ℕ, List, map, filter, Bool, true, false, ◌&&◌, ◌==◌, if◌then◌else◌, Some, refl, codes, bytes_eq}
-use Rattle.std.specs.List.{list_all}
-use Rattle.std.specs.Cmp.Lexicographic.{pointwise}
+use Rattle.std.specs.Prelude.{◌≡◌, ℕ, List, map, filter, Bool, true, false, ◌==◌, if◌then◌else◌, Some, refl, codes}
 use Rattle.texts.specs.DeviceFiles.{is_cicc_word}
-use Rattle.texts.specs.Lists.{word_after}
 use Rattle.texts.specs.Path.{joined, is_bare, file_name_of}
-use Rattle.command_lines.specs.CommandLines.{CommandLine, words_of_command}
+use Rattle.compilers.specs.CommandLines.{CommandLine}
 use Rattle.texts.specs.Rows.{spaced}
-use Rattle.command_lines.specs.OneKernel.{one_kernel_commands, one_kernel_in_temporary_commands}
+use Rattle.compilers.specs.OneKernel.{one_kernel_commands, one_kernel_in_temporary_commands}
 use Rattle.canonical_names.specs.CanonicalNames.{AreSuffixes, word_by_all}
 use Rattle.canonical_names.specs.Generated.{standard_suffixes, begins_with_dash}
 use Rattle.canonical_names.specs.Renaming.{rank, canonical_file, names_of_run}
 use Rattle.canonical_names.specs.Appearances.{appearances}
-use Rattle.cuda_plans.specs.Shadow.{is_plain_output, is_shadow}
+use Rattle.cuda_plans.specs.Shadow.{are_shadows, is_plain_output, is_shadow}
 
 -- the generated names of a run that end in `.cpp1.ii` in order of appearance, each as often as it appears
 abbrev pub step_names : List (List ℕ) → List CommandLine → List (List ℕ)
 step_names suffixes commands = filter is_cicc_word (appearances suffixes commands)
 
--- whether the second run shadows the first in a folder by these names: the first run's are bare, the second's are the
--- same ones joined to the folder, one by one, and the second run's outputs are plain
+-- whether the second run shadows the first in a folder by these names
 abbrev pub is_step_shadow : List (List ℕ) → List CommandLine → List CommandLine → List ℕ → Bool
-is_step_shadow suffixes first second folder =
-    list_all is_bare (step_names suffixes first)
-    && (pointwise bytes_eq (step_names suffixes second) (map (joined folder) (step_names suffixes first))
-    && list_all (λ command. is_plain_output (word_after (codes "-o") (words_of_command command))) second)
+is_step_shadow suffixes first second folder = are_shadows (step_names suffixes first) (step_names suffixes second) folder second
 
 -- a shadow is one by the inputs of cicc alone
 abbrev pub ShadowIsStepShadow : Type 0

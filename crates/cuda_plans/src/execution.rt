@@ -1,20 +1,24 @@
-//! Running the commands of an nvcc call.
+//! Running the commands of an nvcc call, group by group.
 
-ghost use Rattle.std.specs.Prelude.{◌≡◌, option_copied};
-ghost use Rattle.texts.specs.Fault.{UnlessMemory};
+ghost use Rattle.std.specs.Prelude.{◌≡◌, option_copied, ◌++◌, ◌∷◌, [], ◌-◌, map, IfOk, MatchResult, true, false, nat_lt, not, ◌&&◌, fold};
 ghost use Rattle.cuda_plans.specs.NvccPlan.{planned};
+ghost use Rattle.cuda_plans.specs.Outcome.{aggregated, empty_success, output_of_answer as output_of};
+ghost use Rattle.cuda_plans.specs.Running.{step_at, OfGroup};
+ghost use Rattle.cuda_plans.specs.Schedule as spec;
 ghost use Rattle.cuda_plans.specs.Schedule.{Gains, ExecutesAs};
+ghost use Rattle.texts.specs.Fault.{UnlessMemory};
 
-use crate::runner::Runner;
-use crate::running::run_plan;
+use crate::outcome::{aggregate_output, compile_result_to_output, error_to_output};
+use crate::runner::{Answer, Place, Runner};
 use canonical_names::Suffixes;
 use command_groups::group_nvcc_subcommands_by_compilation_stage;
+use compilers::plans::{Groups, NvccGeneratedSubcommand, Plan};
 use dry_runs::Which;
-use nvcc_commands::NvccCompileCommand;
-use plans::Plan;
-use std::alloc::Global;
+use host_lines::nvcc::NvccCompileCommand;
+use std::alloc::{AllocError, Global};
+use texts::bytes::Bytes;
 use texts::fault::Fault;
-use texts::status::Output;
+use texts::status::{ExitStatus, Output};
 use texts::text::Text;
 
 // The path of a folder that may be missing.
@@ -86,4 +90,135 @@ pub fn execute<W: Which, R: Runner>(
 {
     let plan = plan_of(alloc, call, dry1, dry2, which, suffixes)?;
     run_plan(alloc, runner, plan.groups, call.num_parallel)
+}
+
+// The output of an answer to the program `exe`.
+fn output_of_answer(alloc: Global, exe: &str, answer: Answer) -> Result<Output, AllocError>
+    ensures { IfOk result (λ output. output ≡ output_of exe.now answer) }
+{
+    match answer {
+        Answer::Ran(output) => Ok(output),
+        Answer::Finished(finished) => compile_result_to_output(alloc, exe, finished),
+        Answer::Failed(fault) => error_to_output(alloc, fault),
+    }
+}
+
+// Has a command run, and says what its answer's output is.
+fn run_command<R: Runner>(
+    alloc: Global,
+    runner: &mut R,
+    place: Place,
+    command: NvccGeneratedSubcommand,
+) -> Result<Output, AllocError>
+    ensures { MatchResult result
+        (λ output. (e : spec.AccountEntry) × (R.log runner.new ≡ R.log runner.old ++ e ∷ []) × (spec.step_of e ≡ step_at place.group place.index command) × (output ≡ spec.output_of_entry e))
+        (λ _. spec.Gains (R.log runner.old) (R.log runner.new) (λ account. OfGroup false place.group place.index account (command ∷ []))) }
+{
+    let exe = command.exe.try_clone(alloc)?;
+    let answer = runner.run(alloc, place, command)?;
+    output_of_answer(alloc, exe.as_str(), answer)
+}
+
+// Has the commands of a group run, up to the first that fails, and joins their outputs to `output`.
+fn run_group<R: Runner>(
+    alloc: Global,
+    runner: &mut R,
+    group: usize,
+    commands: Vec<NvccGeneratedSubcommand>,
+    output: Output,
+) -> Result<Output, AllocError>
+    ensures { MatchResult result
+        (λ joined. spec.Gains (R.log runner.old) (R.log runner.new) (λ account. OfGroup true group 0 account commands.items × (joined ≡ fold aggregated output (map spec.output_of_entry account))))
+        (λ _. spec.Gains (R.log runner.old) (R.log runner.new) (λ account. OfGroup false group 0 account commands.items)) }
+{
+    let mut joined = output;
+    let mut index = 0;
+    for command in commands {
+        let left = run_command(alloc, runner, Place { group, index }, command)?;
+        let success = left.status.success();
+        joined = aggregate_output(joined, left)?;
+        if !success {
+            return Ok(joined);
+        }
+        index += 1;
+    }
+    Ok(joined)
+}
+
+// The number of the chunk that a group is in, if there are so many device groups.
+fn chunk_of(device_groups: usize, num_parallel: usize, group: usize) -> usize
+    ensures { result ≡ spec.chunk_of device_groups num_parallel group }
+{
+    let size = device_groups.min(num_parallel).max(1);
+    if group == 0 {
+        0
+    } else if group <= device_groups {
+        1 + (group - 1) / size
+    } else {
+        device_groups + 1
+    }
+}
+
+// Whether the next group is held back: it begins a chunk, and not all before it succeeded.
+fn is_held_back(chunk: usize, next: usize, success: bool) -> bool
+    ensures { result ≡ (nat_lt chunk next && not success) }
+{
+    chunk < next && !success
+}
+
+// Runs the groups of a plan, and joins their outputs. After a failure no later chunk runs.
+fn run_groups<R: Runner>(
+    alloc: Global,
+    runner: &mut R,
+    groups: Groups,
+    num_parallel: usize,
+) -> Result<Output, AllocError>
+    ensures { MatchResult result
+        (λ joined. spec.Gains (R.log runner.old) (R.log runner.new) (λ account. spec.IsWhole groups num_parallel account × (joined ≡ spec.output_of_account account)))
+        (λ _. spec.Gains (R.log runner.old) (R.log runner.new) (λ account. spec.Follows groups num_parallel account)) }
+{
+    let lists = groups.into_vec();
+    let device_groups = lists.len().saturating_sub(2);
+    let mut joined = empty_output(alloc);
+    let mut chunk = 0;
+    let mut group = 0;
+    for commands in lists {
+        let next = chunk_of(device_groups, num_parallel, group);
+        let success = joined.status.success();
+        if is_held_back(chunk, next, success) {
+            return Ok(joined);
+        }
+        joined = run_group(alloc, runner, group, commands, joined)?;
+        chunk = next;
+        group += 1;
+    }
+    Ok(joined)
+}
+
+// The output of nothing: success without a text.
+fn empty_output(alloc: Global) -> Output
+    ensures { result ≡ empty_success }
+{
+    Output {
+        status: ExitStatus::from_code(0),
+        stdout: Bytes::new(alloc),
+        stderr: Bytes::new(alloc),
+    }
+}
+
+/// Runs the groups of a plan. A failure carries the joined output.
+pub fn run_plan<R: Runner>(
+    alloc: Global,
+    runner: &mut R,
+    groups: Groups,
+    num_parallel: usize,
+) -> Result<Output, Fault>
+    ensures { spec.Gains (R.log runner.old) (R.log runner.new) (λ account. spec.RunsAs groups num_parallel account result) }
+{
+    let output = run_groups(alloc, runner, groups, num_parallel)?;
+    if output.status.success() {
+        Ok(output)
+    } else {
+        Err(Fault::Process(output))
+    }
 }

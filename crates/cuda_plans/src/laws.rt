@@ -2,7 +2,7 @@
 //! the crates below are exported here too.
 
 ghost use Rattle.command_groups.specs.PlanLaws.{AlikeTextsHaveOnePlan, ReadableRunsArePlanned, PlannedRunsAreReadable, FirstRunIsRefused, SecondRunIsRefused, PlannedCommandsHaveOneFate};
-ghost use Rattle.cuda_plans.specs.OutcomeLaws.{AggregationIsAssociative, EmptySuccessIsNeutralFirst, EmptySuccessIsNeutralLast};
+ghost use Rattle.cuda_plans.specs.Outcome.{AggregationIsAssociative, EmptySuccessIsNeutralFirst, EmptySuccessIsNeutralLast};
 ghost use Rattle.cuda_plans.specs.ScheduleExamples as examples;
 ghost use Rattle.cuda_plans.specs.SelectionExamples as selections;
 ghost use Rattle.cuda_plans.specs.ShadowExamples as shadows;

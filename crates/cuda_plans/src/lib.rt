@@ -8,17 +8,14 @@ pub mod execution;
 pub mod laws;
 pub mod outcome;
 pub mod runner;
-mod running;
 pub mod selection;
 pub mod shadow;
 
 pub use command_groups as plan;
-pub use compilers::{arguments, command, compiler, outputs};
+pub use compilers::{arguments, command, compiler, items, outputs, table, views};
 pub use device_lines::{cicc, cudafe, ptxas};
-pub use gcc_lines::gcc;
-pub use host_lines::nvhpc;
-pub use nvcc_commands as nvcc;
-pub use option_items::{items, table, views};
-pub use running::run_plan;
-pub use shell_words as shell;
-pub use texts::{bytes, decimal, extension, fault, language, status, text, variables, words};
+pub use execution::run_plan;
+pub use host_lines::{gcc, nvcc, nvhpc};
+pub use texts::{
+    bytes, decimal, extension, fault, language, shell, status, text, variables, words,
+};

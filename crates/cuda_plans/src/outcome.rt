@@ -36,18 +36,6 @@ pub fn aggregate_output(lhs: Output, rhs: Output) -> Result<Output, AllocError>
     })
 }
 
-// The output of a fault that no process left: code 1 and the fault's message.
-fn told(alloc: Global, fault: &Fault) -> Result<Output, AllocError>
-    ensures { IfOk result (λ output. output ≡ spec.told fault.now) }
-{
-    let message = fault.message(alloc)?;
-    Ok(Output {
-        status: ExitStatus::from_code(1),
-        stdout: Bytes::new(alloc),
-        stderr: Bytes::from_vec(message.into_bytes()),
-    })
-}
-
 /// The output of a fault: that of the process that failed, and of any other fault code 1 with its message on
 /// standard error. So a `Process` whose status is success gives a success.
 pub fn error_to_output(alloc: Global, fault: Fault) -> Result<Output, AllocError>
@@ -55,7 +43,14 @@ pub fn error_to_output(alloc: Global, fault: Fault) -> Result<Output, AllocError
 {
     match fault {
         Fault::Process(output) => Ok(output),
-        fault => told(alloc, &fault),
+        fault => {
+            let message = fault.message(alloc)?;
+            Ok(Output {
+                status: ExitStatus::from_code(1),
+                stdout: Bytes::new(alloc),
+                stderr: Bytes::from_vec(message.into_bytes()),
+            })
+        }
     }
 }
 
@@ -86,19 +81,6 @@ fn terminated_text(alloc: Global, exe: &str, signal: i32) -> Result<String, Allo
     format!(in alloc; "{name} terminated (signal: {number})")
 }
 
-// The message on a program that a signal ended, followed by its standard error.
-fn terminated_stderr(
-    alloc: Global,
-    exe: &str,
-    signal: i32,
-    stderr: Bytes,
-) -> Result<Bytes, AllocError>
-    ensures { IfOk result (λ bytes. bytes ≡ spec.terminated_text exe.now signal ++ stderr) }
-{
-    let text = terminated_text(alloc, exe, signal)?;
-    joined(Bytes::from_vec(text.into_bytes()), stderr)
-}
-
 /// The output of a finished run of the program `exe`. If a signal ended it, the status is that signal, and
 /// standard error begins `STEM terminated (signal: N)`, with no newline before what was there, and with the
 /// whole path if it has no stem. Else the status is the code's, or success if there is no code.
@@ -121,10 +103,13 @@ pub fn compile_result_to_output(
             stdout,
             stderr,
         }),
-        Some(signal) => Ok(Output {
-            status: ExitStatus::from_signal(signal),
-            stderr: terminated_stderr(alloc, exe, signal, stderr)?,
-            stdout,
-        }),
+        Some(signal) => {
+            let text = terminated_text(alloc, exe, signal)?;
+            Ok(Output {
+                status: ExitStatus::from_signal(signal),
+                stdout,
+                stderr: joined(Bytes::from_vec(text.into_bytes()), stderr)?,
+            })
+        }
     }
 }

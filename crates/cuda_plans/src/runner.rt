@@ -3,7 +3,7 @@
 ghost use Rattle.std.specs.Prelude.{◌≡◌, ◌++◌, ◌∷◌, [], List, IfOk, MatchResult};
 ghost use Rattle.cuda_plans.specs.Schedule.{AccountEntry, answered};
 
-use plans::NvccGeneratedSubcommand;
+use compilers::plans::NvccGeneratedSubcommand;
 use std::alloc::{AllocError, Global};
 use texts::fault::Fault;
 use texts::status::{CompileFinished, Output};

@@ -1,21 +1,19 @@
 //! The commands of one dry run that a caller selects.
 
-ghost use Rattle.std.specs.Prelude.{◌≡◌, List, ℕ, Bool, map, IfOk, OnOk, OnErr};
+ghost use Rattle.std.specs.Prelude.{◌≡◌, List, ℕ, Bool, map, IfOk, OnErr};
 ghost use Rattle.texts.specs.Fault.{UnlessMemory};
 ghost use Rattle.texts.specs.Variables.{pair_of};
 ghost use Rattle.dry_runs.specs.DryRun.{dry_run_of};
-ghost use Rattle.dry_runs.specs.Environment.{with_variables as folded_with};
 ghost use Rattle.command_groups.specs.Merge.{is_taken, selected};
 ghost use Rattle.cuda_plans.specs.Selection as spec;
 
 use canonical_names::{Suffixes, remap_commands};
 use command_groups::with_variables;
-use command_lines::Commands;
+use compilers::dry_run::Commands;
 use dry_runs::{Which, read_dry_run};
 use std::alloc::{AllocError, Global};
 use texts::fault::Fault;
 use texts::text::file_stem;
-use texts::variables::Variables;
 
 // Whether a program has a stem that is selected.
 fn takes<F: Fn(&str) -> bool>(select: &F, program: &str) -> bool
@@ -46,22 +44,6 @@ fn taken<F: Fn(&str) -> bool>(
     Ok(Commands::from_vec(taken))
 }
 
-// The commands of a run, with canonical names where asked.
-fn named(
-    alloc: Global,
-    suffixes: &Suffixes,
-    remap: bool,
-    commands: Commands,
-) -> Result<Commands, AllocError>
-    ensures { IfOk result (λ c. c ≡ spec.named_if suffixes.now remap commands) }
-{
-    if remap {
-        remap_commands(alloc, commands, suffixes)
-    } else {
-        Ok(commands)
-    }
-}
-
 // The commands of a run whose program has a stem that is selected, in order, with canonical names where asked.
 fn chosen<F: Fn(&str) -> bool>(
     alloc: Global,
@@ -73,22 +55,12 @@ fn chosen<F: Fn(&str) -> bool>(
     requires { F.IsAlwaysCallable select.now }
     ensures { (test : List ℕ → Bool) → spec.AnswersAs (F.post select.now) test → IfOk result (λ c. c ≡ selected test (spec.named_if suffixes.now remap commands)) }
 {
-    let commands = named(alloc, suffixes, remap, commands)?;
+    let commands = if remap {
+        remap_commands(alloc, commands, suffixes)?
+    } else {
+        commands
+    };
     taken(alloc, select, commands)
-}
-
-// Folds variables into an environment. On an error the environment is unchanged.
-fn fold_into(
-    alloc: Global,
-    env_vars: &mut Vec<(String, String)>,
-    variables: Variables,
-) -> Result<(), AllocError>
-    ensures folded { OnOk result (map pair_of env_vars.new.items ≡ folded_with (map pair_of env_vars.old.items) variables) }
-    ensures unchanged { OnErr result (env_vars.new ≡ env_vars.old) }
-{
-    let folded = with_variables(alloc, env_vars.as_slice(), variables)?;
-    *env_vars = folded.into_vec()?;
-    Ok(())
 }
 
 /// The commands of one dry run whose program has a stem that `select` accepts, in order: of each the number of its line,
@@ -125,6 +97,7 @@ pub fn select_nvcc_subcommands<F: Fn(&str) -> bool + Drop, W: Which>(
 {
     let said = read_dry_run(alloc, dry_run, run, cwd, which)?;
     let commands = chosen(alloc, suffixes, remap, &select, said.commands)?;
-    fold_into(alloc, env_vars, said.env)?;
+    let folded = with_variables(alloc, env_vars.as_slice(), said.env)?;
+    *env_vars = folded.into_vec()?;
     Ok(commands)
 }

@@ -1,13 +1,12 @@
 //! Shadow runs: second runs that put the generated files of the first run into a temporary directory.
 
-ghost use Rattle.std.specs.Prelude.{◌≡◌, ◌++◌, ◌&&◌, List, ℕ, map, filter, codes, nat_eq, IfOk, OnOk, string_bytes, option_copied, bytes_eq};
+ghost use Rattle.std.specs.Prelude.{◌≡◌, ◌++◌, ◌&&◌, ℕ, map, codes, IfOk, OnOk, string_bytes, option_copied, bytes_eq};
 ghost use Rattle.std.specs.Cmp.Lexicographic.{pointwise};
 ghost use Rattle.std.specs.List.{list_all, filter_map};
-ghost use Rattle.texts.specs.DeviceFiles.{is_cicc_word};
 ghost use Rattle.texts.specs.Lists as lists;
 ghost use Rattle.texts.specs.Path as paths;
 ghost use Rattle.texts.specs.Path.{joined};
-ghost use Rattle.command_lines.specs.CommandLines.{line_seen, words_of_command};
+ghost use Rattle.compilers.specs.CommandLines.{line_seen, words_of_command};
 ghost use Rattle.canonical_names.specs.Appearances.{appearances};
 ghost use Rattle.canonical_names.specs.Generated.{generated_name};
 ghost use Rattle.cuda_plans.specs.Shadow as spec;
@@ -15,7 +14,7 @@ ghost use Rattle.canonical_names.specs.Shown.{name_shown};
 ghost use Rattle.cuda_plans.specs.StepShadow as step;
 
 use canonical_names::{Suffixes, begins_with_dash};
-use command_lines::DryRun;
+use compilers::dry_run::DryRun;
 use std::alloc::{AllocError, Global};
 use texts::device_files::is_cicc_input;
 use texts::text::{file_name, is_bare, join};
@@ -52,20 +51,6 @@ fn appearances<'a>(
     Ok(names)
 }
 
-// The names that end in `.cpp1.ii`.
-fn of_steps<'a>(alloc: Global, names: &[&'a str]) -> Result<Vec<&'a str>, AllocError>
-    ensures { IfOk result (λ kept. map name_shown kept.items ≡ filter is_cicc_word (map name_shown names.now)) }
-{
-    let mut kept = Vec::new(alloc);
-    for name in names {
-        let name: &'a str = name;
-        if is_cicc_input(name) {
-            kept.push(name)?;
-        }
-    }
-    Ok(kept)
-}
-
 // The names in `appearances` that end in `.cpp1.ii`.
 fn step_names<'a>(
     alloc: Global,
@@ -75,21 +60,20 @@ fn step_names<'a>(
     ensures { IfOk result (λ names. map name_shown names.items ≡ step.step_names suffixes.now (map line_seen commands.now)) }
 {
     let names = appearances(alloc, commands, suffixes)?;
-    of_steps(alloc, names.as_slice())
+    let mut kept = Vec::new(alloc);
+    for name in names.as_slice() {
+        let name: &'a str = name;
+        if is_cicc_input(name) {
+            kept.push(name)?;
+        }
+    }
+    Ok(kept)
 }
 
 fn are_bare(names: &[&str]) -> bool
     ensures { result ≡ list_all paths.is_bare (map name_shown names.now) }
 {
     names.iter().all(|name| is_bare(name))
-}
-
-// Whether a text is a name put into a folder.
-fn is_joined(alloc: Global, folder: &str, name: &str, text: &str) -> Result<bool, AllocError>
-    ensures { IfOk result (λ b. b ≡ bytes_eq text.now (joined folder.now name.now)) }
-{
-    let path = join(alloc, folder, name)?;
-    Ok(text == path.as_str())
 }
 
 // Whether the names of `second` are those of `first`, put into a folder.
@@ -105,20 +89,12 @@ fn are_joined(
         return Ok(false);
     }
     for index in 0..first.len() {
-        if !is_joined(alloc, folder, first[index], second[index])? {
+        let path = join(alloc, folder, first[index])?;
+        if second[index] != path.as_str() {
             return Ok(false);
         }
     }
     Ok(true)
-}
-
-fn is_cicc_file(name: Option<&str>) -> bool
-    ensures { result ≡ spec.is_cicc_file (option_copied name.entry) }
-{
-    match name {
-        None => false,
-        Some(name) => is_cicc_input(name),
-    }
 }
 
 // Whether an output's file name isn't that of an input of cicc, or the output ends like such an input and doesn't
@@ -128,9 +104,10 @@ fn is_plain_output(word: Option<&str>) -> bool
 {
     match word {
         None => true,
-        Some(word) => {
-            !is_cicc_file(file_name(word)) || (!begins_with_dash(word) && is_cicc_input(word))
-        }
+        Some(word) => match file_name(word) {
+            Some(name) if is_cicc_input(name) => !begins_with_dash(word) && is_cicc_input(word),
+            _ => true,
+        },
     }
 }
 
@@ -149,9 +126,7 @@ fn are_shadows(
     folder: &str,
     commands: &[(usize, String, Vec<String>)],
 ) -> Result<bool, AllocError>
-    ensures { IfOk result (λ b. b ≡ (list_all paths.is_bare (map name_shown first.now)
-        && (pointwise bytes_eq (map name_shown second.now) (map (joined folder.now) (map name_shown first.now))
-        && list_all (λ c. spec.is_plain_output (lists.word_after (codes "-o") (words_of_command c))) (map line_seen commands.now)))) }
+    ensures { IfOk result (λ b. b ≡ spec.are_shadows (map name_shown first.now) (map name_shown second.now) folder.now (map line_seen commands.now)) }
 {
     if !are_bare(first) {
         return Ok(false);

@@ -2,7 +2,7 @@
 use Rattle.std.specs.Prelude.{◌≡◌, ℕ, List, [], ◌∷◌, if◌then◌else◌, Option, None, Result, Ok, Err, MatchOption, codes, option_map, bytes_eq}
 use Rattle.std.specs.Io.KnownBytes.{Keeps}
 use Rattle.programs.specs.declared.stop.Stop.{Stop}
-use Rattle.program_calls.specs.Operands.{LineOf, PlanOf, line_of, plan_of, line_call_of, plan_call_of}
+use Rattle.programs.specs.Operands.{LineOf, PlanOf, line_of, plan_of, line_call_of, plan_call_of}
 use Rattle.programs.specs.Delivery.{Delivers}
 use Rattle.programs.specs.LineText.{shown_line}
 use Rattle.programs.specs.PlanText.{PlansFiles}

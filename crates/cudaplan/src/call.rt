@@ -3,7 +3,7 @@
 ghost use Rattle.std.specs.Prelude.{◌≡◌, map, string_bytes, option_map};
 ghost use Rattle.cudaplan.specs.Calls as spec;
 
-use program_calls::{LineCall, PlanCall, line_call, plan_call};
+use programs::{LineCall, PlanCall, line_call, plan_call};
 
 /// A call of the program.
 #[derive(Drop)]

@@ -49,16 +49,13 @@ listing_of flag targets =
     if bytes_eq flag (codes "-M") then Some (record { of_system = true; targets = targets }) else
     if bytes_eq flag (codes "-MM") then Some (record { of_system = false; targets = targets }) else None
 
--- what two flags list, of which one asks for targets
-abbrev pub listing_of_two : List ℕ → List ℕ → Option Listing
-listing_of_two one other =
-    if bytes_eq one (codes "-MP") then listing_of other true else
-    if bytes_eq other (codes "-MP") then listing_of one true else None
-
+-- what flags list. If there are two, one has to be `-MP`, which asks for targets
 abbrev pub listing_by : List (List ℕ) → Option Listing
 listing_by [] = None
 listing_by (flag ∷ []) = listing_of flag false
-listing_by (one ∷ other ∷ []) = listing_of_two one other
+listing_by (one ∷ other ∷ []) =
+    if bytes_eq one (codes "-MP") then listing_of other true else
+    if bytes_eq other (codes "-MP") then listing_of one true else None
 listing_by (one ∷ other ∷ third ∷ more) = None
 
 -- the rule that the last four words ask for
@@ -68,14 +65,10 @@ rule_at_end listing source words =
     rule_by listing source one first other second)
     (slice_get words 3)) (slice_get words 2)) (slice_get words 1)) (slice_get words 0)
 
--- whether a word asks for dependencies
-abbrev pub asks_rule : List ℕ → Bool
-asks_rule word = starts_with nat_eq word (codes "-M")
-
--- how many words are in front of the first that does
+-- how many words are in front of the first that asks for dependencies
 abbrev pub before_flags : List (List ℕ) → ℕ
 before_flags [] = 0
-before_flags (word ∷ words) = if asks_rule word then 0 else 1 + before_flags words
+before_flags (word ∷ words) = if starts_with nat_eq word (codes "-M") then 0 else 1 + before_flags words
 
 -- the rule that words ask for, given those in front of the last four and these
 abbrev pub asked_by : List (List ℕ) → List (List ℕ) → Option RuleOf

@@ -31,8 +31,7 @@ listed of_system name flags =
     if is_of_system flags then None else Some flags
 
 abbrev pub listed_to_quote : Bool → List ℕ → Option (List ℕ)
-listed_to_quote of_system text =
-    option_and_then (λ place. listed of_system (take place text) (drop place text)) (position (λ c. c == 34) text)
+listed_to_quote of_system text = option_and_then (λ place. listed of_system (take place text) (drop place text)) (position (λ c. c == 34) text)
 
 -- the file that a rule lists by a line: that of which a line marker begins the first line, with those of the system or without
 abbrev pub file_listed : Bool → List ℕ → Option (List ℕ)

@@ -12,11 +12,8 @@ abbrev pub is_known : List (List ℕ) → Bool
 is_known words = list_any is_known_version words
 
 -- whether a preprocessor's words are those for device code
-abbrev pub is_architecture : List ℕ → Bool
-is_architecture word = starts_with nat_eq word (codes "-D__CUDA_ARCH__=")
-
 abbrev pub is_for_device : List (List ℕ) → Bool
-is_for_device words = list_any is_architecture words
+is_for_device words = list_any (λ word. starts_with nat_eq word (codes "-D__CUDA_ARCH__=")) words
 
 -- the places, from a number on, of the commands for devices, if `devices` holds, or of the others
 abbrev pub passes : Bool → List (List ℕ) → Bool

@@ -5,11 +5,8 @@ use Rattle.dependency_rules.specs.Asking.{RuleOf, is_name_byte}
 use Rattle.dependency_rules.specs.Markers.{begins_with_source, files_of, small_text}
 
 -- whether a file's name has no byte but plain ones and blanks. Versions of nvcc may differ in how they write others
-abbrev pub is_written_byte : ℕ → Bool
-is_written_byte byte = is_name_byte byte || byte == 32
-
 abbrev pub is_written_alike : List ℕ → Bool
-is_written_alike name = not (length name == 0) && list_all is_written_byte name
+is_written_alike name = not (length name == 0) && list_all (λ byte. is_name_byte byte || byte == 32) name
 
 -- a file's name in a rule: with a backslash before each blank
 abbrev pub escaped : ℕ → List ℕ

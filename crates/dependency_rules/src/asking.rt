@@ -99,39 +99,22 @@ fn rule_by<'a>(
 fn listing_of(flag: &str, targets: bool) -> Option<Listing>
     ensures { result ≡ spec.listing_of flag.now targets }
 {
-    match flag {
-        "-M" => Some(Listing {
-            of_system: true,
-            targets,
-        }),
-        "-MM" => Some(Listing {
-            of_system: false,
-            targets,
-        }),
-        _ => None,
-    }
+    let of_system = match flag {
+        "-M" => true,
+        "-MM" => false,
+        _ => return None,
+    };
+    Some(Listing { of_system, targets })
 }
 
-// What two flags list, of which one asks for targets.
-fn listing_of_two(one: &str, other: &str) -> Option<Listing>
-    ensures { result ≡ spec.listing_of_two one.now other.now }
-{
-    if one == "-MP" {
-        listing_of(other, true)
-    } else if other == "-MP" {
-        listing_of(one, true)
-    } else {
-        None
-    }
-}
-
-// What flags list.
+// What flags list. If there are two, one has to be `-MP`, which asks for targets.
 fn listing_by(flags: &[String]) -> Option<Listing>
     ensures { result ≡ spec.listing_by (map string_bytes flags.now) }
 {
     match flags {
         [flag] => listing_of(flag.as_str(), false),
-        [one, other] => listing_of_two(one.as_str(), other.as_str()),
+        [one, other] if one.as_str() == "-MP" => listing_of(other.as_str(), true),
+        [one, other] if other.as_str() == "-MP" => listing_of(one.as_str(), true),
         _ => None,
     }
 }
@@ -154,20 +137,13 @@ fn rule_at_end<'a>(listing: Listing, source: &'a str, words: &'a [String]) -> Op
     rule_by(listing, source, one, first, other, second)
 }
 
-// Whether a word asks for dependencies.
-fn asks_rule(word: &str) -> bool
-    ensures { result ≡ spec.asks_rule word.now }
-{
-    word.as_bytes().starts_with(b"-M")
-}
-
-// How many words are in front of the first that does.
+// How many words are in front of the first that asks for dependencies.
 fn before_flags(words: &[String]) -> usize
     ensures value { result ≡ spec.before_flags (map string_bytes words.now) }
     ensures within { result ≤ length words.now }
 {
     for (place, word) in words.iter().enumerate() {
-        if asks_rule(word.as_str()) {
+        if word.as_bytes().starts_with(b"-M") {
             return place;
         }
     }

@@ -5,7 +5,6 @@
 
 mod asking;
 mod files;
-mod markers;
 mod orders;
 mod rules;
 mod warnings;

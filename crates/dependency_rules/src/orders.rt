@@ -1,7 +1,7 @@
 //! In which order nvcc reads what the preprocessors of a plan have written.
 
 ghost use Rattle.std.specs.Prelude.{◌≡◌, ◌++◌, IfOk, OnOk, map, string_bytes, option_map, vec_items};
-ghost use Rattle.std.specs.List.{list_all, list_any};
+ghost use Rattle.std.specs.List.{list_all};
 ghost use Rattle.dependency_rules.specs.Orders as spec;
 
 use std::alloc::{AllocError, Global};
@@ -33,19 +33,7 @@ fn is_known(words: &[String]) -> bool
 fn are_known(commands: &[Words]) -> bool
     ensures { result ≡ list_all spec.is_known commands.now }
 {
-    for words in commands {
-        if !is_known(words.as_slice()) {
-            return false;
-        }
-    }
-    true
-}
-
-// Whether a word names the architecture of device code.
-fn is_architecture(word: &str) -> bool
-    ensures { result ≡ spec.is_architecture word.now }
-{
-    word.as_bytes().starts_with(b"-D__CUDA_ARCH__=")
+    commands.iter().all(|words| is_known(words.as_slice()))
 }
 
 // Whether a preprocessor's words are those for device code.
@@ -53,7 +41,7 @@ fn is_for_device(words: &[String]) -> bool
     ensures { result ≡ spec.is_for_device (map string_bytes words.now) }
 {
     for word in words {
-        if is_architecture(word.as_str()) {
+        if word.as_bytes().starts_with(b"-D__CUDA_ARCH__=") {
             return true;
         }
     }

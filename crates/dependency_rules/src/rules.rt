@@ -1,27 +1,22 @@
 //! The rule of a dependency file, as nvcc writes it.
 
-ghost use Rattle.std.specs.Prelude.{◌≡◌, ◌++◌, ◌∷◌, [], ◌<◌, IfOk, OnOk, map, option_map, vec_items};
+ghost use Rattle.std.specs.Prelude.{◌≡◌, ◌++◌, ◌<◌, ◌||◌, ◌==◌, IfOk, OnOk, map, option_map, vec_items};
 ghost use Rattle.std.specs.List.{flat_map, list_all};
-ghost use Rattle.dependency_rules.specs.Asking.{rule_of};
+ghost use Rattle.dependency_rules.specs.Asking.{is_name_byte, rule_of};
 ghost use Rattle.dependency_rules.specs.Markers as markers;
 ghost use Rattle.dependency_rules.specs.Rules as spec;
 
 use crate::asking::{Rule, is_name_byte};
-use crate::files::files_of;
-use crate::markers::begins_with_source;
+use crate::files::{begins_with_source, files_of};
 use std::alloc::{AllocError, Global};
 use texts::bytes::Bytes;
 
-fn is_written_byte(byte: u8) -> bool
-    ensures { result ≡ spec.is_written_byte byte }
-{
-    is_name_byte(byte) || byte == b' '
-}
-
 fn are_written_bytes(bytes: &[u8]) -> bool
-    ensures { result ≡ list_all spec.is_written_byte bytes.now }
+    ensures { result ≡ list_all (λ byte. is_name_byte byte || byte == 32) bytes.now }
 {
-    bytes.iter().all(|byte| is_written_byte(*byte))
+    bytes
+        .iter()
+        .all(|byte| is_name_byte(*byte) || *byte == b' ')
 }
 
 // Whether a file's name has no byte but plain ones and blanks.
@@ -111,12 +106,9 @@ fn listing_text(alloc: Global, rule: &Rule<'_>, files: &[Vec<u8>]) -> Result<Vec
 fn all_begin_with_source(source: &[u8], texts: &[Bytes]) -> bool
     ensures { result ≡ list_all (markers.begins_with_source source.now) texts.now }
 {
-    for text in texts {
-        if !begins_with_source(source, text.as_slice()) {
-            return false;
-        }
-    }
-    true
+    texts
+        .iter()
+        .all(|text| begins_with_source(source, text.as_slice()))
 }
 
 /// The text of the file that gets a rule, from what the preprocessors have written, in nvcc's order (`order_of`). The rule names the source first, and

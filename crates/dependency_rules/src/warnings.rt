@@ -1,6 +1,6 @@
 //! What nvcc says that makes a dependency file.
 
-ghost use Rattle.std.specs.Prelude.{◌≡◌, IfOk, codes, nat_eq};
+ghost use Rattle.std.specs.Prelude.{◌≡◌, IfOk};
 ghost use Rattle.std.specs.List.{starts_with};
 ghost use Rattle.dependency_rules.specs.Warnings as spec;
 

@@ -1,10 +1,10 @@
 -- What a loop over the items gathers is what the reading's filters say.
-use Rattle.std.proofs.Common.{◌≡◌, arith, ℕ, List, [], ◌∷◌, ◌++◌, Bool, true, false, cond, ◌||◌, Some, None, map, refl, ap, sym, ◌∙◌, append_assoc, append-nil, filter}
+use Rattle.std.proofs.Common.{◌≡◌, arith, ℕ, List, [], ◌∷◌, ◌++◌, Bool, true, false, cond, ◌||◌, Some, None, map, refl, sym, ◌∙◌, append_assoc, append-nil, filter}
 use Rattle.std.specs.List.{filter_map, cons_option, flat_map, list_any, fold}
 use Rattle.std.proofs.lemmas.List.Sums.{fold-append}
 use Rattle.texts.specs.declared.language.Language.{Language}
 use Rattle.compilers.specs.Outputs.{with_entry}
-use Rattle.option_items.specs.Items.{Item, words_of, kind_of}
+use Rattle.compilers.specs.Items.{Item, words_of, kind_of}
 use Rattle.device_lines.specs.declared.options.ArgData.{ArgData}
 use Rattle.device_lines.specs.declared.reader.gathered.Gathered.{Gathered}
 use Rattle.device_lines.specs.declared.reader.named_files.NamedFiles.{NamedFiles}

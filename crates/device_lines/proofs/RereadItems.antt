@@ -2,13 +2,13 @@
 use Rattle.std.proofs.Common.{◌≡◌, ℕ, List, [], ◌∷◌, ◌++◌, Bool, true, false, cond, not, ◌&&◌, Option, Some, None, refl, ap, subst, codes, is_some, option_and_then, bytes_eq, arith}
 use Rattle.std.specs.List.{AllByRecursion, fold}
 use Rattle.std.proofs.lemmas.Bool.{false≢true}
-use Rattle.option_items.specs.declared.table.ArgDisposition.{ArgDisposition}
-use Rattle.option_items.specs.declared.table.ArgDisposition.TheVariants.{Separated, Concatenated, CanBeSeparated, CanBeConcatenated}
+use Rattle.compilers.specs.declared.table.ArgDisposition.{ArgDisposition}
+use Rattle.compilers.specs.declared.table.ArgDisposition.TheVariants.{Separated, Concatenated, CanBeSeparated, CanBeConcatenated}
 use Rattle.texts.specs.Lists.{rest_after}
-use Rattle.option_items.specs.Table.{Entry, Matched, lone, joined, awaiting, matched_rest, matched, is_longer, longer_match, longest_match}
-use Rattle.option_items.specs.Items.{Item, raw, unknown_flag, flag, with_value, faulty, Said, item, option, items, said_by, said_of, unmatched_item, last_item, separate_item, joined_form, separate_form, may_stand_last, words_of}
-use Rattle.option_items.specs.WordsLaw.{is_joined, is_whole}
-use Rattle.option_items.proofs.WordsLemmas.{words-are_those_read}
+use Rattle.compilers.specs.Table.{Entry, Matched, lone, joined, awaiting, matched_rest, matched, is_longer, longer_match, longest_match}
+use Rattle.compilers.specs.Items.{Item, raw, unknown_flag, flag, with_value, faulty, Said, item, option, items, said_by, said_of, unmatched_item, last_item, separate_item, joined_form, separate_form, may_stand_last, words_of}
+use Rattle.compilers.specs.WordsLaw.{is_joined, is_whole}
+use Rattle.compilers.proofs.WordsLemmas.{words-are_those_read}
 use Rattle.device_lines.specs.declared.options.ArgData.{ArgData}
 use Rattle.device_lines.specs.declared.options.ArgData.TheVariants.{Output, PassThrough, UnhashedFlag, GenModuleIdFileFlag, ModuleIdFileName, UnhashedPassThrough, UnhashedOutput}
 use Rattle.device_lines.specs.Reread.{is_filled, AllFilled}

@@ -10,11 +10,11 @@ use Rattle.compilers.specs.declared.outputs.ArtifactDescriptor.{ArtifactDescript
 use Rattle.compilers.specs.declared.arguments.ParsedArguments.{ParsedArguments}
 use Rattle.compilers.specs.declared.command.SingleCompileCommand.{SingleCompileCommand}
 use Rattle.compilers.specs.declared.command.Cacheable.{Cacheable}
-use Rattle.option_items.specs.declared.table.ArgDisposition.TheVariants.{Separated}
+use Rattle.compilers.specs.declared.table.ArgDisposition.TheVariants.{Separated}
 use Rattle.texts.specs.Path.{is_absolute_path, joined}
 use Rattle.compilers.specs.Outputs.{entry_at}
-use Rattle.option_items.specs.Table.{Entry, longest_match}
-use Rattle.option_items.specs.Items.{Item, with_value, items, words_of}
+use Rattle.compilers.specs.Table.{Entry, longest_match}
+use Rattle.compilers.specs.Items.{Item, with_value, items, words_of}
 use Rattle.device_lines.specs.declared.options.ArgData.{ArgData}
 use Rattle.device_lines.specs.declared.options.ArgData.TheVariants.{Output}
 use Rattle.device_lines.specs.Cicc.{cicc_options}

@@ -1,12 +1,10 @@
 -- The law of rereading is false without any of its premises.
-use Rattle.std.proofs.Common.{◌≡◌, ℕ, List, [], ◌∷◌, true, false, Option, Some, codes, refl, ap, sym, ◌∙◌, arith, option_map, bytes_eq}
+use Rattle.std.proofs.Common.{◌≡◌, ℕ, List, [], ◌∷◌, true, false, Some, codes, refl, ap, sym, ◌∙◌, arith, bytes_eq}
 use Rattle.std.proofs.lemmas.Bool.{false≢true}
 use Rattle.texts.specs.declared.language.Language.TheVariants.{Ptx, CudaFE, Cubin}
-use Rattle.compilers.specs.declared.outputs.ArtifactDescriptor.{ArtifactDescriptor}
 use Rattle.compilers.specs.declared.arguments.ParsedArguments.{ParsedArguments}
-use Rattle.compilers.specs.Outputs.{entry_at}
-use Rattle.option_items.specs.Table.{longest_match}
-use Rattle.option_items.specs.Items.{items}
+use Rattle.compilers.specs.Table.{longest_match}
+use Rattle.compilers.specs.Items.{items}
 use Rattle.device_lines.specs.Cicc.{cicc_options, cicc_reading}
 use Rattle.device_lines.specs.CudaFE.{cudafe_options, cudafe_reading}
 use Rattle.device_lines.specs.Ptxas.{ptxas_options, ptxas_reading}
@@ -30,10 +28,6 @@ empty_value_is_needed law =
 -- two words that are equal as optional values
 unwrapped : (a b : List ℕ) → Some a ≡ Some b → a ≡ b
 unwrapped a b e = cc
-
--- the path of a line's output
-abbrev output_path : ParsedArguments → Option (List ℕ)
-output_path p = option_map (λ (d : ArtifactDescriptor). d.path) (entry_at (codes "obj") p.outputs)
 
 -- two readings whose outputs have different paths
 paths-differ : (a b : List ℕ) → bytes_eq a b ≡ false → bytes_eq b b ≡ true → Some (Some a) ≡ Some (Some b) → ⊥

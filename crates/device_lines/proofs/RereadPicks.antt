@@ -1,13 +1,10 @@
 -- What is picked of the items of a line, and of those that are kept of it.
-use Rattle.std.proofs.Common.{◌≡◌, ℕ, List, [], ◌∷◌, Bool, true, false, not, Option, Some, None, refl, subst, filter, codes, bytes_eq, arith}
+use Rattle.std.proofs.Common.{◌≡◌, ℕ, List, [], ◌∷◌, Bool, true, false, Option, None, refl, filter, codes, bytes_eq, arith}
 use Rattle.std.specs.List.{AllByRecursion, filter_map, list_any}
-use Rattle.std.proofs.lemmas.Bool.{false≢true}
 use Rattle.compilers.specs.declared.outputs.ArtifactDescriptor.{ArtifactDescriptor}
-use Rattle.option_items.specs.declared.table.ArgDisposition.{ArgDisposition}
 use Rattle.texts.specs.Path.{joined}
-use Rattle.option_items.specs.Table.{Entry}
-use Rattle.option_items.specs.Items.{Item, with_value, kind_of}
-use Rattle.option_items.specs.WordsLaw.{is_joined}
+use Rattle.compilers.specs.Table.{Entry}
+use Rattle.compilers.specs.Items.{Item, kind_of}
 use Rattle.device_lines.specs.declared.options.ArgData.{ArgData}
 use Rattle.device_lines.specs.Reading.{is_unhashed_kind, is_unknown, is_common, unhashed_items, made_at, output_of, is_generating, module_id_output}
 use Rattle.device_lines.proofs.RereadWords.{other-kind, unhashed-kind, common_after}
@@ -46,16 +43,6 @@ module _ (cwd : List ℕ) (P : List ℕ → Type 0) (nothing : P []) (chosen : L
   -- a file at the path of a word of which P holds
   abbrev pub AtGoodPath : ArtifactDescriptor → Type 0
   AtGoodPath d = (value : List ℕ) × P value × (d ≡ made_at false (joined cwd value))
-
-  -- under `obj` stands a file at the path of a word of the line
-  abbrev HasGoodOutput : Item ArgData → Type 0
-  HasGoodOutput i = (a : List ℕ × ArtifactDescriptor) → output_of cwd i ≡ Some a → bytes_eq (codes "obj") a.0 ≡ true → AtGoodPath a.1
-
-  apart-word : (text value : List ℕ) (kind : ArgData) (form : ArgDisposition) → not (is_joined form) ≡ true → HasGoodWords chosen P (with_value text kind value form) → P value
-  apart-word text value kind form h good = grind (arith, false≢true)
-
-  other-text : (text : List ℕ) → not (bytes_eq (codes "obj") text) ≡ true → bytes_eq (codes "obj") text ≡ true → ⊥
-  other-text text h e = false≢true (subst (λ b. not b ≡ true) e h)
 
   pub good-outputs : (is : List (Item ArgData)) → AllByRecursion (λ i. item_fits i ≡ true) is → AllByRecursion (HasGoodWords chosen P) is → AllByRecursion (λ a. bytes_eq (codes "obj") a.0 ≡ true → AtGoodPath a.1) (filter_map (output_of cwd) is)
   good-outputs [] fit good = tt

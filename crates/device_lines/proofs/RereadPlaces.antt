@@ -6,12 +6,13 @@ use Rattle.std.proofs.Math.Seq.{drop-append-add, get_or-append_seam}
 use Rattle.std.proofs.lemmas.Bool.{false≢true, and_parts}
 use Rattle.std.proofs.lemmas.Bool.Decides.{Decides-ltb, nat_tests}
 use Rattle.std.proofs.lemmas.List.{length-append, drop-append-le}
+use Rattle.std.specs.Option.{option_or}
 use Rattle.texts.specs.declared.language.Language.{Language}
 use Rattle.texts.specs.declared.language.Language.TheVariants.{C, Cxx, ObjectiveC, ObjectiveCxx, Cuda, CudaFE, Ptx, Cubin}
 use Rattle.texts.specs.Path.{is_absolute_path, separator_after, joined, lacks}
 use Rattle.texts.proofs.PathLemmas.{ends_slash, forwards, false-not_true, not-is}
 use Rattle.device_lines.proofs.RereadWords.{all-append}
-use Rattle.device_lines.specs.Reading.{is_input_word, place_from_end, place_or, input_place}
+use Rattle.device_lines.specs.Reading.{is_input_word, place_from_end, input_place}
 
 -- the first place of a list with one more element in front
 position-cons : {X : Type 0} (p : X → Bool) (x : X) (xs : List X) → position p (x ∷ xs) ≡ cond (p x) (Some 0) (option_map suc (position p xs))
@@ -92,11 +93,11 @@ pub third-last : (language : Language) (words : List (List ℕ)) (input option p
 third-last language words input option path none other away =
     let test = is_input_word language in
     let back = place_from_end 3 (length (words ++ input ∷ option ∷ path ∷ [])) in
-    elim (test input) as (λ b. test input ≡ b → place_or (position test (words ++ input ∷ option ∷ path ∷ [])) back ≡ Some (length words)) [
-      | true ↦ λ e. ap (λ o. place_or o back) (position-after test words input (option ∷ path ∷ []) none e)
+    elim (test input) as (λ b. test input ≡ b → option_or (position test (words ++ input ∷ option ∷ path ∷ [])) back ≡ Some (length words)) [
+      | true ↦ λ e. ap (λ o. option_or o back) (position-after test words input (option ∷ path ∷ []) none e)
       | false ↦ λ e.
           let nowhere = position-none test (words ++ input ∷ option ∷ path ∷ []) (all-append (λ w. test w ≡ false) words (input ∷ option ∷ path ∷ []) none (e, (other, (away, tt)))) in
-          ap (λ o. place_or o back) nowhere ∙ from-end 3 (length words) (length (words ++ input ∷ option ∷ path ∷ [])) (omega arith) (length-append words (input ∷ option ∷ path ∷ []))
+          ap (λ o. option_or o back) nowhere ∙ from-end 3 (length words) (length (words ++ input ∷ option ∷ path ∷ [])) (omega arith) (length-append words (input ∷ option ∷ path ∷ []))
     ] refl
 
 -- the input of a cudafe++ line that is written with it as the last word

@@ -5,10 +5,10 @@ use Rattle.std.specs.List.{AllByRecursion, flat_map}
 use Rattle.std.proofs.lemmas.Bool.{false≢true}
 use Rattle.std.proofs.lemmas.Grind.{flat_map-append}
 use Rattle.std.proofs.lemmas.List.Elements.{filter-append}
-use Rattle.option_items.specs.Table.{Entry}
-use Rattle.option_items.specs.Items.{Item, items, words_of, kind_of}
-use Rattle.option_items.specs.WordsLaw.{is_whole, IsReadOver}
-use Rattle.option_items.proofs.WordsLemmas.{lists-read_back, lines-hold_read_items}
+use Rattle.compilers.specs.Table.{Entry}
+use Rattle.compilers.specs.Items.{Item, items, words_of, kind_of}
+use Rattle.compilers.specs.WordsLaw.{is_whole, IsReadOver}
+use Rattle.compilers.proofs.WordsLemmas.{lists-read_back, lines-hold_read_items}
 use Rattle.device_lines.specs.declared.options.ArgData.{ArgData}
 use Rattle.device_lines.specs.declared.options.ArgData.TheVariants.{Output, PassThrough, UnhashedFlag, GenModuleIdFileFlag, ModuleIdFileName, UnhashedPassThrough, UnhashedOutput}
 use Rattle.device_lines.specs.Reading.{is_unhashed_kind, is_unknown, beside, is_common, common_items, unhashed_items}

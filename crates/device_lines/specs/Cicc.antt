@@ -3,7 +3,7 @@ use Rattle.std.specs.Prelude.{ℕ, List, [], ◌∷◌, Option, codes}
 use Rattle.compilers.specs.declared.arguments.ParsedArguments.{ParsedArguments}
 use Rattle.texts.specs.declared.language.Language.TheVariants.{Ptx}
 use Rattle.compilers.specs.Compiler.{Reading}
-use Rattle.option_items.specs.Table.{Entry, longest_match}
+use Rattle.compilers.specs.Table.{Entry, longest_match}
 use Rattle.device_lines.specs.declared.options.ArgData.{ArgData}
 use Rattle.device_lines.specs.declared.options.ArgData.TheVariants.{Output, PassThrough, GenModuleIdFileFlag, ModuleIdFileName, UnhashedOutput}
 use Rattle.device_lines.specs.Options.{plain_flag, separated}

@@ -1,5 +1,5 @@
 -- Lines that are read and written back, worked out by hand.
-use Rattle.std.proofs.Common.{◌≡◌, ℕ, List, [], ◌∷◌, ◌++◌, false, Option, Some, None, Result, Ok, Err, codes, refl}
+use Rattle.std.proofs.Common.{◌≡◌, ℕ, List, [], ◌∷◌, ◌++◌, false, Option, Some, None, Result, Ok, Err, codes}
 use Rattle.texts.specs.declared.language.Language.TheVariants as languages
 use Rattle.compilers.specs.declared.command.SingleCompileCommand.{SingleCompileCommand}
 use Rattle.compilers.specs.declared.command.Cacheable.{Cacheable}
@@ -44,26 +44,17 @@ DeviceCodeLineIsRead =
       extra_hash_files = spaced "./kernel.module_id";
     })
 
-pub device_code_line_is_read : DeviceCodeLineIsRead
-device_code_line_is_read = refl
-
 -- the device-code line: the input moves after the other words, and the output's path is joined
 abbrev pub DeviceCodeLine : Type 0
 DeviceCodeLine =
     cicc_written_back (codes "/w") device_code_words ≡
     Some (Ok (spaced "--device-c -arch compute_80 --module_id_file_name kernel.module_id --simt-only kernel.cpp1.ii -o /w/kernel.ptx"))
 
-pub device_code_line : DeviceCodeLine
-device_code_line = refl
-
 -- the input is cut out first, so that the word after it follows the one before it: `bar` is the value of `-foo`, and `baz` is dropped
 abbrev pub InputIsCutOutFirst : Type 0
 InputIsCutOutFirst =
     cicc_written_back (codes "/w") (spaced "-foo k.cpp1.ii bar baz -o p") ≡
     Some (Ok (spaced "-foo bar k.cpp1.ii -o /w/p"))
-
-pub input_is_cut_out_first : InputIsCutOutFirst
-input_is_cut_out_first = refl
 
 -- two words, and no word, where the input would be the third from the end
 abbrev pub ShortLineIsNoCompilation : Type 0
@@ -73,18 +64,12 @@ ShortLineIsNoCompilation =
     × (ptxas_reading (codes "/w") [] ≡ None)
     × (cudafe_reading (codes "/w") [] ≡ None)
 
-pub short_line_is_no_compilation : ShortLineIsNoCompilation
-short_line_is_no_compilation = (refl, refl, refl, refl)
-
 -- of three words none of which ends like an input, the first is the third from the end; the others are dropped as raw
 -- words, and no output is left
 abbrev pub ThirdWordFromTheEndIsTheInput : Type 0
 ThirdWordFromTheEndIsTheInput =
     (cicc_reading (codes "/w") (spaced "a b c") ≡ Some (plain_arguments (codes "a") languages.Ptx []))
     × (cicc_written_back (codes "/w") (spaced "a b c") ≡ Some (Err (MissingOutput languages.Ptx)))
-
-pub third_word_from_the_end_is_the_input : ThirdWordFromTheEndIsTheInput
-third_word_from_the_end_is_the_input = (refl, refl)
 
 -- each of the three tools drops a last option without its value, and writes nothing back without an output
 abbrev pub FaultyItemIsDropped : Type 0
@@ -93,9 +78,6 @@ FaultyItemIsDropped =
     × (words_back cicc_words (codes "/w") (ptxas_reading (codes "/w") (spaced "k.ptx -o")) ≡ Some (Err (MissingOutput languages.Cubin)))
     × (words_back cudafe_words (codes "/w") (cudafe_reading (codes "/w") (spaced "--module_id_file_name x.cpp4.ii"))
     ≡ Some (Err (MissingOutput languages.CudaFE)))
-
-pub faulty_item_is_dropped : FaultyItemIsDropped
-faulty_item_is_dropped = (refl, refl, refl)
 
 -- a cudafe++ line at `/t`: the module id file is its main output, and the other file that it writes is recorded under its
 -- option; the stub file isn't
@@ -110,6 +92,3 @@ HostLineIsRead =
       common_args = spaced "--gen_module_id_file --simt-only";
       unhashed_args = spaced "--gen_c_file_name x_0.cudafe1.cpp --stub_file_name x_0.cudafe1.stub.c";
     })
-
-pub host_line_is_read : HostLineIsRead
-host_line_is_read = refl

@@ -1,11 +1,11 @@
 -- What the reader of device tools' lines has gathered, and how one more item changes it.
-use Rattle.std.specs.Prelude.{ℕ, List, [], ◌++◌, Bool, false, ◌||◌, if◌then◌else◌, Option, Some, None, is_some, fold}
+use Rattle.std.specs.Prelude.{ℕ, List, [], ◌++◌, false, ◌||◌, if◌then◌else◌, Option, Some, None, fold}
 use Rattle.compilers.specs.declared.arguments.ParsedArguments.{ParsedArguments}
 use Rattle.texts.specs.declared.language.Language.{Language}
 use Rattle.compilers.specs.declared.outputs.ArtifactDescriptor.{ArtifactDescriptor}
 use Rattle.compilers.specs.Outputs.{with_entry}
 use Rattle.compilers.specs.Arguments.{plain_arguments}
-use Rattle.option_items.specs.Items.{Item, words_of, kind_of}
+use Rattle.compilers.specs.Items.{Item, words_of, kind_of}
 use Rattle.device_lines.specs.declared.options.ArgData.{ArgData}
 use Rattle.device_lines.specs.declared.reader.gathered.Gathered.{Gathered}
 use Rattle.device_lines.specs.declared.reader.named_files.NamedFiles.{NamedFiles}
@@ -23,10 +23,6 @@ nothing_gathered = record { common = []; unhashed = []; files = no_files; after_
 abbrev pub with_output : List (List ℕ × ArtifactDescriptor) → Option (List ℕ × ArtifactDescriptor) → List (List ℕ × ArtifactDescriptor)
 with_output outputs None = outputs
 with_output outputs (Some e) = with_entry outputs e
-
--- whether an item is an option of the table
-abbrev pub is_option : Item ArgData → Bool
-is_option i = is_some (kind_of i)
 
 -- the files of one more item
 abbrev pub with_files_of : List ℕ → NamedFiles → Item ArgData → NamedFiles

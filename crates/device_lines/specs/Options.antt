@@ -1,7 +1,7 @@
 -- The forms of the device tools' options.
 use Rattle.std.specs.Prelude.{ℕ, List, Some, None}
-use Rattle.option_items.specs.declared.table.ArgDisposition.TheVariants.{Separated}
-use Rattle.option_items.specs.Table.{Entry}
+use Rattle.compilers.specs.declared.table.ArgDisposition.TheVariants.{Separated}
+use Rattle.compilers.specs.Table.{Entry}
 use Rattle.device_lines.specs.declared.options.ArgData.{ArgData}
 
 -- an option without a value, and one whose value is the next word

@@ -2,9 +2,9 @@
 use Rattle.std.specs.Prelude.{ℕ, List, [], ◌∷◌, Option, Some, codes}
 use Rattle.compilers.specs.declared.arguments.ParsedArguments.{ParsedArguments}
 use Rattle.texts.specs.declared.language.Language.TheVariants.{Cubin}
-use Rattle.option_items.specs.declared.table.ArgDisposition.TheVariants.{CanBeSeparated}
+use Rattle.compilers.specs.declared.table.ArgDisposition.TheVariants.{CanBeSeparated}
 use Rattle.compilers.specs.Compiler.{Reading}
-use Rattle.option_items.specs.Table.{Entry, longest_match}
+use Rattle.compilers.specs.Table.{Entry, longest_match}
 use Rattle.device_lines.specs.declared.options.ArgData.{ArgData}
 use Rattle.device_lines.specs.declared.options.ArgData.TheVariants.{Output, PassThrough}
 use Rattle.device_lines.specs.Options.{separated}

@@ -1,6 +1,7 @@
 -- How the lines of device tools are read: cicc, cudafe++ and ptxas share this.
 use Rattle.std.specs.Prelude.{ℕ, ◌-◌, List, [], ◌∷◌, ◌++◌, Bool, true, false, ◌&&◌, ◌||◌, if◌then◌else◌, nat_lt, nat_le, Option, Some, None, length, map, position, filter, codes, slice_index_or, option_map, option_to_list}
 use Rattle.std.specs.List.{filter_map, flat_map, list_any, remove}
+use Rattle.std.specs.Option.{option_or}
 use Rattle.texts.specs.declared.language.Language.{Language}
 use Rattle.texts.specs.declared.language.Language.TheVariants.{Ptx, Cubin}
 use Rattle.compilers.specs.declared.outputs.ArtifactDescriptor.{ArtifactDescriptor}
@@ -11,8 +12,8 @@ use Rattle.texts.specs.Lists.{last_of}
 use Rattle.texts.specs.Path.{joined}
 use Rattle.compilers.specs.Outputs.{entries_from}
 use Rattle.compilers.specs.Compiler.{Reading, accepted, not_compilation}
-use Rattle.option_items.specs.Table.{Entry, longest_match}
-use Rattle.option_items.specs.Items.{Item, raw, unknown_flag, items, words_of, kind_of, text_of, value_of}
+use Rattle.compilers.specs.Table.{Entry, longest_match}
+use Rattle.compilers.specs.Items.{Item, raw, unknown_flag, items, words_of, kind_of, text_of, value_of}
 use Rattle.device_lines.specs.declared.options.ArgData.{ArgData}
 use Rattle.device_lines.specs.declared.options.ArgData.TheVariants.{Output, PassThrough, UnhashedFlag, GenModuleIdFileFlag, ModuleIdFileName, UnhashedPassThrough, UnhashedOutput}
 
@@ -26,14 +27,9 @@ is_input_word _ word = false
 abbrev pub place_from_end : ℕ → ℕ → Option ℕ
 place_from_end offset count = if nat_lt 0 offset && nat_le offset count then Some (count - offset) else None
 
--- a position, or another one if there is none
-abbrev pub place_or : Option ℕ → Option ℕ → Option ℕ
-place_or (Some place) other = Some place
-place_or None other = other
-
 -- the position of the input: of the first word that ends like it, else by the offset from the end
 abbrev pub input_place : Language → ℕ → List (List ℕ) → Option ℕ
-input_place language offset words = place_or (position (is_input_word language) words) (place_from_end offset (length words))
+input_place language offset words = option_or (position (is_input_word language) words) (place_from_end offset (length words))
 
 -- the kinds whose words are common, and those whose words are unhashed
 abbrev pub is_common_kind : Option ArgData → Bool

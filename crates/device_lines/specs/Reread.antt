@@ -7,9 +7,9 @@ use Rattle.compilers.specs.declared.arguments.ParsedArguments.{ParsedArguments}
 use Rattle.compilers.specs.declared.command.SingleCompileCommand.{SingleCompileCommand}
 use Rattle.compilers.specs.declared.command.Cacheable.{Cacheable}
 use Rattle.texts.specs.Path.{is_absolute_path}
-use Rattle.option_items.specs.Table.{Entry, longest_match}
-use Rattle.option_items.specs.Items.{Item, faulty, items, words_of}
-use Rattle.option_items.specs.WordsLaw.{is_whole}
+use Rattle.compilers.specs.Table.{Entry, longest_match}
+use Rattle.compilers.specs.Items.{Item, faulty, items, words_of}
+use Rattle.compilers.specs.WordsLaw.{is_whole}
 use Rattle.device_lines.specs.declared.options.ArgData.{ArgData}
 use Rattle.device_lines.specs.Cicc.{cicc_options}
 use Rattle.device_lines.specs.CudaFE.{cudafe_options}

@@ -1,6 +1,6 @@
 -- Lines that are written back and read again, worked out by hand: lines of the law, and for each tool and each of its
 -- premises a line without it that isn't read as the same.
-use Rattle.std.specs.Prelude.{◌≡◌, ℕ, List, ◌++◌, Option, Some, Ok, Err, codes, refl, option_map}
+use Rattle.std.specs.Prelude.{◌≡◌, ℕ, List, ◌++◌, Option, Some, Ok, Err, codes, option_map}
 use Rattle.texts.specs.declared.language.Language.TheVariants.{Cubin}
 use Rattle.texts.specs.declared.fault.Fault.TheVariants.{MissingOutput}
 use Rattle.compilers.specs.declared.arguments.ParsedArguments.{ParsedArguments}
@@ -23,9 +23,6 @@ DeviceCodeLineRereads =
     device_code_words
     (spaced "--device-c -arch compute_80 --module_id_file_name kernel.module_id --simt-only kernel.cpp1.ii -o /w/kernel.ptx")
 
-pub device_code_line_rereads : DeviceCodeLineRereads
-device_code_line_rereads = (refl, refl)
-
 -- a cudafe++ line of a dry run with canonical names: the module id file moves after the unhashed words
 abbrev pub RenamedHostLineRereads : Type 0
 RenamedHostLineRereads =
@@ -34,9 +31,6 @@ RenamedHostLineRereads =
     ++ spaced "--module_id_file_name kernel.module_id --simt-only x_0.cpp4.ii")
     (spaced "--gen_module_id_file --simt-only --gen_c_file_name x_0.cudafe1.cpp --stub_file_name x_0.cudafe1.stub.c"
     ++ spaced "--module_id_file_name /t/kernel.module_id x_0.cpp4.ii")
-
-pub renamed_host_line_rereads : RenamedHostLineRereads
-renamed_host_line_rereads = (refl, refl)
 
 -- a cudafe++ line as nvcc 13.0 prints it
 abbrev pub HostLineRereads : Type 0
@@ -51,9 +45,6 @@ HostLineRereads =
     ++ spaced "--gen_module_id_file --gen_c_file_name kernel.cudafe1.cpp --stub_file_name kernel.cudafe1.stub.c"
     ++ spaced "--module_id_file_name /t/kernel.module_id kernel.cpp4.ii")
 
-pub host_line_rereads : HostLineRereads
-host_line_rereads = (refl, refl)
-
 -- a ptxas line as nvcc 13.0 prints it: `-m64` is an unknown flag, since `-m` takes its value after `=`
 abbrev pub AssemblerLineRereads : Type 0
 AssemblerLineRereads =
@@ -61,19 +52,12 @@ AssemblerLineRereads =
     (spaced "-arch=sm_80 -m64 kernel.ptx -o kernel.sm_80.cubin")
     (spaced "-arch=sm_80 -m64 kernel.ptx -o /t/kernel.sm_80.cubin")
 
-pub assembler_line_rereads : AssemblerLineRereads
-unfolding lib.Utf8.encode
-assembler_line_rereads = (refl, refl)
-
 -- An empty value that is joined loses its `=`, so its option takes the next word as its value. Once the input is cut out,
 -- that is `-o`. Read again, the line has no output and can't be written back.
 abbrev pub EmptyValueIsLost : Type 0
 EmptyValueIsLost =
     (words_back cicc_words (codes "/w") (ptxas_reading (codes "/w") (spaced "-arch= k.ptx -o k.cubin")) ≡ Some (Ok (spaced "-arch k.ptx -o /w/k.cubin")))
     × (words_back cicc_words (codes "/w") (ptxas_reading (codes "/w") (spaced "-arch k.ptx -o /w/k.cubin")) ≡ Some (Err (MissingOutput Cubin)))
-
-pub empty_value_is_lost : EmptyValueIsLost
-empty_value_is_lost = (refl, refl)
 
 -- a line is written back as other words, and another word of these is the input
 abbrev pub ChangesItsInput : (List (List ℕ) → Option ParsedArguments) → List (List ℕ) → List (List ℕ) → List ℕ → List ℕ → Type 0
@@ -94,9 +78,6 @@ SecondInputComesFirst =
     (spaced "-x a.cpp1.ii b.cpp1.ii -o c")
     (spaced "-x b.cpp1.ii a.cpp1.ii -o /w/c")
     (codes "a.cpp1.ii") (codes "b.cpp1.ii")
-
-pub second_input_comes_first : SecondInputComesFirst
-second_input_comes_first = ((refl, refl, refl), (refl, refl, refl))
 
 -- a line at the working directory `.` is written back as other words, and these again as others
 abbrev pub ChangesTwice : (List (List ℕ) → Option ParsedArguments)
@@ -119,6 +100,3 @@ RelativeFolderIsJoinedTwice =
     (spaced "--module_id_file_name p x")
     (spaced "--module_id_file_name ./p x")
     (spaced "--module_id_file_name ././p x")
-
-pub relative_folder_is_joined_twice : RelativeFolderIsJoinedTwice
-relative_folder_is_joined_twice = ((refl, refl), (refl, refl), (refl, refl))

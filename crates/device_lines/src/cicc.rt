@@ -1,7 +1,7 @@
 //! The command lines of cicc, which compiles preprocessed device code to PTX.
 
-ghost use Rattle.std.specs.Prelude.{◌≡◌, None, Err, map, codes, IfOk};
-ghost use Rattle.option_items.specs.Table.{entry_of};
+ghost use Rattle.std.specs.Prelude.{◌≡◌, None, Err, map, codes};
+ghost use Rattle.compilers.specs.Table.{entry_of};
 ghost use Rattle.texts.specs.Variables.{pair_of};
 ghost use Rattle.compilers.specs.Outputs.{entry_at};
 ghost use Rattle.compilers.specs.Command.{written};
@@ -16,14 +16,13 @@ pub use crate::reader::parse_arguments;
 use crate::writer::option_words;
 use compilers::arguments::ParsedArguments;
 use compilers::command::{Cacheable, SingleCompileCommand};
-use option_items::table::{ArgInfo, SEPARATED, Table};
-use std::alloc::{AllocError, Global};
+use compilers::table::{ArgInfo, SEPARATED, Table};
+use std::alloc::Global;
 pub use texts::device_files::{
     CICC_INPUT_SUFFIX, PTXAS_INPUT_SUFFIX, is_cicc_input, is_ptxas_input,
 };
 use texts::fault::Fault;
 use texts::text::Text;
-use texts::words::Words;
 
 /// cicc's options, as in sccache 0.19.0's table.
 pub const ARGS: [ArgInfo<ArgData>; 7] = [
@@ -47,16 +46,6 @@ pub fn table() -> Table<'static, ArgData>
     Table { rows: &ARGS }
 }
 
-// The words of a cicc or ptxas line.
-fn line_words(alloc: Global, parsed_args: &ParsedArguments, obj: &str) -> Result<Words, AllocError>
-    ensures { IfOk result (λ w. w ≡ words.cicc_words parsed_args.now obj.now) }
-{
-    let mut words = option_words(alloc, parsed_args)?;
-    words.push_str(alloc, parsed_args.input.as_str())?;
-    words.push_pair(alloc, "-o", obj)?;
-    Ok(words)
-}
-
 /// Writes the arguments of a cicc or ptxas line back as a cacheable command. Its words are the common ones, the
 /// unhashed ones, the input, `-o` and the output's path; the other parts are copied.
 ///
@@ -74,7 +63,9 @@ pub fn generate_compile_commands(
         → result ≡ Err (MissingOutput parsed_args.now.language) }
 {
     let obj = parsed_args.obj()?;
-    let words = line_words(alloc, parsed_args, obj.path.as_str())?;
+    let mut words = option_words(alloc, parsed_args)?;
+    words.push_str(alloc, parsed_args.input.as_str())?;
+    words.push_pair(alloc, "-o", obj.path.as_str())?;
     let command = SingleCompileCommand::copy_of(alloc, executable, words, cwd, env_vars)?;
     Ok((command, Cacheable::Yes))
 }

@@ -1,7 +1,7 @@
 //! The command lines of cudafe++, which separates host code from device code.
 
 ghost use Rattle.std.specs.Prelude.{◌≡◌, None, Err, map, codes, IfOk};
-ghost use Rattle.option_items.specs.Table.{entry_of};
+ghost use Rattle.compilers.specs.Table.{entry_of};
 ghost use Rattle.texts.specs.Variables.{pair_of};
 ghost use Rattle.compilers.specs.Outputs.{entry_at};
 ghost use Rattle.compilers.specs.Command.{written};
@@ -14,7 +14,7 @@ use crate::options::ArgData;
 use crate::writer::option_words;
 use compilers::arguments::ParsedArguments;
 use compilers::command::{Cacheable, SingleCompileCommand};
-use option_items::table::{ArgInfo, SEPARATED, Table};
+use compilers::table::{ArgInfo, SEPARATED, Table};
 use std::alloc::{AllocError, Global};
 use texts::fault::Fault;
 use texts::text::Text;

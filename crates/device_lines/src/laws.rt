@@ -2,7 +2,7 @@
 
 ghost use Rattle.std.specs.Prelude.{List, ℕ, Option};
 ghost use Rattle.texts.specs.Equality.{TellsEqual};
-ghost use Rattle.option_items.specs.Table.{Entry};
+ghost use Rattle.compilers.specs.Table.{Entry};
 ghost use Rattle.device_lines.specs.declared.options.ArgData as options;
 ghost use Rattle.device_lines.specs.DeviceExamples.{DeviceCodeLineIsRead, DeviceCodeLine, InputIsCutOutFirst, ShortLineIsNoCompilation, ThirdWordFromTheEndIsTheInput, FaultyItemIsDropped, HostLineIsRead};
 ghost use Rattle.device_lines.specs.Reread as spec;

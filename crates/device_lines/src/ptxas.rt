@@ -1,11 +1,11 @@
 //! The command lines of ptxas, which assembles PTX to machine code.
 
 ghost use Rattle.std.specs.Prelude.{◌≡◌, map};
-ghost use Rattle.option_items.specs.Table.{entry_of};
+ghost use Rattle.compilers.specs.Table.{entry_of};
 ghost use Rattle.device_lines.specs.Ptxas as spec;
 
 use crate::options::ArgData;
-use option_items::table::{ArgInfo, EITHER_WAY_OR_EQUALS, SEPARATED, Table};
+use compilers::table::{ArgInfo, EITHER_WAY_OR_EQUALS, SEPARATED, Table};
 use texts::text::Text;
 
 /// ptxas's options, as in sccache 0.19.0's table.

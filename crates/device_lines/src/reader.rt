@@ -10,10 +10,10 @@ mod named_files;
 
 use crate::options::ArgData;
 use compilers::arguments::{CompilerArguments, ParsedArguments};
+use compilers::items::Line;
+use compilers::table::SearchableArgInfo;
 use gathered::Gathered;
 pub use line_files::{LineFiles, line_files_of};
-use option_items::items::Line;
-use option_items::table::SearchableArgInfo;
 use std::alloc::{AllocError, Global};
 use texts::device_files::{is_cicc_input, is_ptxas_input};
 use texts::language::Language;

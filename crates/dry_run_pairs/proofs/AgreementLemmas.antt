@@ -3,6 +3,7 @@ use Rattle.std.proofs.Common.{◌≡◌, ℕ, Bool, true, false, ◌&&◌, cond,
 use Rattle.std.specs.List.Sorted.{IsPermutation}
 use Rattle.std.specs.Str.{bytes_eq}
 use Rattle.std.proofs.lemmas.Slice.Eq.{bytes_eq-Decides}
+use Rattle.std.proofs.lemmas.Bool.{and_parts}
 use Rattle.std.proofs.lemmas.List.Sorted.{IsPermutation-refl, IsPermutation-cons, IsPermutation-trans, IsPermutation-sym, IsPermutation-middle}
 use Rattle.std.specs.List.{remove}
 use Rattle.std.proofs.lemmas.List.{drop_more}
@@ -44,12 +45,8 @@ same-order [] [] e = IsPermutation-refl []
 same-order [] (other ∷ others) e = absurd (cc)
 same-order (line ∷ lines) others e = same-next line lines others (without_one line others) refl e (λ rest q. same-order lines rest q)
 
-second-of : (a b : Bool) → (a && b) ≡ true → b ≡ true
-second-of true b h = h
-second-of false b h = absurd (cc)
-
 pub agreement-orders : AgreementOrders
-agreement-orders call of_line of_plan h = same-order (forms_of call of_line) (forms_of call of_plan) (second-of _ _ h)
+agreement-orders call of_line of_plan h = same-order (forms_of call of_line) (forms_of call of_plan) (and_parts _ _ h).1
 
 -- a search that comes to the line
 pub one-here : (line : List ℕ) (lines : List (List ℕ)) (i : ℕ) (d : List ℕ) → i < length lines → without_one line lines ≡ option_map (λ rest. take i lines ++ rest) (without_one line (drop i lines))

@@ -45,19 +45,12 @@ fn folders_of(alloc: Global, call: &Comparison<'_>) -> Result<Vec<Bytes>, AllocE
     Ok(folders)
 }
 
-// Whether a text holds a quote.
-fn has_quote(text: &[u8]) -> bool
-    ensures { result ≡ list_any (λ c. c == 34) text.now }
-{
-    text.contains(&b'"')
-}
-
 // Whether a text is the end of a command that prints to files.
 fn is_printing(text: &[u8]) -> bool
     ensures { result ≡ spec.is_printing text.now }
 {
     text.starts_with(b" > ")
-        && !has_quote(text)
+        && !text.contains(&b'"')
         && holds(text, b"_stdout 2>")
         && text.ends_with(b"_stderr")
 }
@@ -153,46 +146,18 @@ fn form_of_text(alloc: Global, folders: &[Bytes], text: &[u8]) -> Result<Bytes, 
     Ok(Bytes::from_vec(form))
 }
 
-// Adds the form of a line, if it counts.
-fn push_form(
-    alloc: Global,
-    forms: &mut Vec<Bytes>,
-    call: &Comparison<'_>,
-    folders: &[Bytes],
-    line: &[u8],
-) -> Result<(), AllocError>
-    ensures { OnOk result (forms.new.items ≡ forms.old.items ++ option_to_list (option_map (spec.form_of_text folders.now) (spec.counted (spec.call_of call.now) line.now))) }
-{
-    if let Some(text) = counted(call, line) {
-        forms.push(form_of_text(alloc, folders, text)?)?;
-    }
-    Ok(())
-}
-
-// Adds the forms of a dry run's lines, in order.
-fn push_forms(
-    alloc: Global,
-    forms: &mut Vec<Bytes>,
-    call: &Comparison<'_>,
-    folders: &[Bytes],
-    run: &[u8],
-) -> Result<(), AllocError>
-    ensures { OnOk result (forms.new.items ≡ forms.old.items ++ spec.forms_in (spec.call_of call.now) folders.now run.now) }
-{
-    let mut rest = run;
-    while let Some((line, others)) = first_line(rest) {
-        push_form(alloc, forms, call, folders, line)?;
-        rest = others;
-    }
-    Ok(())
-}
-
 // The forms of a dry run's lines, in order.
 pub fn forms_of(alloc: Global, call: &Comparison<'_>, run: &[u8]) -> Result<Vec<Bytes>, AllocError>
     ensures { IfOk result (λ forms. forms.items ≡ spec.forms_of (spec.call_of call.now) run.now) }
 {
     let folders = folders_of(alloc, call)?;
     let mut forms = Vec::new(alloc);
-    push_forms(alloc, &mut forms, call, folders.as_slice(), run)?;
+    let mut rest = run;
+    while let Some((line, others)) = first_line(rest) {
+        if let Some(text) = counted(call, line) {
+            forms.push(form_of_text(alloc, folders.as_slice(), text)?)?;
+        }
+        rest = others;
+    }
     Ok(forms)
 }

@@ -15,17 +15,6 @@ fn opens_name(byte: u8) -> bool
     byte == b'"' || byte == b'='
 }
 
-// What follows a directory that a name begins with, or the name if it doesn't.
-fn below<'a>(name: &'a [u8], folder: &[u8]) -> &'a [u8]
-    ensures rest { result.now ≡ spec.below folder.now name.now }
-    ensures less { length result.now ≤ length name.now }
-{
-    match behind(name, folder) {
-        None => name,
-        Some(rest) => rest,
-    }
-}
-
 // How many bytes of directories a name begins with.
 fn folder_front(folders: &[Bytes], name: &[u8]) -> usize
     ensures value { result ≡ spec.folder_front folders.now name.now }
@@ -33,15 +22,9 @@ fn folder_front(folders: &[Bytes], name: &[u8]) -> usize
 {
     let mut rest = name;
     for folder in folders {
-        rest = below(rest, folder.as_slice());
+        rest = behind(rest, folder.as_slice()).unwrap_or(rest);
     }
     name.len() - rest.len()
-}
-
-fn is_digit(byte: u8) -> bool
-    ensures { result ≡ spec.is_digit byte }
-{
-    byte.is_ascii_digit()
 }
 
 fn is_hex_digit(byte: u8) -> bool
@@ -69,7 +52,7 @@ fn past_digits(text: &[u8]) -> &[u8]
     ensures less { length result.now ≤ length text.now }
 {
     for (at, byte) in text.iter().enumerate() {
-        if !is_digit(*byte) {
+        if !byte.is_ascii_digit() {
             return &text[at..];
         }
     }
@@ -130,18 +113,6 @@ fn front(temporaries: bool, folders: &[Bytes], name: &[u8]) -> usize
     }
 }
 
-// The same, if a name begins here.
-fn count_at(opens: bool, temporaries: bool, folders: &[Bytes], text: &[u8]) -> usize
-    ensures value { result ≡ spec.count_at (spec.front_of temporaries folders.now) opens text.now }
-    ensures within { result ≤ length text.now }
-{
-    if opens {
-        front(temporaries, folders, text)
-    } else {
-        0
-    }
-}
-
 // Adds a text without what is taken out in front of its names.
 pub fn push_bare(
     out: &mut Vec<u8>,
@@ -154,7 +125,11 @@ pub fn push_bare(
     let mut rest = text;
     let mut opens = false;
     while let Some((byte, others)) = rest.split_first() {
-        let count = count_at(opens, temporaries, folders, rest);
+        let count = if opens {
+            front(temporaries, folders, rest)
+        } else {
+            0
+        };
         if count == 0 {
             out.push(*byte)?;
             opens = opens_name(*byte);

@@ -1,26 +1,91 @@
--- A run that is read up to its first bad line, and what the look-ups of a parsed one make of it.
-use Rattle.std.proofs.Common.{◌≡◌, ℕ, ◌+◌, List, [], ◌∷◌, ◌++◌, Option, Some, Result, Ok, Err, refl, ap, sym, ◌∙◌, append_assoc, append-nil, codes, unwrap_or, arith}
+-- What the lines of a dry run say, within a limit or without, up to the first bad one.
+use Rattle.std.proofs.Common.{◌≡◌, ℕ, List, arith, ◌+◌, ◌∷◌, Option, Some, None, Result, Ok, Err, ap, subst, IfOk, option_map, [], ◌++◌, refl, sym, ◌∙◌, append_assoc, append-nil, codes, unwrap_or}
 use Rattle.std.specs.List.{enumerate_from}
+use Rattle.std.specs.Str.{IsUtf8}
 use Rattle.std.specs.Str.Lines.{lines}
+use Rattle.std.specs.declared.alloc.AllocError.{AllocError}
+use Rattle.std.proofs.lemmas.Str.{IsUtf8-from_is_utf8, is_utf8-from_IsUtf8}
 use Rattle.texts.specs.declared.fault.Fault.{Fault}
+use Rattle.compilers.specs.CommandLines.{CommandLine}
 use Rattle.texts.specs.Fault.{UnlessMemory}
 use Rattle.texts.specs.Variables.{first_value}
 use Rattle.texts.proofs.RestLemmas.{rest_after-append}
-use Rattle.dry_runs.specs.declared.limit.LimitedFault.{LimitedFault}
-use Rattle.dry_runs.specs.declared.limit.LimitedFault.TheVariants.{TooLong}
-use Rattle.dry_runs.specs.declared.limit.LimitedFault.TheVariants as limited
-use Rattle.dry_runs.specs.declared.parsed.ParsedRun.{ParsedRun}
-use Rattle.dry_runs.specs.declared.reader.Said.{Said}
-use Rattle.dry_runs.specs.declared.statement.Statement.{Statement}
-use Rattle.command_lines.specs.CommandLines.{CommandLine}
-use Rattle.dry_runs.specs.DryRun.{LookUp, Meaning, Ignored, Assigns, Runs, Bad, meaning, meanings, environment_after, run_of_meanings, run_or_fault}
-use Rattle.dry_runs.specs.DryRunLines.{numbered_lines}
+use Rattle.dry_runs.specs.DryRun.{LookUp, meaning, environment_after, fault_of, Meaning, Ignored, Assigns, Runs, Bad, meanings, run_of_meanings, run_or_fault}
 use Rattle.dry_runs.specs.Environment.{Variable}
-use Rattle.dry_runs.specs.Limit.{UnlessMemoryWithin, first_too_long, left_behind_line, dry_run_within}
+use Rattle.dry_runs.specs.Reading.{meaning_stated, said_next, next_within, next_held, found_or_fault, said_parsed, said_ended}
+use Rattle.dry_runs.specs.Statement.{stated, stated_assigned, stated_by_words}
+use Rattle.dry_runs.specs.declared.reader.Said.{Said}
+use Rattle.dry_runs.specs.declared.limit.LimitedFault.TheVariants.{TooLong}
+use Rattle.dry_runs.specs.declared.statement.Statement.{Statement}
+use Rattle.dry_runs.specs.declared.statement.Statement.TheVariants.{NotUtf8}
+use Rattle.dry_runs.specs.DryRunLines.{marked_text, numbered_lines}
+use Rattle.dry_runs.specs.Limit.{expanded_within, words_left, left_assigned, stated_marked_within, stated_within, left_behind_line, too_long_from, first_too_long, answer_within, UnlessMemoryWithin, dry_run_within}
+use Rattle.dry_runs.proofs.ExpansionLemmas.{within-expanded}
+use Rattle.dry_runs.specs.declared.limit.LimitedFault.{LimitedFault}
+use Rattle.dry_runs.specs.declared.parsed.ParsedRun.{ParsedRun}
 use Rattle.dry_runs.specs.Parsed.{question_of, program_in, path_of, with_line, run_of_lines, lines_read, unless_long, lines_read_within, unless_bad, whole, whole_in, behind_found, found_commands, unless_missing, parsed_of, ParsesThenResolves}
-use Rattle.dry_runs.specs.Reading.{found_or_fault, said_parsed, said_ended, said_next, next_within, meaning_stated}
-use Rattle.dry_runs.proofs.StatementLemmas.{meaning-stated}
-use Rattle.dry_runs.proofs.WithinLemmas.{within-fault, within-long}
+use Rattle.dry_runs.specs.declared.limit.LimitedFault.TheVariants as limited
+
+-- a line means what it says, once its program is looked up
+module _ (which : LookUp) (run : ℕ) (cwd : List ℕ) (number : ℕ) (env : List Variable) where
+  pub meaning-stated : (line : List ℕ) → meaning_stated which run cwd number env (stated env line) ≡ meaning which run cwd env (number, line)
+  meaning-stated line = grind arith
+
+-- What a line says within a limit, and which line is the first that exceeds it.
+
+-- a command, by its text
+abbrev by_words : Option (List (List ℕ)) × ℕ → Statement × ℕ
+by_words w = (stated_by_words w.0, w.1)
+
+pub marked-command : (left : ℕ) (env : List Variable) (text : List ℕ) (assigned : Option Variable) → None ≡ assigned → option_map by_words (option_map words_left (expanded_within left env text)) ≡ option_map (λ less. (stated_assigned env text assigned, less)) (left_assigned left env text assigned)
+marked-command left env text None is = grind (arith, within-expanded)
+marked-command left env text (Some v) is = cc
+
+pub within-no_text : (left : ℕ) (env : List Variable) (line : List ℕ) → (IsUtf8 line → ⊥) → ◌≡◌ {A = Option (Statement × ℕ)} (Some (NotUtf8, left)) (stated_within left env line)
+within-no_text left env line h = grind (arith, IsUtf8-from_is_utf8)
+
+abbrev marked_within : ℕ → List Variable → List ℕ → Option (Statement × ℕ)
+marked_within left env text = stated_marked_within left env (marked_text text)
+
+pub same-within : (left : ℕ) (env : List Variable) (text line : List ℕ) → text ≡ line → IsUtf8 line → marked_within left env text ≡ stated_within left env line
+same-within left env text line same h = grind (arith, is_utf8-from_IsUtf8)
+
+pub within-text : (left : ℕ) (env : List Variable) (text line : List ℕ) (r : Result (Option (Statement × ℕ)) AllocError) → text ≡ line → IsUtf8 line → IfOk r (λ s. s ≡ marked_within left env text) → IfOk r (λ s. s ≡ stated_within left env line)
+within-text left env text line r same h told = subst (λ q. IfOk r (λ s. s ≡ q)) (same-within left env text line same h) told
+
+-- A line that is read with a look-up and a working directory.
+module _ (which : LookUp) (run : ℕ) (cwd : List ℕ) where
+  pub line-fits : (left less number : ℕ) (s : Said) (line : List ℕ) (statement : Statement) → ◌≡◌ {A = Option (Statement × ℕ)} (Some (statement, less)) (stated_within left s.env line) → next_held run number less s (meaning_stated which run cwd number s.env statement) ≡ next_within run number (left_behind_line which run cwd left s.env (number, line)) (said_next s (meaning which run cwd s.env (number, line)))
+  line-fits left less number s line statement h = grind (arith, meaning-stated)
+
+-- one line, and the lines behind it
+module _ (which : LookUp) (run : ℕ) (cwd : List ℕ) where
+  abbrev room_at : ℕ → Said → ℕ → List ℕ → Option ℕ
+  room_at left s number line = left_behind_line which run cwd left s.env (number, line)
+
+  abbrev said_at : Said → ℕ → List ℕ → Result Said Fault
+  said_at s number line = said_next s (meaning which run cwd s.env (number, line))
+
+  abbrev rest_at : Said → ℕ → List ℕ → List ℕ → ℕ → Option ℕ
+  rest_at s number line behind less = first_too_long which run cwd less (environment_after which run cwd s.env (meaning which run cwd s.env (number, line))) (enumerate_from (number + 1) (lines behind))
+
+  first-cut : (s : Said) (left number : ℕ) (line rest behind : List ℕ) → lines rest ≡ line ∷ lines behind →
+      first_too_long which run cwd left s.env (enumerate_from number (lines rest)) ≡ too_long_from number (fault_of (meaning which run cwd s.env (number, line))) (room_at left s number line) (rest_at s number line behind)
+  first-cut s left number line rest behind cut = ap (λ ls. first_too_long which run cwd left s.env (enumerate_from number ls)) cut
+
+  pub within-fault : (s : Said) (left number : ℕ) (line rest behind : List ℕ) (fault : Fault) → lines rest ≡ line ∷ lines behind → next_within run number (room_at left s number line) (said_at s number line) ≡ Err (limited.Fault fault) →
+      (said_at s number line ≡ Err fault) × (first_too_long which run cwd left s.env (enumerate_from number (lines rest)) ≡ None)
+  within-fault s left number line rest behind fault cut e = grind (arith, first-cut)
+
+  pub within-long : (s : Said) (left number : ℕ) (line rest behind : List ℕ) (r n : ℕ) → lines rest ≡ line ∷ lines behind → next_within run number (room_at left s number line) (said_at s number line) ≡ Err (TooLong r n) →
+      (TooLong run number ≡ TooLong r n) × (first_too_long which run cwd left s.env (enumerate_from number (lines rest)) ≡ Some number)
+  within-long s left number line rest behind r n cut e = grind (arith, first-cut)
+
+-- a run that is read within a limit and isn't too long is the run
+pub unlimited : (run : ℕ) (long : Option ℕ) (said : Result (List CommandLine × List Variable) Fault) (run_said : List CommandLine × List Variable) → answer_within run long said ≡ Ok run_said → said ≡ Ok run_said
+unlimited run long said run_said h = grind arith
+
+-- A run that is read up to its first bad line, and what the look-ups of a parsed one make of it.
 
 -- what was said so far, and the run that the lines behind it are
 abbrev pub said_before : Said → ParsedRun → ParsedRun
@@ -105,9 +170,6 @@ path-stays env more path h = ap (λ o. unwrap_or o []) (first-stays (codes "PATH
 program-asked : (path program : List ℕ) → program_in path (path ++ program) ≡ program
 program-asked path program = ap (λ o. unwrap_or o []) (rest_after-append path program)
 
-missing-command : (env : List Variable) (fault : Option Fault) (line : ℕ) (question program path : List ℕ) (words : List (List ℕ)) (rest : Result (List CommandLine) Fault) → unless_missing env fault (behind_found (line, question, words) program (Some path) rest) ≡ behind_one (line, path, words) (unless_missing env fault rest)
-missing-command env fault line question program path words rest = grind (arith, bad-command)
-
 module _ (which : LookUp) (run : ℕ) (cwd : List ℕ) where
   -- a run that is parsed, and one that is read, from a line of a meaning on
   abbrev asked_from : List Variable → Meaning → List (ℕ × List ℕ) → ParsedRun
@@ -150,9 +212,6 @@ abbrev HoldAlike : ParsedRun → ParsedRun → Type 0
 HoldAlike a b = (a.commands ≡ b.commands) × (a.env ≡ b.env)
 
 module _ (run other : ℕ) where
-  abbrev HoldAlikeFrom : List Variable → Meaning → Meaning → List (ℕ × List ℕ) → Type 0
-  HoldAlikeFrom env m k ls = HoldAlike (asked_from question_of run [] env m ls) (asked_from question_of other [] env k ls)
-
   abbrev HoldAlikeBehind : List Variable → List (ℕ × List ℕ) → Type 0
   HoldAlikeBehind env ls = HoldAlike (asked_all question_of run [] env ls) (asked_all question_of other [] env ls)
 

@@ -16,11 +16,9 @@ use Rattle.texts.specs.Path.{lacks}
 use Rattle.texts.specs.Variables.{pair_of}
 use Rattle.dry_runs.specs.Environment.{Variable, is_name_byte, begins_otherwise, is_followed}
 use Rattle.dry_runs.specs.Limit.{made, expanded_fitting}
-use Rattle.dry_runs.specs.FirstReferred.{behind_dollars, refers, first_below, follows_at, follows_from, refers_at, IsFirstReferred}
-use Rattle.dry_runs.specs.Places.{beginning, behind_beginning, are_plain, Places, with_place, places_from}
-use Rattle.command_lines.specs.Replacing.{replaced}
-use Rattle.dry_runs.proofs.ExpansionLemmas.{behind-cut, behind-nothing}
-use Rattle.dry_runs.proofs.FittingLemmas.{fitting-unreferred, fitting-referred}
+use Rattle.dry_runs.specs.Places.{behind_dollars, refers, first_below, follows_at, follows_from, refers_at, IsFirstReferred, beginning, behind_beginning, are_plain, Places, with_place, places_from}
+use Rattle.compilers.specs.Replacing.{replaced}
+use Rattle.dry_runs.proofs.ExpansionLemmas.{behind-cut, behind-nothing, fitting-unreferred, fitting-referred}
 
 -- A name and a text that refers to it begin with the same bytes.
 

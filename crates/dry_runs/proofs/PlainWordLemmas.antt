@@ -8,7 +8,7 @@ use Rattle.std.proofs.lemmas.Str.{encode_ascii, encodes-chars, inside_one, lengt
 use Rattle.memchr.specs.Find.{IsFirstByte, is_byte3}
 use Rattle.texts.specs.Path.{lacks}
 use Rattle.texts.proofs.PathLemmas.{lacks-places}
-use Rattle.shell_words.specs.Shell.Splitting.{prepend, reads_comment, reads_word, words_from, shell_words}
+use Rattle.texts.specs.Shell.Splitting.{prepend, reads_comment, reads_word, words_from, shell_words}
 use Rattle.dry_runs.specs.PlainWords.{is_plain, word_of, cut, between}
 
 -- ---- a search for three bytes

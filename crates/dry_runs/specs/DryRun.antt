@@ -3,11 +3,11 @@ use Rattle.std.specs.Prelude.{ℕ, List, [], ◌∷◌, ◌++◌, Option, Some, 
 use Rattle.std.specs.Str.{is_utf8}
 use Rattle.texts.specs.declared.fault.Fault.{Fault}
 use Rattle.texts.specs.declared.fault.Fault.TheVariants.{NotUtf8, BadShell, EmptyCommand, NoPath, NotFound}
-use Rattle.command_lines.specs.CommandLines.{CommandLine}
+use Rattle.compilers.specs.CommandLines.{CommandLine}
 use Rattle.texts.specs.Variables.{first_value}
 use Rattle.dry_runs.specs.Environment.{Variable, assignment, expanded}
 use Rattle.dry_runs.specs.DryRunLines.{numbered_lines, marked_text}
-use Rattle.shell_words.specs.Shell.Splitting.{shell_words}
+use Rattle.texts.specs.Shell.Splitting.{shell_words}
 
 -- a look-up: the program's path, by its name, the value of `PATH` and the working directory
 abbrev pub LookUp : Type 0

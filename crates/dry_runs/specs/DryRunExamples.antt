@@ -2,11 +2,11 @@
 use Rattle.std.specs.Prelude.{◌≡◌, ℕ, List, [], ◌∷◌, ◌++◌, None, Result, Ok, Err, encode_utf8_all, if◌then◌else◌, codes, bytes_eq}
 use Rattle.texts.specs.declared.fault.Fault.{Fault}
 use Rattle.texts.specs.declared.fault.Fault.TheVariants.{NotUtf8, BadShell, EmptyCommand, NoPath, NotFound}
-use Rattle.command_lines.specs.CommandLines.{CommandLine}
+use Rattle.compilers.specs.CommandLines.{CommandLine}
 use Rattle.dry_runs.specs.Environment.{Variable, expanded}
 use Rattle.dry_runs.specs.DryRun.{LookUp, dry_run_of}
 use Rattle.dry_runs.specs.FirstDir.{first_dir}
-use Rattle.command_lines.specs.OneKernel.{one_kernel, one_kernel_commands, one_kernel_elsewhere, one_kernel_elsewhere_commands, one_kernel_in_temporary, one_kernel_in_temporary_commands}
+use Rattle.compilers.specs.OneKernel.{one_kernel, one_kernel_commands, one_kernel_elsewhere, one_kernel_elsewhere_commands, one_kernel_in_temporary, one_kernel_in_temporary_commands}
 
 -- what a dry run says
 abbrev pub Said : Type 0

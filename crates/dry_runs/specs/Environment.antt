@@ -2,7 +2,7 @@
 use Rattle.std.specs.Prelude.{◌≡◌, ℕ, List, [], ◌∷◌, ◌++◌, Bool, false, not, ◌==◌, ◌&&◌, ◌||◌, nat_le, length, drop, fold, if◌then◌else◌, Option, Some, None, refl, codes, take_while, chars, bytes_eq}
 use Rattle.ucd_perl.specs.Perl.{is_word_char}
 use Rattle.texts.specs.Lists.{rest_after}
-use Rattle.command_lines.specs.Replacing.{replaced}
+use Rattle.compilers.specs.Replacing.{replaced}
 
 -- a variable and its value
 abbrev pub Variable : Type 0

@@ -8,13 +8,13 @@ use Rattle.texts.specs.Fault.{UnlessMemoryIs, line_text, message_of}
 use Rattle.dry_runs.specs.declared.limit.LimitedFault.{LimitedFault}
 use Rattle.dry_runs.specs.declared.limit.LimitedFault.TheVariants.{TooLong}
 use Rattle.dry_runs.specs.declared.limit.LimitedFault.TheVariants as limited
-use Rattle.command_lines.specs.CommandLines.{CommandLine}
+use Rattle.compilers.specs.CommandLines.{CommandLine}
 use Rattle.dry_runs.specs.DryRun.{LookUp, Meaning, Ignored, Assigns, Runs, Bad, meaning, environment_after, fault_of, dry_run_of}
 use Rattle.dry_runs.specs.DryRunLines.{numbered_lines, marked_text}
 use Rattle.dry_runs.specs.Environment.{Variable, assignment, refers}
-use Rattle.command_lines.specs.Replacing.{replaced}
+use Rattle.compilers.specs.Replacing.{replaced}
 use Rattle.dry_runs.specs.declared.statement.Statement.{Statement}
-use Rattle.shell_words.specs.Shell.Splitting.{shell_words}
+use Rattle.texts.specs.Shell.Splitting.{shell_words}
 use Rattle.dry_runs.specs.Statement.{stated, stated_marked}
 
 -- a text, unless it is longer than what is left of the limit

@@ -1,7 +1,8 @@
 -- Where the variables of an environment stand, by the beginnings of their names.
-use Rattle.std.specs.Prelude.{◌≡◌, ℕ, ◌+◌, List, [], ◌∷◌, ◌++◌, Bool, drop, if◌then◌else◌, refl, codes, bytes_eq}
-use Rattle.std.specs.List.{take_while, prefix_len, list_all}
-use Rattle.dry_runs.specs.Environment.{Variable, is_name_byte}
+use Rattle.std.specs.Prelude.{◌≡◌, ℕ, ◌+◌, List, [], ◌∷◌, ◌++◌, Bool, drop, if◌then◌else◌, refl, codes, bytes_eq, ◌<◌, ◌≤◌, true, false, nat_le, ◌==◌, ◌&&◌, length, slice_get}
+use Rattle.std.specs.List.{take_while, prefix_len, list_all, list_any}
+use Rattle.texts.specs.Lists.{is_some_and, rest_after}
+use Rattle.dry_runs.specs.Environment.{Variable, is_name_byte, is_followed}
 
 -- the bytes of a name that a text begins with. A name and a text that refers to it begin with the same ones
 abbrev pub beginning : List ℕ → List ℕ
@@ -34,3 +35,37 @@ places_from place (v ∷ vs) start = (if bytes_eq start (beginning v.0) then pla
 -- example: two variables of one beginning
 pub places_of_a_beginning : places_from 0 ((codes "A", []) ∷ (codes "B", []) ∷ (codes "A-1", []) ∷ []) (codes "A") ≡ 0 ∷ 2 ∷ []
 places_of_a_beginning = refl
+
+-- Which variable of an environment a text refers to first.
+
+-- what follows each `$` of a text, in order
+abbrev pub behind_dollars : List ℕ → List (List ℕ)
+behind_dollars [] = []
+behind_dollars (c ∷ cs) = if c == 36 then cs ∷ behind_dollars cs else behind_dollars cs
+
+-- whether a text refers to a variable, by what follows each `$` of the text
+abbrev pub refers : List ℕ → List (List ℕ) → Bool
+refers name behind = list_any (λ after. is_followed (rest_after name after)) behind
+
+-- of places that rise, the first that passes a test and is below a bound, or the bound
+abbrev pub first_below : (ℕ → Bool) → ℕ → List ℕ → ℕ
+first_below test bound [] = bound
+first_below test bound (place ∷ places) = if nat_le bound place then bound else if test place then place else first_below test bound places
+
+-- whether the text behind a `$` refers to the variable at a place
+abbrev pub follows_at : List Variable → List ℕ → ℕ → Bool
+follows_at env after place = is_some_and (λ v. is_followed (rest_after v.0 after)) (slice_get env place)
+
+-- the same, for variables from a place on
+abbrev pub follows_from : ℕ → List Variable → List ℕ → ℕ → Bool
+follows_from from env after place = nat_le from place && follows_at env after place
+
+-- whether a text refers to the variable at a place
+abbrev pub refers_at : List Variable → List ℕ → ℕ → Bool
+refers_at env text place = is_some_and (λ v. refers v.0 (behind_dollars text)) (slice_get env place)
+
+-- from a place on, a text refers to this variable first, or to none if there is no variable at the place
+pub record IsFirstReferred (env : List Variable) (from : ℕ) (text : List ℕ) (place : ℕ) : Type 0 where
+  pub within : place ≤ length env
+  pub none_before : (i : ℕ) → from ≤ i → i < place → refers_at env text i ≡ false
+  pub is_one : place < length env → (from ≤ place) × (refers_at env text place ≡ true)

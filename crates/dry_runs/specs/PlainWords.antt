@@ -2,7 +2,7 @@
 use Rattle.std.specs.Prelude.{◌≡◌, ℕ, List, [], ◌∷◌, ◌==◌, Bool, true, false, not, ◌&&◌, if◌then◌else◌, refl, codes}
 use Rattle.std.specs.List.{list_all}
 use Rattle.memchr.specs.Find.{is_byte3}
-use Rattle.shell_words.specs.Shell.Splitting.{prepend}
+use Rattle.texts.specs.Shell.Splitting.{prepend}
 
 -- whether a text is plain
 abbrev pub is_plain : List ℕ → Bool

@@ -7,10 +7,10 @@ use Rattle.texts.specs.Path.{lacks}
 use Rattle.texts.specs.declared.fault.Fault.{Fault}
 use Rattle.texts.specs.declared.fault.Fault.TheVariants.{Memory, NotFound}
 use Rattle.texts.specs.declared.fault.Fault.TheVariants as faults
-use Rattle.command_lines.specs.declared.commands.DryRun.{DryRun}
+use Rattle.compilers.specs.declared.dry_run.DryRun.{DryRun}
 use Rattle.dry_runs.specs.declared.parsed.ParsedRun.{ParsedRun}
 use Rattle.dry_runs.specs.declared.reader.Said.{Said}
-use Rattle.command_lines.specs.CommandLines.{CommandLine}
+use Rattle.compilers.specs.CommandLines.{CommandLine}
 use Rattle.dry_runs.specs.Environment.{Variable, is_name_byte}
 use Rattle.dry_runs.specs.declared.statement.Statement.{Statement}
 use Rattle.dry_runs.specs.declared.statement.Statement.TheVariants.{Nothing, Sets}

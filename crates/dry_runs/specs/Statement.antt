@@ -1,7 +1,7 @@
 -- What a line of a dry run says by itself, before its program is looked up.
 use Rattle.std.specs.Prelude.{ℕ, List, Option, Some, None, if◌then◌else◌}
 use Rattle.std.specs.Str.{is_utf8}
-use Rattle.shell_words.specs.Shell.Splitting.{shell_words}
+use Rattle.texts.specs.Shell.Splitting.{shell_words}
 use Rattle.dry_runs.specs.declared.statement.Statement.{Statement}
 use Rattle.dry_runs.specs.declared.statement.Statement.TheVariants.{Nothing, Sets, Runs, BadShell, NotUtf8}
 use Rattle.dry_runs.specs.DryRunLines.{marked_text}

@@ -3,10 +3,10 @@
 ghost use Rattle.std.specs.Prelude.{◌≡◌, ◌++◌, ◌<◌, ◌≤◌, ℕ, Some, true, false, nat_le, not, length, map, fold, drop, codes, IfOk, IfSome, MatchOption, string_bytes, option_copied, option_map, chars};
 ghost use Rattle.std.specs.List.{list_all};
 ghost use Rattle.texts.specs.Lists.{rest_after};
-ghost use Rattle.shell_words.specs.Shell.Splitting.{shell_words};
+ghost use Rattle.texts.specs.Shell.Splitting.{shell_words};
 ghost use Rattle.dry_runs.specs.Environment as spec;
 ghost use Rattle.dry_runs.specs.Limit as limit;
-ghost use Rattle.command_lines.specs.Replacing as replacing;
+ghost use Rattle.compilers.specs.Replacing as replacing;
 ghost use Rattle.dry_runs.specs.Reading as reading;
 ghost use Rattle.dry_runs.specs.Reading.{texts_of, IsCutAt};
 
@@ -31,7 +31,6 @@ pub(crate) fn is_name_byte(byte: u8) -> bool
     byte == b'_' || byte.is_ascii_uppercase()
 }
 
-// Whether a text is made of such bytes.
 pub(crate) fn is_of_name_bytes(text: &[u8]) -> bool
     ensures { result ≡ list_all spec.is_name_byte text.now }
 {
@@ -45,7 +44,6 @@ fn is_name(text: &str) -> bool
     !text.is_empty() && is_of_name_bytes(text.as_bytes())
 }
 
-// Whether a text begins with such a byte.
 fn begins_name(text: &str) -> bool
     ensures { result ≡ reading.begins_name text.now }
 {
@@ -84,7 +82,6 @@ pub(crate) fn begins_otherwise(text: &str) -> bool
     }
 }
 
-// What follows a name that a text begins with.
 pub(crate) fn behind_name<'a>(text: &'a str, name: &str) -> Option<&'a str>
     ensures rest { option_copied result ≡ rest_after name.now text.now }
     ensures less { IfSome result (λ rest. length rest.now ≤ length text.now) }
@@ -240,24 +237,6 @@ fn words_alone(
     Ok(Some((words_of(alloc, text)?, left)))
 }
 
-// The shell words of a text with a variable that it refers to expanded, and then those behind it, and what is left of
-// the limit: an inner `None` if the result doesn't split, and an outer one if these texts together are longer than `left`.
-fn words_of_expanded(
-    alloc: Global,
-    env: &SetVariables,
-    text: &str,
-    first: Reference,
-    left: usize,
-) -> Result<Option<(Option<Vec<String>>, usize)>, AllocError>
-    ensures { IfOk result (λ found. option_map limit.words_seen found
-        ≡ option_map limit.words_left (fold limit.expanded_fitting (limit.made left (replacing.replaced (codes "$" ++ first.entry.name.now) first.entry.value.now text.now)) (drop first.entry.next env.now))) }
-{
-    match expanded(alloc, env, text, first, left)? {
-        None => Ok(None),
-        Some((room, expanded)) => words_alone(alloc, expanded.as_str(), room),
-    }
-}
-
 // The shell words of a text in which the variables of an environment are expanded, and what is left of the limit: an inner
 // `None` if the result doesn't split, and an outer one if the text, or all texts together that the expansion makes, are
 // longer than `left`. A text that refers to no variable isn't copied.
@@ -275,7 +254,10 @@ pub fn expanded_words_within(
     }
     match env.first_reference(0, text) {
         None => words_alone(alloc, text, left),
-        Some(first) => words_of_expanded(alloc, env, text, first, left),
+        Some(first) => match expanded(alloc, env, text, first, left)? {
+            None => Ok(None),
+            Some((room, expanded)) => words_alone(alloc, expanded.as_str(), room),
+        },
     }
 }
 

@@ -1,6 +1,8 @@
 //! A limit for what reading a dry run makes and holds.
 
-ghost use Rattle.std.specs.Prelude.{◌≡◌, ◌∷◌, [], ◌+◌, length, map, string_bytes};
+ghost use Rattle.std.specs.Prelude.{◌≡◌, ◌∷◌, [], ◌+◌, Some, length, map, string_bytes};
+ghost use Rattle.texts.specs.declared.fault.Fault.TheVariants.{Memory};
+ghost use Rattle.dry_runs.specs.declared.limit.LimitedFault.TheVariants as limited;
 ghost use Rattle.dry_runs.specs.Limit as spec;
 
 use std::alloc::{AllocError, AllocFailed};
@@ -24,10 +26,7 @@ pub enum LimitedFault {
 }
 
 impl fmt::Display for LimitedFault {
-    ghost use Rattle.std.specs.Prelude.{Some};
-    ghost use Rattle.dry_runs.specs.Limit.{limited_message_of};
-
-    ghost output = { λ f. Some (limited_message_of f) };
+    ghost output = { λ f. Some (spec.limited_message_of f) };
 
     fn fmt<W: fmt::Write>(&self, f: &mut fmt::Formatter<W>) -> fmt::Result {
         match self {
@@ -42,13 +41,10 @@ impl fmt::Display for LimitedFault {
 impl Error for LimitedFault {}
 
 impl LimitedFault {
-    ghost use Rattle.std.specs.Prelude.{◌≡◌};
-    ghost use Rattle.dry_runs.specs.Limit.{without_limit};
-
     /// Returns the fault of a reader that has no limit: `Fault::Memory` if a line exceeds even the largest limit, since no
     /// memory can hold such a line, and no time suffices to make such texts.
     pub fn without_limit(self) -> Fault
-        ensures { result ≡ without_limit self }
+        ensures { result ≡ spec.without_limit self }
     {
         match self {
             LimitedFault::Fault(fault) => fault,
@@ -58,9 +54,6 @@ impl LimitedFault {
 }
 
 impl From<Fault> for LimitedFault {
-    ghost use Rattle.std.specs.Prelude.{◌≡◌};
-    ghost use Rattle.dry_runs.specs.declared.limit.LimitedFault.TheVariants as limited;
-
     ghost from_gives = { λ fault e. e ≡ limited.Fault fault };
 
     fn from(fault: Fault) -> LimitedFault {
@@ -69,10 +62,6 @@ impl From<Fault> for LimitedFault {
 }
 
 impl From<AllocError> for LimitedFault {
-    ghost use Rattle.std.specs.Prelude.{◌≡◌};
-    ghost use Rattle.texts.specs.declared.fault.Fault.TheVariants.{Memory};
-    ghost use Rattle.dry_runs.specs.declared.limit.LimitedFault.TheVariants as limited;
-
     ghost from_gives = { λ _ e. e ≡ limited.Fault Memory };
 
     fn from(_error: AllocError) -> LimitedFault {
@@ -81,10 +70,6 @@ impl From<AllocError> for LimitedFault {
 }
 
 impl<T: Drop> From<AllocFailed<T>> for LimitedFault {
-    ghost use Rattle.std.specs.Prelude.{◌≡◌};
-    ghost use Rattle.texts.specs.declared.fault.Fault.TheVariants.{Memory};
-    ghost use Rattle.dry_runs.specs.declared.limit.LimitedFault.TheVariants as limited;
-
     ghost from_gives = { λ _ e. e ≡ limited.Fault Memory };
 
     fn from(_error: AllocFailed<T>) -> LimitedFault {
@@ -96,33 +81,23 @@ impl<T: Drop> From<AllocFailed<T>> for LimitedFault {
 // commands in two runs can wait for all before it, which makes half a million needs.
 const LINE_COST: usize = 4096;
 
-// What is left of a limit once a word is held.
 fn left_behind_word(left: usize, word: &str) -> Option<usize>
     ensures { result ≡ spec.left_behind left (length word.now + 1) }
 {
     left.checked_sub(word.len())?.checked_sub(1)
 }
 
-// What is left of a limit once words are held.
-fn left_behind_words(left: usize, words: &[String]) -> Option<usize>
-    ensures { result ≡ spec.left_behind left (spec.bytes_of_words (map string_bytes words.now)) }
+// What is left of a limit once a command is held, with its program's path and its words.
+pub(crate) fn left_behind_command(left: usize, path: &str, words: &[String]) -> Option<usize>
+    ensures { result ≡ spec.left_behind left (spec.line_cost + spec.bytes_of_words (path.now ∷ map string_bytes words.now)) }
 {
-    let mut room = left;
+    let mut room = left_behind_word(left.checked_sub(LINE_COST)?, path)?;
     for word in words {
         room = left_behind_word(room, word.as_str())?;
     }
     Some(room)
 }
 
-// What is left of a limit once a command is held, with its program's path and its words.
-pub(crate) fn left_behind_command(left: usize, path: &str, words: &[String]) -> Option<usize>
-    ensures { result ≡ spec.left_behind left (spec.line_cost + spec.bytes_of_words (path.now ∷ map string_bytes words.now)) }
-{
-    let room = left.checked_sub(LINE_COST)?;
-    left_behind_words(left_behind_word(room, path)?, words)
-}
-
-// What is left of a limit once a variable is held.
 pub(crate) fn left_behind_variable(left: usize, name: &str, value: &str) -> Option<usize>
     ensures { result ≡ spec.left_behind left (spec.line_cost + spec.bytes_of_words (name.now ∷ value.now ∷ [])) }
 {

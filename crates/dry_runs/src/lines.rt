@@ -1,17 +1,10 @@
 //! The lines of a dry run.
 
-ghost use Rattle.std.specs.Prelude.{◌≡◌, ◌==◌, ◌<◌, ◌∷◌, [], length, MatchOption, IfSome, position, option_copied};
+ghost use Rattle.std.specs.Prelude.{◌≡◌, ◌<◌, ◌∷◌, [], length, MatchOption, IfSome, option_copied};
 ghost use Rattle.std.specs.Str.Lines.{lines, strip_carriage_return};
 ghost use Rattle.dry_runs.specs.DryRunLines.{marked_text};
 
 use memchr::memchr;
-
-// The place of the first newline.
-fn newline(bytes: &[u8]) -> Option<usize>
-    ensures { result ≡ position (λ b. b == 10) bytes.now }
-{
-    memchr(b'\n', bytes)
-}
 
 // A line without the carriage return that it ends in, if it does.
 fn without_return(line: &[u8]) -> &[u8]
@@ -34,7 +27,7 @@ pub fn first_line(rest: &[u8]) -> Option<(&[u8], &[u8])>
     if rest.is_empty() {
         return None;
     }
-    match newline(rest) {
+    match memchr(b'\n', rest) {
         None => Some((rest, &[])),
         Some(end) => Some((without_return(&rest[..end]), &rest[end + 1..])),
     }

@@ -11,7 +11,7 @@ ghost use Rattle.dry_runs.specs.Reading.{dry_run_seen, dry_run_seen_within};
 use crate::limit::LimitedFault;
 use crate::question::program_in;
 use crate::which::{Which, found_program};
-use command_lines::{Commands, DryRun};
+use compilers::dry_run::{Commands, DryRun};
 use std::alloc::{AllocError, Global};
 use texts::fault::Fault;
 use texts::variables::{Variables, first_value};
@@ -35,19 +35,6 @@ fn path_of(env: &Variables) -> &str
     match first_value(env.as_slice(), "PATH") {
         Some(path) => path,
         None => "",
-    }
-}
-
-// The line of a fault, if it has one.
-fn line_of(fault: &Fault) -> Option<usize>
-    ensures { result ≡ spec.line_of_fault fault.now }
-{
-    match fault {
-        Fault::NotUtf8 { line, .. }
-        | Fault::BadShell { line, .. }
-        | Fault::EmptyCommand { line, .. }
-        | Fault::NoPath { line, .. } => Some(*line),
-        _ => None,
     }
 }
 
@@ -129,23 +116,13 @@ impl ParsedRun {
             return Ok(Some(line));
         }
         match &self.fault {
-            None => Ok(None),
-            Some(fault) => Ok(line_of(fault)),
-        }
-    }
-
-    // The run as it is, if no line is bad.
-    fn whole(self) -> Result<DryRun, LimitedFault>
-        ensures { dry_run_seen_within result ≡ spec.limited_whole (spec.whole self) }
-    {
-        let ParsedRun {
-            commands,
-            env,
-            fault,
-        } = self;
-        match fault {
-            None => Ok(DryRun { commands, env }),
-            Some(fault) => Err(LimitedFault::Fault(fault)),
+            Some(
+                Fault::NotUtf8 { line, .. }
+                | Fault::BadShell { line, .. }
+                | Fault::EmptyCommand { line, .. }
+                | Fault::NoPath { line, .. },
+            ) => Ok(Some(*line)),
+            _ => Ok(None),
         }
     }
 }
@@ -155,7 +132,17 @@ pub(crate) fn whole(read: Result<ParsedRun, LimitedFault>) -> Result<DryRun, Lim
     ensures { (expected : Result ParsedRun LimitedFault) → UnlessMemoryWithin read expected → UnlessMemoryWithin (dry_run_seen_within result) (spec.whole_in expected) }
 {
     match read {
-        Ok(run) => run.whole(),
+        Ok(run) => {
+            let ParsedRun {
+                commands,
+                env,
+                fault,
+            } = run;
+            match fault {
+                None => Ok(DryRun { commands, env }),
+                Some(fault) => Err(LimitedFault::Fault(fault)),
+            }
+        }
         Err(fault) => Err(fault),
     }
 }

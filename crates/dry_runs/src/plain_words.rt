@@ -3,13 +3,13 @@
 ghost use Rattle.std.specs.Prelude.{◌≡◌, ◌++◌, not, map, IfOk, OnOk, string_bytes, option_map};
 ghost use Rattle.std.specs.List.{list_all};
 ghost use Rattle.memchr.specs.Find.{is_byte3};
-ghost use Rattle.shell_words.specs.Shell.Splitting.{shell_words};
+ghost use Rattle.texts.specs.Shell.Splitting.{shell_words};
 ghost use Rattle.dry_runs.specs.PlainWords as spec;
 
 use crate::environment::parted;
 use memchr::memchr3;
-use shell_words::split;
 use std::alloc::{AllocError, Global};
+use texts::shell::split;
 
 // The room that a list of words begins with: a command of a dry run seldom has fewer.
 const ROOM: usize = 8;
@@ -38,7 +38,6 @@ fn push_word(alloc: Global, words: &mut Vec<String>, word: &str) -> Result<(), A
     Ok(())
 }
 
-// A text, cut at its spaces.
 fn cut_at_spaces(alloc: Global, text: &str) -> Result<Vec<String>, AllocError>
     ensures { IfOk result (λ words. map string_bytes words.items ≡ spec.between text.now) }
 {

@@ -1,11 +1,12 @@
 //! Reading a dry run.
 
-ghost use Rattle.std.specs.Prelude.{◌≡◌, IfOk, codes};
+ghost use Rattle.std.specs.Prelude.{◌≡◌, ◌∷◌, [], map, codes, IfOk, OnErr, OnOk, string_bytes};
 ghost use Rattle.texts.specs.Fault.{UnlessMemory};
-ghost use Rattle.dry_runs.specs.DryRun.{dry_run_of};
-ghost use Rattle.dry_runs.specs.Limit.{UnlessMemoryWithin, dry_run_within};
+ghost use Rattle.texts.specs.Variables as variables;
+ghost use Rattle.dry_runs.specs.DryRun.{dry_run_of, meaning, meaning_of_words, meaning_by_path, Assigns, Runs};
+ghost use Rattle.dry_runs.specs.Limit.{UnlessMemoryWithin, dry_run_within, left_behind_line};
 ghost use Rattle.dry_runs.specs.Parsed as spec;
-ghost use Rattle.dry_runs.specs.Reading.{dry_run_seen, dry_run_seen_within};
+ghost use Rattle.dry_runs.specs.Reading.{dry_run_seen, dry_run_seen_within, nothing_said, said_parsed, said_ended, with_variable, said_left, said_next, next_within, next_held, meaning_stated};
 
 use crate::limit::{LimitedFault, left_behind_command, left_behind_variable};
 use crate::lines::first_line;
@@ -14,7 +15,7 @@ use crate::question::Question;
 use crate::set_variables::SetVariables;
 use crate::statement::{Statement, statement_within};
 use crate::which::{Which, found_program};
-use command_lines::{Commands, DryRun};
+use compilers::dry_run::{Commands, DryRun};
 use std::alloc::{AllocError, Global};
 use texts::fault::Fault;
 use texts::text::Text;
@@ -161,12 +162,6 @@ struct Said {
 }
 
 impl Said {
-    ghost use Rattle.std.specs.Prelude.{◌≡◌, ◌∷◌, [], map, List, ℕ, OnErr, OnOk, string_bytes};
-    ghost use Rattle.texts.specs.Variables as variables;
-    ghost use Rattle.dry_runs.specs.DryRun.{meaning, meaning_of_words, meaning_by_path, Assigns, Runs};
-    ghost use Rattle.dry_runs.specs.Limit.{UnlessMemoryWithin, left_behind_line};
-    ghost use Rattle.dry_runs.specs.Reading.{nothing_said, said_parsed, said_ended, with_variable, said_left, said_next, next_within, next_held, meaning_stated};
-
     fn new(alloc: Global) -> Said
         ensures { result ≡ nothing_said }
     {
@@ -221,7 +216,6 @@ impl Said {
         self.take(setting, less, number, statement)
     }
 
-    // Takes what the line of this number says.
     fn take<W: Which>(
         &mut self,
         setting: &Setting<W>,
@@ -244,7 +238,6 @@ impl Said {
         }
     }
 
-    // Takes a variable, if it fits.
     fn set<W: Which>(
         &mut self,
         setting: &Setting<W>,
@@ -260,20 +253,11 @@ impl Said {
             let run = setting.run;
             return Err(LimitedFault::TooLong { run, line: number });
         };
-        self.assign(setting.alloc, name, value)?;
+        let name = name.into_string();
+        self.env.push(setting.alloc, name, value.into_string())?;
         Ok(left)
     }
 
-    // Puts a variable last.
-    fn assign(&mut self, alloc: Global, name: Text, value: Text) -> Result<(), AllocError>
-        ensures ok { OnOk result (self.new ≡ with_variable self.old (name, value)) }
-        ensures err { OnErr result (self.new ≡ self.old) }
-    {
-        self.env
-            .push(alloc, name.into_string(), value.into_string())
-    }
-
-    // Puts the command of these words last.
     fn run<W: Which>(
         &mut self,
         setting: &Setting<W>,
@@ -296,7 +280,6 @@ impl Said {
         self.run_program(setting, left, number, program, words)
     }
 
-    // Puts the command of this program and these words last.
     fn run_program<W: Which>(
         &mut self,
         setting: &Setting<W>,
@@ -318,26 +301,11 @@ impl Said {
         };
         let cwd = setting.cwd;
         let found = found_program(setting.alloc, setting.which, program.as_str(), path, cwd)?;
-        self.run_found(setting.run, left, number, found, words)
-    }
-
-    // Puts the command of the program at this path and of these words last, if it fits.
-    fn run_found(
-        &mut self,
-        run: usize,
-        left: usize,
-        number: usize,
-        path: String,
-        words: Vec<String>,
-    ) -> Result<usize, LimitedFault>
-        ensures said { UnlessMemoryWithin (said_left result self.new) (next_held run number left self.old
-            (Runs (number, string_bytes path, map string_bytes words.items))) }
-        ensures kept { OnErr result (self.new ≡ self.old) }
-    {
-        let Some(left) = left_behind_command(left, path.as_str(), words.as_slice()) else {
+        let Some(left) = left_behind_command(left, found.as_str(), words.as_slice()) else {
+            let run = setting.run;
             return Err(LimitedFault::TooLong { run, line: number });
         };
-        self.commands.push(number, path, words)?;
+        self.commands.push(number, found, words)?;
         Ok(left)
     }
 }

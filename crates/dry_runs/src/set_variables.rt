@@ -4,10 +4,9 @@ ghost use Rattle.std.specs.Prelude.{◌≡◌, ◌∷◌, [], ◌++◌, ◌&&◌
 ghost use Rattle.texts.specs.Variables.{pair_of};
 ghost use Rattle.std.specs.List.{list_all};
 ghost use Rattle.dry_runs.specs.Environment.{is_name_byte};
-ghost use Rattle.dry_runs.specs.FirstReferred as first;
 ghost use Rattle.dry_runs.specs.Limit as limit;
 ghost use Rattle.dry_runs.specs.Places as spec;
-ghost use Rattle.command_lines.specs.Replacing as replacing;
+ghost use Rattle.compilers.specs.Replacing as replacing;
 
 use crate::environment::{is_of_name_bytes, is_reference, parted};
 use crate::places::{NamePlaces, ends_a_name};
@@ -97,7 +96,7 @@ impl SetVariables {
 
     // Whether the text behind a `$` refers to the variable at a place.
     fn follows_at(&self, after: &str, place: usize) -> bool
-        ensures { result ≡ first.follows_at self.now after.now place }
+        ensures { result ≡ spec.follows_at self.now after.now place }
     {
         match self.pairs.as_slice().get(place) {
             None => false,
@@ -105,23 +104,16 @@ impl SetVariables {
         }
     }
 
-    // The same, of a variable from `from` on.
-    fn follows_from(&self, from: usize, after: &str, place: usize) -> bool
-        ensures { result ≡ first.follows_from from self.now after.now place }
-    {
-        from <= place && self.follows_at(after, place)
-    }
-
     // The first of some places, which rise, of a variable from `from` on that the text behind a `$` refers to. If that
     // isn't below `bound`, it is `bound`.
     fn first_of(&self, places: &[usize], from: usize, after: &str, bound: usize) -> usize
-        ensures { result ≡ first.first_below (first.follows_from from self.now after.now) bound places.now }
+        ensures { result ≡ spec.first_below (spec.follows_from from self.now after.now) bound places.now }
     {
         for place in places {
             if bound <= *place {
                 return bound;
             }
-            if self.follows_from(from, after, *place) {
+            if from <= *place && self.follows_at(after, *place) {
                 return *place;
             }
         }
@@ -131,7 +123,7 @@ impl SetVariables {
     // The same, of the places of all variables. If their names are plain, the text has to end a name: else none of them is
     // tried, however often a name was set.
     fn first_place(&self, from: usize, after: &str, bound: usize) -> usize
-        ensures { result ≡ first.first_below (first.follows_from from self.now after.now) bound (spec.places_from 0 self.now (spec.beginning after.now)) }
+        ensures { result ≡ spec.first_below (spec.follows_from from self.now after.now) bound (spec.places_from 0 self.now (spec.beginning after.now)) }
     {
         if self.is_plain && !ends_a_name(after) {
             return bound;
@@ -142,7 +134,7 @@ impl SetVariables {
     // The place of the first variable from `from` on that a text refers to, or the number of variables. A `$` that refers
     // to the variable at `from` ends the search, since no place before it counts.
     fn first_referred(&self, from: usize, text: &str) -> usize
-        ensures { first.IsFirstReferred self.now from text.now result }
+        ensures { spec.IsFirstReferred self.now from text.now result }
     {
         let mut place = self.pairs.len();
         let mut rest = text;

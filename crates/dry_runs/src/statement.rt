@@ -1,7 +1,6 @@
 //! What a line of a dry run says.
 
-ghost use Rattle.std.specs.Prelude.{◌≡◌, Some, IfOk, map, string_bytes, option_map};
-ghost use Rattle.dry_runs.specs.DryRunLines.{marked_text};
+ghost use Rattle.std.specs.Prelude.{◌≡◌, Some, IfOk, option_map};
 ghost use Rattle.dry_runs.specs.Limit as limit;
 ghost use Rattle.dry_runs.specs.Statement as spec;
 
@@ -27,16 +26,6 @@ pub enum Statement {
     NotUtf8,
 }
 
-// What a command says, by its words.
-fn stated_by(words: Option<Vec<String>>) -> Statement
-    ensures { result ≡ spec.stated_by_words (option_map (λ v. map string_bytes v.items) words) }
-{
-    match words {
-        None => Statement::BadShell,
-        Some(words) => Statement::Runs(Words::from_vec(words)),
-    }
-}
-
 // What a command says, by the text behind its mark, and what is left of the limit, or `None` if its expansion makes texts
 // that together are longer than `left`.
 fn command(
@@ -49,7 +38,10 @@ fn command(
 {
     match expanded_words_within(alloc, env, text, left)? {
         None => Ok(None),
-        Some((words, less)) => Ok(Some((stated_by(words), less))),
+        Some((words, less)) => match words {
+            None => Ok(Some((Statement::BadShell, less))),
+            Some(words) => Ok(Some((Statement::Runs(Words::from_vec(words)), less))),
+        },
     }
 }
 
@@ -71,21 +63,6 @@ fn marked_line(
     }
 }
 
-// What a line says that is text, and what is left of the limit, or `None` as for a command.
-fn text_line(
-    alloc: Global,
-    env: &SetVariables,
-    line: &str,
-    left: usize,
-) -> Result<Option<(Statement, usize)>, AllocError>
-    ensures { IfOk result (λ s. s ≡ limit.stated_marked_within left env.now (marked_text line.now)) }
-{
-    match marked(line) {
-        None => Ok(Some((Statement::Nothing, left))),
-        Some(text) => marked_line(alloc, env, text, left),
-    }
-}
-
 /// What `line` says behind the environment lines that set `env`, as `statement_of`, and how many of `left` bytes are left
 /// once the texts are counted that expanding one variable after the other makes. It is `None` if the line is a command and its
 /// text, or these texts together, are longer than `left` bytes.
@@ -99,7 +76,10 @@ pub fn statement_within(
 {
     match str::from_utf8(line) {
         Err(_) => Ok(Some((Statement::NotUtf8, left))),
-        Ok(text) => text_line(alloc, env, text, left),
+        Ok(text) => match marked(text) {
+            None => Ok(Some((Statement::Nothing, left))),
+            Some(text) => marked_line(alloc, env, text, left),
+        },
     }
 }
 

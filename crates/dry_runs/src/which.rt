@@ -1,8 +1,8 @@
 //! The look-up of the programs that a dry run names.
 
-ghost use Rattle.std.specs.Prelude.{◌≡◌, IfOk, MatchOption, string_bytes, ℕ, List, Option, option_map};
+ghost use Rattle.std.specs.Prelude.{◌≡◌, IfOk, string_bytes, ℕ, List, Option, option_map};
 ghost use Rattle.texts.specs.Fault.{UnlessMemory};
-ghost use Rattle.dry_runs.specs.FirstDir.{first_folder_of};
+ghost use Rattle.dry_runs.specs.FirstDir.{first_dir};
 ghost use Rattle.dry_runs.specs.Reading.{found_seen, found_or_fault};
 
 use std::alloc::{AllocError, Global};
@@ -49,26 +49,7 @@ pub(crate) fn found_program<W: Which>(
 #[derive(Clone, Copy, Debug)]
 pub struct FirstDir;
 
-// The two parts of `path` round its first `:`.
-fn at_colon(path: &str) -> Option<(&str, &str)>
-    ensures { MatchOption result (path.now ≡ first_folder_of path.now) (λ parts. parts.0.now ≡ first_folder_of path.now) }
-{
-    path.split_once(':')
-}
-
-// The part of `path` before its first `:`, or all of it if it has none.
-fn first_folder(path: &str) -> &str
-    ensures { result.now ≡ first_folder_of path.now }
-{
-    match at_colon(path) {
-        None => path,
-        Some((folder, _)) => folder,
-    }
-}
-
 impl Which for FirstDir {
-    ghost use Rattle.dry_runs.specs.FirstDir.{first_dir};
-
     ghost answer = { λ _ exe path cwd. first_dir exe path cwd };
 
     fn found(
@@ -81,7 +62,10 @@ impl Which for FirstDir {
         if !is_bare(exe) {
             return Ok(Some(join(alloc, cwd, exe)?));
         }
-        let folder = first_folder(path);
+        let folder = match path.split_once(':') {
+            None => path,
+            Some((folder, _)) => folder,
+        };
         if folder.is_empty() {
             return Ok(None);
         }

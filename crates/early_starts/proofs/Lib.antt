@@ -1,2 +1,6 @@
 pub mod EarlyLemmas
+pub mod LateNeedLemmas
+pub mod LateOrderLemmas
 pub mod OverlapLemmas
+pub mod SplitLemmas
+pub mod TextLemmas

@@ -1,10 +1,10 @@
 -- The three kinds of needs, by the code's order of questions.
-use Rattle.std.proofs.Common.{◌≡◌, ℕ, Bool, true, false, ◌&&◌, ◌||◌, List, ◌++◌, refl, ap, sym, ◌∙◌}
+use Rattle.std.proofs.Common.{◌≡◌, ℕ, Bool, true, false, ◌&&◌, ◌||◌, List, refl, ap, sym, ◌∙◌}
 use Rattle.std.proofs.lemmas.List.Folds.{list_any-append}
 use Rattle.command_files.specs.declared.files.CommandFiles.{CommandFiles}
 use Rattle.command_files.specs.Files.{is_among, share}
 use Rattle.command_files.specs.PlanNeeds.{record_of}
-use Rattle.plans.specs.declared.plan.NvccGeneratedSubcommand.{NvccGeneratedSubcommand}
+use Rattle.compilers.specs.declared.plans.plan.NvccGeneratedSubcommand.{NvccGeneratedSubcommand}
 use Rattle.early_starts.specs.Overlaps.{files_of, follows, gives, head_of, lets_begin, may_begin_beside, touches_one_of}
 
 rearranged : (rw rm ww wm wr : Bool) → ((rw || ww) || ((rm || wm) || wr)) ≡ ((rw || rm) || (wr || (ww || wm)))

@@ -4,10 +4,10 @@ use Rattle.texts.specs.Lists.{word_after}
 use Rattle.texts.specs.Path.{joined}
 use Rattle.texts.specs.Rows.{spaced}
 use Rattle.compilers.specs.declared.command.Cacheable.TheVariants.{Yes}
-use Rattle.plans.specs.declared.plan.NvccGeneratedSubcommand.{NvccGeneratedSubcommand}
-use Rattle.plans.specs.declared.program.Program.{Program}
-use Rattle.plans.specs.declared.program.Program.TheVariants as programs
-use Rattle.plans.specs.Programs.{program_at}
+use Rattle.compilers.specs.declared.plans.plan.NvccGeneratedSubcommand.{NvccGeneratedSubcommand}
+use Rattle.compilers.specs.declared.plans.program.Program.{Program}
+use Rattle.compilers.specs.declared.plans.program.Program.TheVariants as programs
+use Rattle.compilers.specs.Programs.{program_at}
 
 -- the option behind which cicc and cudafe++ name the module id's file
 abbrev pub module_id_option : List ℕ

@@ -1,7 +1,7 @@
 -- What holds of commands that begin early.
 use Rattle.std.specs.Prelude.{◌≡◌, ℕ, List, ◌∷◌, ◌++◌, true, false, not, ◌&&◌, filter, ◌⊎◌}
-use Rattle.plans.specs.declared.plan.NvccGeneratedSubcommand.{NvccGeneratedSubcommand}
-use Rattle.plans.specs.declared.plan.Plan.{Plan}
+use Rattle.compilers.specs.declared.plans.plan.NvccGeneratedSubcommand.{NvccGeneratedSubcommand}
+use Rattle.compilers.specs.declared.plans.plan.Plan.{Plan}
 use Rattle.command_files.specs.Files.{must_follow}
 use Rattle.command_files.specs.Order.{needs_by, is_in, own_order, IsOrder, IsRun, Contents, Effect, AllStayWithin, DoesTheSame}
 use Rattle.command_files.specs.PlanNeeds.{record_of, step_needs, plan_steps, plan_records}

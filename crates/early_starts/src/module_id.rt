@@ -1,9 +1,9 @@
 //! The file that a command reads late.
 
-ghost use Rattle.std.specs.Prelude.{◌≡◌, ◌++◌, IfOk, map, string_bytes};
+ghost use Rattle.std.specs.Prelude.{◌≡◌, IfOk, map, string_bytes};
 ghost use Rattle.early_starts.specs.LateFiles as spec;
 
-use plans::{NvccGeneratedSubcommand, Program};
+use compilers::plans::{NvccGeneratedSubcommand, Program};
 use std::alloc::{AllocError, Global};
 use texts::text::{Text, join};
 use texts::words::{Words, word_after};
@@ -37,8 +37,7 @@ pub fn late_file(
 {
     match Program::at(command.exe.as_str()) {
         Program::Cicc => named_file(alloc, command),
-        Program::Cudafe | Program::Ptxas | Program::Fatbinary | Program::Nvlink | Program::Other =>
-            Ok(None),
+        _ => Ok(None),
     }
 }
 
@@ -51,26 +50,13 @@ pub fn renamed(alloc: Global, words: &[String], name: &str) -> Result<Words, All
     while let [word, behind @ ..] = rest {
         renamed.push_str(alloc, word.as_str())?;
         if word.as_str() == module_id_option() {
-            return with_first(alloc, renamed, name, behind);
+            if let [_, others @ ..] = behind {
+                renamed.push_str(alloc, name)?;
+                renamed.push_copies(alloc, others)?;
+            }
+            return Ok(renamed);
         }
         rest = behind;
     }
     Ok(renamed)
-}
-
-// Words, and others behind them with another first one.
-fn with_first(
-    alloc: Global,
-    words: Words,
-    name: &str,
-    others: &[String],
-) -> Result<Words, AllocError>
-    ensures { IfOk result (λ all. all ≡ words ++ spec.with_first name.now (map string_bytes others.now)) }
-{
-    let mut all = words;
-    if let [_, behind @ ..] = others {
-        all.push_str(alloc, name)?;
-        all.push_copies(alloc, behind)?;
-    }
-    Ok(all)
 }

@@ -1,34 +1,22 @@
 //! Commands that may run beside each other.
 
 ghost use Rattle.std.specs.Prelude.{◌≡◌, IfOk, map, string_bytes};
-ghost use Rattle.command_files.specs.Files.{is_among, must_follow, share};
+ghost use Rattle.command_files.specs.Files.{is_among, share};
 ghost use Rattle.command_files.specs.PlanNeeds.{record_of};
 ghost use Rattle.early_starts.specs.Overlaps as spec;
 
 use crate::module_id::named_file;
-use command_files::{CommandFiles, files_of, preprocesses};
-use plans::{NvccGeneratedSubcommand, Program};
+use command_files::{CommandFiles, files_of, has_word, preprocesses};
+use compilers::plans::{NvccGeneratedSubcommand, Program};
 use std::alloc::{AllocError, Global};
 use texts::words::Words;
-
-// Whether a path is among paths.
-fn has(paths: &[String], path: &str) -> bool
-    ensures { result ≡ is_among (map string_bytes paths.now) path.now }
-{
-    for other in paths {
-        if path == other.as_str() {
-            return true;
-        }
-    }
-    false
-}
 
 // Whether one of some paths is among others.
 fn have_one_of(others: &[String], paths: &[String]) -> bool
     ensures { result ≡ share (map string_bytes paths.now) (map string_bytes others.now) }
 {
     for path in paths {
-        if has(others, path.as_str()) {
+        if has_word(others, path.as_str()) {
             return true;
         }
     }
@@ -51,7 +39,7 @@ fn writes_one_of(files: &CommandFiles, paths: &[String]) -> bool
 fn writes(files: &CommandFiles, path: &str) -> bool
     ensures { result ≡ is_among (record_of files.now).writes path.now }
 {
-    has(files.writes.as_slice(), path) || has(files.may_write.as_slice(), path)
+    has_word(files.writes.as_slice(), path) || has_word(files.may_write.as_slice(), path)
 }
 
 // Whether a command touches one of some files.
@@ -92,8 +80,7 @@ fn gives(alloc: Global, late: &str, command: &NvccGeneratedSubcommand) -> Result
             None => Ok(false),
             Some(file) => Ok(file.as_str() == late),
         },
-        Program::Cicc | Program::Ptxas | Program::Fatbinary | Program::Nvlink | Program::Other =>
-            Ok(false),
+        _ => Ok(false),
     }
 }
 

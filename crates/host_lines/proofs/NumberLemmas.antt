@@ -1,5 +1,5 @@
 -- What `parse` gives is the number that a text reads as.
-use Rattle.std.proofs.Common.{◌≡◌, ◌∙◌, ℕ, ◌<◌, ◌^◌, ◌==◌, nat_lt, List, [], ◌∷◌, Bool, true, false, ◌&&◌, cond, Some, None, Result, Ok, Err, length, refl, ap, sym, arith, rules, eqb-true, ltb-true, lt-ltb}
+use Rattle.std.proofs.Common.{◌≡◌, ℕ, ◌<◌, ◌^◌, ◌==◌, List, [], ◌∷◌, Bool, true, false, ◌&&◌, cond, Some, None, Result, length, refl, arith, rules, eqb-true, ltb-true, lt-ltb}
 use Rattle.std.specs.Result.{OkIff, result_ok}
 use Rattle.std.specs.Str.{all_ascii_digits}
 use Rattle.std.specs.Str.Parse.{ParsesUnsigned}

@@ -1,5 +1,5 @@
 -- Lines of nvcc and nvhpc, worked out by hand and computed.
-use Rattle.std.specs.Prelude.{◌≡◌, ℕ, List, [], ◌∷◌, ◌++◌, false, Some, None, Result, Ok, Err, map, codes, refl}
+use Rattle.std.specs.Prelude.{◌≡◌, ℕ, List, [], ◌∷◌, ◌++◌, false, Some, None, Result, Ok, Err, map, codes}
 use Rattle.texts.specs.declared.fault.Fault.{Fault}
 use Rattle.texts.specs.declared.fault.Fault.TheVariants.{KeepDirValue, ThreadsValue, NoPreprocess}
 use Rattle.texts.specs.declared.language.Language.{Language}
@@ -9,7 +9,7 @@ use Rattle.compilers.specs.declared.arguments.ParsedArguments.{ParsedArguments}
 use Rattle.compilers.specs.declared.command.SingleCompileCommand.{SingleCompileCommand}
 use Rattle.compilers.specs.declared.compiler.NvccHostCompiler.TheVariants as host
 use Rattle.compilers.specs.Compiler.{Reading, accepted, not_compilation}
-use Rattle.gcc_lines.specs.GccExamples.{compiled}
+use Rattle.host_lines.specs.GccExamples.{compiled}
 use Rattle.host_lines.specs.KeepThreads.{keep_of, threads_of}
 use Rattle.host_lines.specs.Nvhpc.{nvhpc_reading}
 use Rattle.host_lines.specs.Preprocess.{nvcc_dependency_words, nvcc_preprocess, nvhpc_preprocess}
@@ -33,9 +33,6 @@ KeepWordsTaken = Gives (keep_of (codes "/w")) (
     ∷ (spaced "--threads -keep", Ok (spaced "--threads", Some (codes "/w")))
     ∷ [])
 
-pub keep_words_taken : KeepWordsTaken
-keep_words_taken = refl
-
 -- what the words for threads say
 abbrev pub ThreadWordsTaken : Type 0
 ThreadWordsTaken = Gives threads_of (
@@ -57,9 +54,6 @@ ThreadWordsTaken = Gives threads_of (
     -- `=` anywhere in a joined number
     ∷ (spaced "-t12= -t123 -t4=5", Ok ([], 123))
     ∷ [])
-
-pub thread_words_taken : ThreadWordsTaken
-thread_words_taken = refl
 
 -- the words of the commands that preprocess a line's input
 abbrev pub words_of_commands : Result (List SingleCompileCommand) Fault → Result (List (List (List ℕ))) Fault
@@ -98,17 +92,6 @@ pub record LinesPreprocessed : Type 0 where
       nvcc_preprocess host.Msvc (codes "nvcc") (compiled (codes "a.ptx") Ptx (codes "a.o")) (codes "/w") [] ≡
       Err (NoPreprocess (codes "PCH not supported by nvcc"))
 
-pub lines_preprocessed : LinesPreprocessed
-lines_preprocessed = record {
-  nvcc_makes_two_commands = refl;
-  nvhpc_makes_two_commands = refl;
-  a_repeated_value_goes = refl;
-  replaced_words_are_alike = refl;
-  one_command_without_dependencies = refl;
-  nvhpc_preprocesses_no_cuda = refl;
-  nvcc_preprocesses_no_ptx = refl;
-}
-
 -- what a line is read as by nvhpc, at the working directory `.`
 abbrev pub read_by_nvhpc : List (List ℕ) → Reading
 read_by_nvhpc words = nvhpc_reading false (codes ".") words
@@ -144,6 +127,3 @@ NvhpcLinesRead = Gives read_by_nvhpc (
       accepted (record (compiled (codes "foo.c") Cxx (codes "foo.o")) { common_args = spaced "-Xlinker -s" }),
     )
     ∷ [])
-
-pub nvhpc_lines_read : NvhpcLinesRead
-nvhpc_lines_read = refl

@@ -44,10 +44,6 @@ is_keep word =
     bytes_eq word (codes "-keep") || bytes_eq word (codes "--keep")
     || bytes_eq word (codes "-save-temps") || bytes_eq word (codes "--save-temps")
 
--- the words of a line, and whether each is a keep directory
-abbrev pub beside_keep_dirs : List (List ℕ) → List (Bool × List ℕ)
-beside_keep_dirs words = valued is_keep_dir false words
-
 -- whether a word sets keep: a keep option that isn't a value
 abbrev pub sets_keep : Bool × List ℕ → Bool
 sets_keep (is_value, word) = not is_value && is_keep word
@@ -55,14 +51,6 @@ sets_keep (is_value, word) = not is_value && is_keep word
 -- whether a word stays: it is neither a value nor a word for kept files
 abbrev pub is_no_keep_word : Bool × List ℕ → Bool
 is_no_keep_word (is_value, word) = not is_value && not (is_keep_dir word) && not (is_keep word)
-
--- the words without those for kept files
-abbrev pub words_without_keep : List (List ℕ) → List (List ℕ)
-words_without_keep words = words_alone (filter is_no_keep_word (beside_keep_dirs words))
-
--- the directories that a line names
-abbrev pub keep_directories : List (List ℕ) → List (List ℕ)
-keep_directories words = words_alone (filter (λ p. p.0) (beside_keep_dirs words))
 
 -- the last directory joined to the working directory, or the working directory if there is none
 abbrev pub directory_from : List ℕ → Option (List ℕ) → List ℕ
@@ -77,8 +65,8 @@ keep_answer cwd is_missing stay is_kept directory =
 -- what a line's words for kept files say, at a working directory
 abbrev pub keep_of : List ℕ → List (List ℕ) → Result (List (List ℕ) × Option (List ℕ)) Fault
 keep_of cwd words =
-    keep_answer cwd (lacks_value is_keep_dir (beside_keep_dirs words)) (words_without_keep words)
-    (list_any sets_keep (beside_keep_dirs words)) (last_of (keep_directories words))
+    let ps = valued is_keep_dir false words in
+    keep_answer cwd (lacks_value is_keep_dir ps) (words_alone (filter is_no_keep_word ps)) (list_any sets_keep ps) (last_of (words_alone (filter (λ p. p.0) ps)))
 
 -- Numbers.
 
@@ -107,21 +95,13 @@ number_of text = if is_number (after_plus text) then Some (digits_after 0 (after
 abbrev pub is_threads : List ℕ → Bool
 is_threads word = bytes_eq word (codes "--threads")
 
--- the words of a line, and whether each is the value of such an option
-abbrev pub beside_threads : List (List ℕ) → List (Bool × List ℕ)
-beside_threads words = valued is_threads false words
-
 -- a word that begins with `-t`
 abbrev pub begins_with_t : List ℕ → Bool
 begins_with_t word = starts_with nat_eq word (codes "-t")
 
--- a word that contains `=`
-abbrev pub holds_equals : List ℕ → Bool
-holds_equals word = list_any (λ c. c == 61) word
-
 -- where the number is in a word that begins with `-t`: after 3 bytes if the word contains `=`, else after 2
 abbrev pub joined_number : List ℕ → List ℕ
-joined_number word = drop (if holds_equals word then 3 else 2) word
+joined_number word = drop (if list_any (λ c. c == 61) word then 3 else 2) word
 
 -- the text that a word gives as the number of threads: a value is one, and so is what follows `-t`
 abbrev pub number_text : Bool × List ℕ → Option (List ℕ)
@@ -136,14 +116,6 @@ number_given p = option_and_then number_of (number_text p)
 abbrev pub is_no_thread_word : Bool × List ℕ → Bool
 is_no_thread_word (is_value, word) = not is_value && not (is_threads word) && not (begins_with_t word)
 
--- the words without those for threads
-abbrev pub words_without_threads : List (List ℕ) → List (List ℕ)
-words_without_threads words = words_alone (filter is_no_thread_word (beside_threads words))
-
--- the numbers of a line, in order
-abbrev pub thread_numbers : List (List ℕ) → List ℕ
-thread_numbers words = filter_map number_given (beside_threads words)
-
 -- the words that stay, and the last number, or 1 if there is none; or a refusal if a number's word is missing
 abbrev pub threads_answer : Bool → List (List ℕ) → Option ℕ → Result (List (List ℕ) × ℕ) Fault
 threads_answer is_missing stay number = if is_missing then Err ThreadsValue else Ok (stay, unwrap_or number 1)
@@ -151,8 +123,8 @@ threads_answer is_missing stay number = if is_missing then Err ThreadsValue else
 -- what a line's words for threads say
 abbrev pub threads_of : List (List ℕ) → Result (List (List ℕ) × ℕ) Fault
 threads_of words =
-    threads_answer (lacks_value is_threads (beside_threads words)) (words_without_threads words)
-    (last_of (thread_numbers words))
+    let ps = valued is_threads false words in
+    threads_answer (lacks_value is_threads ps) (words_alone (filter is_no_thread_word ps)) (last_of (filter_map number_given ps))
 
 -- the answers of the two calls, as texts
 abbrev pub keep_seen : Result (Vec (String Global) Global × Option (String Global)) Fault → Result (List (List ℕ) × Option (List ℕ)) Fault

@@ -1,8 +1,7 @@
 -- The words that the environment adds to an nvcc line.
-use Rattle.std.specs.Prelude.{ℕ, List, [], ◌++◌, Bool, not, ◌||◌, filter, unwrap_or, codes, bytes_eq}
-use Rattle.std.specs.Option.{option_map_or}
+use Rattle.std.specs.Prelude.{ℕ, List, [], ◌++◌, Bool, not, ◌||◌, filter, unwrap_or, option_and_then, codes, bytes_eq}
 use Rattle.texts.specs.Variables.{first_value}
-use Rattle.shell_words.specs.Shell.Splitting.{shell_words}
+use Rattle.texts.specs.Shell.Splitting.{shell_words}
 
 -- the names of the variables that nvcc takes words from: the words before a line's own, and those after them
 abbrev pub prepended_name : List ℕ
@@ -19,13 +18,9 @@ is_flags_name name = bytes_eq name prepended_name || bytes_eq name appended_name
 abbrev pub without_flags : List (List ℕ × List ℕ) → List (List ℕ × List ℕ)
 without_flags env_vars = filter (λ variable. not (is_flags_name variable.0)) env_vars
 
--- the shell words of a variable's value, and none if the shell can't split it
-abbrev pub words_of_value : List ℕ → List (List ℕ)
-words_of_value text = unwrap_or (shell_words text) []
-
--- the words that the first variable of a name adds, and none if there is no such variable
+-- the shell words of the first variable of a name; none if there is no such variable, or the shell can't split its value
 abbrev pub added_words : List ℕ → List (List ℕ × List ℕ) → List (List ℕ)
-added_words name env_vars = option_map_or words_of_value (first_value name env_vars) []
+added_words name env_vars = unwrap_or (option_and_then shell_words (first_value name env_vars)) []
 
 -- a line with the words that the environment adds
 abbrev pub with_added_words : List (List ℕ × List ℕ) → List (List ℕ) → List (List ℕ)

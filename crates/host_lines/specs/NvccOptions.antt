@@ -1,11 +1,11 @@
 -- nvcc's options beside those of the gcc profile.
 use Rattle.std.specs.Prelude.{◌≡◌, List, ◌∷◌, ◌++◌, true, refl, codes}
-use Rattle.option_items.specs.declared.table.ArgDisposition.TheVariants.{Separated}
-use Rattle.gcc_lines.specs.declared.gcc.options.ArgData.{ArgData}
-use Rattle.gcc_lines.specs.declared.gcc.options.ArgData.TheVariants.{TooHard, PassThrough, PreprocessorArgument, PreprocessorArgumentFlag, PreprocessorArgumentPath, DepArgumentPath, NeedDepTarget, DoCompilation, Language, ExtraHashFile, Unhashed, UnhashedFlag}
-use Rattle.gcc_lines.specs.GccOptions.{flags, options, joined, either_way, either_way_or_equals, differ}
+use Rattle.compilers.specs.declared.table.ArgDisposition.TheVariants.{Separated}
+use Rattle.host_lines.specs.declared.gcc.options.ArgData.{ArgData}
+use Rattle.host_lines.specs.declared.gcc.options.ArgData.TheVariants.{TooHard, PassThrough, PreprocessorArgument, PreprocessorArgumentFlag, PreprocessorArgumentPath, DepArgumentPath, NeedDepTarget, DoCompilation, Language, ExtraHashFile, Unhashed, UnhashedFlag}
+use Rattle.host_lines.specs.GccOptions.{flags, options, joined, either_way, either_way_or_equals, differ}
 use Rattle.texts.specs.Rows.{spaced}
-use Rattle.option_items.specs.Table.{Entry}
+use Rattle.compilers.specs.Table.{Entry}
 
 -- the entries, by form and kind; one text contains a space
 abbrev pub nvcc_options : List (Entry ArgData)

@@ -1,13 +1,13 @@
 -- nvhpc's options, and what its lines are read as.
 use Rattle.std.specs.Prelude.{◌≡◌, ℕ, List, ◌++◌, Bool, true, Option, refl}
 use Rattle.compilers.specs.declared.compiler.CCompilerKind.TheVariants.{Nvhpc}
-use Rattle.gcc_lines.specs.declared.gcc.options.ArgData.{ArgData}
-use Rattle.gcc_lines.specs.declared.gcc.options.ArgData.TheVariants.{PassThrough, PassThroughFlag, PreprocessorArgument, PreprocessorArgumentFlag, PreprocessorArgumentPath, Language, Standard}
+use Rattle.host_lines.specs.declared.gcc.options.ArgData.{ArgData}
+use Rattle.host_lines.specs.declared.gcc.options.ArgData.TheVariants.{PassThrough, PassThroughFlag, PreprocessorArgument, PreprocessorArgumentFlag, PreprocessorArgumentPath, Language, Standard}
 use Rattle.texts.specs.Rows.{spaced}
-use Rattle.option_items.specs.Table.{Entry, longest_match, longer_choice}
-use Rattle.gcc_lines.specs.GccOptions.{flags, options, joined, either_way, either_way_or_equals, gcc_entries, differ}
+use Rattle.compilers.specs.Table.{Entry, longest_match, longer_choice}
+use Rattle.host_lines.specs.GccOptions.{flags, options, joined, either_way, either_way_or_equals, gcc_entries, differ}
 use Rattle.compilers.specs.Compiler.{Reading}
-use Rattle.gcc_lines.specs.Gcc.{profile_reading}
+use Rattle.host_lines.specs.Gcc.{profile_reading}
 
 -- nvhpc's option table, by form and kind
 abbrev pub nvhpc_options : List (Entry ArgData)

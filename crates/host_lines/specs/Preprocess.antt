@@ -8,7 +8,7 @@ use Rattle.compilers.specs.declared.command.SingleCompileCommand.{SingleCompileC
 use Rattle.texts.specs.declared.fault.Fault.{Fault}
 use Rattle.texts.specs.declared.fault.Fault.TheVariants.{NoPreprocess}
 use Rattle.compilers.specs.Command.{single_command}
-use Rattle.gcc_lines.specs.GccItems.{name_of_language}
+use Rattle.host_lines.specs.GccItems.{name_of_language}
 use Rattle.compilers.specs.declared.compiler.NvccHostCompiler.{NvccHostCompiler}
 use Rattle.compilers.specs.declared.compiler.NvccHostCompiler.TheVariants as host
 use Rattle.host_lines.specs.NvccEnvironment.{without_flags}

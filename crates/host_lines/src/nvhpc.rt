@@ -1,18 +1,18 @@
 //! The command lines of nvhpc, NVIDIA's compilers for C and C++.
 
 ghost use Rattle.std.specs.Prelude.{◌≡◌, true, map, IfOk};
-ghost use Rattle.option_items.specs.Table.{entry_of};
-ghost use Rattle.gcc_lines.specs.GccOptions.{differ};
+ghost use Rattle.compilers.specs.Table.{entry_of};
+ghost use Rattle.host_lines.specs.GccOptions.{differ};
 ghost use Rattle.host_lines.specs.Nvhpc as spec;
 
 mod preprocessor;
 
+use crate::gcc::{self, ArgData};
 use compilers::arguments::{CompilerArguments, ParsedArguments};
 use compilers::command::{Cacheable, SingleCompileCommand};
 use compilers::compiler::{CCompilerImpl, CCompilerKind, Places};
-use gcc_lines::gcc::{self, ArgData};
-use option_items::entries;
-use option_items::table::{ArgInfo, EITHER_WAY, EITHER_WAY_OR_EQUALS, JOINED, Pair, Table};
+use compilers::entries;
+use compilers::table::{ArgInfo, EITHER_WAY, EITHER_WAY_OR_EQUALS, JOINED, Pair, Table};
 use std::alloc::{AllocError, Global};
 use texts::fault::Fault;
 use texts::text::Text;
@@ -68,7 +68,7 @@ impl Nvhpc {
 impl CCompilerImpl for Nvhpc {
     ghost use Rattle.compilers.specs.declared.compiler.CCompilerKind.TheVariants as kinds;
     ghost use Rattle.compilers.specs.Command.{written};
-    ghost use Rattle.gcc_lines.specs.GccLine.{gcc_words};
+    ghost use Rattle.host_lines.specs.GccLine.{gcc_words};
     ghost use Rattle.host_lines.specs.Nvhpc as spec;
 
     type Command = SingleCompileCommand;

@@ -1,6 +1,6 @@
 //! The commands that preprocess an input: what those of nvcc and of nvhpc have in common.
 
-ghost use Rattle.std.specs.Prelude.{◌≡◌, ◌∷◌, [], ◌++◌, Err, IfOk, OnOk, codes};
+ghost use Rattle.std.specs.Prelude.{◌≡◌, Err, IfOk};
 ghost use Rattle.texts.specs.Fault.{UnlessMemory};
 ghost use Rattle.texts.specs.declared.fault.Fault.TheVariants.{NoPreprocess};
 ghost use Rattle.host_lines.specs.Preprocess as spec;
@@ -21,30 +21,6 @@ pub fn refused(alloc: Global, text: &str) -> Result<Vec<SingleCompileCommand>, F
     Err(Fault::NoPreprocess(text))
 }
 
-// Appends the words that both commands begin with.
-fn push_common(
-    alloc: Global,
-    words: &mut Words,
-    parsed_args: &ParsedArguments,
-    name: &str,
-) -> Result<(), AllocError>
-    ensures { OnOk result (words.new ≡ words.old
-        ++ (parsed_args.now.preprocessor_args ++ (parsed_args.now.common_args ++ (codes "-x" ∷ name.now ∷ parsed_args.now.input ∷ [])))) }
-{
-    words.push_copies(alloc, parsed_args.preprocessor_args.as_slice())?;
-    words.push_copies(alloc, parsed_args.common_args.as_slice())?;
-    words.push_pair(alloc, "-x", name)?;
-    words.push_str(alloc, parsed_args.input.as_str())
-}
-
-// Copies of two texts.
-fn two_copies(alloc: Global, first: &str, second: &str) -> Result<(Text, Text), AllocError>
-    ensures { IfOk result (λ copies. copies ≡ (first.now, second.now)) }
-{
-    let first = Text::copy_of(alloc, first)?;
-    Ok((first, Text::copy_of(alloc, second)?))
-}
-
 /// What both commands have.
 pub fn common_command(
     alloc: Global,
@@ -56,28 +32,18 @@ pub fn common_command(
 ) -> Result<SingleCompileCommand, AllocError>
     ensures { IfOk result (λ c. c ≡ spec.common_command executable.now parsed_args.now name.now cwd.now env_vars) }
 {
-    let (executable, cwd) = match two_copies(alloc, executable, cwd) {
-        Ok(copies) => copies,
-        Err(error) => {
-            // Dropped by a call: see "Explicit drops" in docs/ARCHITECTURE.md.
-            drop(env_vars);
-            return Err(error);
-        }
-    };
-    let mut command = SingleCompileCommand {
-        executable,
-        arguments: Words::new(alloc),
+    let mut arguments = Words::new(alloc);
+    arguments.push_copies(alloc, parsed_args.preprocessor_args.as_slice())?;
+    arguments.push_copies(alloc, parsed_args.common_args.as_slice())?;
+    arguments.push_pair(alloc, "-x", name)?;
+    arguments.push_str(alloc, parsed_args.input.as_str())?;
+    Ok(SingleCompileCommand {
+        executable: Text::copy_of(alloc, executable)?,
+        arguments,
         env_vars,
-        cwd,
+        cwd: Text::copy_of(alloc, cwd)?,
         share_jobserver: false,
-    };
-    match push_common(alloc, &mut command.arguments, parsed_args, name) {
-        Ok(()) => Ok(command),
-        Err(error) => {
-            drop(command);
-            Err(error)
-        }
-    }
+    })
 }
 
 // A command with more words at its end.

@@ -1,2 +1,5 @@
 pub mod IdentityLemmas
+pub mod KeepingLemmas
+pub mod LawLemmas
 pub mod OptionLemmas
+pub mod TableLemmas

@@ -7,27 +7,27 @@ use Rattle.texts.specs.Results.{and_then}
 use Rattle.compilers.specs.declared.arguments.ParsedArguments.{ParsedArguments}
 use Rattle.compilers.specs.declared.command.SingleCompileCommand.{SingleCompileCommand}
 use Rattle.compilers.specs.Compiler.{Reading}
-use Rattle.nvcc_commands.specs.declared.command.NvccCompileCommand.{NvccCompileCommand}
-use Rattle.nvcc_commands.specs.Nvcc.{nvcc_reading}
+use Rattle.host_lines.specs.declared.nvcc.command.NvccCompileCommand.{NvccCompileCommand}
+use Rattle.host_lines.specs.Nvcc.{nvcc_reading}
 use Rattle.host_lines.specs.NvccEnvironment.{prepended_name, appended_name, with_added_words}
-use Rattle.nvcc_words.specs.declared.asked.Asked.{Asked}
-use Rattle.nvcc_options.specs.declared.reason.Reason.{Reason}
-use Rattle.nvcc_options.specs.declared.reason.Reason.TheVariants.{OtherReading, ShellCharacter, VariableQuotes}
-use Rattle.nvcc_options.specs.Words.{is_unexpanded}
-use Rattle.nvcc_words.specs.declared.verdict.Verdict.{Verdict}
-use Rattle.nvcc_words.specs.declared.verdict.Verdict.TheVariants as verdicts
-use Rattle.nvcc_words.specs.Asked.{asked_of}
-use Rattle.nvcc_words.specs.Keeping.{keeps}
-use Rattle.nvcc_options.specs.Reasons.{text_of}
-use Rattle.nvcc_words.specs.NormalForm.{settled}
-use Rattle.nvcc_words.specs.Verdict.{is_plain, judged}
-use Rattle.nvcc_words.proofs.KeepingLemmas.{keeps-says}
+use Rattle.nvcc_calls.specs.declared.asked.Asked.{Asked}
+use Rattle.nvcc_calls.specs.declared.reason.Reason.{Reason}
+use Rattle.nvcc_calls.specs.declared.reason.Reason.TheVariants.{OtherReading, ShellCharacter, VariableQuotes}
+use Rattle.nvcc_calls.specs.Words.{is_unexpanded}
+use Rattle.nvcc_calls.specs.declared.verdict.Verdict.{Verdict}
+use Rattle.nvcc_calls.specs.declared.verdict.Verdict.TheVariants as verdicts
+use Rattle.nvcc_calls.specs.Asked.{asked_of}
+use Rattle.nvcc_calls.specs.Keeping.{keeps}
+use Rattle.nvcc_calls.specs.Reasons.{text_of}
+use Rattle.nvcc_calls.specs.NormalForm.{settled, is_plain, judged}
+use Rattle.nvcc_calls.proofs.KeepingLemmas.{keeps-says}
 use Rattle.nvcc_calls.specs.declared.answer.Answer.{Answer}
 use Rattle.nvcc_calls.specs.declared.answer.Answer.TheVariants.{Split, Pass}
 use Rattle.nvcc_calls.specs.declared.outline.Outline.{Outline}
 use Rattle.nvcc_calls.specs.Answer.{answer_by, answer_to, answer_to_reading, answer_to_verdict, unless_hazard}
-use Rattle.nvcc_calls.specs.Outline.{dependencies_of, jobs_of_line, outline_of, outline_with}
-use Rattle.nvcc_lines.specs.Calls.{NvccOf}
+use Rattle.nvcc_calls.specs.Jobs.{jobs_of}
+use Rattle.nvcc_calls.specs.Outline.{dependencies_of, outline_of, outline_with, threads_of_line}
+use Rattle.compilers.specs.Calls.{NvccOf}
 use Rattle.nvcc_calls.specs.Hazards.{hazard_of}
 use Rattle.nvcc_calls.specs.Laws.{DryRunsSayAs, SplitLinesKeepOptions}
 
@@ -41,17 +41,17 @@ module _ (call : NvccOf) (variables : List (List ℕ × List ℕ)) (asked : Aske
   abbrev IsKept : Outline → Type 0
   IsKept o = (command : NvccCompileCommand) × DryRunsSayAs asked o command
 
-  by-outline : (command : NvccCompileCommand) (o : Outline) (dependencies : Result (Option SingleCompileCommand) Fault) (jobs : Result ℕ Fault) → keeps asked (asked_of [] command.arguments) ≡ true →
-      outline_in (and_then (and_then dependencies (λ d. and_then jobs (λ j. Ok (outline_with command d j)))) (λ outline. Ok (Split outline))) ≡ Some o → DryRunsSayAs asked o command
+  by-outline : (command : NvccCompileCommand) (o : Outline) (dependencies : Result (Option SingleCompileCommand) Fault) (threads : Result ℕ Fault) → keeps asked (asked_of [] command.arguments) ≡ true →
+      outline_in (and_then (and_then dependencies (λ d. and_then threads (λ t. Ok (outline_with command d (jobs_of variables t))))) (λ outline. Ok (Split outline))) ≡ Some o → DryRunsSayAs asked o command
   by-outline command o (Ok d) (Ok j) t e =
       subst (λ q. DryRunsSayAs asked q command) (ap (λ found. unwrap_or found o) e)
       (record { first = refl; second = refl; words = keeps-says asked (asked_of [] command.arguments) t })
   by-outline command o (Ok d) (Err fault) t e = absurd (false≢true (ap is_some e))
-  by-outline command o (Err fault) jobs t e = absurd (false≢true (ap is_some e))
+  by-outline command o (Err fault) threads t e = absurd (false≢true (ap is_some e))
 
   by-check : (p : ParsedArguments) (command : NvccCompileCommand) (o : Outline) (b : Bool) → keeps asked (asked_of [] command.arguments) ≡ b →
       outline_in (cond b (and_then (outline_of call p variables command) (λ outline. Ok (Split outline))) (Ok (Pass (text_of OtherReading)))) ≡ Some o → DryRunsSayAs asked o command
-  by-check p command o true t e = by-outline command o (dependencies_of call p variables) (jobs_of_line call p variables) t e
+  by-check p command o true t e = by-outline command o (dependencies_of call p variables) (threads_of_line call.cwd p) t e
   by-check p command o false t e = absurd (false≢true (ap is_some e))
 
   by-command : (p : ParsedArguments) (r : Result NvccCompileCommand Fault) (o : Outline) →

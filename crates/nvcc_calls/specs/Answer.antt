@@ -5,23 +5,22 @@ use Rattle.texts.specs.declared.fault.Fault.{Fault}
 use Rattle.texts.specs.Rows.{spaced}
 use Rattle.compilers.specs.Compiler.{Reading, accepted, cannot_cache, not_compilation}
 use Rattle.compilers.specs.declared.arguments.ParsedArguments.{ParsedArguments}
-use Rattle.nvcc_commands.specs.declared.command.NvccCompileCommand.{NvccCompileCommand}
-use Rattle.nvcc_commands.specs.Nvcc.{nvcc_reading}
-use Rattle.nvcc_words.specs.declared.asked.Asked.{Asked}
-use Rattle.nvcc_words.specs.declared.call.Call.{Call}
-use Rattle.nvcc_options.specs.declared.reason.Reason.{Reason}
-use Rattle.nvcc_options.specs.declared.reason.Reason.TheVariants.{OtherReading, GeneratedName}
-use Rattle.nvcc_words.specs.declared.verdict.Verdict.{Verdict}
-use Rattle.nvcc_words.specs.declared.verdict.Verdict.TheVariants as verdicts
-use Rattle.nvcc_words.specs.Asked.{asked_of}
-use Rattle.nvcc_words.specs.Keeping.{keeps}
-use Rattle.nvcc_words.specs.NormalForm.{settled}
-use Rattle.nvcc_options.specs.Reasons.{text_of}
-use Rattle.nvcc_words.specs.Verdict.{judged, line_asked}
+use Rattle.host_lines.specs.declared.nvcc.command.NvccCompileCommand.{NvccCompileCommand}
+use Rattle.host_lines.specs.Nvcc.{nvcc_reading}
+use Rattle.nvcc_calls.specs.declared.asked.Asked.{Asked}
+use Rattle.nvcc_calls.specs.declared.call.Call.{Call}
+use Rattle.nvcc_calls.specs.declared.reason.Reason.{Reason}
+use Rattle.nvcc_calls.specs.declared.reason.Reason.TheVariants.{OtherReading, GeneratedName}
+use Rattle.nvcc_calls.specs.declared.verdict.Verdict.{Verdict}
+use Rattle.nvcc_calls.specs.declared.verdict.Verdict.TheVariants as verdicts
+use Rattle.nvcc_calls.specs.Asked.{asked_of}
+use Rattle.nvcc_calls.specs.Keeping.{keeps}
+use Rattle.nvcc_calls.specs.NormalForm.{settled, judged, line_asked}
+use Rattle.nvcc_calls.specs.Reasons.{text_of}
 use Rattle.texts.specs.Results.{and_then}
 use Rattle.nvcc_calls.specs.declared.answer.Answer.{Answer}
 use Rattle.nvcc_calls.specs.declared.answer.Answer.TheVariants.{Split, Pass}
-use Rattle.nvcc_lines.specs.Calls.{NvccOf}
+use Rattle.compilers.specs.Calls.{NvccOf}
 use Rattle.nvcc_calls.specs.Hazards.{hazard_of}
 use Rattle.nvcc_calls.specs.Outline.{command_of, outline_of}
 use Rattle.nvcc_calls.specs.OutlineTexts.{outline_text}
@@ -75,14 +74,6 @@ line_at words = record { cwd = codes "/w"; tmp = codes "/t"; nvcc = codes "nvcc"
 abbrev pub split_text : Result Answer Fault → List ℕ
 split_text (Ok (Split outline)) = outline_text outline
 split_text _ = []
-
-pub line_with_dependencies : split_text (nvcc_answer (line_at (spaced "-MD -MF k.d --threads 2 -c k.cu -o k.o")) [] []) ≡
-    codes "dependencies='( unset NVCC_PREPEND_FLAGS NVCC_APPEND_FLAGS; cd /w && nvcc -c -x cu k.cu -M -MF k.d -MT k.o )'\n" ++
-    (codes "first_dry_run='( unset NVCC_PREPEND_FLAGS NVCC_APPEND_FLAGS; cd /w && nvcc -x cu -o k.o -c k.cu --dryrun --keep )'\n" ++
-    (codes "second_dry_run='( unset NVCC_PREPEND_FLAGS NVCC_APPEND_FLAGS; cd /w && nvcc -x cu -o k.o -c k.cu --keep-dir /t --dryrun --keep )'\n" ++
-    codes "flag=-c\njobs=2\nkeep_dir=''\n"))
-unfolding chars lib.Utf8.encode keeps
-line_with_dependencies = refl
 
 pub words_of_a_variable :
     split_text (nvcc_answer (line_at (spaced "-c k.cu")) ((codes "NVCC_APPEND_FLAGS", codes "-o=j.o -Xptxas -v") ∷ []) []) ≡

@@ -4,7 +4,7 @@ use Rattle.hex.specs.Hex.{encode_lower}
 use Rattle.sha2.specs.Sha256.{sha256}
 use Rattle.texts.specs.Numeral.{numeral}
 use Rattle.texts.specs.Variables.{first_value}
-use Rattle.nvcc_lines.specs.Calls.{DirectoryOf}
+use Rattle.compilers.specs.Calls.{DirectoryOf}
 
 -- a text behind its length
 abbrev pub sized : List ℕ → List ℕ

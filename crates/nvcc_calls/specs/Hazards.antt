@@ -1,5 +1,5 @@
 -- Why nvcc makes a call whose line could be split: a plan of it would make something else.
-use Rattle.std.specs.Prelude.{◌≡◌, ℕ, List, [], ◌∷◌, map, Bool, true, false, not, ◌==◌, ◌&&◌, ◌||◌, nat_eq, nat_le, Option, Some, None, refl, codes, bytes_eq}
+use Rattle.std.specs.Prelude.{◌≡◌, ℕ, List, [], ◌∷◌, fold, map, Bool, true, false, not, ◌==◌, ◌&&◌, ◌||◌, nat_eq, nat_le, Option, Some, None, refl, codes, bytes_eq}
 use Rattle.std.specs.List.{list_any, list_all, starts_with}
 use Rattle.std.specs.Option.{option_or}
 use Rattle.texts.specs.Extension.{last_part, with_extension}
@@ -7,13 +7,13 @@ use Rattle.texts.specs.ObjectFlags.{makes_objects}
 use Rattle.texts.specs.Rows.{spaced}
 use Rattle.canonical_names.specs.Alike.{holds}
 use Rattle.canonical_names.specs.Generated.{standard_suffixes}
-use Rattle.nvcc_words.specs.declared.asked.Asked.{Asked}
-use Rattle.nvcc_words.specs.declared.call.Call.{Call}
-use Rattle.nvcc_options.specs.declared.reason.Reason.{Reason}
-use Rattle.nvcc_options.specs.declared.reason.Reason.TheVariants.{GeneratedName, DirectoryName, ToolFile, HostFile, KeptName, OpenFile}
-use Rattle.nvcc_words.specs.Asked.{nothing_asked, reason_unless}
-use Rattle.nvcc_words.specs.NormalForm.{extension_of_phase, has_extension}
-use Rattle.nvcc_lines.specs.Calls.{NvccOf}
+use Rattle.nvcc_calls.specs.declared.asked.Asked.{Asked}
+use Rattle.nvcc_calls.specs.declared.call.Call.{Call}
+use Rattle.nvcc_calls.specs.declared.reason.Reason.{Reason}
+use Rattle.nvcc_calls.specs.declared.reason.Reason.TheVariants.{GeneratedName, DirectoryName, ToolFile, HostFile, KeptName, OpenFile}
+use Rattle.nvcc_calls.specs.Asked.{nothing_asked, reason_unless}
+use Rattle.nvcc_calls.specs.NormalForm.{extension_of_phase, has_extension}
+use Rattle.compilers.specs.Calls.{NvccOf}
 use Rattle.nvcc_calls.specs.ToolWords.{begins_with_one, may_name_file}
 
 -- whether a text may be changed where generated files get canonical names: it contains one of their suffixes. In all other
@@ -53,9 +53,6 @@ is_kept_name call =
     starts_with nat_eq (last_part call.output) (with_extension (last_part call.input) [])
     && not (has_extension (extension_of_phase call.flag) call.output)
 
-abbrev pub may_be_kept : Call → Bool
-may_be_kept call = list_any asks_to_keep call.words && is_kept_name call
-
 -- whether a text names a file that is open when nvcc begins, as standard input is. Two dry runs and the commands would each read it,
 -- and of those that read a pipe, the first takes all. A text tells by such a file's name: not a link to it, nor a name below `/dev`
 abbrev pub names_open_file : List ℕ → Bool
@@ -67,26 +64,21 @@ abbrev pub uses_open_file : Asked → Call → Bool
 uses_open_file asked normal =
     names_open_file normal.input || names_open_file normal.output || list_any names_open_file asked.kept
 
--- why nvcc makes the call, if it does: its directories, the words, and what the line asks for
+-- whether the names of a call may be changed where generated files get canonical names
 abbrev pub is_renamed : NvccOf → Call → Bool
 is_renamed call normal =
     may_be_renamed call.cwd || may_be_renamed call.tmp || may_be_renamed call.nvcc || may_one_be_renamed normal.words
 
-abbrev pub name_hazard : NvccOf → Call → Option Reason
-name_hazard call normal =
-    option_or (reason_unless (is_plain_directory call.cwd && is_plain_directory call.tmp) DirectoryName)
-    (reason_unless (not (is_renamed call normal)) GeneratedName)
-
-abbrev pub file_hazard : Call → Option Reason
-file_hazard normal =
-    option_or (reason_unless (not (list_any may_name_file normal.words)) ToolFile)
-    (option_or (reason_unless (not (may_share_file normal)) HostFile)
-    (reason_unless (not (may_be_kept normal)) KeptName))
-
+-- why nvcc makes the call, if it does: its directories, the words, and what the line asks for
 abbrev pub hazard_of : NvccOf → Asked → Call → Option Reason
 hazard_of call asked normal =
-    option_or (name_hazard call normal)
-    (option_or (file_hazard normal) (reason_unless (not (uses_open_file asked normal)) OpenFile))
+    fold option_or (reason_unless (is_plain_directory call.cwd && is_plain_directory call.tmp) DirectoryName)
+    (reason_unless (not (is_renamed call normal)) GeneratedName
+    ∷ reason_unless (not (list_any may_name_file normal.words)) ToolFile
+    ∷ reason_unless (not (may_share_file normal)) HostFile
+    ∷ reason_unless (not (list_any asks_to_keep normal.words && is_kept_name normal)) KeptName
+    ∷ reason_unless (not (uses_open_file asked normal)) OpenFile
+    ∷ [])
 
 -- Worked examples.
 abbrev pub call_in : List ℕ → NvccOf
@@ -95,29 +87,21 @@ call_in cwd = record { cwd = cwd; tmp = codes "/t"; nvcc = codes "nvcc"; words =
 abbrev pub call_for : List ℕ → List ℕ → List (List ℕ) → Call
 call_for flag output words = record { flag = flag; input = codes "sub/dev.cu"; output = output; words = words }
 
-pub macro_with_a_name : hazard_of (call_in (codes "/w")) nothing_asked (call_for (codes "-c") (codes "k.o") (spaced "-c -DN=a.cpp1.ii")) ≡ Some GeneratedName
-macro_with_a_name = refl
+-- words that name a generated file, or no such file; a file for ptxas, and one for fatbinary; a dependency file of an object, and an open one
+pub words_of_objects :
+    map (λ words. hazard_of (call_in (codes "/w")) nothing_asked (call_for (codes "-c") (codes "k.o") words))
+    (spaced "-DN=a.cpp1.ii" ∷ spaced "-DN=a.ii -I/x.cpp1 sub/dev.cu" ∷ spaced "-Xptxas=-optf,p.txt" ∷ spaced "-Xfatbin=--image=file=a" ∷ spaced "-Xcompiler=-MD,-MF,k.d" ∷ spaced "-MD -MF /dev/fd/3" ∷ [])
+    ≡ Some GeneratedName ∷ None ∷ Some ToolFile ∷ Some ToolFile ∷ None ∷ None ∷ []
+words_of_objects = refl
 
 pub folder_with_a_name : hazard_of (call_in (codes "/w/a.cudafe1.cpp.d")) nothing_asked (call_for (codes "-c") (codes "k.o") []) ≡ Some GeneratedName
 folder_with_a_name = refl
 
-pub usual_names : hazard_of (call_in (codes "/w")) nothing_asked (call_for (codes "-c") (codes "k.o") (spaced "-c -DN=a.ii -I/x.cpp1 sub/dev.cu")) ≡ None
-usual_names = refl
-
 pub folder_with_a_dollar : hazard_of (call_in (codes "/w$x")) nothing_asked (call_for (codes "-c") (codes "k.o") []) ≡ Some DirectoryName
 folder_with_a_dollar = refl
 
-pub file_for_ptxas : hazard_of (call_in (codes "/w")) nothing_asked (call_for (codes "-c") (codes "k.o") (spaced "-Xptxas=-optf,p.txt")) ≡ Some ToolFile
-file_for_ptxas = refl
-
-pub code_for_fatbinary : hazard_of (call_in (codes "/w")) nothing_asked (call_for (codes "-c") (codes "k.o") (spaced "-Xfatbin=--image=file=a")) ≡ Some ToolFile
-code_for_fatbinary = refl
-
 pub shared_file : hazard_of (call_in (codes "/w")) nothing_asked (call_for (codes "-fatbin") (codes "k.f") (spaced "-Xcompiler=-MD,-MF,k.d")) ≡ Some HostFile
 shared_file = refl
-
-pub file_of_an_object : hazard_of (call_in (codes "/w")) nothing_asked (call_for (codes "-c") (codes "k.o") (spaced "-Xcompiler=-MD,-MF,k.d")) ≡ None
-file_of_an_object = refl
 
 pub kept_cubin : hazard_of (call_in (codes "/w")) nothing_asked (call_for (codes "-c") (codes "o/dev.sm_80.cubin") (spaced "--keep")) ≡ Some KeptName
 kept_cubin = refl
@@ -140,6 +124,3 @@ open_header = refl
 
 pub open_product : hazard_of (call_in (codes "/w")) nothing_asked (call_for (codes "-ptx") (codes "/dev/fd/3") []) ≡ Some OpenFile
 open_product = refl
-
-pub open_dependency_file : hazard_of (call_in (codes "/w")) nothing_asked (call_for (codes "-c") (codes "k.o") (spaced "-MD -MF /dev/fd/3")) ≡ None
-open_dependency_file = refl

@@ -1,15 +1,15 @@
 -- What is claimed of split lines.
 use Rattle.std.specs.Prelude.{◌≡◌, ℕ, List, [], Ok}
-use Rattle.nvcc_commands.specs.declared.command.NvccCompileCommand.{NvccCompileCommand}
-use Rattle.nvcc_commands.specs.NvccCommand.{dry_runs}
+use Rattle.host_lines.specs.declared.nvcc.command.NvccCompileCommand.{NvccCompileCommand}
+use Rattle.host_lines.specs.NvccCommand.{dry_runs}
 use Rattle.host_lines.specs.NvccEnvironment.{with_added_words}
-use Rattle.nvcc_words.specs.declared.asked.Asked.{Asked}
-use Rattle.nvcc_words.specs.Asked.{asked_of}
-use Rattle.nvcc_words.specs.Keeping.{SaysAs}
+use Rattle.nvcc_calls.specs.declared.asked.Asked.{Asked}
+use Rattle.nvcc_calls.specs.Asked.{asked_of}
+use Rattle.nvcc_calls.specs.Keeping.{SaysAs}
 use Rattle.nvcc_calls.specs.declared.answer.Answer.TheVariants.{Split}
 use Rattle.nvcc_calls.specs.declared.outline.Outline.{Outline}
 use Rattle.nvcc_calls.specs.Answer.{nvcc_answer}
-use Rattle.nvcc_lines.specs.Calls.{NvccOf}
+use Rattle.compilers.specs.Calls.{NvccOf}
 
 -- both dry runs of an outline are those of a command whose words say what a line that asks for `a` does
 pub record DryRunsSayAs (a : Asked) (outline : Outline) (command : NvccCompileCommand) : Type 0 where

@@ -13,12 +13,12 @@ use Rattle.compilers.specs.declared.command.SingleCompileCommand.{SingleCompileC
 use Rattle.compilers.specs.declared.compiler.NvccHostCompiler.TheVariants.{Gcc}
 use Rattle.compilers.specs.declared.compiler.Places.{Places}
 use Rattle.compilers.specs.Arguments.{plain_arguments}
-use Rattle.nvcc_commands.specs.declared.command.NvccCompileCommand.{NvccCompileCommand}
-use Rattle.nvcc_commands.specs.NvccCommand.{dry_runs, nvcc_written}
+use Rattle.host_lines.specs.declared.nvcc.command.NvccCompileCommand.{NvccCompileCommand}
+use Rattle.host_lines.specs.NvccCommand.{dry_runs, nvcc_written}
 use Rattle.host_lines.specs.KeepThreads.{keep_of, threads_of}
 use Rattle.host_lines.specs.Preprocess.{nvcc_preprocess}
 use Rattle.nvcc_calls.specs.declared.outline.Outline.{Outline}
-use Rattle.nvcc_lines.specs.Calls.{NvccOf}
+use Rattle.compilers.specs.Calls.{NvccOf}
 use Rattle.nvcc_calls.specs.Jobs.{jobs_of, threads_asked}
 
 -- whether a word asks nvcc to put the source's lines into device code
@@ -59,10 +59,6 @@ threads_of_line cwd p =
     and_then (threads_of kept.0) (λ taken.
     Ok (threads_asked kept.0 taken)))
 
--- how many commands run at once, or 0 if nobody says
-abbrev pub jobs_of_line : NvccOf → ParsedArguments → List (List ℕ × List ℕ) → Result ℕ Fault
-jobs_of_line call p variables = and_then (threads_of_line call.cwd p) (λ threads. Ok (jobs_of variables threads))
-
 -- what a line says, given its command, the dependency command and the number of jobs
 abbrev pub outline_with : NvccCompileCommand → Option SingleCompileCommand → ℕ → Outline
 outline_with c dependencies jobs = record {
@@ -83,8 +79,8 @@ command_of call p variables =
 abbrev pub outline_of : NvccOf → ParsedArguments → List (List ℕ × List ℕ) → NvccCompileCommand → Result Outline Fault
 outline_of call p variables command =
     and_then (dependencies_of call p variables) (λ dependencies.
-    and_then (jobs_of_line call p variables) (λ jobs.
-    Ok (outline_with command dependencies jobs)))
+    and_then (threads_of_line call.cwd p) (λ threads.
+    Ok (outline_with command dependencies (jobs_of variables threads))))
 
 -- worked examples
 abbrev lines_line : ParsedArguments

@@ -1,6 +1,6 @@
 -- What an nvcc line says, as texts: its commands are texts for a shell.
 use Rattle.std.specs.Prelude.{ℕ, List, [], ◌∷◌, ◌++◌, Option, Some, None, codes, unwrap_or}
-use Rattle.shell_words.specs.Shell.Quoting.{written}
+use Rattle.texts.specs.Shell.Quoting.{written}
 use Rattle.compilers.specs.declared.command.SingleCompileCommand.{SingleCompileCommand}
 use Rattle.nvcc_calls.specs.declared.outline.Outline.{Outline}
 use Rattle.nvcc_calls.specs.declared.outline_texts.OutlineTexts.{OutlineTexts}

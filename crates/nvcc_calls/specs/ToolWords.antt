@@ -3,7 +3,7 @@
 -- call unless each option is known.
 use Rattle.std.specs.Prelude.{◌≡◌, ℕ, List, [], ◌∷◌, Bool, true, false, not, ◌==◌, ◌||◌, nat_eq, nat_le, if◌then◌else◌, refl, codes, bytes_eq}
 use Rattle.std.specs.Borrow.{Bor}
-use Rattle.std.specs.List.{list_any, starts_with, slice_split}
+use Rattle.std.specs.List.{list_all, list_any, starts_with, slice_split}
 use Rattle.texts.specs.Lists.{is_some_and, rest_after}
 use Rattle.texts.specs.Rows.{spaced}
 
@@ -60,27 +60,9 @@ value_names_file value = list_any is_odd value || list_any part_names_file (slic
 abbrev pub may_name_file : List ℕ → Bool
 may_name_file word = list_any (λ option. is_some_and value_names_file (rest_after option word)) tool_options
 
--- Worked examples.
-pub messages_in_a_file : may_name_file (codes "-Xcudafe=--error_output=e.txt") ≡ true
-messages_in_a_file = refl
-
-pub listing_of_a_short_option : may_name_file (codes "-Xcicc=-Ll.txt") ≡ true
-listing_of_a_short_option = refl
-
-pub options_in_a_file : may_name_file (codes "--ptxas-options=-v,-optf,p") ≡ true
-options_in_a_file = refl
-
-pub kept_headers : may_name_file (codes "--cudafe-options=--pch") ≡ true
-kept_headers = refl
-
-pub the_next_word_as_a_file : may_name_file (codes "-Xcudafe=--error_output") ≡ true
-the_next_word_as_a_file = refl
-
-pub another_fatbin : may_name_file (codes "-Xfatbin=--create=x") ≡ true
-another_fatbin = refl
-
-pub quoted_image : may_name_file (codes "-Xfatbin=\"--image3=kind=elf,sm=90,fi\"\"le=x.cubin\"") ≡ true
-quoted_image = refl
+-- Worked examples: files for messages, a listing, options, headers, the next word, another fatbin and a quoted image; then usual words.
+pub words_with_files : list_all may_name_file (spaced "-Xcudafe=--error_output=e.txt -Xcicc=-Ll.txt --ptxas-options=-v,-optf,p --cudafe-options=--pch -Xcudafe=--error_output -Xfatbin=--create=x -Xfatbin=\"--image3=kind=elf,sm=90,fi\"\"le=x.cubin\"") ≡ true
+words_with_files = refl
 
 pub usual_options : list_any may_name_file (spaced "-Xptxas=-v,-O3,-dlcm=ca,--warn-on-spills -Xcudafe=--diag_suppress=177,--display_error_number -Xcicc=-opt=3 -Xfatbin=-compress-all,-compress=false -Xcompiler=-MF,k.d -Xptxas=") ≡ false
 usual_options = refl

@@ -1,23 +1,21 @@
 //! What becomes of an nvcc line.
 
-ghost use Rattle.std.specs.Prelude.{◌≡◌, IfOk, map};
+ghost use Rattle.std.specs.Prelude.{Ok, map};
 ghost use Rattle.texts.specs.Fault.{UnlessMemory};
 ghost use Rattle.texts.specs.Variables.{pair_of};
-ghost use Rattle.compilers.specs.Compiler.{reading_of};
-ghost use Rattle.nvcc_options.specs.Reasons.{text_of};
+ghost use Rattle.nvcc_calls.specs.Reasons.{text_of};
 ghost use Rattle.nvcc_calls.specs.declared.answer.Answer.TheVariants.{Pass};
 ghost use Rattle.nvcc_calls.specs.Answer as spec;
-ghost use Rattle.nvcc_lines.specs.Calls.{nvcc_of};
+ghost use Rattle.compilers.specs.Calls.{nvcc_of};
 
 use crate::hazard::hazard_of;
 use crate::outline::{Outline, command, outline_of};
+use crate::{Asked, Call, Reason, Verdict, read_line};
+use compilers::NvccCall;
 use compilers::arguments::{CompilerArguments, ParsedArguments};
 use compilers::compiler::CCompilerImpl;
-use nvcc_commands::Nvcc;
-use nvcc_lines::NvccCall;
-use nvcc_options::Reason;
-use nvcc_words::{Asked, Call, Verdict, read_line};
-use std::alloc::{AllocError, Global};
+use host_lines::nvcc::Nvcc;
+use std::alloc::Global;
 use texts::fault::Fault;
 use texts::text::Text;
 
@@ -51,11 +49,10 @@ pub fn read_call(
             drop(asked);
             answer
         }
-        Err(reason) => Ok(passed(alloc, reason)?),
+        Err(reason) => passed(alloc, reason),
     }
 }
 
-// The answer to a line, by what it asks for.
 fn answer_to_line(
     alloc: Global,
     call: &NvccCall<'_>,
@@ -66,7 +63,7 @@ fn answer_to_line(
 {
     match asked.verdict(alloc)? {
         Verdict::Split(normal) => answer_to_normal(alloc, call, variables, asked, &normal),
-        Verdict::Pass(reason) => Ok(passed(alloc, reason)?),
+        Verdict::Pass(reason) => passed(alloc, reason),
     }
 }
 
@@ -81,28 +78,15 @@ fn answer_to_normal(
     ensures { UnlessMemory result (spec.answer_to_normal (nvcc_of call.now) (map pair_of variables.now) asked.now normal.now) }
 {
     if let Some(reason) = hazard_of(alloc, call, asked, normal)? {
-        return Ok(passed(alloc, reason)?);
+        return passed(alloc, reason);
     }
     let reading = Nvcc::gcc().parse_arguments(alloc, normal.words.as_slice(), call.cwd, &[])?;
-    let answer = answer_to_reading(alloc, call, variables, asked, &reading);
+    let answer = match &reading {
+        CompilerArguments::Ok(parsed) => answer_to_arguments(alloc, call, variables, asked, parsed),
+        _ => passed(alloc, Reason::OtherReading),
+    };
     drop(reading);
     answer
-}
-
-// The answer to a normal form, by what sccache's reader made of it.
-fn answer_to_reading(
-    alloc: Global,
-    call: &NvccCall<'_>,
-    variables: &[(String, String)],
-    asked: &Asked,
-    reading: &CompilerArguments<ParsedArguments>,
-) -> Result<Answer, Fault>
-    ensures { UnlessMemory result (spec.answer_to_reading (nvcc_of call.now) (map pair_of variables.now) asked.now (reading_of reading.now)) }
-{
-    match reading {
-        CompilerArguments::Ok(parsed) => answer_to_arguments(alloc, call, variables, asked, parsed),
-        _ => Ok(passed(alloc, Reason::OtherReading)?),
-    }
 }
 
 // The answer to arguments. Their command has to keep the line's options: sccache's reader may read an option otherwise than nvcc.
@@ -117,14 +101,14 @@ fn answer_to_arguments(
 {
     let command = command(alloc, call, parsed, variables)?;
     if !asked.is_kept_in(alloc, command.arguments.as_slice())? {
-        return Ok(passed(alloc, Reason::OtherReading)?);
+        return passed(alloc, Reason::OtherReading);
     }
     Ok(Answer::Split(outline_of(alloc, call, parsed, variables, &command)?))
 }
 
 // The answer to a line that goes to nvcc.
-fn passed(alloc: Global, reason: Reason) -> Result<Answer, AllocError>
-    ensures { IfOk result (λ answer. answer ≡ Pass (text_of reason)) }
+fn passed(alloc: Global, reason: Reason) -> Result<Answer, Fault>
+    ensures { UnlessMemory result (Ok (Pass (text_of reason))) }
 {
     Ok(Answer::Pass(Text::copy_of(alloc, reason.text())?))
 }

@@ -1,13 +1,11 @@
 //! The name of a call's directory.
 
 ghost use Rattle.std.specs.Prelude.{◌≡◌, ◌++◌, IfOk, OnOk, codes, flat_map, map, string_bytes, unwrap_or, option_copied};
-ghost use Rattle.hex.specs.Hex.{encode_lower};
-ghost use Rattle.sha2.specs.Sha256.{sha256};
 ghost use Rattle.texts.specs.Variables.{pair_of};
 ghost use Rattle.nvcc_calls.specs.Directory as spec;
-ghost use Rattle.nvcc_lines.specs.Calls.{directory_of};
+ghost use Rattle.compilers.specs.Calls.{directory_of};
 
-use nvcc_lines::DirectoryCall;
+use compilers::DirectoryCall;
 use sha2::{Digest, Sha256};
 use std::alloc::{AllocError, Global};
 use texts::decimal::push_number;
@@ -22,7 +20,6 @@ fn push_sized(alloc: Global, text: &mut String, part: &str) -> Result<(), AllocE
     text.push_str(part)
 }
 
-// Adds each word after its length.
 fn push_words(alloc: Global, text: &mut String, words: &[String]) -> Result<(), AllocError>
     ensures { OnOk result (string_bytes text.new ≡ string_bytes text.old ++ spec.identity (map string_bytes words.now)) }
 {
@@ -41,10 +38,7 @@ fn push_value(
 ) -> Result<(), AllocError>
     ensures { OnOk result (string_bytes text.new ≡ string_bytes text.old ++ spec.sized (spec.value_in (map pair_of variables.now) name.now)) }
 {
-    match first_value(variables, name) {
-        Some(value) => push_sized(alloc, text, value),
-        None => push_sized(alloc, text, ""),
-    }
+    push_sized(alloc, text, first_value(variables, name).unwrap_or(""))
 }
 
 // All that a call depends on, as one text.
@@ -64,13 +58,6 @@ fn identity(
     Ok(text)
 }
 
-// The SHA-256 of a text, in lower-case hex digits.
-fn hex_digest(alloc: Global, text: &str) -> Result<String, AllocError>
-    ensures { IfOk result (λ hex. string_bytes hex ≡ encode_lower (sha256 text.now)) }
-{
-    hex::encode(alloc, Sha256::digest(text.as_bytes()))
-}
-
 /// The name of the directory of an nvcc call: `zigrunk-` and the SHA-256 of all that the call depends on, in lower-case hex
 /// digits: the working directory, nvcc, both variables of nvcc's flags and the words, each after its length, so no two calls
 /// share a text.
@@ -83,6 +70,7 @@ pub fn directory_name(
 {
     let identity = identity(alloc, call, variables)?;
     let mut name = String::from_str(alloc, "zigrunk-")?;
-    name.push_str(hex_digest(alloc, identity.as_str())?.as_str())?;
+    let digest = hex::encode(alloc, Sha256::digest(identity.as_str().as_bytes()))?;
+    name.push_str(digest.as_str())?;
     Ok(name)
 }

@@ -1,22 +1,20 @@
 //! Why nvcc makes a call whose line could be split.
 
-ghost use Rattle.std.specs.Prelude.{◌≡◌, IfOk, map, nat_eq, not, string_bytes};
-ghost use Rattle.std.specs.List.{list_all, list_any, starts_with};
+ghost use Rattle.std.specs.Prelude.{◌≡◌, IfOk, map, nat_eq, string_bytes};
+ghost use Rattle.std.specs.List.{list_any, starts_with};
 ghost use Rattle.canonical_names.specs.Alike as alike;
-ghost use Rattle.nvcc_words.specs.Asked.{reason_unless};
-ghost use Rattle.nvcc_lines.specs.Calls.{nvcc_of};
+ghost use Rattle.compilers.specs.Calls.{nvcc_of};
 ghost use Rattle.nvcc_calls.specs.Hazards as spec;
 ghost use Rattle.nvcc_calls.specs.ToolWords as tool;
 
+use crate::asked::reason_unless;
 use crate::tool_words::may_name_file;
-use nvcc_lines::NvccCall;
-use nvcc_options::Reason;
-use nvcc_words::{Asked, Call, extension_of_phase, has_extension};
+use crate::{Asked, Call, Reason, extension_of_phase, has_extension};
+use compilers::NvccCall;
 use std::alloc::{AllocError, Global};
 use texts::compilation_flags::asks_object;
 use texts::extension::{last, with_extension};
 
-// Whether `text` contains `part`.
 pub(crate) fn holds(text: &str, part: &str) -> bool
     ensures { result ≡ alike.holds part.now text.now }
 {
@@ -34,7 +32,6 @@ fn may_be_renamed(text: &str) -> bool
         || holds(text, ".cudafe1.stub.c")
 }
 
-// Whether one of these texts may be.
 fn may_one_be_renamed(texts: &[String]) -> bool
     ensures { result ≡ spec.may_one_be_renamed (map string_bytes texts.now) }
 {
@@ -46,26 +43,15 @@ fn may_one_be_renamed(texts: &[String]) -> bool
     false
 }
 
-// Whether a shell leaves a byte of a directory's name as it is in double quotes.
-fn is_left(byte: u8) -> bool
-    ensures { result ≡ spec.is_left byte }
-{
-    b' ' <= byte && byte != b'$' && byte != b'\\' && byte != b'`' && byte != 127
-}
-
-fn are_left(bytes: &[u8]) -> bool
-    ensures { result ≡ list_all spec.is_left bytes.now }
-{
-    bytes.iter().all(|byte| is_left(*byte))
-}
-
+// Whether a shell leaves a directory's name as it is in double quotes.
 fn is_plain_directory(path: &str) -> bool
     ensures { result ≡ spec.is_plain_directory path.now }
 {
-    are_left(path.as_bytes())
+    path.as_bytes().iter().all(|byte| {
+        b' ' <= *byte && *byte != b'$' && *byte != b'\\' && *byte != b'`' && *byte != 127
+    })
 }
 
-// Whether a word begins with a text.
 fn begins_with(text: &str, word: &str) -> bool
     ensures { result ≡ starts_with nat_eq word.now text.now }
 {
@@ -83,7 +69,6 @@ fn one_names_file(words: &[String]) -> bool
     false
 }
 
-// Whether a word is an option for the host compiler, with its value.
 fn is_host_option(word: &str) -> bool
     ensures { result ≡ tool.begins_with_one spec.host_options word.now }
 {
@@ -92,18 +77,12 @@ fn is_host_option(word: &str) -> bool
         || begins_with("-Wp,", word)
 }
 
-// Whether a word has each host preprocessor write a dependency file.
-fn writes_file(word: &str) -> bool
-    ensures { result ≡ spec.writes_file word.now }
-{
-    is_host_option(word) && holds(word, "-M")
-}
-
+// Whether one of the words has each host preprocessor write a dependency file.
 fn one_writes_file(words: &[String]) -> bool
     ensures { result ≡ list_any spec.writes_file (map string_bytes words.now) }
 {
     for word in words {
-        if writes_file(word.as_str()) {
+        if is_host_option(word.as_str()) && holds(word.as_str(), "-M") {
             return true;
         }
     }
@@ -135,7 +114,6 @@ fn one_asks_to_keep(words: &[String]) -> bool
     false
 }
 
-// Whether an output may have the name of a kept file.
 fn is_kept_name(alloc: Global, call: &Call) -> Result<bool, AllocError>
     ensures { IfOk result (λ b. b ≡ spec.is_kept_name call.now) }
 {
@@ -145,13 +123,6 @@ fn is_kept_name(alloc: Global, call: &Call) -> Result<bool, AllocError>
         begins_with(beginning.as_str(), last(output))
             && !has_extension(extension_of_phase(call.flag.as_str()), output),
     )
-}
-
-// Whether an output may be that of a kept file, on a line that keeps them.
-fn may_be_kept(alloc: Global, call: &Call) -> Result<bool, AllocError>
-    ensures { IfOk result (λ b. b ≡ spec.may_be_kept call.now) }
-{
-    Ok(one_asks_to_keep(call.words.as_slice()) && is_kept_name(alloc, call)?)
 }
 
 // Whether a text names a file that is open when nvcc begins.
@@ -174,7 +145,6 @@ fn one_names_open_file(words: &[String]) -> bool
     false
 }
 
-// Whether a call uses such a file.
 fn uses_open_file(asked: &Asked, normal: &Call) -> bool
     ensures { result ≡ spec.uses_open_file asked.now normal.now }
 {
@@ -183,14 +153,6 @@ fn uses_open_file(asked: &Asked, normal: &Call) -> bool
         || one_names_open_file(asked.kept.as_slice())
 }
 
-// A reason, if there is a hazard.
-fn reason_if(is_hazard: bool, reason: Reason) -> Option<Reason>
-    ensures { result ≡ reason_unless (not is_hazard) reason }
-{
-    if is_hazard { Some(reason) } else { None }
-}
-
-// Whether the names of a call may be changed where generated files get canonical names.
 fn is_renamed(call: &NvccCall<'_>, normal: &Call) -> bool
     ensures { result ≡ spec.is_renamed (nvcc_of call.now) normal.now }
 {
@@ -198,27 +160,6 @@ fn is_renamed(call: &NvccCall<'_>, normal: &Call) -> bool
         || may_be_renamed(call.tmp)
         || may_be_renamed(call.nvcc)
         || may_one_be_renamed(normal.words.as_slice())
-}
-
-// Why names leave the call to nvcc.
-fn name_hazard(call: &NvccCall<'_>, normal: &Call) -> Option<Reason>
-    ensures { result ≡ spec.name_hazard (nvcc_of call.now) normal.now }
-{
-    let is_odd = !is_plain_directory(call.cwd) || !is_plain_directory(call.tmp);
-    reason_if(is_odd, Reason::DirectoryName).or(reason_if(
-        is_renamed(call, normal),
-        Reason::GeneratedName,
-    ))
-}
-
-// Why files leave the call to nvcc.
-fn file_hazard(alloc: Global, normal: &Call) -> Result<Option<Reason>, AllocError>
-    ensures { IfOk result (λ reason. reason ≡ spec.file_hazard normal.now) }
-{
-    let kept = reason_if(may_be_kept(alloc, normal)?, Reason::KeptName);
-    let shared = reason_if(may_share_file(normal), Reason::HostFile).or(kept);
-    let named = one_names_file(normal.words.as_slice());
-    Ok(reason_if(named, Reason::ToolFile).or(shared))
 }
 
 /// Why nvcc makes a call whose line could be split, if a plan of it would make something else: a text looks like the name of a
@@ -235,7 +176,14 @@ pub fn hazard_of(
 ) -> Result<Option<Reason>, AllocError>
     ensures { IfOk result (λ reason. reason ≡ spec.hazard_of (nvcc_of call.now) asked.now normal.now) }
 {
-    let file = file_hazard(alloc, normal)?;
-    let used = reason_if(uses_open_file(asked, normal), Reason::OpenFile);
-    Ok(name_hazard(call, normal).or(file.or(used)))
+    let words = normal.words.as_slice();
+    let is_plain = is_plain_directory(call.cwd) && is_plain_directory(call.tmp);
+    let is_kept = one_asks_to_keep(words) && is_kept_name(alloc, normal)?;
+    let reason = reason_unless(is_plain, Reason::DirectoryName)
+        .or(reason_unless(!is_renamed(call, normal), Reason::GeneratedName))
+        .or(reason_unless(!one_names_file(words), Reason::ToolFile))
+        .or(reason_unless(!may_share_file(normal), Reason::HostFile))
+        .or(reason_unless(!is_kept, Reason::KeptName))
+        .or(reason_unless(!uses_open_file(asked, normal), Reason::OpenFile));
+    Ok(reason)
 }

@@ -1,6 +1,6 @@
 //! How many commands run at once.
 
-ghost use Rattle.std.specs.Prelude.{◌≡◌, IfOk, codes, map, string_bytes, option_and_then, option_copied};
+ghost use Rattle.std.specs.Prelude.{◌≡◌, IfOk, codes, map, string_bytes, option_and_then};
 ghost use Rattle.texts.specs.Variables.{pair_of};
 ghost use Rattle.texts.specs.Variables as variables_spec;
 ghost use Rattle.host_lines.specs.KeepThreads.{number_of};
@@ -12,24 +12,12 @@ use texts::decimal;
 use texts::text::Text;
 use texts::variables::first_value;
 
-// Whether make's flags name a job server.
-fn has_jobserver(flags: Option<&str>) -> bool
-    ensures { result ≡ spec.has_jobserver (option_copied flags.entry) }
-{
-    match flags {
-        None => false,
-        Some(flags) => holds(flags, "--jobserver-auth=") || holds(flags, "--jobserver-fds="),
-    }
-}
-
-// The number that a text is.
 fn number_in(text: &str) -> Option<usize>
     ensures { result ≡ number_of text.now }
 {
     text.parse::<usize>().ok()
 }
 
-// The number in the environment.
 fn number_given(variables: &[(String, String)]) -> Option<usize>
     ensures { result ≡ option_and_then number_of (variables_spec.first_value (codes "ZIGRUNK_JOBS") (map pair_of variables.now)) }
 {
@@ -42,10 +30,11 @@ fn number_given(variables: &[(String, String)]) -> Option<usize>
 pub fn number_of_jobs(variables: &[(String, String)], threads: usize) -> usize
     ensures { result ≡ spec.jobs_of (map pair_of variables.now) threads }
 {
-    match number_given(variables) {
-        Some(number) => number,
-        None if has_jobserver(first_value(variables, "MAKEFLAGS")) => 1,
-        None => threads,
+    match (number_given(variables), first_value(variables, "MAKEFLAGS")) {
+        (Some(number), _) => number,
+        (None, Some(flags)) if holds(flags, "--jobserver-auth=") => 1,
+        (None, Some(flags)) if holds(flags, "--jobserver-fds=") => 1,
+        _ => threads,
     }
 }
 

@@ -1,20 +1,39 @@
-//! What to run for an nvcc line: its dry runs, the command that writes its dependency file, and what else the line says.
+//! nvcc's own reading of its command line, a normal form of it that the reader of `cuda_plans` reads as nvcc does, and what to run for
+//! it: its dry runs, the command that writes its dependency file, and what else the line says.
+//!
+//! That reader takes a line apart as sccache 0.19.0 does, which isn't always as nvcc does: it takes `-odir=x` for an output,
+//! `-split-compile 4` for an option and an input. A call that has no normal form goes to nvcc unchanged.
 #![tactic(auto)]
 
 mod answer;
+mod asked;
+mod call;
 mod command_text;
 mod directory;
+mod files;
 mod hazard;
 mod jobs;
+mod keeping;
 pub mod laws;
+pub mod normal_laws;
+mod options;
 mod outline;
 mod outline_texts;
+mod reason;
+mod settling;
 mod shell;
 mod tool_words;
+mod verdict;
+pub mod word_tests;
 
 pub use answer::{Answer, read_call};
+pub use asked::Asked;
+pub use call::Call;
 pub use directory::directory_name;
-pub use nvcc_words::file_names;
+pub use options::{Purpose, Tables, table};
 pub use outline::Outline;
 pub use outline_texts::{OutlineTexts, texts_of};
+pub use reason::Reason;
+pub use settling::{extension_of_phase, has_extension};
 pub use shell::shell_text;
+pub use verdict::{Verdict, file_names, normalize, read_line};

@@ -3,15 +3,15 @@
 ghost use Rattle.std.specs.Prelude.{◌≡◌, IfOk, Ok, map, string_bytes};
 ghost use Rattle.texts.specs.Fault.{UnlessMemory};
 ghost use Rattle.texts.specs.Variables.{pair_of};
-ghost use Rattle.nvcc_lines.specs.Calls.{nvcc_of};
+ghost use Rattle.compilers.specs.Calls.{nvcc_of};
 ghost use Rattle.nvcc_calls.specs.Outline as spec;
 
 use crate::jobs::{number_of_jobs, threads_asked};
+use compilers::NvccCall;
 use compilers::arguments::ParsedArguments;
 use compilers::command::SingleCompileCommand;
 use compilers::compiler::{CCompilerImpl, Places};
-use nvcc_commands::{Nvcc, NvccCompileCommand, take_keep, take_threads};
-use nvcc_lines::NvccCall;
+use host_lines::nvcc::{Nvcc, NvccCompileCommand, take_keep, take_threads};
 use std::alloc::{AllocError, Global};
 use texts::fault::Fault;
 use texts::text::{Text, join};
@@ -36,20 +36,6 @@ pub struct Outline {
     pub keep_dir: Option<Text>,
 }
 
-// The first command, if there is one.
-fn first_command(
-    alloc: Global,
-    commands: &[SingleCompileCommand],
-) -> Result<Option<SingleCompileCommand>, AllocError>
-    ensures { IfOk result (λ command. command ≡ spec.first_command commands.now) }
-{
-    match commands {
-        [] => Ok(None),
-        [command, ..] => Ok(Some(command.try_clone(alloc)?)),
-    }
-}
-
-// The command that writes the dependency file.
 fn dependencies(
     alloc: Global,
     call: &NvccCall<'_>,
@@ -62,7 +48,10 @@ fn dependencies(
         return Ok(None);
     }
     let commands = Nvcc::gcc().preprocess(alloc, call.nvcc, parsed, call.cwd, variables)?;
-    Ok(first_command(alloc, commands.as_slice())?)
+    match commands.as_slice() {
+        [] => Ok(None),
+        [command, ..] => Ok(Some(command.try_clone(alloc)?)),
+    }
 }
 
 // The number of threads that a line asks for, or 0 if it has no thread words.
@@ -72,19 +61,6 @@ fn threads(alloc: Global, cwd: &str, parsed: &ParsedArguments) -> Result<usize, 
     let (kept, _) = take_keep(alloc, parsed.unhashed_args.as_slice(), cwd)?;
     let (left, number) = take_threads(alloc, kept.as_slice())?;
     Ok(threads_asked(kept.as_slice(), left.as_slice(), number))
-}
-
-// The number of jobs that a line and the environment ask for.
-fn jobs(
-    alloc: Global,
-    call: &NvccCall<'_>,
-    parsed: &ParsedArguments,
-    variables: &[(String, String)],
-) -> Result<usize, Fault>
-    ensures { UnlessMemory result (spec.jobs_of_line (nvcc_of call.now) parsed.now (map pair_of variables.now)) }
-{
-    let threads = threads(alloc, call.cwd, parsed)?;
-    Ok(number_of_jobs(variables, threads))
 }
 
 // Whether a word asks for the source's lines in device code.
@@ -97,7 +73,6 @@ fn is_lines_word(word: &str) -> bool
     )
 }
 
-// Whether one of these words does.
 fn asks_lines(words: &[String]) -> bool
     ensures { result ≡ spec.asks_lines (map string_bytes words.now) }
 {
@@ -109,13 +84,6 @@ fn asks_lines(words: &[String]) -> bool
     false
 }
 
-// Whether the caller runs nvcc's tools in the call's own directory.
-fn runs_in_place(variables: &[(String, String)]) -> bool
-    ensures { result ≡ spec.runs_in_place (map pair_of variables.now) }
-{
-    first_value(variables, "ZIGRUNK_IN_PLACE").is_some()
-}
-
 // The input's path, as nvcc's command names it.
 fn input(
     alloc: Global,
@@ -125,26 +93,12 @@ fn input(
 ) -> Result<Text, AllocError>
     ensures { IfOk result (λ path. path ≡ spec.input_of cwd.now parsed.now (map pair_of variables.now)) }
 {
-    if asks_lines(parsed.common_args.as_slice()) && !runs_in_place(variables) {
+    let runs_in_place = first_value(variables, "ZIGRUNK_IN_PLACE").is_some();
+    if asks_lines(parsed.common_args.as_slice()) && !runs_in_place {
         Ok(Text::new(join(alloc, cwd, parsed.input.as_str())?))
     } else {
         parsed.input.try_clone(alloc)
     }
-}
-
-// The places of a line.
-fn places(
-    alloc: Global,
-    call: &NvccCall<'_>,
-    parsed: &ParsedArguments,
-    variables: &[(String, String)],
-) -> Result<Places, AllocError>
-    ensures { IfOk result (λ places. places ≡ spec.places_of (nvcc_of call.now) parsed.now (map pair_of variables.now)) }
-{
-    Ok(Places {
-        temp_dir: Text::copy_of(alloc, call.tmp)?,
-        canonical_input: input(alloc, call.cwd, parsed, variables)?,
-    })
 }
 
 /// The nvcc command of a line's arguments.
@@ -156,35 +110,16 @@ pub fn command(
 ) -> Result<NvccCompileCommand, Fault>
     ensures { UnlessMemory result (spec.command_of (nvcc_of call.now) parsed.now (map pair_of variables.now)) }
 {
-    let places = places(alloc, call, parsed, variables)?;
+    let places = Places {
+        temp_dir: Text::copy_of(alloc, call.tmp)?,
+        canonical_input: input(alloc, call.cwd, parsed, variables)?,
+    };
     let (command, _) = Nvcc::gcc().generate_compile_commands(
         alloc, call.nvcc, parsed, call.cwd, variables, &places,
     )?;
     Ok(command)
 }
 
-// A copy of a directory's path, if there is one.
-fn folder(alloc: Global, folder: &Option<Text>) -> Result<Option<Text>, AllocError>
-    ensures { IfOk result (λ copy. copy ≡ folder.now) }
-{
-    match folder {
-        None => Ok(None),
-        Some(path) => Ok(Some(path.try_clone(alloc)?)),
-    }
-}
-
-// A command's compilation flag, and the directory that keeps generated files.
-fn flag_and_folder(
-    alloc: Global,
-    command: &NvccCompileCommand,
-) -> Result<(Text, Option<Text>), AllocError>
-    ensures { IfOk result (λ copies. copies ≡ (command.now.compilation_flag, command.now.keep_dir)) }
-{
-    let flag = command.compilation_flag.try_clone(alloc)?;
-    Ok((flag, folder(alloc, &command.keep_dir)?))
-}
-
-// What a line says, given its command, dependency command and number of jobs.
 fn outline_with(
     alloc: Global,
     command: &NvccCompileCommand,
@@ -194,14 +129,13 @@ fn outline_with(
     ensures { IfOk result (λ outline. outline ≡ spec.outline_with command.now dependencies jobs) }
 {
     let (first, second) = command.dryrun_commands(alloc)?;
-    let (flag, keep_dir) = flag_and_folder(alloc, command)?;
     Ok(Outline {
         dependencies,
         first,
         second,
-        flag,
+        flag: command.compilation_flag.try_clone(alloc)?,
         jobs,
-        keep_dir,
+        keep_dir: Text::clone_optional(alloc, &command.keep_dir)?,
     })
 }
 
@@ -216,6 +150,7 @@ pub fn outline_of(
     ensures { UnlessMemory result (spec.outline_of (nvcc_of call.now) parsed.now (map pair_of variables.now) command.now) }
 {
     let dependencies = dependencies(alloc, call, parsed, variables)?;
-    let jobs = jobs(alloc, call, parsed, variables)?;
+    let threads = threads(alloc, call.cwd, parsed)?;
+    let jobs = number_of_jobs(variables, threads);
     Ok(outline_with(alloc, command, dependencies, jobs)?)
 }

@@ -27,29 +27,20 @@ pub struct OutlineTexts {
     pub keep_dir: Text,
 }
 
-// No text.
-fn nothing(alloc: Global) -> Text
-    ensures { result ≡ [] }
-{
-    Text::new(String::new(alloc))
-}
-
-// The text of a command, or empty if there is none.
 fn text_if_any(alloc: Global, command: &Option<SingleCompileCommand>) -> Result<Text, AllocError>
     ensures { IfOk result (λ text. text ≡ spec.text_if_any command.now) }
 {
     match command {
-        None => Ok(nothing(alloc)),
+        None => Ok(Text::new(String::new(alloc))),
         Some(command) => command_text(alloc, command),
     }
 }
 
-// A directory's path, or empty if there is none.
 fn folder_text(alloc: Global, folder: &Option<Text>) -> Result<Text, AllocError>
     ensures { IfOk result (λ text. text ≡ unwrap_or folder.now []) }
 {
     match folder {
-        None => Ok(nothing(alloc)),
+        None => Ok(Text::new(String::new(alloc))),
         Some(path) => path.try_clone(alloc),
     }
 }

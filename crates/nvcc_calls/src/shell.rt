@@ -5,11 +5,10 @@ ghost use Rattle.nvcc_calls.specs.OutlineTexts as spec;
 
 use crate::outline::Outline;
 use crate::outline_texts::{OutlineTexts, texts_of};
-use shell_words::push_quoted;
 use std::alloc::{AllocError, Global};
+use texts::shell::push_quoted;
 use texts::text::Text;
 
-// Adds the line that gives a variable a value.
 fn push_assignment(text: &mut String, name: &str, value: &Text) -> Result<(), AllocError>
     ensures { OnOk result (string_bytes text.new ≡ string_bytes text.old ++ spec.assignment name.now value.now) }
 {
@@ -19,7 +18,6 @@ fn push_assignment(text: &mut String, name: &str, value: &Text) -> Result<(), Al
     text.push_str("\n")
 }
 
-// The lines that give variables these texts.
 fn assignments(alloc: Global, texts: &OutlineTexts) -> Result<String, AllocError>
     ensures { IfOk result (λ text. string_bytes text ≡ spec.assignments texts.now) }
 {

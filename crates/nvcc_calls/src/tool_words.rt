@@ -5,19 +5,19 @@ ghost use Rattle.std.specs.List.{list_any, slice_split, starts_with};
 ghost use Rattle.texts.specs.Lists.{is_some_and, rest_after};
 ghost use Rattle.nvcc_calls.specs.ToolWords as spec;
 
-// How a word with a tool's options begins.
+// A list without commas, which `rt fmt` leaves as it is, in place of a line for each text.
+macro_rules! text_list {
+    ($($text:literal)+) => {
+        &[$($text),+]
+    };
+}
+
 fn tool_options() -> &'static [&'static str]
     ensures { map spec.shown result.now ≡ spec.tool_options }
 {
-    &[
-        "-Xptxas=",
-        "--ptxas-options=",
-        "-Xfatbin=",
-        "--fatbin-options=",
-        "-Xcicc=",
-        "--cicc-options=",
-        "-Xcudafe=",
-        "--cudafe-options=",
+    text_list![
+        "-Xptxas=" "--ptxas-options=" "-Xfatbin=" "--fatbin-options=" "-Xcicc=" "--cicc-options="
+        "-Xcudafe=" "--cudafe-options="
     ]
 }
 
@@ -25,87 +25,31 @@ fn tool_options() -> &'static [&'static str]
 fn valued_options() -> &'static [&'static str]
     ensures { map spec.shown result.now ≡ spec.valued_options }
 {
-    &[
-        "abi=",
-        "allow-expensive-optimizations=",
-        "compress=",
-        "compress-all=",
-        "compress-mode=",
-        "def-load-cache=",
-        "def-store-cache=",
-        "diag_default=",
-        "diag_error=",
-        "diag_once=",
-        "diag_remark=",
-        "diag_suppress=",
-        "diag_warning=",
-        "dlcm=",
-        "dscm=",
-        "error_limit=",
-        "flcm=",
-        "fmad=",
-        "force-load-cache=",
-        "force-store-cache=",
-        "fscm=",
-        "ftz=",
-        "inline-threshold=",
-        "maxrregcount=",
-        "opt=",
-        "opt-level=",
-        "prec_div=",
-        "prec_sqrt=",
-        "register-usage-level=",
-        "split-compile=",
-        "unroll-threshold=",
+    text_list![
+        "abi=" "allow-expensive-optimizations=" "compress=" "compress-all=" "compress-mode="
+        "def-load-cache=" "def-store-cache=" "diag_default=" "diag_error=" "diag_once="
+        "diag_remark=" "diag_suppress=" "diag_warning=" "dlcm=" "dscm=" "error_limit=" "flcm="
+        "fmad=" "force-load-cache=" "force-store-cache=" "fscm=" "ftz=" "inline-threshold="
+        "maxrregcount=" "opt=" "opt-level=" "prec_div=" "prec_sqrt=" "register-usage-level="
+        "split-compile=" "unroll-threshold="
     ]
 }
 
-// Options of the tools that take no value.
 fn switches() -> &'static [&'static str]
     ensures { map spec.shown result.now ≡ spec.switches }
 {
-    &[
-        "O0",
-        "O1",
-        "O2",
-        "O3",
-        "O4",
-        "Werror",
-        "compress-all",
-        "disable-optimizer-constants",
-        "disable-optimizer-consts",
-        "disable-warnings",
-        "display_error_number",
-        "dont-merge-basicblocks",
-        "no-bb-merge",
-        "no_display_error_number",
-        "no_warnings",
-        "no_wrap_diagnostics",
-        "opt-fp-atomics",
-        "optimize-float-atomics",
-        "preserve-relocs",
-        "promote_warnings",
-        "remarks",
-        "ret-end",
-        "return-at-end",
-        "sp-bounds-check",
-        "suppress-debug-info",
-        "suppress-double-demote-warning",
-        "suppress-stack-size-warning",
-        "v",
-        "verbose",
-        "w",
-        "warn-double-usage",
-        "warn-lmem-usage",
-        "warn-on-double-precision-use",
-        "warn-on-local-memory-usage",
-        "warn-on-spills",
-        "warn-spills",
-        "warning-as-error",
+    text_list![
+        "O0" "O1" "O2" "O3" "O4" "Werror" "compress-all" "disable-optimizer-constants"
+        "disable-optimizer-consts" "disable-warnings" "display_error_number"
+        "dont-merge-basicblocks" "no-bb-merge" "no_display_error_number" "no_warnings"
+        "no_wrap_diagnostics" "opt-fp-atomics" "optimize-float-atomics" "preserve-relocs"
+        "promote_warnings" "remarks" "ret-end" "return-at-end" "sp-bounds-check"
+        "suppress-debug-info" "suppress-double-demote-warning" "suppress-stack-size-warning" "v"
+        "verbose" "w" "warn-double-usage" "warn-lmem-usage" "warn-on-double-precision-use"
+        "warn-on-local-memory-usage" "warn-on-spills" "warn-spills" "warning-as-error"
     ]
 }
 
-// Whether a text begins with one of some others.
 fn begins_with_one(beginnings: &[&str], text: &[u8]) -> bool
     ensures { result ≡ spec.begins_with_one (map spec.shown beginnings.now) text.now }
 {
@@ -117,7 +61,6 @@ fn begins_with_one(beginnings: &[&str], text: &[u8]) -> bool
     false
 }
 
-// Whether a name is one of some others.
 fn is_among(names: &[&str], name: &[u8]) -> bool
     ensures { result ≡ list_any (bytes_eq name.now) (map spec.shown names.now) }
 {
@@ -129,28 +72,10 @@ fn is_among(names: &[&str], name: &[u8]) -> bool
     false
 }
 
-fn is_between(byte: u8) -> bool
-    ensures { result ≡ spec.is_between byte }
-{
-    byte == b',' || byte == b' '
-}
-
-fn is_odd(byte: u8) -> bool
-    ensures { result ≡ spec.is_odd byte }
-{
-    byte <= 31 || byte == b'"' || byte == b'\'' || byte == b'\\'
-}
-
 fn has_odd(value: &[u8]) -> bool
     ensures { result ≡ list_any spec.is_odd value.now }
 {
-    value.iter().any(|byte| is_odd(*byte))
-}
-
-fn has_value(name: &[u8]) -> bool
-    ensures { result ≡ spec.has_value name.now }
-{
-    name.contains(&b'=')
+    value.iter().any(|byte| *byte <= 31 || *byte == b'"' || *byte == b'\'' || *byte == b'\\')
 }
 
 // An option's name, which may have a second dash before it.
@@ -167,7 +92,7 @@ fn name_of(option: &[u8]) -> &[u8]
 fn is_known(name: &[u8]) -> bool
     ensures { result ≡ spec.is_known name.now }
 {
-    if has_value(name) {
+    if name.contains(&b'=') {
         begins_with_one(valued_options(), name)
     } else {
         is_among(switches(), name)
@@ -189,7 +114,9 @@ fn part_names_file(part: &[u8]) -> bool
 fn one_names_file(value: &[u8]) -> bool
     ensures { result ≡ list_any spec.part_names_file (slice_split spec.is_between value.now) }
 {
-    value.split(|byte| is_between(*byte)).any(part_names_file)
+    value
+        .split(|byte| *byte == b',' || *byte == b' ')
+        .any(part_names_file)
 }
 
 // Whether what nvcc gives a tool may.
@@ -199,7 +126,6 @@ fn value_names_file(value: &[u8]) -> bool
     has_odd(value) || one_names_file(value)
 }
 
-// What follows a text that a word begins with.
 fn rest_of<'a>(word: &'a str, text: &str) -> Option<&'a str>
     ensures { option_copied result ≡ rest_after text.now word.now }
 {

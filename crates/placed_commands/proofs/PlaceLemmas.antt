@@ -4,8 +4,8 @@ use Rattle.std.proofs.lemmas.Bool.{false≢true, and_parts}
 use Rattle.std.proofs.lemmas.Slice.Eq.{bytes_eq-Decides}
 use Rattle.texts.specs.Path.{joined}
 use Rattle.texts.proofs.EqualityLemmas.{lists, bools}
-use Rattle.plans.specs.declared.plan.NvccGeneratedSubcommand.{NvccGeneratedSubcommand}
-use Rattle.plans.specs.Listed.{Listed, listed_group, listed_from, listed}
+use Rattle.compilers.specs.declared.plans.plan.NvccGeneratedSubcommand.{NvccGeneratedSubcommand}
+use Rattle.compilers.specs.Listed.{Listed, listed_group, listed_from, listed}
 use Rattle.command_files.specs.declared.files.CommandFiles.{CommandFiles}
 use Rattle.command_files.specs.PlanNeeds.{preprocesses, step_of, step_in}
 use Rattle.placed_commands.specs.PlacedWords.{is_file, placed_from, placed_words}

@@ -1,8 +1,8 @@
 -- What stays of a command that runs in the call's own directory.
 use Rattle.std.specs.Prelude.{◌≡◌, ℕ, List, ◌++◌, true, length, ◌⊎◌}
 use Rattle.texts.specs.Path.{joined}
-use Rattle.plans.specs.declared.plan.NvccGeneratedSubcommand.{NvccGeneratedSubcommand}
-use Rattle.plans.specs.declared.plan.Plan.{Plan}
+use Rattle.compilers.specs.declared.plans.plan.NvccGeneratedSubcommand.{NvccGeneratedSubcommand}
+use Rattle.compilers.specs.declared.plans.plan.Plan.{Plan}
 use Rattle.command_files.specs.declared.files.CommandFiles.{CommandFiles}
 use Rattle.command_files.specs.PlanNeeds.{step_of, plan_steps}
 use Rattle.placed_commands.specs.PlacedWords.{is_file, placed_word}

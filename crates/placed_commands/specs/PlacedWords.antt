@@ -1,13 +1,10 @@
 -- The words of a command whose files have whole paths.
 use Rattle.std.specs.Prelude.{◌≡◌, ℕ, List, [], ◌∷◌, ◌++◌, Bool, true, ◌&&◌, ◌||◌, ◌==◌, nat_eq, if◌then◌else◌, Option, Some, None, codes, bytes_eq}
 use Rattle.std.specs.Borrow.{Bor}
-use Rattle.std.specs.List.{list_any, starts_with}
+use Rattle.std.specs.List.{starts_with}
 use Rattle.texts.specs.Path.{joined, lacks}
 use Rattle.command_files.specs.declared.files.CommandFiles.{CommandFiles}
-
--- whether a path is among paths
-abbrev pub is_among : List (List ℕ) → List ℕ → Bool
-is_among paths path = list_any (bytes_eq path) paths
+use Rattle.command_files.specs.Files.{is_among}
 
 -- whether a command reads or writes a file by its record
 abbrev pub is_touched : CommandFiles → List ℕ → Bool
@@ -32,13 +29,10 @@ placed_from files folder begins (c ∷ cs) =
 abbrev pub placed_word : CommandFiles → List ℕ → List ℕ → List ℕ
 placed_word files folder word = placed_from files folder true word
 
--- whether a word behind another is the source's name, which tools show
-abbrev pub names_source : List ℕ → List ℕ → Bool
-names_source before word = bytes_eq before (codes "--orig_src_file_name") || starts_with nat_eq word (codes "--ident=")
-
--- a word behind another
+-- a word behind another. The source's name, which tools show, stays
 abbrev pub word_behind : CommandFiles → List ℕ → List ℕ → List ℕ → List ℕ
-word_behind files folder before word = if names_source before word then word else placed_word files folder word
+word_behind files folder before word =
+    if bytes_eq before (codes "--orig_src_file_name") || starts_with nat_eq word (codes "--ident=") then word else placed_word files folder word
 
 -- words behind another
 abbrev pub placed_words : CommandFiles → List ℕ → List ℕ → List (List ℕ) → List (List ℕ)

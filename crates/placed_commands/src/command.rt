@@ -1,13 +1,14 @@
-//! A command as it runs in the call's own directory.
+//! A command as it runs in the call's own directory, and its words, whose files have whole paths.
 
-ghost use Rattle.std.specs.Prelude.{◌≡◌, IfOk};
+ghost use Rattle.std.specs.Prelude.{◌≡◌, IfOk, ◌<◌, IfSome, [], length, map, string_bytes};
 ghost use Rattle.placed_commands.specs.PlacedCommands as spec;
+ghost use Rattle.placed_commands.specs.PlacedWords as placing;
 
-use crate::words::placed_words;
-use command_files::{CommandFiles, files_of, preprocesses};
-use plans::NvccGeneratedSubcommand;
+use command_files::{CommandFiles, files_of, has_word, preprocesses};
+use compilers::plans::NvccGeneratedSubcommand;
 use std::alloc::{AllocError, Global};
-use texts::text::Text;
+use texts::text::{Text, join};
+use texts::words::Words;
 
 // A command that runs in `cwd`, given its record. Its files have whole paths.
 fn moved(
@@ -38,18 +39,6 @@ fn are_same(files: &CommandFiles, others: &CommandFiles) -> bool
         && files.complete == others.complete
 }
 
-// Whether a command has a record, and is no preprocessor.
-fn has_record(
-    alloc: Global,
-    command: &NvccGeneratedSubcommand,
-    files: &CommandFiles,
-) -> Result<bool, AllocError>
-    ensures { IfOk result (λ answer. answer ≡ spec.has_record command.now files.now) }
-{
-    let own = files_of(alloc, command)?;
-    Ok(are_same(&own, files) && !preprocesses(command.args.as_slice()))
-}
-
 // A command that ran in the directory of generated files.
 fn placed_tool(
     alloc: Global,
@@ -60,7 +49,8 @@ fn placed_tool(
 {
     let files = files_of(alloc, command)?;
     let placed = moved(alloc, command, &files, cwd)?;
-    if has_record(alloc, &placed, &files)? {
+    let others = files_of(alloc, &placed)?;
+    if are_same(&others, &files) && !preprocesses(placed.args.as_slice()) {
         Ok(placed)
     } else {
         command.try_clone(alloc)
@@ -86,4 +76,94 @@ pub fn placed_command(
     } else {
         command.try_clone(alloc)
     }
+}
+
+// Whether a command reads or writes a file by its record.
+fn is_touched(files: &CommandFiles, path: &str) -> bool
+    ensures { result ≡ placing.is_touched files.now path.now }
+{
+    has_word(files.reads.as_slice(), path)
+        || has_word(files.writes.as_slice(), path)
+        || has_word(files.may_write.as_slice(), path)
+}
+
+// Whether a text names a file of the record from a folder.
+fn is_file(
+    alloc: Global,
+    files: &CommandFiles,
+    folder: &str,
+    text: &str,
+) -> Result<bool, AllocError>
+    ensures { IfOk result (λ answer. answer ≡ placing.is_file files.now folder.now text.now) }
+{
+    let path = join(alloc, folder, text)?;
+    Ok(is_touched(files, path.as_str()))
+}
+
+// What is before and after the first `=` of a text.
+fn at_equals(text: &str) -> Option<(&str, &str)>
+    ensures cut { placing.IsCutAtEquals text.now result }
+    ensures less { IfSome result (λ parts. length parts.1.now < length text.now) }
+{
+    text.split_once('=')
+}
+
+// A word in which the file that it names has its whole path: the word, or what is after an `=`.
+fn placed_word(
+    alloc: Global,
+    files: &CommandFiles,
+    folder: &str,
+    word: &str,
+) -> Result<String, AllocError>
+    ensures { IfOk result (λ placed. string_bytes placed ≡ placing.placed_word files.now folder.now word.now) }
+{
+    let mut placed = String::new(alloc);
+    let mut rest = word;
+    while !is_file(alloc, files, folder, rest)? {
+        let Some((before, behind)) = at_equals(rest) else {
+            placed.push_str(rest)?;
+            return Ok(placed);
+        };
+        placed.push_str(before)?;
+        placed.push_str("=")?;
+        rest = behind;
+    }
+    let path = join(alloc, folder, rest)?;
+    placed.push_str(path.as_str())?;
+    Ok(placed)
+}
+
+// A word behind another. The source's name, which tools show, stays.
+fn word_behind(
+    alloc: Global,
+    files: &CommandFiles,
+    folder: &str,
+    before: &str,
+    word: &str,
+) -> Result<String, AllocError>
+    ensures { IfOk result (λ placed. string_bytes placed ≡ placing.word_behind files.now folder.now before.now word.now) }
+{
+    if before == "--orig_src_file_name" || word.as_bytes().starts_with(b"--ident=") {
+        String::from_str(alloc, word)
+    } else {
+        placed_word(alloc, files, folder, word)
+    }
+}
+
+/// The words of a command, in which each file of its record has a whole path.
+pub fn placed_words(
+    alloc: Global,
+    files: &CommandFiles,
+    folder: &str,
+    words: &[String],
+) -> Result<Words, AllocError>
+    ensures { IfOk result (λ placed. placed ≡ placing.placed_words files.now folder.now [] (map string_bytes words.now)) }
+{
+    let mut placed = Words::with_capacity(alloc, words.len())?;
+    let mut before = "";
+    for word in words {
+        placed.push(word_behind(alloc, files, folder, before, word.as_str())?)?;
+        before = word.as_str();
+    }
+    Ok(placed)
 }

@@ -7,6 +7,5 @@
 
 mod command;
 pub mod laws;
-mod words;
 
 pub use command::placed_command;

@@ -1,14 +1,14 @@
 -- A plan in a format.
 use Rattle.std.specs.Prelude.{ℕ, List, [], ◌∷◌, ◌++◌, Result, Ok, Err}
 use Rattle.serde_json.specs.Written.{compact_text}
-use Rattle.plan_scripts.specs.declared.format.Format.{Format}
-use Rattle.plan_scripts.specs.declared.format.Format.TheVariants.{Shell, Ninja, Json, Dot, Compdb, Makeflow, Text}
-use Rattle.plan_scripts.specs.declared.refusal.Refusal.{Refusal}
-use Rattle.plan_scripts.specs.Script.{shell_answer}
-use Rattle.plan_exports.specs.Graph.{ninja_answer}
+use Rattle.plan_texts.specs.declared.format.Format.{Format}
+use Rattle.plan_texts.specs.declared.format.Format.TheVariants.{Shell, Ninja, Json, Dot, Compdb, Makeflow, Text}
+use Rattle.plan_texts.specs.declared.refusal.Refusal.{Refusal}
+use Rattle.plan_texts.specs.Script.{shell_answer}
+use Rattle.plan_texts.specs.Graph.{ninja_answer}
 use Rattle.plan_json.specs.Compdb.{database}
 use Rattle.plan_json.specs.Json.{Described, data_of}
-use Rattle.plan_graphs.specs.Dot.{picture}
+use Rattle.plan_texts.specs.Dot.{picture}
 use Rattle.plan_makeflow.specs.Makeflow.{makeflow_answer}
 use Rattle.plan_texts.specs.ShownPlan.{show_plan}
 

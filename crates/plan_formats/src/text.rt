@@ -1,16 +1,13 @@
 //! A plan in a format.
 
 ghost use Rattle.std.specs.Prelude.{◌≡◌, OnOk, string_bytes};
-ghost use Rattle.plan_scripts.specs.Answers.{Answers};
+ghost use Rattle.plan_texts.specs.Answers.{Answers};
 ghost use Rattle.plan_formats.specs.Texts as spec;
 
-use plan_exports::ninja_file;
-use plan_graphs::dot_text;
+use compilers::plans::PlanWithOrigins;
 use plan_json::{compdb_text, json_text};
 use plan_makeflow::makeflow_file;
-use plan_scripts::{Format, Refusal, shell_script};
-use plan_texts::show_plan;
-use plans::PlanWithOrigins;
+use plan_texts::{Format, Refusal, dot_text, ninja_file, shell_script, show_plan};
 use std::alloc::{AllocError, Global};
 
 /// A plan as the text of a format, given what it was made for: the working directory `cwd`, the temporary directory `tmp` and the

@@ -1,13 +1,8 @@
 -- Facts about the number of an architecture, which is its macro's value without the zero at its end.
 use Rattle.std.proofs.Common.{◌≡◌, ◌≢◌, ℕ, List, [], ◌∷◌, ◌++◌, Bool, true, false, cond, eqb, refl, ap, ◌∙◌, reverse}
 use Rattle.std.proofs.lemmas.Bool.Decides.{Decides-eqb}
-use Rattle.std.proofs.lemmas.List.{reverse-reverse}
-use Rattle.texts.proofs.PathLemmas.{forwards, reverse-push}
+use Rattle.texts.proofs.PathLemmas.{forwards}
 use Rattle.plan_json.specs.ClangWords.{number_by, architecture_number}
-
--- a value that ends in a zero is cut there
-pub number-cut : (value front : List ℕ) → value ≡ front ++ 48 ∷ [] → architecture_number value ≡ front
-number-cut value front e = ap (number_by value) (ap reverse e ∙ reverse-push front 48) ∙ reverse-reverse front
 
 -- any other value stays
 pub number-whole : (value : List ℕ) → ((front : List ℕ) → value ≢ front ++ 48 ∷ []) → architecture_number value ≡ value

@@ -1,8 +1,8 @@
 -- A database has no float and nests no deeper than a text that is read may.
 use Rattle.std.proofs.Common.{◌≡◌, ℕ, ◌-◌, ◌≤◌, List, [], ◌∷◌, ◌++◌, ◌||◌, map, length, Bool, true, false, cond, Some, refl, sym, subst, arith, ◌==◌, flat_map}
-use Rattle.plans.specs.declared.plan.NvccGeneratedSubcommand.{NvccGeneratedSubcommand}
-use Rattle.plans.specs.declared.plan.Plan.{Plan}
-use Rattle.plans.specs.Listed.{Listed, listed}
+use Rattle.compilers.specs.declared.plans.plan.NvccGeneratedSubcommand.{NvccGeneratedSubcommand}
+use Rattle.compilers.specs.declared.plans.plan.Plan.{Plan}
+use Rattle.compilers.specs.Listed.{Listed, listed}
 use Rattle.command_files.specs.declared.files.CommandFiles.{CommandFiles}
 use Rattle.command_files.specs.CommandFiles.{files_of_words}
 use Rattle.serde_json.specs.Data.{Data, string, depth, items_depth}
@@ -12,7 +12,7 @@ use Rattle.serde_json.specs.Written.{has_float, items_have_float, compact_text}
 use Rattle.plan_json.specs.ClangWords.{line_for_clang}
 use Rattle.plan_json.specs.Compdb.{record_data, records_by, records_of, database}
 use Rattle.std.proofs.lemmas.Bool.{false≢true}
-use Rattle.json_values.proofs.ValueLemmas.{items_within, neither, texts_float_free}
+use Rattle.plan_json.proofs.ValueLemmas.{items_within, neither, texts_float_free}
 
 -- a list of data in which each nests no deeper than two and has no float
 record Plain (ds : List Data) : Type 0 where

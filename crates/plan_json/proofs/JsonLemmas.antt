@@ -1,9 +1,9 @@
 -- A plan's data has no float and nests no deeper than a text that is read may.
 use Rattle.std.proofs.Common.{◌≡◌, ℕ, ◌+◌, ◌≤◌, List, [], ◌∷◌, false, Some, refl, arith}
-use Rattle.plans.specs.declared.origins.Origin.{Origin}
-use Rattle.plans.specs.declared.plan.NvccGeneratedSubcommand.{NvccGeneratedSubcommand}
-use Rattle.plans.specs.declared.plan.Dropped.{Dropped}
-use Rattle.plans.specs.Listed.{Listed, listed}
+use Rattle.compilers.specs.declared.plans.origins.Origin.{Origin}
+use Rattle.compilers.specs.declared.plans.plan.NvccGeneratedSubcommand.{NvccGeneratedSubcommand}
+use Rattle.compilers.specs.declared.plans.plan.Dropped.{Dropped}
+use Rattle.compilers.specs.Listed.{Listed, listed}
 use Rattle.command_files.specs.declared.files.CommandFiles.{CommandFiles}
 use Rattle.command_files.specs.CommandFiles.{files_of_words}
 use Rattle.command_files.specs.Order.{needs_at}
@@ -12,8 +12,8 @@ use Rattle.serde_json.specs.View.{items_of}
 use Rattle.serde_json.specs.Read.{read, max_depth}
 use Rattle.serde_json.specs.Written.{has_float, items_have_float, compact_text}
 use Rattle.command_files.specs.Numbered.{numbered}
-use Rattle.json_values.specs.Values.{count_data}
-use Rattle.json_values.proofs.ValueLemmas.{items_within, neither, items_float_free, texts_float_free}
+use Rattle.plan_json.specs.Values.{count_data}
+use Rattle.plan_json.proofs.ValueLemmas.{items_within, neither, items_float_free, texts_float_free}
 use Rattle.plan_json.specs.Json.{counts_data, variable_data, variables_data, command_data, Known, origin_at, command_at, dropped_data, Described, known_of, data_of}
 
 command_within : (id group : ℕ) (origin : Origin) (needs : List ℕ) (files : CommandFiles) (c : NvccGeneratedSubcommand) → depth (command_data id group origin needs files c) ≤ 3

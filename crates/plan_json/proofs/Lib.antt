@@ -3,3 +3,4 @@ pub mod CompdbLemmas
 pub mod JsonExampleProofs
 pub mod JsonLemmas
 pub mod OneToOneLemmas
+pub mod ValueLemmas

@@ -3,14 +3,14 @@ use Rattle.std.proofs.Common.{◌≡◌, ℕ, suc, zero, ◌+◌, ◌-◌, ◌<�
 use Rattle.std.specs.List.{AllByRecursion}
 use Rattle.compilers.specs.declared.command.Cacheable.{Cacheable}
 use Rattle.compilers.specs.declared.command.Cacheable.TheVariants.{Yes, No}
-use Rattle.plans.specs.declared.origins.Origin.{Origin}
-use Rattle.plans.specs.declared.plan.NvccGeneratedSubcommand.{NvccGeneratedSubcommand}
-use Rattle.plans.specs.declared.plan.Dropped.{Dropped}
-use Rattle.plans.specs.declared.plan.Reason.{Reason}
-use Rattle.plans.specs.declared.plan.Reason.TheVariants.{NotCuda, NoCiccGroup, NoPtxasGroup, Superseded}
-use Rattle.plans.specs.Listed.{Listed, listed_group, listed_from}
-use Rattle.plans.specs.Reasons.{reason_name}
-use Rattle.serde_json.specs.Data.{Num, unsigned, negative, float, Data, null, boolean, number, string, array, object, Items, no_items, item, Members, no_members, member}
+use Rattle.compilers.specs.declared.plans.origins.Origin.{Origin}
+use Rattle.compilers.specs.declared.plans.plan.NvccGeneratedSubcommand.{NvccGeneratedSubcommand}
+use Rattle.compilers.specs.declared.plans.plan.Dropped.{Dropped}
+use Rattle.compilers.specs.declared.plans.plan.Reason.{Reason}
+use Rattle.compilers.specs.declared.plans.plan.Reason.TheVariants.{NotCuda, NoCiccGroup, NoPtxasGroup, Superseded}
+use Rattle.compilers.specs.Listed.{Listed, listed_group, listed_from}
+use Rattle.compilers.specs.Reasons.{reason_name}
+use Rattle.serde_json.specs.Data.{unsigned, Data, null, boolean, number, string, array, object, Items, no_items, item, Members, no_members, member}
 use Rattle.serde_json.specs.View.{items_of}
 use Rattle.plan_json.specs.Json.{variable_data, is_cacheable, from_one, Known, origin_at, command_at, dropped_data, Described, data_of}
 use Rattle.command_files.specs.Numbered.{numbered}
@@ -23,12 +23,8 @@ list_in no_items = []
 list_in (item d ds) = d ∷ list_in ds
 
 abbrev items_in : Data → List Data
-items_in null = []
-items_in (boolean b) = []
-items_in (number n) = []
-items_in (string s) = []
 items_in (array ds) = list_in ds
-items_in (object ms) = []
+items_in _ = []
 
 abbrev value_at : ℕ → Members → Data
 value_at n no_members = null
@@ -36,46 +32,24 @@ value_at zero (member k d ms) = d
 value_at (suc n) (member k d ms) = value_at n ms
 
 abbrev field : ℕ → Data → Data
-field n null = null
-field n (boolean b) = null
-field n (number m) = null
-field n (string s) = null
-field n (array ds) = null
 field n (object ms) = value_at n ms
+field n _ = null
 
 abbrev text_in : Data → List ℕ
-text_in null = []
-text_in (boolean b) = []
-text_in (number n) = []
 text_in (string s) = s
-text_in (array ds) = []
-text_in (object ms) = []
-
-abbrev count_of : Num → ℕ
-count_of (unsigned n) = n
-count_of (negative z) = 0
-count_of (float x) = 0
+text_in _ = []
 
 abbrev count_in : Data → ℕ
-count_in null = 0
-count_in (boolean b) = 0
-count_in (number n) = count_of n
-count_in (string s) = 0
-count_in (array ds) = 0
-count_in (object ms) = 0
+count_in (number (unsigned n)) = n
+count_in _ = 0
 
 abbrev bool_in : Data → Bool
-bool_in null = false
 bool_in (boolean b) = b
-bool_in (number n) = false
-bool_in (string s) = false
-bool_in (array ds) = false
-bool_in (object ms) = false
+bool_in _ = false
 
 abbrev pair_of_items : List Data → List ℕ × List ℕ
-pair_of_items [] = ([], [])
-pair_of_items (d ∷ []) = ([], [])
 pair_of_items (d ∷ e ∷ ds) = (text_in d, text_in e)
+pair_of_items _ = ([], [])
 
 abbrev cacheable_of : Bool → Cacheable
 cacheable_of true = Yes

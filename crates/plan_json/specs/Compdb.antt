@@ -1,12 +1,12 @@
 -- The commands of a plan that compile its source, as a compilation database.
 use Rattle.std.specs.Prelude.{ℕ, ◌-◌, List, [], map, length, ◌==◌, if◌then◌else◌, codes, flat_map}
-use Rattle.plans.specs.declared.plan.NvccGeneratedSubcommand.{NvccGeneratedSubcommand}
-use Rattle.plans.specs.declared.plan.Plan.{Plan}
-use Rattle.plans.specs.Listed.{Listed, listed}
+use Rattle.compilers.specs.declared.plans.plan.NvccGeneratedSubcommand.{NvccGeneratedSubcommand}
+use Rattle.compilers.specs.declared.plans.plan.Plan.{Plan}
+use Rattle.compilers.specs.Listed.{Listed, listed}
 use Rattle.command_files.specs.declared.files.CommandFiles.{CommandFiles}
 use Rattle.command_files.specs.CommandFiles.{files_of_words}
 use Rattle.plan_json.specs.ClangWords.{line_for_clang}
-use Rattle.json_values.specs.Values.{texts_data}
+use Rattle.plan_json.specs.Values.{texts_data}
 use Rattle.serde_json.specs.Data.{Data, string, array, object, no_members, member}
 use Rattle.serde_json.specs.View.{items_of}
 

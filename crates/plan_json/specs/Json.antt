@@ -2,18 +2,18 @@
 use Rattle.std.specs.Prelude.{ℕ, ◌+◌, ◌-◌, ◌^◌, List, map, length, min, get_or, codes, Bool, true, false}
 use Rattle.compilers.specs.declared.command.Cacheable.{Cacheable}
 use Rattle.compilers.specs.declared.command.Cacheable.TheVariants.{Yes, No}
-use Rattle.plans.specs.declared.origins.Origin.{Origin}
-use Rattle.plans.specs.declared.origins.PlanWithOrigins.{PlanWithOrigins}
-use Rattle.plans.specs.declared.plan.NvccGeneratedSubcommand.{NvccGeneratedSubcommand}
-use Rattle.plans.specs.declared.plan.Dropped.{Dropped}
-use Rattle.plans.specs.Listed.{Listed, listed}
-use Rattle.plans.specs.Reasons.{reason_name}
+use Rattle.compilers.specs.declared.plans.origins.Origin.{Origin}
+use Rattle.compilers.specs.declared.plans.origins.PlanWithOrigins.{PlanWithOrigins}
+use Rattle.compilers.specs.declared.plans.plan.NvccGeneratedSubcommand.{NvccGeneratedSubcommand}
+use Rattle.compilers.specs.declared.plans.plan.Dropped.{Dropped}
+use Rattle.compilers.specs.Listed.{Listed, listed}
+use Rattle.compilers.specs.Reasons.{reason_name}
 use Rattle.command_files.specs.declared.files.CommandFiles.{CommandFiles}
 use Rattle.command_files.specs.CommandFiles.{files_of_words}
 use Rattle.command_files.specs.Order.{needs_at}
 use Rattle.command_files.specs.PlanNeeds.{plan_needs}
 use Rattle.command_files.specs.Numbered.{numbered}
-use Rattle.json_values.specs.Values.{texts_data, count_data}
+use Rattle.plan_json.specs.Values.{texts_data, count_data}
 use Rattle.serde_json.specs.Data.{Data, boolean, string, array, object, no_items, item, no_members, member}
 use Rattle.serde_json.specs.View.{items_of}
 

@@ -3,3 +3,4 @@ pub mod Compdb
 pub mod Json
 pub mod JsonExamples
 pub mod OneToOne
+pub mod Values

@@ -1,7 +1,7 @@
 -- A plan's data says all of the plan.
 use Rattle.std.specs.Prelude.{◌≡◌, ◌<◌, ◌-◌, ◌^◌, length}
 use Rattle.std.specs.List.{AllByRecursion}
-use Rattle.plans.specs.Listed.{listed}
+use Rattle.compilers.specs.Listed.{listed}
 use Rattle.plan_json.specs.Json.{Described, data_of}
 
 -- a plan that has an origin for each command, and whose lines are below the greatest number that there is

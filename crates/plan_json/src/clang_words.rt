@@ -25,19 +25,12 @@ fn architecture_value(word: &str) -> Option<&str>
     word.strip_prefix("-D__CUDA_ARCH__=")
 }
 
-// Whether a word defines the macro for an architecture.
-fn names_architecture(word: &str) -> bool
-    ensures { result ≡ spec.names_architecture word.now }
-{
-    architecture_value(word).is_some()
-}
-
 // Whether words are for an architecture.
 fn is_for_device(words: &[String]) -> bool
     ensures { result ≡ spec.is_for_device (map string_bytes words.now) }
 {
     for word in words {
-        if names_architecture(word.as_str()) {
+        if architecture_value(word.as_str()).is_some() {
             return true;
         }
     }
@@ -84,43 +77,21 @@ fn other_name(after_x: bool, word: &str) -> Option<&'static str>
     }
 }
 
-// Adds the option for an architecture.
-fn push_architecture(alloc: Global, line: &mut Words, value: &str) -> Result<(), AllocError>
-    ensures { OnOk result (line.new ≡ line.old ++ (codes "--cuda-gpu-arch=sm_" ++ spec.architecture_number value.now) ∷ []) }
-{
-    let mut option = String::from_str(alloc, "--cuda-gpu-arch=sm_")?;
-    option.push_str(architecture_number(value))?;
-    line.push(option)
-}
-
-// Adds a word, unless it defines a macro of nvcc's own.
-fn push_unless_own(alloc: Global, line: &mut Words, word: &str) -> Result<(), AllocError>
-    ensures { OnOk result (line.new ≡ line.old ++ spec.unless_own word.now) }
-{
-    if is_own_macro(word) {
-        return Ok(());
-    }
-    line.push_str(alloc, word)
-}
-
-// Adds the words in place of one that keeps its name.
-fn push_by_value(alloc: Global, line: &mut Words, word: &str) -> Result<(), AllocError>
-    ensures { OnOk result (line.new ≡ line.old ++ spec.words_by_value (spec.architecture_value word.now) word.now) }
-{
-    match architecture_value(word) {
-        Some(value) => push_architecture(alloc, line, value),
-        None => push_unless_own(alloc, line, word),
-    }
-}
-
 // Adds the words in place of one.
 fn push_word(alloc: Global, line: &mut Words, after_x: bool, word: &str) -> Result<(), AllocError>
     ensures { OnOk result (line.new ≡ line.old ++ spec.clang_word after_x word.now) }
 {
-    match other_name(after_x, word) {
-        Some(name) => line.push_str(alloc, name),
-        None => push_by_value(alloc, line, word),
+    if let Some(name) = other_name(after_x, word) {
+        return line.push_str(alloc, name);
     }
+    if let Some(value) = architecture_value(word) {
+        let number = architecture_number(value);
+        return line.push(format!(in alloc; "--cuda-gpu-arch=sm_{number}")?);
+    }
+    if is_own_macro(word) {
+        return Ok(());
+    }
+    line.push_str(alloc, word)
 }
 
 // Adds the words in place of others.
@@ -145,23 +116,15 @@ fn clang_line(alloc: Global, words: &[String]) -> Result<Words, AllocError>
     Ok(line)
 }
 
-// A program and its words.
-fn whole_line(alloc: Global, exe: &str, args: &[String]) -> Result<Words, AllocError>
-    ensures { IfOk result (λ line. line ≡ exe.now ∷ map string_bytes args.now) }
-{
-    let mut line = Words::new(alloc);
-    line.push_str(alloc, exe)?;
-    line.extend(alloc, args)?;
-    Ok(line)
-}
-
 /// The line of a database's record, given a program and its words.
 pub(crate) fn line_for_clang(alloc: Global, exe: &str, args: &[String]) -> Result<Words, AllocError>
     ensures { IfOk result (λ line. line ≡ spec.line_for_clang exe.now (map string_bytes args.now)) }
 {
     if is_cuda(args) {
-        clang_line(alloc, args)
-    } else {
-        whole_line(alloc, exe, args)
+        return clang_line(alloc, args);
     }
+    let mut line = Words::new(alloc);
+    line.push_str(alloc, exe)?;
+    line.extend(alloc, args)?;
+    Ok(line)
 }

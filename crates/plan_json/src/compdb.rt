@@ -7,9 +7,9 @@ ghost use Rattle.serde_json.specs.Written.{compact_text};
 ghost use Rattle.plan_json.specs.Compdb as spec;
 
 use crate::clang_words::line_for_clang;
-use command_files::{CommandFiles, files_of};
-use json_values::{put_text, put_texts};
-use plans::{ListedCommand, NvccGeneratedSubcommand, Plan};
+use crate::{put_text, put_texts};
+use command_files::files_of;
+use compilers::plans::{ListedCommand, NvccGeneratedSubcommand, Plan};
 use serde_json::{Map, Value, push};
 use std::alloc::{AllocError, Global};
 
@@ -29,18 +29,6 @@ fn record_value(
     Ok(Value::Object(map))
 }
 
-// Adds the record of a command that compiles a file.
-fn push_record(
-    alloc: Global,
-    list: &mut Vec<Value>,
-    command: &NvccGeneratedSubcommand,
-    file: &str,
-) -> Result<(), AllocError>
-    ensures { OnOk result (map view list.new.items ≡ map view list.old.items ++ spec.record_data command.now file.now ∷ []) }
-{
-    push(list, record_value(alloc, command, file)?)
-}
-
 // Adds the records of a command that compiles these files.
 fn push_files(
     alloc: Global,
@@ -51,24 +39,9 @@ fn push_files(
     ensures { OnOk result (map view list.new.items ≡ map view list.old.items ++ map (spec.record_data command.now) (map string_bytes paths.now)) }
 {
     for path in paths {
-        push_record(alloc, list, command, path.as_str())?;
+        push(list, record_value(alloc, command, path.as_str())?)?;
     }
     Ok(())
-}
-
-// Adds the records of a command with these files.
-fn push_by(
-    alloc: Global,
-    list: &mut Vec<Value>,
-    command: &NvccGeneratedSubcommand,
-    files: &CommandFiles,
-) -> Result<(), AllocError>
-    ensures { OnOk result (map view list.new.items ≡ map view list.old.items ++ spec.records_by files.now command.now) }
-{
-    if files.complete {
-        return Ok(());
-    }
-    push_files(alloc, list, command, files.reads.as_slice())
 }
 
 // Adds the records of a command, unless it is in the last of `count` groups.
@@ -84,7 +57,10 @@ fn push_listed(
         return Ok(());
     }
     let files = files_of(alloc, listed.command)?;
-    push_by(alloc, list, listed.command, &files)
+    if files.complete {
+        return Ok(());
+    }
+    push_files(alloc, list, listed.command, files.reads.as_slice())
 }
 
 // The database of a plan.

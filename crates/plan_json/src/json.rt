@@ -1,21 +1,20 @@
 //! A plan as JSON.
 
-ghost use Rattle.std.specs.Prelude.{◌≡◌, ◌+◌, ◌++◌, ◌∷◌, [], IfOk, OnOk, Some, codes, length, map, string_bytes, vec_items};
-ghost use Rattle.serde_json.specs.Data.{array, boolean, string, put as with_member};
+ghost use Rattle.std.specs.Prelude.{◌≡◌, IfOk, OnOk, Some, codes, map, string_bytes, vec_items};
+ghost use Rattle.serde_json.specs.Data.{array, put as with_member};
 ghost use Rattle.serde_json.specs.Read.{read};
 ghost use Rattle.serde_json.specs.View.{items_of, view, members_view};
 ghost use Rattle.serde_json.specs.Written.{compact_text};
 ghost use Rattle.texts.specs.Variables.{pair_of};
-ghost use Rattle.plans.specs.Reasons.{reason_name};
 ghost use Rattle.command_files.specs.Order.{needs_at};
-ghost use Rattle.json_values.specs.Values.{count_data, texts_data};
+ghost use Rattle.plan_json.specs.Values.{count_data};
 ghost use Rattle.plan_json.specs.Json as spec;
 ghost use Rattle.command_files.specs.Numbered.{numbered};
 
+use crate::{push_text, put_text, put_texts, texts_value};
 use command_files::{CommandFiles, files_of, needs};
 use compilers::command::Cacheable;
-use json_values::{push_text, put_text, put_texts, texts_value};
-use plans::{Dropped, ListedCommand, NvccGeneratedSubcommand, Origin, PlanWithOrigins};
+use compilers::plans::{Dropped, ListedCommand, NvccGeneratedSubcommand, Origin, PlanWithOrigins};
 use serde_json::{Map, Value, push, put};
 use std::alloc::{AllocError, Global};
 
@@ -29,81 +28,15 @@ fn variable_value(alloc: Global, pair: &(String, String)) -> Result<Value, Alloc
     Ok(Value::Array(list))
 }
 
-// Adds a variable to a list.
-fn push_variable(
-    alloc: Global,
-    list: &mut Vec<Value>,
-    pair: &(String, String),
-) -> Result<(), AllocError>
-    ensures { OnOk result (map view list.new.items ≡ map view list.old.items ++ spec.variable_data (pair_of pair.now) ∷ []) }
-{
-    push(list, variable_value(alloc, pair)?)
-}
-
 // A list of variables.
 fn variables_value(alloc: Global, variables: &[(String, String)]) -> Result<Value, AllocError>
     ensures { IfOk result (λ v. view v ≡ spec.variables_data (map pair_of variables.now)) }
 {
     let mut list = Vec::new(alloc);
     for pair in variables {
-        push_variable(alloc, &mut list, pair)?;
+        push(&mut list, variable_value(alloc, pair)?)?;
     }
     Ok(Value::Array(list))
-}
-
-// Whether a cache may serve a command's outputs.
-fn is_cacheable(cacheable: Cacheable) -> bool
-    ensures { result ≡ spec.is_cacheable cacheable }
-{
-    match cacheable {
-        Cacheable::Yes => true,
-        Cacheable::No => false,
-    }
-}
-
-// Adds a program and its words to an object.
-fn put_run(
-    alloc: Global,
-    members: &mut Map<String, Value>,
-    exe: &str,
-    args: &[String],
-) -> Result<(), AllocError>
-    ensures { OnOk result (members_view members.new.entries
-        ≡ with_member (codes "args") (texts_data (map string_bytes args.now))
-        (with_member (codes "exe") (string exe.now) (members_view members.old.entries))) }
-{
-    put_text(alloc, members, "exe", exe)?;
-    put(members, alloc, "args", texts_value(alloc, args)?)
-}
-
-// Adds to an object where a command runs, and whether a cache may serve its outputs.
-fn put_place(
-    alloc: Global,
-    members: &mut Map<String, Value>,
-    command: &NvccGeneratedSubcommand,
-) -> Result<(), AllocError>
-    ensures { OnOk result (members_view members.new.entries
-        ≡ with_member (codes "cacheable") (boolean (spec.is_cacheable command.now.cacheable))
-        (with_member (codes "env") (spec.variables_data command.now.env_vars)
-        (with_member (codes "cwd") (string command.now.cwd) (members_view members.old.entries)))) }
-{
-    put_text(alloc, members, "cwd", command.cwd.as_str())?;
-    let env = variables_value(alloc, command.env_vars.as_slice())?;
-    put(members, alloc, "env", env)?;
-    let cacheable = Value::Bool(is_cacheable(command.cacheable));
-    put(members, alloc, "cacheable", cacheable)
-}
-
-// Adds a number to an object.
-fn put_count(
-    alloc: Global,
-    members: &mut Map<String, Value>,
-    key: &str,
-    count: usize,
-) -> Result<(), AllocError>
-    ensures { OnOk result (members_view members.new.entries ≡ with_member key.now (count_data count) (members_view members.old.entries)) }
-{
-    put(members, alloc, key, Value::from(count))
 }
 
 // A list of numbers.
@@ -117,42 +50,6 @@ fn counts_value(alloc: Global, counts: &[usize]) -> Result<Value, AllocError>
     Ok(Value::Array(list))
 }
 
-// Adds to an object the files that a command reads and writes.
-fn put_files(
-    alloc: Global,
-    members: &mut Map<String, Value>,
-    files: &CommandFiles,
-) -> Result<(), AllocError>
-    ensures { OnOk result (members_view members.new.entries
-        ≡ with_member (codes "complete") (boolean files.now.complete)
-        (with_member (codes "may_write") (texts_data files.now.may_write)
-        (with_member (codes "writes") (texts_data files.now.writes)
-        (with_member (codes "reads") (texts_data files.now.reads) (members_view members.old.entries))))) }
-{
-    put_texts(alloc, members, "reads", files.reads.as_slice())?;
-    put_texts(alloc, members, "writes", files.writes.as_slice())?;
-    put_texts(alloc, members, "may_write", files.may_write.as_slice())?;
-    put(members, alloc, "complete", Value::Bool(files.complete))
-}
-
-// Adds to an object the numbers of a command, of its group and of the commands that it needs.
-fn put_numbers(
-    alloc: Global,
-    members: &mut Map<String, Value>,
-    id: usize,
-    group: usize,
-    needs: &[usize],
-) -> Result<(), AllocError>
-    ensures { OnOk result (members_view members.new.entries
-        ≡ with_member (codes "needs") (spec.counts_data needs.now)
-        (with_member (codes "group") (count_data group)
-        (with_member (codes "id") (count_data id) (members_view members.old.entries)))) }
-{
-    put_count(alloc, members, "id", id)?;
-    put_count(alloc, members, "group", group)?;
-    put(members, alloc, "needs", counts_value(alloc, needs)?)
-}
-
 // Adds to an object the line and the run that a command comes from.
 fn put_origin(
     alloc: Global,
@@ -164,8 +61,8 @@ fn put_origin(
         ≡ with_member (codes "run") (count_data run)
         (with_member (codes "line") (count_data (spec.from_one line)) (members_view members.old.entries))) }
 {
-    put_count(alloc, members, "line", line.saturating_add(1))?;
-    put_count(alloc, members, "run", run)
+    put(members, alloc, "line", Value::from(line.saturating_add(1)))?;
+    put(members, alloc, "run", Value::from(run))
 }
 
 // A command's object.
@@ -180,16 +77,21 @@ fn command_value(
 ) -> Result<Value, AllocError>
     ensures { IfOk result (λ v. view v ≡ spec.command_data id group origin needs.now files.now command.now) }
 {
+    let is_cacheable = matches!(command.cacheable, Cacheable::Yes);
+    let env = variables_value(alloc, command.env_vars.as_slice())?;
     let mut map = Map::new(alloc);
-    put_run(
-        alloc,
-        &mut map,
-        command.exe.as_str(),
-        command.args.as_slice(),
-    )?;
-    put_place(alloc, &mut map, command)?;
-    put_files(alloc, &mut map, files)?;
-    put_numbers(alloc, &mut map, id, group, needs)?;
+    put(&mut map, alloc, "env", env)?;
+    put_text(alloc, &mut map, "exe", command.exe.as_str())?;
+    put_texts(alloc, &mut map, "args", command.args.as_slice())?;
+    put_text(alloc, &mut map, "cwd", command.cwd.as_str())?;
+    put(&mut map, alloc, "cacheable", Value::Bool(is_cacheable))?;
+    put_texts(alloc, &mut map, "reads", files.reads.as_slice())?;
+    put_texts(alloc, &mut map, "writes", files.writes.as_slice())?;
+    put_texts(alloc, &mut map, "may_write", files.may_write.as_slice())?;
+    put(&mut map, alloc, "complete", Value::Bool(files.complete))?;
+    put(&mut map, alloc, "id", Value::from(id))?;
+    put(&mut map, alloc, "group", Value::from(group))?;
+    put(&mut map, alloc, "needs", counts_value(alloc, needs)?)?;
     put_origin(alloc, &mut map, origin.line, origin.run)?;
     Ok(Value::Object(map))
 }
@@ -237,21 +139,6 @@ fn described_value(
     )
 }
 
-// Adds the command with a number to the list of those before it.
-fn push_command(
-    alloc: Global,
-    list: &mut Vec<Value>,
-    id: usize,
-    origins: &[Origin],
-    needs: &[Vec<usize>],
-    listed: &ListedCommand<'_>,
-) -> Result<(), AllocError>
-    ensures { OnOk result (map view list.new.items ≡ map view list.old.items
-        ++ spec.command_at (record { origins = origins.now; needs = map vec_items needs.now }) id listed.now ∷ []) }
-{
-    push(list, described_value(alloc, id, origins, needs, listed)?)
-}
-
 // A list of commands.
 fn commands_value(
     alloc: Global,
@@ -264,24 +151,10 @@ fn commands_value(
 {
     let mut list = Vec::new(alloc);
     for (id, listed) in commands.iter().enumerate() {
-        push_command(alloc, &mut list, id, origins, needs, listed)?;
+        let value = described_value(alloc, id, origins, needs, listed)?;
+        push(&mut list, value)?;
     }
     Ok(Value::Array(list))
-}
-
-// Adds to an object which line of which run a dropped command is, and why the plan dropped it.
-fn put_line(
-    alloc: Global,
-    members: &mut Map<String, Value>,
-    dropped: &Dropped,
-) -> Result<(), AllocError>
-    ensures { OnOk result (members_view members.new.entries
-        ≡ with_member (codes "reason") (string (reason_name dropped.now.reason))
-        (with_member (codes "run") (count_data dropped.now.run)
-        (with_member (codes "line") (count_data (spec.from_one dropped.now.line)) (members_view members.old.entries)))) }
-{
-    put_origin(alloc, members, dropped.line, dropped.run)?;
-    put_text(alloc, members, "reason", dropped.reason.name())
 }
 
 // A dropped command's object.
@@ -289,21 +162,11 @@ fn dropped_value(alloc: Global, dropped: &Dropped) -> Result<Value, AllocError>
     ensures { IfOk result (λ v. view v ≡ spec.dropped_data dropped.now) }
 {
     let mut map = Map::new(alloc);
-    put_run(
-        alloc,
-        &mut map,
-        dropped.exe.as_str(),
-        dropped.args.as_slice(),
-    )?;
-    put_line(alloc, &mut map, dropped)?;
+    put_text(alloc, &mut map, "exe", dropped.exe.as_str())?;
+    put_texts(alloc, &mut map, "args", dropped.args.as_slice())?;
+    put_origin(alloc, &mut map, dropped.line, dropped.run)?;
+    put_text(alloc, &mut map, "reason", dropped.reason.name())?;
     Ok(Value::Object(map))
-}
-
-// Adds a dropped command to a list.
-fn push_dropped(alloc: Global, list: &mut Vec<Value>, dropped: &Dropped) -> Result<(), AllocError>
-    ensures { OnOk result (map view list.new.items ≡ map view list.old.items ++ spec.dropped_data dropped.now ∷ []) }
-{
-    push(list, dropped_value(alloc, dropped)?)
 }
 
 // A list of dropped commands.
@@ -312,7 +175,7 @@ fn all_dropped_value(alloc: Global, dropped: &[Dropped]) -> Result<Value, AllocE
 {
     let mut list = Vec::new(alloc);
     for command in dropped {
-        push_dropped(alloc, &mut list, command)?;
+        push(&mut list, dropped_value(alloc, command)?)?;
     }
     Ok(Value::Array(list))
 }
@@ -337,46 +200,6 @@ fn put_commands(
     put(members, alloc, "commands", value)
 }
 
-// Adds to an object the groups' number, and the dropped commands.
-fn put_rest(
-    alloc: Global,
-    members: &mut Map<String, Value>,
-    planned: &PlanWithOrigins,
-) -> Result<(), AllocError>
-    ensures { OnOk result (members_view members.new.entries
-        ≡ with_member (codes "dropped") (spec.all_dropped_data planned.now.plan.dropped)
-        (with_member (codes "groups") (count_data (length planned.now.plan.groups)) (members_view members.old.entries))) }
-{
-    put_count(
-        alloc,
-        members,
-        "groups",
-        planned.plan.groups.as_slice().len(),
-    )?;
-    let dropped = all_dropped_value(alloc, planned.plan.dropped.as_slice())?;
-    put(members, alloc, "dropped", dropped)
-}
-
-// Adds to an object what a plan was made for, and the format's version.
-fn put_setting(
-    alloc: Global,
-    members: &mut Map<String, Value>,
-    cwd: &str,
-    tmp: &str,
-    flag: &str,
-) -> Result<(), AllocError>
-    ensures { OnOk result (members_view members.new.entries
-        ≡ with_member (codes "flag") (string flag.now)
-        (with_member (codes "tmp") (string tmp.now)
-        (with_member (codes "cwd") (string cwd.now)
-        (with_member (codes "version") (count_data 1) (members_view members.old.entries))))) }
-{
-    put_count(alloc, members, "version", 1)?;
-    put_text(alloc, members, "cwd", cwd)?;
-    put_text(alloc, members, "tmp", tmp)?;
-    put_text(alloc, members, "flag", flag)
-}
-
 // A plan's object.
 fn plan_value(
     alloc: Global,
@@ -388,9 +211,15 @@ fn plan_value(
     ensures { IfOk result (λ v. view v ≡ spec.data_of (record { cwd = cwd.now; tmp = tmp.now; flag = flag.now; planned = planned.now })) }
 {
     let mut map = Map::new(alloc);
-    put_setting(alloc, &mut map, cwd, tmp, flag)?;
+    put(&mut map, alloc, "version", Value::from(1_usize))?;
+    put_text(alloc, &mut map, "cwd", cwd)?;
+    put_text(alloc, &mut map, "tmp", tmp)?;
+    put_text(alloc, &mut map, "flag", flag)?;
     put_commands(alloc, &mut map, planned)?;
-    put_rest(alloc, &mut map, planned)?;
+    let groups = planned.plan.groups.as_slice().len();
+    put(&mut map, alloc, "groups", Value::from(groups))?;
+    let dropped = all_dropped_value(alloc, planned.plan.dropped.as_slice())?;
+    put(&mut map, alloc, "dropped", dropped)?;
     Ok(Value::Object(map))
 }
 

@@ -5,6 +5,8 @@ mod clang_words;
 mod compdb;
 mod json;
 pub mod laws;
+mod value;
 
 pub use compdb::compdb_text;
 pub use json::json_text;
+pub use value::{push_text, put_text, put_texts, texts_value};

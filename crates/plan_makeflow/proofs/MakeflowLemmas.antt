@@ -1,10 +1,10 @@
 -- A Makeflow file's data has no float and nests no deeper than a text that is read may.
 use Rattle.std.proofs.Common.{◌≡◌, ℕ, ◌≤◌, List, false, Some, refl, subst, arith}
-use Rattle.plans.specs.declared.plan.Plan.{Plan}
+use Rattle.compilers.specs.declared.plans.plan.Plan.{Plan}
 use Rattle.serde_json.specs.Data.{Data, string, depth}
 use Rattle.serde_json.specs.Read.{read, max_depth}
 use Rattle.serde_json.specs.Written.{has_float, compact_text}
-use Rattle.json_values.proofs.ValueLemmas.{items_within, items_float_free, texts_float_free, neither}
+use Rattle.plan_json.proofs.ValueLemmas.{items_within, items_float_free, texts_float_free, neither}
 use Rattle.plan_makeflow.specs.Makeflow.{rule_data, makeflow_data}
 use Rattle.plan_makeflow.specs.Rules.{Rule, rules}
 

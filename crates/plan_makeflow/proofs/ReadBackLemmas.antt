@@ -3,14 +3,14 @@ use Rattle.std.proofs.Common.{ℕ, List, [], ◌∷◌, ◌++◌, ◌≡◌, ref
 use Rattle.std.specs.List.{AllByRecursion}
 use Rattle.std.proofs.lemmas.Str.{IsUtf8-append}
 use Rattle.texts.specs.Numeral.{numeral}
-use Rattle.shell_words.specs.Posix.{is_apart}
-use Rattle.shell_words.specs.Shell.Quoting.{written}
-use Rattle.plans.specs.declared.plan.NvccGeneratedSubcommand.{NvccGeneratedSubcommand}
-use Rattle.plan_scripts.specs.CommandText.{assignment}
-use Rattle.plan_scripts.specs.ReadBack.{IsOfTexts, shell_tokens}
+use Rattle.texts.specs.Posix.{is_apart}
+use Rattle.texts.specs.Shell.Quoting.{written}
+use Rattle.compilers.specs.declared.plans.plan.NvccGeneratedSubcommand.{NvccGeneratedSubcommand}
+use Rattle.plan_texts.specs.CommandText.{assignment}
+use Rattle.plan_texts.specs.ReadBack.{IsOfTexts, shell_tokens}
 use Rattle.texts.proofs.NumeralLemmas.{utf8-numeral}
-use Rattle.plan_scripts.proofs.TextLemmas.{plain_chars, assignments_utf8}
-use Rattle.plan_scripts.proofs.ReadBackLemmas.{written_then, text_then, touch_reads}
+use Rattle.plan_texts.proofs.TextLemmas.{plain_chars, assignments_utf8}
+use Rattle.plan_texts.proofs.ReadBackLemmas.{written_then, text_then, touch_reads}
 use Rattle.plan_makeflow.specs.CommandText.{run_words}
 use Rattle.plan_makeflow.specs.Names.{stamp}
 use Rattle.plan_makeflow.specs.Rules.{line}

@@ -1,12 +1,12 @@
 -- The text of a command, as a shell runs it for a rule.
 use Rattle.std.specs.Prelude.{ℕ, List, ◌∷◌, [], ◌++◌, Bool, false, nat_lt, map, length, if◌then◌else◌, codes}
 use Rattle.std.specs.List.{list_any}
-use Rattle.shell_words.specs.Shell.Quoting.{written}
-use Rattle.plans.specs.declared.plan.NvccGeneratedSubcommand.{NvccGeneratedSubcommand}
-use Rattle.plans.specs.declared.plan.Plan.{Plan}
-use Rattle.plans.specs.Listed.{listed}
-use Rattle.plan_scripts.specs.CommandText.{assignment}
-use Rattle.plan_scripts.specs.CommandText as scripts
+use Rattle.texts.specs.Shell.Quoting.{written}
+use Rattle.compilers.specs.declared.plans.plan.NvccGeneratedSubcommand.{NvccGeneratedSubcommand}
+use Rattle.compilers.specs.declared.plans.plan.Plan.{Plan}
+use Rattle.compilers.specs.Listed.{listed}
+use Rattle.plan_texts.specs.CommandText.{assignment}
+use Rattle.plan_texts.specs.CommandText as scripts
 
 -- a command's words, with `env` and its variables in front
 abbrev pub run_words : NvccGeneratedSubcommand → List (List ℕ)

@@ -1,6 +1,6 @@
 -- Which rules wait for which, and which files they name.
 use Rattle.std.specs.Prelude.{◌≡◌, ℕ, ◌<◌, List, [], ◌∷◌, Bool, true, false, get_or, length, Some}
-use Rattle.plans.specs.declared.plan.Plan.{Plan}
+use Rattle.compilers.specs.declared.plans.plan.Plan.{Plan}
 use Rattle.command_files.specs.declared.files.CommandFiles.{CommandFiles}
 use Rattle.command_files.specs.Files.{is_among, share}
 use Rattle.command_files.specs.Order.{is_in, needs_at}

@@ -4,14 +4,14 @@ use Rattle.serde_json.specs.Data.{Data, boolean, string, array, object, no_membe
 use Rattle.serde_json.specs.Read.{read}
 use Rattle.serde_json.specs.View.{items_of}
 use Rattle.serde_json.specs.Written.{compact_text}
-use Rattle.plans.specs.declared.plan.Plan.{Plan}
-use Rattle.plans.specs.Listed.{listed}
-use Rattle.plan_scripts.specs.declared.refusal.Refusal.{Refusal}
-use Rattle.plan_scripts.specs.declared.refusal.Refusal.TheVariants.{LongCommand}
-use Rattle.plan_scripts.specs.declared.format.Format.TheVariants as formats
-use Rattle.plan_scripts.specs.Judging.{judged_commands}
-use Rattle.plan_scripts.specs.Script.{unless_refused}
-use Rattle.json_values.specs.Values.{texts_data}
+use Rattle.compilers.specs.declared.plans.plan.Plan.{Plan}
+use Rattle.compilers.specs.Listed.{listed}
+use Rattle.plan_texts.specs.declared.refusal.Refusal.{Refusal}
+use Rattle.plan_texts.specs.declared.refusal.Refusal.TheVariants.{LongCommand}
+use Rattle.plan_texts.specs.declared.format.Format.TheVariants as formats
+use Rattle.plan_texts.specs.Judging.{judged_commands}
+use Rattle.plan_texts.specs.Script.{unless_refused}
+use Rattle.plan_json.specs.Values.{texts_data}
 use Rattle.plan_makeflow.specs.CommandText.{has_long_command}
 use Rattle.plan_makeflow.specs.Rules.{Rule, rules}
 

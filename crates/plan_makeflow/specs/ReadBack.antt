@@ -1,9 +1,9 @@
--- What a POSIX shell reads in what a rule runs. Its grammar (`Posix` of `shell_words`) has no reading for a text on which a shell would act.
+-- What a POSIX shell reads in what a rule runs. Its grammar (`Posix` of `texts`) has no reading for a text on which a shell would act.
 use Rattle.std.specs.Prelude.{◌≡◌, ℕ, List, [], ◌∷◌, ◌++◌, Bool, true, false, Some, codes, chars}
-use Rattle.shell_words.specs.Posix.{Token, Word, Operator}
-use Rattle.plans.specs.declared.plan.NvccGeneratedSubcommand.{NvccGeneratedSubcommand}
-use Rattle.plan_scripts.specs.ReadBack.{IsOfTexts, shell_tokens, word_tokens}
-use Rattle.plan_scripts.specs.ReadBack as scripts
+use Rattle.texts.specs.Posix.{Token, Word, Operator}
+use Rattle.compilers.specs.declared.plans.plan.NvccGeneratedSubcommand.{NvccGeneratedSubcommand}
+use Rattle.plan_texts.specs.ReadBack.{IsOfTexts, shell_tokens, word_tokens}
+use Rattle.plan_texts.specs.ReadBack as scripts
 use Rattle.plan_makeflow.specs.CommandText.{run_words}
 use Rattle.plan_makeflow.specs.Names.{stamp}
 use Rattle.plan_makeflow.specs.Rules.{line}

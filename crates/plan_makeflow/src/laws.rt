@@ -28,7 +28,7 @@ pub fn files()
 {}
 
 /// A POSIX shell reads what a rule runs as the command and then `touch` with its stamp: `env`, the command's variables, its program and its
-/// words, and if it runs in its directory, that first, in a shell of its own. The grammar is `Posix` of `shell_words`.
+/// words, and if it runs in its directory, that first, in a shell of its own. The grammar is `Posix` of `texts`.
 pub fn read_back()
     ensures { LinesReadBack }
 {}

@@ -6,7 +6,7 @@ ghost use Rattle.serde_json.specs.Read.{read};
 ghost use Rattle.serde_json.specs.View.{items_of, view};
 ghost use Rattle.serde_json.specs.Written.{compact_text};
 ghost use Rattle.command_files.specs.Numbered.{numbered};
-ghost use Rattle.plan_scripts.specs.Answers.{Answers};
+ghost use Rattle.plan_texts.specs.Answers.{Answers};
 ghost use Rattle.plan_makeflow.specs.Makeflow as spec;
 ghost use Rattle.plan_makeflow.specs.Rules.{rule_in, rules, seen};
 
@@ -15,9 +15,9 @@ use crate::facts::Facts;
 use crate::rules::rule_value;
 use crate::writers::writers_of;
 use command_files::files_and_needs;
-use json_values::put_text;
-use plan_scripts::{Format, Refusal, judge_commands};
-use plans::{ListedCommand, Plan};
+use compilers::plans::{ListedCommand, Plan};
+use plan_json::put_text;
+use plan_texts::{Format, Refusal, judge_commands};
 use serde_json::{Map, Value, push, put};
 use std::alloc::{AllocError, Global};
 
@@ -84,16 +84,6 @@ fn json_text(alloc: Global, tmp: &str, plan: &Plan) -> Result<String, AllocError
     value.to_string(alloc)
 }
 
-// The file of a plan.
-fn file_text(alloc: Global, tmp: &str, plan: &Plan) -> Result<String, AllocError>
-    ensures text { IfOk result (λ text. string_bytes text ≡ spec.makeflow_text tmp.now plan.now) }
-    ensures reads_back { IfOk result (λ text. spec.ReadsAs (string_bytes text) (spec.makeflow_data tmp.now plan.now)) }
-{
-    let mut text = json_text(alloc, tmp, plan)?;
-    text.push_str("\n")?;
-    Ok(text)
-}
-
 /// A plan as a Makeflow file in Makeflow's JSON form, which `makeflow --json` runs in the temporary directory `tmp`. The file names that
 /// directory (`directory`), which has to be an absolute path without a `/` at its end.
 ///
@@ -109,7 +99,7 @@ fn file_text(alloc: Global, tmp: &str, plan: &Plan) -> Result<String, AllocError
 /// Makeflow's classic form couldn't represent each command: it takes no word of 1,024 bytes or more, such as a long `PATH`, and no byte 26.
 ///
 /// Fails if a command has over 65,000 bytes, whose file Makeflow 8.0 wouldn't read (`Refusal::LongCommand`), and then if
-/// [`shell_script`](plan_scripts::shell_script) does, because a shell runs the commands.
+/// [`shell_script`](plan_texts::shell_script) does, because a shell runs the commands.
 pub fn makeflow_file(alloc: Global, tmp: &str, plan: &Plan) -> Result<String, Refusal>
     ensures text { Answers result (spec.makeflow_answer tmp.now plan.now) }
     ensures reads_back { IfOk result (λ text. spec.ReadsAs (string_bytes text) (spec.makeflow_data tmp.now plan.now)) }
@@ -119,5 +109,7 @@ pub fn makeflow_file(alloc: Global, tmp: &str, plan: &Plan) -> Result<String, Re
     }
     let commands = plan.groups.listed(alloc)?;
     judge_commands(Format::Makeflow, commands.as_slice())?;
-    Ok(file_text(alloc, tmp, plan)?)
+    let mut text = json_text(alloc, tmp, plan)?;
+    text.push_str("\n")?;
+    Ok(text)
 }

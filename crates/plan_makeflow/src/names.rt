@@ -9,16 +9,13 @@ ghost use Rattle.plan_makeflow.specs.Rules as rules;
 
 use crate::facts::{Facts, Side, written_by};
 use std::alloc::{AllocError, Global};
-use texts::decimal::push_number;
 use texts::words::Words;
 
 /// The name of the stamp of the command with a number.
 pub fn stamp(alloc: Global, number: usize) -> Result<String, AllocError>
     ensures { IfOk result (λ name. string_bytes name ≡ spec.stamp number) }
 {
-    let mut name = String::from_str(alloc, "zigrunk.")?;
-    push_number(alloc, &mut name, number)?;
-    Ok(name)
+    format!(in alloc; "zigrunk.{number}")
 }
 
 // Whether a byte is a letter or a digit of ASCII, or `_`.
@@ -56,13 +53,10 @@ fn is_plain(name: &[u8]) -> bool
 fn plain_name(name: &str) -> Option<&str>
     ensures { option_copied result ≡ spec.plain_name name.now }
 {
-    if name.as_bytes().starts_with(b"zigrunk.") {
-        None
-    } else if is_plain(name.as_bytes()) {
-        Some(name)
-    } else {
-        None
+    if name.as_bytes().starts_with(b"zigrunk.") || !is_plain(name.as_bytes()) {
+        return None;
     }
+    Some(name)
 }
 
 // What follows a text that a path begins with.
@@ -91,40 +85,14 @@ fn is_among(words: &[String], name: &str) -> bool
     false
 }
 
-// Whether a file is on a side of the rule of the command with a number, given the only command that writes it.
-fn is_by(side: Side, facts: &Facts<'_>, number: usize, path: &str, writer: usize) -> bool
-    ensures { result ≡ rules.is_by side (rules.seen facts.now) number path.now writer }
-{
-    match side {
-        Side::Made => writer == number,
-        Side::Passed => writer < number && is_among(written_by(facts, writer), path),
-    }
-}
-
-// The same, given all commands that write it.
-fn by_one(side: Side, facts: &Facts<'_>, number: usize, path: &str, writers: &[usize]) -> bool
-    ensures { result ≡ rules.by_one side (rules.seen facts.now) number path.now writers.now }
-{
-    match writers {
-        [writer] => is_by(side, facts, number, path, *writer),
-        _ => false,
-    }
-}
-
 // Whether the rule of the command with a number names a file on a side.
 fn is_named(side: Side, facts: &Facts<'_>, number: usize, path: &str) -> bool
     ensures { result ≡ rules.is_named side (rules.seen facts.now) number path.now }
 {
-    by_one(side, facts, number, path, facts.writers.of(path))
-}
-
-// Adds the name of a file, if Work Queue can carry one of that name.
-fn push_name(alloc: Global, names: &mut Words, tmp: &str, path: &str) -> Result<(), AllocError>
-    ensures { OnOk result (names.new ≡ names.old ++ rules.name_alone (spec.name_in tmp.now path.now)) }
-{
-    match name_in(tmp, path) {
-        None => Ok(()),
-        Some(name) => names.push_str(alloc, name),
+    match (side, facts.writers.of(path)) {
+        (Side::Made, [writer]) => *writer == number,
+        (Side::Passed, [writer]) => *writer < number && is_among(written_by(facts, *writer), path),
+        _ => false,
     }
 }
 
@@ -140,8 +108,11 @@ pub fn push_names(
     ensures { OnOk result (names.new ≡ names.old ++ rules.names_of side (rules.seen facts.now) number (map string_bytes paths.now)) }
 {
     for path in paths {
-        if is_named(side, facts, number, path.as_str()) {
-            push_name(alloc, names, facts.tmp, path.as_str())?;
+        match name_in(facts.tmp, path.as_str()) {
+            Some(name) if is_named(side, facts, number, path.as_str()) => {
+                names.push_str(alloc, name)?;
+            }
+            _ => {}
         }
     }
     Ok(())

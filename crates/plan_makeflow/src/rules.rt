@@ -9,13 +9,12 @@ ghost use Rattle.plan_makeflow.specs.Rules as spec;
 use crate::command::push_command;
 use crate::facts::{Facts, Side, needs_at, read_by, written_by};
 use crate::names::{are_named, push_names, stamp};
-use command_files::CommandFiles;
 use compilers::command::Cacheable;
-use json_values::{put_text, put_texts};
-use plans::NvccGeneratedSubcommand;
+use compilers::plans::NvccGeneratedSubcommand;
+use plan_json::{put_text, put_texts};
 use serde_json::{Map, Value, put};
-use shell_words::push_quoted;
 use std::alloc::{AllocError, Global};
+use texts::shell::push_quoted;
 use texts::words::Words;
 
 // What the rule of the command with a number makes.
@@ -29,64 +28,40 @@ fn targets(alloc: Global, facts: &Facts<'_>, number: usize) -> Result<Words, All
     Ok(names)
 }
 
-// Adds the stamps of the commands with these numbers.
-fn push_stamps(alloc: Global, names: &mut Words, numbers: &[usize]) -> Result<(), AllocError>
-    ensures { OnOk result (names.new ≡ names.old ++ map stamp numbers.now) }
-{
-    for number in numbers {
-        names.push(stamp(alloc, *number)?)?;
-    }
-    Ok(())
-}
-
 // What the rule of the command with a number needs.
 fn sources(alloc: Global, facts: &Facts<'_>, number: usize) -> Result<Words, AllocError>
     ensures { IfOk result (λ names. names ≡ spec.sources (spec.seen facts.now) number) }
 {
     let mut names = Words::new(alloc);
-    push_stamps(alloc, &mut names, needs_at(facts, number))?;
+    let numbers = needs_at(facts, number);
+    for needed in numbers {
+        names.push(stamp(alloc, *needed)?)?;
+    }
     let read = read_by(facts, number);
     push_names(alloc, &mut names, Side::Passed, facts, number, read)?;
     Ok(names)
 }
 
-// Whether a cache may serve a command's outputs.
-fn is_cacheable(cacheable: Cacheable) -> bool
-    ensures { result ≡ spec.is_cacheable cacheable }
+// Whether the record of the command with a number is complete, leaves out no output, and has only files that both `words` and its rule name.
+fn has_all_named(facts: &Facts<'_>, number: usize, words: &[String]) -> bool
+    ensures { result ≡ spec.has_all_named (spec.seen facts.now) number (map string_bytes words.now) (spec.files_at (spec.seen facts.now).files number) }
 {
-    match cacheable {
-        Cacheable::Yes => true,
-        Cacheable::No => false,
-    }
-}
-
-// Whether a record is complete, leaves out no output, and has only files that words and the rule of the command with a number name.
-fn has_all_named(facts: &Facts<'_>, number: usize, words: &[String], files: &CommandFiles) -> bool
-    ensures { result ≡ spec.has_all_named (spec.seen facts.now) number (map string_bytes words.now) files.now }
-{
+    let Some(files) = facts.files.get(number) else {
+        return false;
+    };
     files.complete
         && files.may_write.is_empty()
         && are_named(Side::Made, facts, number, words, files.writes.as_slice())
         && are_named(Side::Passed, facts, number, words, files.reads.as_slice())
 }
 
-// The same of the record of the command with a number.
-fn moves_files(facts: &Facts<'_>, number: usize, words: &[String]) -> bool
-    ensures { result ≡ spec.has_all_named (spec.seen facts.now) number (map string_bytes words.now) (spec.files_at (spec.seen facts.now).files number) }
-{
-    match facts.files.get(number) {
-        Some(files) => has_all_named(facts, number, words, files),
-        None => false,
-    }
-}
-
 // Whether a command can run on another machine.
 fn can_move(facts: &Facts<'_>, number: usize, command: &NvccGeneratedSubcommand) -> bool
     ensures { result ≡ spec.can_move (spec.seen facts.now) number command.now }
 {
-    is_cacheable(command.cacheable)
+    matches!(command.cacheable, Cacheable::Yes)
         && facts.tmp == command.cwd.as_str()
-        && moves_files(facts, number, command.args.as_slice())
+        && has_all_named(facts, number, command.args.as_slice())
 }
 
 // What a rule runs: the command, and then `touch`.
@@ -105,25 +80,6 @@ fn line(
     Ok(text)
 }
 
-// The object of a rule.
-fn object(
-    alloc: Global,
-    targets: &Words,
-    sources: &Words,
-    is_local: bool,
-    command: &str,
-) -> Result<Value, AllocError>
-    ensures { IfOk result (λ v. view v
-        ≡ rule_data (record { targets = targets.now; sources = sources.now; is_local = is_local; command = command.now })) }
-{
-    let mut map = Map::new(alloc);
-    put_text(alloc, &mut map, "command", command)?;
-    put_texts(alloc, &mut map, "inputs", sources.as_slice())?;
-    put(&mut map, alloc, "local_job", Value::Bool(is_local))?;
-    put_texts(alloc, &mut map, "outputs", targets.as_slice())?;
-    Ok(Value::Object(map))
-}
-
 /// The object of a command's rule, given the command's number.
 pub fn rule_value(
     alloc: Global,
@@ -137,5 +93,10 @@ pub fn rule_value(
     let line = line(alloc, moves, number, command)?;
     let sources = sources(alloc, facts, number)?;
     let targets = targets(alloc, facts, number)?;
-    object(alloc, &targets, &sources, !moves, line.as_str())
+    let mut map = Map::new(alloc);
+    put_text(alloc, &mut map, "command", line.as_str())?;
+    put_texts(alloc, &mut map, "inputs", sources.as_slice())?;
+    put(&mut map, alloc, "local_job", Value::Bool(!moves))?;
+    put_texts(alloc, &mut map, "outputs", targets.as_slice())?;
+    Ok(Value::Object(map))
 }

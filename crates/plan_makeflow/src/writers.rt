@@ -55,27 +55,14 @@ impl Writers {
     }
 }
 
-// Notes that the command with a number has these files.
-fn add_files(
-    alloc: Global,
-    writers: &mut Writers,
-    files: &CommandFiles,
-    number: usize,
-) -> Result<(), AllocError>
-    ensures { OnOk result (spec.writers_seen writers.new
-        ≡ with_numbers (with_numbers (spec.writers_seen writers.old) files.now.writes number) files.now.may_write number) }
-{
-    writers.add_all(alloc, files.writes.as_slice(), number)?;
-    writers.add_all(alloc, files.may_write.as_slice(), number)
-}
-
 /// The commands that write each file, given the files of all commands.
 pub fn writers_of(alloc: Global, files: &[CommandFiles]) -> Result<Writers, AllocError>
     ensures { IfOk result (λ writers. spec.writers_seen writers ≡ spec.writers_of files.now) }
 {
     let mut writers = Writers::new(alloc);
     for (number, files) in files.iter().enumerate() {
-        add_files(alloc, &mut writers, files, number)?;
+        writers.add_all(alloc, files.writes.as_slice(), number)?;
+        writers.add_all(alloc, files.may_write.as_slice(), number)?;
     }
     Ok(writers)
 }

@@ -1,0 +1,5 @@
+pub mod EscapedLemmas
+pub mod ReadBackLemmas
+pub mod ReadGraphLemmas
+pub mod TextLemmas
+pub mod ValueLemmas

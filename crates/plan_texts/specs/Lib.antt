@@ -1,3 +1,17 @@
+pub mod Answers
+pub mod CommandText
+pub mod Dot
+pub mod ExportExamples
+pub mod Formats
+pub mod Graph
+pub mod Judging
+pub mod Message
+pub mod ReadBack
+pub mod ReadEdge
+pub mod ReadGraph
+pub mod ReadValue
+pub mod Script
+pub mod ScriptExamples
 pub mod Shown
 pub mod ShownPlan
 pub mod Tools

@@ -1,11 +1,27 @@
-//! Lines and plans as text.
+//! Lines and plans as text: in a fixed format, as shell scripts, as Ninja files and as pictures.
 #![tactic(auto)]
 
+mod command;
+mod dot;
+mod format;
+mod judging;
 pub mod laws;
 mod line;
+mod ninja;
+pub mod ninja_laws;
 mod plan;
+mod refusal;
+pub mod script_laws;
+mod shell;
 mod tool;
 
+pub use command::{assignments, push_command};
+pub use dot::dot_text;
+pub use format::Format;
+pub use judging::{holds_text, holds_words, judge_commands};
 pub use line::show_line;
+pub use ninja::ninja_file;
 pub use plan::show_plan;
+pub use refusal::Refusal;
+pub use shell::shell_script;
 pub use tool::Tool;

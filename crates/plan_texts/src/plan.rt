@@ -4,7 +4,7 @@ ghost use Rattle.std.specs.Prelude.{◌≡◌, ◌++◌, IfOk, OnOk, map, string
 ghost use Rattle.plan_texts.specs.ShownPlan as spec;
 
 use compilers::command::Cacheable;
-use plans::{Dropped, NvccGeneratedSubcommand, Plan};
+use compilers::plans::{Dropped, NvccGeneratedSubcommand, Plan};
 use std::alloc::{AllocError, Global};
 use texts::decimal::push_number;
 
@@ -30,23 +30,14 @@ fn push_words(text: &mut String, exe: &str, words: &[String]) -> Result<(), Allo
     text.push_str("\n")
 }
 
-// Adds the line of a command.
-fn push_subcommand(text: &mut String, command: &NvccGeneratedSubcommand) -> Result<(), AllocError>
-    ensures { OnOk result (string_bytes text.new ≡ string_bytes text.old ++ spec.show_subcommand command.now) }
-{
-    text.push_str(cacheable_name(command.cacheable))?;
-    text.push_str(" cd ")?;
-    text.push_str(command.cwd.as_str())?;
-    text.push_str(" && ")?;
-    push_words(text, command.exe.as_str(), command.args.as_slice())
-}
-
 // Adds the lines of a group's commands.
 fn push_subcommands(text: &mut String, group: &[NvccGeneratedSubcommand]) -> Result<(), AllocError>
     ensures { OnOk result (string_bytes text.new ≡ string_bytes text.old ++ flat_map spec.show_subcommand group.now) }
 {
     for command in group {
-        push_subcommand(text, command)?;
+        let (cacheable, cwd) = (cacheable_name(command.cacheable), command.cwd.as_str());
+        write!(text, "{cacheable} cd {cwd} && ")?;
+        push_words(text, command.exe.as_str(), command.args.as_slice())?;
     }
     Ok(())
 }

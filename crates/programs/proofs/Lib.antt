@@ -1,0 +1,2 @@
+pub mod ExcerptLemmas
+pub mod ReadLemmas

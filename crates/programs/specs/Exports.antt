@@ -5,35 +5,31 @@ use Rattle.texts.specs.declared.fault.Fault.{Fault}
 use Rattle.dry_runs.specs.declared.parsed_runs.ParsedRuns.{ParsedRuns}
 use Rattle.dry_runs.specs.DryRun.{LookUp}
 use Rattle.dry_runs.specs.Parsed.{both_parsed}
-use Rattle.plans.specs.declared.origins.PlanWithOrigins.{PlanWithOrigins}
-use Rattle.plans.specs.declared.plan.Plan.{Plan}
+use Rattle.compilers.specs.declared.plans.origins.PlanWithOrigins.{PlanWithOrigins}
+use Rattle.compilers.specs.declared.plans.plan.Plan.{Plan}
 use Rattle.command_groups.specs.Origins.{planning_of_parsed}
 use Rattle.command_groups.specs.Plan.{PlanSetting}
-use Rattle.plan_scripts.specs.declared.refusal.Refusal.{Refusal}
+use Rattle.plan_texts.specs.declared.refusal.Refusal.{Refusal}
 use Rattle.plan_formats.specs.Texts.{file_in}
-use Rattle.plan_json.specs.Json.{Described}
-use Rattle.plan_scripts.specs.Message.{message_of}
+use Rattle.plan_texts.specs.Message.{message_of}
 use Rattle.programs.specs.declared.stop.Stop.{Stop}
 use Rattle.programs.specs.declared.stop.Stop.TheVariants as stops
-use Rattle.program_calls.specs.Operands.{PlanOf}
+use Rattle.programs.specs.Operands.{PlanOf}
 use Rattle.dry_runs.specs.DryRunText.{is_dry_run}
 use Rattle.programs.specs.PlanText.{program_setting}
 use Rattle.canonical_names.specs.FurtherSuffixes.{all_suffixes}
-use Rattle.program_calls.specs.Calls.{ExportOf}
-use Rattle.directories.specs.Directories.{is_plain}
+use Rattle.programs.specs.Calls.{ExportOf}
+use Rattle.canonical_names.specs.Directories.{is_plain}
 
 -- a writer's answer, with a refusal as text
 abbrev pub written : Result (List ℕ) Refusal → Result (List ℕ) Stop
 written (Ok text) = Ok text
 written (Err refusal) = Err (stops.Unwritable (message_of refusal))
 
--- what the plan of a call's dry runs is made for
-abbrev pub described : PlanOf → PlanWithOrigins → Described
-described call planned = record { cwd = call.cwd; tmp = call.tmp; flag = call.flag; planned = planned }
-
 -- the plan of a call, in its format
 abbrev pub plan_in : ExportOf → PlanWithOrigins → Result (List ℕ) Stop
-plan_in call planned = written (file_in call.format (described call.plan planned))
+plan_in call planned =
+    written (file_in call.format (record { cwd = call.plan.cwd; tmp = call.plan.tmp; flag = call.plan.flag; planned = planned }))
 
 -- why a plan lacks commands, if it does: it has none, or it has to be whole and dropped one
 abbrev pub lacking : Bool → Plan → Option (List ℕ)
@@ -68,18 +64,14 @@ plan_of_runs call which runs =
     planned_with (keep_dir_of call.keeps call.plan.tmp) (program_setting call.plan.cwd call.plan.tmp call.plan.flag) which runs
     (all_suffixes call.plan.suffixes)
 
--- why a call's directories can't be those of a plan, if they can't
-abbrev pub odd_directory : PlanOf → Option (List ℕ)
-odd_directory call =
-    if not (is_plain call.cwd) then Some (codes "the working directory has to be absolute, without an empty part, . or ..") else
-    if is_plain call.tmp then None else Some (codes "the directory for temporary files has to be absolute, without an empty part, . or ..")
-
 -- why a call can't be planned, if it can't: it names one file twice, one has no line of a dry run, or a directory is odd
 abbrev pub unfit : PlanOf → List ℕ → List ℕ → Option (List ℕ)
 unfit call first second =
     if bytes_eq call.dry1 call.dry2 then Some (codes "both dry runs are the same file") else
     if not (is_dry_run first) then Some (codes "the first file is no dry run: no line begins with \"#$ \"") else
-    if is_dry_run second then odd_directory call else Some (codes "the second file is no dry run: no line begins with \"#$ \"")
+    if not (is_dry_run second) then Some (codes "the second file is no dry run: no line begins with \"#$ \"") else
+    if not (is_plain call.cwd) then Some (codes "the working directory has to be absolute, without an empty part, . or ..") else
+    if not (is_plain call.tmp) then Some (codes "the directory for temporary files has to be absolute, without an empty part, . or ..") else None
 
 -- what the program writes for a call
 abbrev pub exported : ExportOf → LookUp → List ℕ → List ℕ → Result (List ℕ) Stop

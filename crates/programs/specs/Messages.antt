@@ -8,12 +8,12 @@ use Rattle.texts.specs.Fault.{message_of as fault_text}
 use Rattle.texts.specs.Numeral.{numeral}
 use Rattle.texts.specs.Path.{is_bare}
 use Rattle.dry_runs.specs.DryRun.{LookUp}
-use Rattle.program_calls.specs.Misuse.{MisuseOf}
-use Rattle.program_calls.specs.Misuse as misuses
-use Rattle.program_calls.specs.Operands.{PlanOf}
+use Rattle.programs.specs.Misuse.{MisuseOf}
+use Rattle.programs.specs.Misuse as misuses
+use Rattle.programs.specs.Operands.{PlanOf}
 use Rattle.programs.specs.Complaint.{message_of, complaint}
-use Rattle.program_calls.specs.Excerpts.{shown}
-use Rattle.program_calls.specs.SuffixFault.{further_text}
+use Rattle.programs.specs.Excerpts.{shown}
+use Rattle.programs.specs.SuffixFault.{further_text}
 use Rattle.programs.specs.Unread as unread
 use Rattle.programs.specs.declared.stop.Stop.{Stop}
 use Rattle.programs.specs.declared.stop.Stop.TheVariants as stops

@@ -3,7 +3,7 @@ use Rattle.std.specs.Prelude.{ℕ, zero, suc, List, [], ◌∷◌, ◌==◌, if�
 use Rattle.std.specs.Str.Lines.{lines}
 use Rattle.dry_runs.specs.DryRun.{LookUp}
 use Rattle.dry_runs.specs.Parsed.{bad_line, parsed_of, path_of}
-use Rattle.program_calls.specs.Operands.{PlanOf}
+use Rattle.programs.specs.Operands.{PlanOf}
 use Rattle.programs.specs.declared.place.Place.{Place}
 
 -- a line of a file: its number from 0, its bytes, and the value that `PATH` has there

@@ -5,26 +5,22 @@ use Rattle.dry_runs.specs.declared.limit.LimitedFault.TheVariants.{TooLong}
 use Rattle.dry_runs.specs.declared.limit.LimitedFault.TheVariants as limited
 use Rattle.dry_runs.specs.declared.parsed_runs.ParsedRuns.{ParsedRuns}
 use Rattle.dry_runs.specs.Parsed.{both_parsed_within}
-use Rattle.program_lookups.specs.declared.snapshot.Entry.{Entry}
-use Rattle.program_lookups.specs.Asked.{asked_of_both}
-use Rattle.program_lookups.specs.Limit.{both_fitting}
-use Rattle.program_lookups.specs.Snapshot.{answer_in, IsSnapshotOf}
-use Rattle.program_calls.specs.Operands.{PlanOf}
+use Rattle.dry_runs.specs.declared.snapshot.Entry.{Entry}
+use Rattle.dry_runs.specs.Asked.{asked_of_both}
+use Rattle.dry_runs.specs.LookupLimit.{both_fitting}
+use Rattle.dry_runs.specs.Snapshot.{answer_in, IsSnapshotOf}
+use Rattle.programs.specs.Operands.{PlanOf}
 use Rattle.programs.specs.declared.stop.Stop.{Stop}
 use Rattle.programs.specs.declared.stop.Stop.TheVariants.{Fault, Unwritable}
 use Rattle.programs.specs.Delivery.{Delivers}
-use Rattle.programs.specs.PlanText.{ReadsFirst, out_of_memory, shown_plan}
+use Rattle.programs.specs.PlanText.{ReadsBoth, out_of_memory, shown_plan}
 use Rattle.programs.specs.Messages.{over_limit}
-use Rattle.program_calls.specs.Calls.{ExportOf}
+use Rattle.programs.specs.Calls.{ExportOf}
 use Rattle.programs.specs.Exports.{exported}
-
--- the answer if a dry run exceeds the limit
-abbrev pub exceeded : Result (List ℕ) Stop
-exceeded = Err (Unwritable over_limit)
 
 -- the answer if two dry runs can't be parsed within the limit
 abbrev pub unparsed : LimitedFault → Result (List ℕ) Stop
-unparsed (TooLong run line) = exceeded
+unparsed (TooLong run line) = Err (Unwritable over_limit)
 unparsed (limited.Fault fault) = Err (Fault fault)
 
 -- what the program writes, given two dry runs that are parsed within the limit, and what follows if they can be
@@ -38,15 +34,11 @@ ShowsBytes limit c first second answer before after =
     Delivers answer out_of_memory before after
     ⊎ WithinLimit (both_parsed_within limit first second) (Delivers answer (shown_plan c.cwd c.tmp c.flag first second c.suffixes) before after) answer before after
 
--- the same, given what files may hold, the bytes of the first file and the engine's answer
-abbrev pub ShowsSecond :
-    (List ℕ → Option (List ℕ) → Type 0) → ℕ → PlanOf → List ℕ → Result (Unit {0}) Stop → Option (List ℕ) → Option (List ℕ) → Type 0
-ShowsSecond holds limit c first answer before after = ReadsFirst (holds c.dry2) (λ second. ShowsBytes limit c first second answer before after) answer before after
-
 -- the same, given only what files may hold and the engine's answer: the text of the plan of these two files
 abbrev pub ShowsFiles :
     (List ℕ → Option (List ℕ) → Type 0) → ℕ → PlanOf → Result (Unit {0}) Stop → Option (List ℕ) → Option (List ℕ) → Type 0
-ShowsFiles holds limit c answer before after = ReadsFirst (holds c.dry1) (λ first. ShowsSecond holds limit c first answer before after) answer before after
+ShowsFiles holds limit c answer before after =
+    ReadsBoth holds c (λ first second. ShowsBytes limit c first second answer before after) answer before after
 
 -- what the program writes for a call that exports a plan, given the bytes of its two files and the engine's answer. The disk
 -- may say anything of the programs that the dry runs look up
@@ -62,14 +54,8 @@ ExportsBytes limit c first second answer before after =
     Delivers answer out_of_memory before after
     ⊎ WithinLimit (both_fitting limit c.plan.cwd first second) (ExportsFitting c first second answer before after) answer before after
 
--- the same, given what files may hold, the bytes of the first file and the engine's answer
-abbrev pub ExportsSecond :
-    (List ℕ → Option (List ℕ) → Type 0) → ℕ → ExportOf → List ℕ → Result (Unit {0}) Stop → Option (List ℕ) → Option (List ℕ) → Type 0
-ExportsSecond holds limit c first answer before after =
-    ReadsFirst (holds c.plan.dry2) (λ second. ExportsBytes limit c first second answer before after) answer before after
-
 -- the same, given only what files may hold and the engine's answer: the plan of these two files
 abbrev pub ExportsFiles :
     (List ℕ → Option (List ℕ) → Type 0) → ℕ → ExportOf → Result (Unit {0}) Stop → Option (List ℕ) → Option (List ℕ) → Type 0
 ExportsFiles holds limit c answer before after =
-    ReadsFirst (holds c.plan.dry1) (λ first. ExportsSecond holds limit c first answer before after) answer before after
+    ReadsBoth holds c.plan (λ first second. ExportsBytes limit c first second answer before after) answer before after

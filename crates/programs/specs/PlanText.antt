@@ -4,14 +4,14 @@ use Rattle.compilers.specs.declared.compiler.NvccHostCompiler.TheVariants.{Gcc}
 use Rattle.texts.specs.declared.fault.Fault.{Fault}
 use Rattle.texts.specs.declared.fault.Fault.TheVariants.{Memory, Read}
 use Rattle.canonical_names.specs.FurtherSuffixes.{all_suffixes}
-use Rattle.plans.specs.declared.plan.Plan.{Plan}
+use Rattle.compilers.specs.declared.plans.plan.Plan.{Plan}
 use Rattle.command_groups.specs.Plan.{PlanSetting}
 use Rattle.command_groups.specs.PlanOfBytes.{planning_of}
 use Rattle.dry_runs.specs.FirstDir.{first_dir}
 use Rattle.programs.specs.declared.stop.Stop.{Stop}
 use Rattle.programs.specs.declared.stop.Stop.TheVariants as stops
 use Rattle.plan_texts.specs.ShownPlan.{show_plan}
-use Rattle.program_calls.specs.Operands.{PlanOf}
+use Rattle.programs.specs.Operands.{PlanOf}
 use Rattle.programs.specs.Delivery.{Delivers}
 
 -- what a program plans for: gcc compiles host code, and the call's environment is empty
@@ -53,13 +53,14 @@ ReadsFirst holds Follows answer before after =
     Delivers answer out_of_memory before after
     ⊎ ((holds None × Delivers answer unread before after) ⊎ ((bytes : List ℕ) × holds (Some bytes) × Follows bytes))
 
--- what a program writes for a call that plans, given what files may hold, the bytes of the first file and the engine's answer
-abbrev pub PlansSecond :
-    (List ℕ → Option (List ℕ) → Type 0) → PlanOf → List ℕ → Result (Unit {0}) Stop → Option (List ℕ) → Option (List ℕ) → Type 0
-PlansSecond holds c first answer before after =
-    ReadsFirst (holds c.dry2) (λ second. Delivers answer (shown_plan c.cwd c.tmp c.flag first second c.suffixes) before after) answer before after
+-- what a program writes once it has read the two files of a call that plans, given what files may hold and what follows from their bytes
+abbrev pub ReadsBoth :
+    (List ℕ → Option (List ℕ) → Type 0) → PlanOf → (List ℕ → List ℕ → Type 0) → Result (Unit {0}) Stop → Option (List ℕ) → Option (List ℕ) → Type 0
+ReadsBoth holds c Follows answer before after =
+    ReadsFirst (holds c.dry1) (λ first. ReadsFirst (holds c.dry2) (Follows first) answer before after) answer before after
 
--- the same, given only what files may hold and the engine's answer: the text of the plan of these two files
+-- what a program writes for a call that plans, given what files may hold and the engine's answer: the text of the plan of these two files
 abbrev pub PlansFiles :
     (List ℕ → Option (List ℕ) → Type 0) → PlanOf → Result (Unit {0}) Stop → Option (List ℕ) → Option (List ℕ) → Type 0
-PlansFiles holds c answer before after = ReadsFirst (holds c.dry1) (λ first. PlansSecond holds c first answer before after) answer before after
+PlansFiles holds c answer before after =
+    ReadsBoth holds c (λ first second. Delivers answer (shown_plan c.cwd c.tmp c.flag first second c.suffixes) before after) answer before after

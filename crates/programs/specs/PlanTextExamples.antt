@@ -2,7 +2,7 @@
 use Rattle.std.specs.Prelude.{◌≡◌, ℕ, List, [], ◌∷◌, ◌++◌, codes, refl, flat_map}
 use Rattle.compilers.specs.declared.compiler.NvccHostCompiler.TheVariants.{Gcc}
 use Rattle.command_groups.specs.Plan.{plan_of}
-use Rattle.command_lines.specs.OneKernel.{at, commands_of}
+use Rattle.compilers.specs.OneKernel.{at, commands_of}
 use Rattle.command_groups.specs.PlanExamples.{setting, plan_of_both, step_and_cicc_twice}
 use Rattle.plan_texts.specs.ShownPlan.{show_plan}
 

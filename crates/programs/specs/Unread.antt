@@ -13,10 +13,6 @@ abbrev pub of_number : Option ℤ → Unread
 of_number (Some (pos number)) = System number
 of_number _ = Other
 
--- an error of the system without a text of its own here
-abbrev pub system_text : ℕ → List ℕ
-system_text number = codes "the system reports error " ++ numeral number
-
 -- what the system says of it
 abbrev pub text_of : Unread → List ℕ
 text_of Missing = codes "No such file or directory"
@@ -25,7 +21,7 @@ text_of Directory = codes "Is a directory"
 text_of NoDirectory = codes "Not a directory"
 text_of Loop = codes "Too many levels of symbolic links"
 text_of LongName = codes "File name too long"
-text_of (System number) = system_text number
+text_of (System number) = codes "the system reports error " ++ numeral number
 text_of Other = codes "the system reports an error"
 text_of Memory = codes "out of memory"
 

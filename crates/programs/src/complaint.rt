@@ -2,8 +2,8 @@
 
 ghost use Rattle.std.specs.Prelude.{◌≡◌, OnOk};
 ghost use Rattle.std.specs.Io.KnownBytes.{Appends};
-ghost use Rattle.program_calls.specs.Misuse.{misuse_seen};
-ghost use Rattle.program_calls.specs.Operands.{plan_of};
+ghost use Rattle.programs.specs.Misuse.{misuse_seen};
+ghost use Rattle.programs.specs.Operands.{plan_of};
 ghost use Rattle.programs.specs.Complaint as short;
 ghost use Rattle.programs.specs.Messages as spec;
 ghost use Rattle.programs.specs.Places.{place_seen};
@@ -13,8 +13,8 @@ use crate::message::{excess_message, plain_message, plan_message, unread_message
 use crate::place::Place;
 use crate::stop::Stop;
 use crate::unread::Unread;
+use crate::{Misuse, PlanCall};
 use dry_runs::Which;
-use program_calls::{Misuse, PlanCall};
 use std::alloc::Global;
 use std::io::{self, Write};
 

@@ -1,13 +1,12 @@
 //! The engines that programs run: they read a line or plan two dry runs, and write the text.
 
-ghost use Rattle.std.specs.Prelude.{◌≡◌, ◌⊎◌, ℕ, List, Option, Result, map, string_bytes};
-ghost use Rattle.texts.specs.declared.fault.Fault.{Fault};
-ghost use Rattle.texts.specs.Fault.{UnlessMemory};
-ghost use Rattle.program_calls.specs.Operands.{plan_of};
-ghost use Rattle.programs.specs.Delivery.{Answers, Delivers, text_of};
-ghost use Rattle.programs.specs.LineText.{shown_line, stopped};
+ghost use Rattle.std.specs.Prelude.{map, string_bytes};
+ghost use Rattle.programs.specs.Operands.{plan_of};
+ghost use Rattle.programs.specs.Delivery.{Delivers};
+ghost use Rattle.programs.specs.LineText.{shown_line};
 ghost use Rattle.programs.specs.PlanText as spec;
 
+use crate::PlanCall;
 use crate::delivery::deliver;
 use crate::sources::Sources;
 use crate::stop::Stop;
@@ -16,22 +15,8 @@ use command_groups::group_nvcc_subcommands_by_compilation_stage;
 use compilers::compiler::NvccHostCompiler;
 use dry_runs::FirstDir;
 use plan_texts::{Tool, show_line, show_plan};
-use plans::Plan;
-use program_calls::PlanCall;
 use std::alloc::Global;
 use std::io::Write;
-use texts::fault::Fault;
-use texts::text::Text;
-
-// A text, or why there is none.
-fn answered(text: Result<Option<Text>, Fault>) -> Result<String, Stop>
-    ensures { (expected : Result (Option (List ℕ)) Fault) → UnlessMemory text expected → Answers (text_of result) (stopped expected) }
-{
-    match text? {
-        Some(text) => Ok(text.into_string()),
-        None => Err(Stop::NotCompilation),
-    }
-}
 
 /// Reads the words of a tool's line at the working directory `cwd`, writes them back, and writes the written words to `w`
 /// in one piece, each followed by a newline.
@@ -47,49 +32,10 @@ pub fn write_line<W: Write>(
 ) -> Result<(), Stop>
     ensures { Delivers result (shown_line tool cwd.now (map string_bytes words.now)) (W.contents w.old) (W.contents w.new) }
 {
-    deliver(answered(show_line(alloc, tool, cwd, words)), w)
-}
-
-fn plan_of_runs(
-    alloc: Global,
-    cwd: &str,
-    tmp: &str,
-    flag: &str,
-    dry1: &[u8],
-    dry2: &[u8],
-    further: &[String],
-) -> Result<Plan, Fault>
-    ensures { UnlessMemory result (spec.planned cwd.now tmp.now flag.now dry1.now dry2.now (map string_bytes further.now)) }
-{
-    let suffixes = all_suffixes(alloc, further)?;
-    group_nvcc_subcommands_by_compilation_stage(
-        alloc,
-        dry1,
-        dry2,
-        flag,
-        cwd,
-        tmp,
-        None,
-        &[],
-        NvccHostCompiler::Gcc,
-        &FirstDir,
-        &suffixes,
-    )
-}
-
-fn plan_text(
-    alloc: Global,
-    cwd: &str,
-    tmp: &str,
-    flag: &str,
-    dry1: &[u8],
-    dry2: &[u8],
-    further: &[String],
-) -> Result<String, Stop>
-    ensures { Answers (text_of result) (spec.shown_plan cwd.now tmp.now flag.now dry1.now dry2.now (map string_bytes further.now)) }
-{
-    let plan = plan_of_runs(alloc, cwd, tmp, flag, dry1, dry2, further)?;
-    Ok(show_plan(alloc, &plan)?)
+    match show_line(alloc, tool, cwd, words)? {
+        Some(text) => deliver(Ok(text.into_string()), w),
+        None => Err(Stop::NotCompilation),
+    }
 }
 
 /// Plans the dry runs of one `nvcc` call, `dry1` of `--dryrun --keep` and `dry2` of `--keep-dir TMP --dryrun --keep`, and
@@ -112,30 +58,22 @@ pub fn write_plan<W: Write>(
     ensures { Delivers result (spec.shown_plan cwd.now tmp.now flag.now dry1.now dry2.now (map string_bytes suffixes.now))
         (W.contents w.old) (W.contents w.new) }
 {
-    deliver(plan_text(alloc, cwd, tmp, flag, dry1, dry2, suffixes), w)
-}
-
-// Reads the file of the second dry run, plans both, and writes the plan.
-fn write_with_second<S: Sources, W: Write>(
-    alloc: Global,
-    sources: &S,
-    call: &PlanCall<'_>,
-    dry1: &[u8],
-    w: &mut W,
-) -> Result<(), Stop>
-    ensures { spec.PlansSecond (S.holds sources.now) (plan_of call.now) dry1.now result (W.contents w.old) (W.contents w.new) }
-{
-    let dry2 = sources.read_file(call.dry2)?;
-    write_plan(
+    let suffixes = all_suffixes(alloc, suffixes)?;
+    let plan = group_nvcc_subcommands_by_compilation_stage(
         alloc,
-        call.cwd,
-        call.tmp,
-        call.flag,
         dry1,
-        dry2.as_slice(),
-        call.suffixes,
-        w,
-    )
+        dry2,
+        flag,
+        cwd,
+        tmp,
+        None,
+        &[],
+        NvccHostCompiler::Gcc,
+        &FirstDir,
+        &suffixes,
+    )?;
+    let text = show_plan(alloc, &plan)?;
+    deliver(Ok(text), w)
 }
 
 /// Reads the two files of a call from `sources`, plans their dry runs as [`write_plan`] does, and writes the plan's text
@@ -151,5 +89,15 @@ pub fn write_plan_of_files<S: Sources, W: Write>(
     ensures { spec.PlansFiles (S.holds sources.now) (plan_of call.now) result (W.contents w.old) (W.contents w.new) }
 {
     let dry1 = sources.read_file(call.dry1)?;
-    write_with_second(alloc, sources, call, dry1.as_slice(), w)
+    let dry2 = sources.read_file(call.dry2)?;
+    write_plan(
+        alloc,
+        call.cwd,
+        call.tmp,
+        call.flag,
+        dry1.as_slice(),
+        dry2.as_slice(),
+        call.suffixes,
+        w,
+    )
 }

@@ -4,64 +4,41 @@ ghost use Rattle.std.specs.Prelude.{◌≡◌, ◌==◌, List, ℕ, length, map,
 ghost use Rattle.std.specs.List.{list_all};
 ghost use Rattle.texts.specs.Fault.{UnlessMemory};
 ghost use Rattle.dry_runs.specs.Parsed.{AreParsed, both_parsed};
-ghost use Rattle.plan_scripts.specs.declared.refusal.Refusal.{Refusal};
-ghost use Rattle.plan_scripts.specs.Answers as exports;
-ghost use Rattle.plan_scripts.specs.Message.{message_of};
+ghost use Rattle.plan_texts.specs.declared.refusal.Refusal.{Refusal};
+ghost use Rattle.plan_texts.specs.Answers as exports;
+ghost use Rattle.plan_texts.specs.Message.{message_of};
 ghost use Rattle.programs.specs.declared.stop.Stop.TheVariants as stops;
 ghost use Rattle.programs.specs.Delivery.{Answers, Delivers, text_of};
-ghost use Rattle.program_calls.specs.Operands.{plan_of as plan_seen};
-ghost use Rattle.program_calls.specs.Calls.{export_of};
+ghost use Rattle.programs.specs.Operands.{plan_of as plan_seen};
+ghost use Rattle.programs.specs.Calls.{export_of};
 ghost use Rattle.programs.specs.PlanText.{program_setting};
 ghost use Rattle.programs.specs.Exports as spec;
 
 use crate::delivery::deliver;
 use crate::stop::Stop;
-use canonical_names::{Suffixes, all_suffixes};
+use crate::{ExportCall, PlanCall};
+use canonical_names::{Suffixes, all_suffixes, is_plain};
 use command_groups::{CallToPlan, plan_of_parsed};
 use compilers::compiler::NvccHostCompiler;
-use directories::is_plain;
+use compilers::plans::{NvccGeneratedSubcommand, Plan, PlanWithOrigins};
 use dry_runs::{ParsedRuns, Which, is_dry_run};
 use plan_formats::plan_file;
-use plan_scripts::Refusal;
-use plans::{NvccGeneratedSubcommand, Plan, PlanWithOrigins};
-use program_calls::{ExportCall, PlanCall};
+use plan_texts::Refusal;
 use std::alloc::Global;
 use std::io::Write;
 use texts::fault::Fault;
 use texts::text::Text;
 
-// The text of a refusal, as the reason why the program stops.
-fn unwritable(alloc: Global, refusal: Refusal) -> Result<String, Stop>
-    ensures { Answers (text_of result) (Err (stops.Unwritable (message_of refusal))) }
-{
-    let text = refusal.to_string(alloc)?;
-    Err(Stop::Unwritable(Text::new(text)))
-}
-
-// A writer's answer, with a refusal as text.
-fn written(alloc: Global, answer: Result<String, Refusal>) -> Result<String, Stop>
-    ensures { (expected : Result (List ℕ) Refusal) → exports.Answers answer expected → Answers (text_of result) (spec.written expected) }
-{
-    match answer {
-        Ok(text) => Ok(text),
-        Err(Refusal::Unheld) => unwritable(alloc, Refusal::Unheld),
-        Err(Refusal::VariableName) => unwritable(alloc, Refusal::VariableName),
-        Err(Refusal::Program) => unwritable(alloc, Refusal::Program),
-        Err(Refusal::LongCommand) => unwritable(alloc, Refusal::LongCommand),
-        Err(Refusal::Memory) => Err(Stop::Fault(Fault::Memory)),
-    }
-}
-
-// The plan of a call, in its format.
+// The plan of a call, in its format. A refusal becomes a text.
 fn plan_in(alloc: Global, call: &ExportCall<'_>, planned: &PlanWithOrigins) -> Result<String, Stop>
     ensures { Answers (text_of result) (spec.plan_in (export_of call.now) planned.now) }
 {
-    let setting = &call.plan;
-    let (cwd, tmp, flag) = (setting.cwd, setting.tmp, setting.flag);
-    written(
-        alloc,
-        plan_file(alloc, call.format, cwd, tmp, flag, planned),
-    )
+    let plan = &call.plan;
+    match plan_file(alloc, call.format, plan.cwd, plan.tmp, plan.flag, planned) {
+        Ok(text) => Ok(text),
+        Err(Refusal::Memory) => Err(Stop::Fault(Fault::Memory)),
+        Err(refusal) => Err(Stop::Unwritable(Text::new(refusal.to_string(alloc)?))),
+    }
 }
 
 fn are_empty(groups: &[Vec<NvccGeneratedSubcommand>]) -> bool
@@ -93,21 +70,6 @@ pub fn refused(alloc: Global, why: &str) -> Result<String, Stop>
     ensures { Answers (text_of result) (Err (stops.Unwritable why.now)) }
 {
     Err(Stop::Unwritable(Text::copy_of(alloc, why)?))
-}
-
-// A plan in a call's format, unless it lacks commands.
-fn judged_in(
-    alloc: Global,
-    call: &ExportCall<'_>,
-    planned: &PlanWithOrigins,
-) -> Result<String, Stop>
-    ensures { Answers (text_of result) (spec.unless_stopped (spec.lacking call.now.whole planned.now.plan)
-        (spec.plan_in (export_of call.now) planned.now)) }
-{
-    match lacking(call.whole, &planned.plan) {
-        Some(why) => refused(alloc, why),
-        None => plan_in(alloc, call, planned),
-    }
 }
 
 // The directory that keeps generated files.
@@ -162,19 +124,6 @@ fn plan_of<L: Which>(
     }
 }
 
-// Why a call's directories can't be those of a plan, if they can't.
-fn odd_directory(call: &PlanCall<'_>) -> Option<&'static str>
-    ensures { option_copied result ≡ spec.odd_directory (plan_seen call.now) }
-{
-    if !is_plain(call.cwd) {
-        Some("the working directory has to be absolute, without an empty part, . or ..")
-    } else if is_plain(call.tmp) {
-        None
-    } else {
-        Some("the directory for temporary files has to be absolute, without an empty part, . or ..")
-    }
-}
-
 // Why a call can't be planned, if it can't.
 fn unfit(call: &PlanCall<'_>, dry1: &[u8], dry2: &[u8]) -> Option<&'static str>
     ensures { option_copied result ≡ spec.unfit (plan_seen call.now) dry1.now dry2.now }
@@ -183,27 +132,15 @@ fn unfit(call: &PlanCall<'_>, dry1: &[u8], dry2: &[u8]) -> Option<&'static str>
         Some("both dry runs are the same file")
     } else if !is_dry_run(dry1) {
         Some("the first file is no dry run: no line begins with \"#$ \"")
-    } else if is_dry_run(dry2) {
-        odd_directory(call)
-    } else {
+    } else if !is_dry_run(dry2) {
         Some("the second file is no dry run: no line begins with \"#$ \"")
+    } else if !is_plain(call.cwd) {
+        Some("the working directory has to be absolute, without an empty part, . or ..")
+    } else if !is_plain(call.tmp) {
+        Some("the directory for temporary files has to be absolute, without an empty part, . or ..")
+    } else {
+        None
     }
-}
-
-fn planned_text<L: Which>(
-    alloc: Global,
-    call: &ExportCall<'_>,
-    runs: ParsedRuns,
-    which: &L,
-) -> Result<String, Stop>
-    requires { AreParsed runs }
-    ensures { Answers (text_of result) (spec.planned_in (export_of call.now)
-        (spec.plan_of_runs (export_of call.now) (L.answer which.now) runs)) }
-{
-    let planned = plan_of(alloc, call, runs, which)?;
-    let text = judged_in(alloc, call, &planned);
-    drop(planned);
-    text
 }
 
 // The call is judged first: a file that is no dry run would give a plan without commands, and a message that doesn't name the file.
@@ -218,21 +155,25 @@ fn export_text<L: Which>(
     requires { runs ≡ both_parsed dry1.now dry2.now }
     ensures { Answers (text_of result) (spec.exported (export_of call.now) (L.answer which.now) dry1.now dry2.now) }
 {
-    match unfit(&call.plan, dry1, dry2) {
-        Some(why) => {
-            // Dropped by a call: see "Explicit drops" in docs/ARCHITECTURE.md.
-            drop(runs);
-            refused(alloc, why)
-        }
-        None => planned_text(alloc, call, runs, which),
+    if let Some(why) = unfit(&call.plan, dry1, dry2) {
+        // Dropped by a call: see "Explicit drops" in docs/ARCHITECTURE.md.
+        drop(runs);
+        return refused(alloc, why);
     }
+    let planned = plan_of(alloc, call, runs, which)?;
+    let text = match lacking(call.whole, &planned.plan) {
+        Some(why) => refused(alloc, why),
+        None => plan_in(alloc, call, &planned),
+    };
+    drop(planned);
+    text
 }
 
 /// Plans the two dry runs of a call, which hold the bytes `dry1` and `dry2` and are parsed, and writes the plan to `w` in one
 /// piece, in the call's format. `which` looks up every program.
 ///
-/// Fails, with nothing written, in this order: if the call names one file twice or if a file has no line of a dry run
-/// (`Stop::Unwritable`); if `plan_of_parsed` or `all_suffixes` does; if the plan has no command, or has to be whole and dropped
+/// Fails, with nothing written, in this order: if the call names one file twice, if a file has no line of a dry run, or if a
+/// directory isn't absolute and plain (`Stop::Unwritable`); if `plan_of_parsed` or `all_suffixes` does; if the plan has no command, or has to be whole and dropped
 /// one, and if the format can't represent the plan (all `Stop::Unwritable`).
 /// Fails if `w` fails (`Stop::Write`).
 pub fn write_export<L: Which, W: Write>(

@@ -4,17 +4,17 @@ ghost use Rattle.std.specs.Prelude.{◌≡◌, ◌++◌, IfOk, OnOk, map, string
 ghost use Rattle.std.specs.List.{starts_with};
 ghost use Rattle.texts.specs.Fault.{message_of as fault_text};
 ghost use Rattle.texts.specs.Numeral.{numeral};
-ghost use Rattle.program_calls.specs.Operands.{plan_of};
+ghost use Rattle.programs.specs.Operands.{plan_of};
 ghost use Rattle.programs.specs.Complaint.{message_of};
-ghost use Rattle.program_calls.specs.SuffixFault.{further_text};
+ghost use Rattle.programs.specs.SuffixFault.{further_text};
 ghost use Rattle.programs.specs.Messages as spec;
 ghost use Rattle.programs.specs.Places.{place_seen};
 
 use crate::place::{Place, place_of};
 use crate::stop::Stop;
 use crate::unread::Unread;
+use crate::{PlanCall, push_shown, push_suffix_fault};
 use dry_runs::{Which, is_dry_run};
-use program_calls::{PlanCall, push_shown, push_suffix_fault};
 use std::alloc::{AllocError, Global};
 use texts::decimal::push_number;
 use texts::fault::Fault;
@@ -39,7 +39,7 @@ fn push_search(text: &mut String, program: &str, path: &str) -> Result<(), Alloc
     text.push_str(")")
 }
 
-// Adds a program behind a text, and where it was searched for. The text is a parameter, as in `push_between`, since the prover's search
+// Adds a program behind a text, and where it was searched for. The text is a parameter, since the prover's search
 // doesn't reach past a literal of twenty bytes.
 fn push_program(text: &mut String, front: &str, program: &str, path: &str) -> Result<(), AllocError>
     ensures { OnOk result (string_bytes text.new
@@ -132,27 +132,14 @@ fn line_message(alloc: Global, place: &Place<'_>, fault: &Fault) -> Result<Strin
     Ok(text)
 }
 
-// Adds a number between two texts.
-fn push_between(
-    alloc: Global,
-    text: &mut String,
-    front: &str,
-    number: usize,
-    back: &str,
-) -> Result<(), AllocError>
-    ensures { OnOk result (string_bytes text.new ≡ string_bytes text.old ++ (front.now ++ (numeral number ++ back.now))) }
-{
-    text.push_str(front)?;
-    push_number(alloc, text, number)?;
-    text.push_str(back)
-}
-
 // Adds that a line exceeds the limit, and what to do.
-fn push_excess(alloc: Global, text: &mut String, limit: usize) -> Result<(), AllocError>
+fn push_excess(text: &mut String, limit: usize) -> Result<(), AllocError>
     ensures { OnOk result (string_bytes text.new ≡ string_bytes text.old ++ spec.excess_cause limit) }
 {
-    let front = "with this line, the dry run makes over ";
-    push_between(alloc, text, front, limit, " bytes: --limit allows more")
+    write!(
+        text,
+        "with this line, the dry run makes over {limit} bytes: --limit allows more"
+    )
 }
 
 /// The message of a line that exceeds the limit, in bytes.
@@ -161,7 +148,7 @@ pub fn excess_message(alloc: Global, place: &Place<'_>, limit: usize) -> Result<
 {
     let mut text = String::new(alloc);
     push_place(alloc, &mut text, place)?;
-    push_excess(alloc, &mut text, limit)?;
+    push_excess(&mut text, limit)?;
     push_line(&mut text, place.line)?;
     Ok(text)
 }
@@ -196,14 +183,6 @@ fn message_at(alloc: Global, place: &Option<Place<'_>>, fault: &Fault) -> Result
         None => plain_fault(alloc, fault),
         Some(place) => line_message(alloc, place, fault),
     }
-}
-
-fn suffix_message(alloc: Global, further: &[String]) -> Result<String, AllocError>
-    ensures { IfOk result (λ text. string_bytes text ≡ further_text (map string_bytes further.now)) }
-{
-    let mut text = String::new(alloc);
-    push_suffix_fault(alloc, &mut text, further)?;
-    Ok(text)
 }
 
 // The file that can't be a dry run of a call, if there is one. `unfit` says why, but not of which file.
@@ -255,7 +234,11 @@ pub fn plan_message<L: Which>(
         ≡ spec.plan_message (L.answer which.now) (plan_of call.now) dry1.now dry2.now stop.now) }
 {
     match stop {
-        Stop::Fault(Fault::BadSuffixes) => suffix_message(alloc, call.suffixes),
+        Stop::Fault(Fault::BadSuffixes) => {
+            let mut text = String::new(alloc);
+            push_suffix_fault(alloc, &mut text, call.suffixes)?;
+            Ok(text)
+        }
         Stop::Fault(fault) if is_of_line(fault) => {
             let place = place_of(alloc, which, call, dry1, dry2)?;
             message_at(alloc, &place, fault)

@@ -2,11 +2,11 @@
 
 ghost use Rattle.std.specs.Prelude.{◌≡◌, IfOk, option_map};
 ghost use Rattle.std.specs.Str.Lines.{lines};
-ghost use Rattle.program_calls.specs.Operands.{plan_of};
+ghost use Rattle.programs.specs.Operands.{plan_of};
 ghost use Rattle.programs.specs.Places as spec;
 
+use crate::PlanCall;
 use dry_runs::{Which, first_line, parse_dry_run};
-use program_calls::PlanCall;
 use std::alloc::{AllocError, Global};
 use texts::text::Text;
 

@@ -62,16 +62,6 @@ impl<R: Env + AllocGlobal> Start for Process<'_, R> {
     }
 }
 
-// The words after the first.
-fn behind_first(alloc: Global, words: &[String]) -> Result<Words, AllocError>
-    ensures { IfOk result (λ rest. rest ≡ spec.behind_first (map string_bytes words.now)) }
-{
-    match words {
-        [_, rest @ ..] => Words::copy_of(alloc, rest),
-        [] => Ok(Words::new(alloc)),
-    }
-}
-
 /// The words after the program's name, or none if one isn't UTF-8, so that a program never takes part of a call for
 /// another call.
 ///
@@ -80,7 +70,10 @@ pub fn call_words<S: Start>(alloc: Global, start: &S) -> Result<Words, Stop>
     ensures { spec.AreCallWords (S.words start.now) result }
 {
     match start.words(alloc)? {
-        Some(words) => Ok(behind_first(alloc, words.as_slice())?),
+        Some(words) => match words.as_slice() {
+            [_, rest @ ..] => Ok(Words::copy_of(alloc, rest)?),
+            [] => Ok(Words::new(alloc)),
+        },
         None => Ok(Words::new(alloc)),
     }
 }

@@ -45,42 +45,18 @@ fn of_number(number: Option<i32>) -> Unread
     }
 }
 
-// The reasons that a path gives.
-fn of_path(error: &io::Error) -> Unread {
-    let kind = error.kind();
-    if kind == ErrorKind::NotADirectory {
-        Unread::NoDirectory
-    } else if kind == ErrorKind::FilesystemLoop {
-        Unread::Loop
-    } else if kind == ErrorKind::InvalidFilename {
-        Unread::LongName
-    } else {
-        of_number(error.raw_os_error())
-    }
-}
-
 /// The reason of an error.
 pub fn unread_of(error: &io::Error) -> Unread {
-    let kind = error.kind();
-    if kind == ErrorKind::OutOfMemory {
-        Unread::Memory
-    } else if kind == ErrorKind::NotFound {
-        Unread::Missing
-    } else if kind == ErrorKind::PermissionDenied {
-        Unread::Denied
-    } else if kind == ErrorKind::IsADirectory {
-        Unread::Directory
-    } else {
-        of_path(error)
+    match error.kind() {
+        ErrorKind::OutOfMemory => Unread::Memory,
+        ErrorKind::NotFound => Unread::Missing,
+        ErrorKind::PermissionDenied => Unread::Denied,
+        ErrorKind::IsADirectory => Unread::Directory,
+        ErrorKind::NotADirectory => Unread::NoDirectory,
+        ErrorKind::FilesystemLoop => Unread::Loop,
+        ErrorKind::InvalidFilename => Unread::LongName,
+        _ => of_number(error.raw_os_error()),
     }
-}
-
-// Adds the number of an error of the system.
-fn push_system(alloc: Global, text: &mut String, number: usize) -> Result<(), AllocError>
-    ensures { OnOk result (string_bytes text.new ≡ string_bytes text.old ++ spec.system_text number) }
-{
-    text.push_str("the system reports error ")?;
-    push_number(alloc, text, number)
 }
 
 impl Unread {
@@ -97,7 +73,10 @@ impl Unread {
             Unread::NoDirectory => text.push_str("Not a directory"),
             Unread::Loop => text.push_str("Too many levels of symbolic links"),
             Unread::LongName => text.push_str("File name too long"),
-            Unread::System(number) => push_system(alloc, text, number),
+            Unread::System(number) => {
+                text.push_str("the system reports error ")?;
+                push_number(alloc, text, number)
+            }
             Unread::Other => text.push_str("the system reports an error"),
             Unread::Memory => text.push_str("out of memory"),
         }

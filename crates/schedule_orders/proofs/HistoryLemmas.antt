@@ -2,7 +2,7 @@
 use Rattle.std.proofs.Common.{◌≡◌, ℕ, ◌+◌, ◌<◌, ◌⊎◌, inl, inr, List, [], ◌∷◌, Bool, true, false, cond, ◌&&◌, ◌||◌, ◌==◌, Option, Some, None, length, get_or, take, refl, sym, ap, subst, ◌∙◌, arith, get_or-take, length-take-le}
 use Rattle.std.specs.Prelude.{nat_lt, not}
 use Rattle.std.specs.List.{list_all}
-use Rattle.std.proofs.lemmas.Bool.{false≢true, and_parts, eqb-true, eq-eqb, ltb-true}
+use Rattle.std.proofs.lemmas.Bool.{false≢true, and_parts, eqb-true, eq-eqb, ltb-true, not-true}
 use Rattle.std.proofs.lemmas.List.{get_or-set_same, get_or-set_other}
 use Rattle.schedules.specs.declared.command.AfterFailure.{AfterFailure}
 use Rattle.schedules.specs.declared.command.CommandState.{CommandState}
@@ -15,7 +15,7 @@ use Rattle.schedules.specs.Scheduled.{Scheduled, are_met, with_state}
 use Rattle.schedules.specs.Graphs.{fresh}
 use Rattle.schedules.specs.Events.{Event, Started, Ended, is_success, refusal, changed, after}
 use Rattle.schedules.proofs.GraphLemmas.{unstarted}
-use Rattle.schedules.proofs.KeptLemmas.{CanStart, CanEnd, can_start, can_end}
+use Rattle.schedules.proofs.KeptLemmas.{CanStart, CanEnd, can_start, can_end, running_is}
 use Rattle.command_files.specs.Order.{numbers_where, is_in, is_ready, needs_at}
 use Rattle.command_files.specs.Overlap.{part_follows, part_needs}
 use Rattle.command_files.proofs.OrderLemmas.{in_either, in_first, in_second, in_both, passes, all_pass}
@@ -43,24 +43,7 @@ pub record Kept (needs : List (List ℕ)) (parts : List ℕ) (s : Scheduled) (do
 
 not_waiting : (state : CommandState) → is_succeeded state ≡ true → is_waiting state ≡ false
 not_waiting kinds.NotStarted e = absurd (false≢true e)
-not_waiting kinds.Running e = refl
-not_waiting kinds.Succeeded e = refl
-not_waiting kinds.Failed e = refl
-not_waiting kinds.Cancelled e = refl
-
-waits_not : (state : CommandState) → is_waiting state ≡ true → is_succeeded state ≡ false
-waits_not kinds.NotStarted e = refl
-waits_not kinds.Running e = refl
-waits_not kinds.Succeeded e = absurd (false≢true e)
-waits_not kinds.Failed e = refl
-waits_not kinds.Cancelled e = refl
-
-runs_not : (state : CommandState) → is_running state ≡ true → (is_succeeded state ≡ false) × (is_waiting state ≡ false)
-runs_not kinds.NotStarted e = absurd (false≢true e)
-runs_not kinds.Running e = (refl, refl)
-runs_not kinds.Succeeded e = absurd (false≢true e)
-runs_not kinds.Failed e = absurd (false≢true e)
-runs_not kinds.Cancelled e = absurd (false≢true e)
+not_waiting state e = refl
 
 ended_success : (o : Outcome) → is_succeeded (ended_as o) ≡ is_success o
 ended_success outcomes.Success = refl
@@ -109,7 +92,7 @@ started_kept needs parts s done n kept can = record {
 }
   where
     unsuccessful : is_succeeded (state_at s.states n) ≡ false
-    unsuccessful = waits_not (state_at s.states n) can.waits
+    unsuccessful = ap is_succeeded can.waits
 
     behind : (k m : ℕ) → is_waiting (state_at (with_state s n kinds.Running).states k) ≡ false → is_in (needs_at (closed needs) k) m ≡ true → is_succeeded (state_at s.states m) ≡ true
     behind k m e h = by (n == k) refl
@@ -128,7 +111,7 @@ started_kept needs parts s done n kept can = record {
 ended_kept : (needs : List (List ℕ)) (parts : List ℕ) (s : Scheduled) (done : List ℕ) (n : ℕ) (o : Outcome) → Kept needs parts s done → CanEnd s n → may_end parts done (Ended n o) ≡ true → Kept needs parts (with_state s n (ended_as o)) done
 ended_kept needs parts s done n o kept can all = record {
   same = kept.same;
-  behind = λ k m e h. stays s n m (ended_as o) (runs_not (state_at s.states n) can.runs).0 (kept.behind k m (waited k e) h);
+  behind = λ k m e h. stays s n m (ended_as o) (ap is_succeeded can.runs) (kept.behind k m (waited k e) h);
   ran = ran;
 }
   where
@@ -136,7 +119,7 @@ ended_kept needs parts s done n o kept can all = record {
     waited k e = by (n == k) refl
       where
         by : (b : Bool) → (n == k) ≡ b → is_waiting (state_at s.states k) ≡ false
-        by true t = subst (λ j. is_waiting (state_at s.states j) ≡ false) (eqb-true n k t) (runs_not (state_at s.states n) can.runs).1
+        by true t = subst (λ j. is_waiting (state_at s.states j) ≡ false) (eqb-true n k t) (ap is_waiting can.runs)
         by false t = sym (ap is_waiting (other_state s n k (ended_as o) t)) ∙ e
 
     ran : (k : ℕ) → is_succeeded (state_at (with_state s n (ended_as o)).states k) ≡ true → has_run parts done k ≡ true
@@ -185,10 +168,6 @@ record MayRun (parts : List ℕ) (s : Scheduled) (done : List ℕ) (i : ℕ) : T
   new : is_in done i ≡ false
   earlier : list_all (is_in done) (parts_of (take i parts) (get_or parts i 0)) ≡ true
 
-not_true : (b : Bool) → not b ≡ true → b ≡ false
-not_true true e = absurd (false≢true e)
-not_true false e = refl
-
 may : (parts : List ℕ) (s : Scheduled) (done : List ℕ) (i : ℕ) → may_run parts s done i ≡ true → MayRun parts s done i
 may parts s done i e =
     let command : ℕ = get_or parts i 0 in
@@ -196,7 +175,7 @@ may parts s done i e =
     let one = and_parts (nat_lt i (length parts)) (is_running (state_at s.states command) && (not (is_in done i) && before)) e in
     let two = and_parts (is_running (state_at s.states command)) (not (is_in done i) && before) one.1 in
     let three = and_parts (not (is_in done i)) before two.1 in
-    record { there = ltb-true i (length parts) one.0; runs = two.0; new = not_true (is_in done i) three.0; earlier = three.1 }
+    record { there = ltb-true i (length parts) one.0; runs = two.0; new = not-true (is_in done i) three.0; earlier = three.1 }
 
 -- an earlier part of the same command
 same_ran : (parts done : List ℕ) (i j : ℕ) → i < length parts → j < i → get_or parts j 0 ≡ get_or parts i 0 → list_all (is_in done) (parts_of (take i parts) (get_or parts i 0)) ≡ true → is_in done j ≡ true
@@ -216,7 +195,7 @@ needs_ran needs parts s done i kept m = all_from (is_in done) (needs_at (part_ne
             in_either (get_or parts j 0 == get_or parts i 0) (is_in (needs_at (closed needs) (get_or parts i 0)) (get_or parts j 0))
             (λ k. same_ran parts done i j m.there p.0 (eqb-true (get_or parts j 0) (get_or parts i 0) k) m.earlier)
             (λ k. part_ran parts done j (get_or parts j 0) (omega (arith, p.0, m.there)) refl
-            (kept.ran (get_or parts j 0) (kept.behind (get_or parts i 0) (get_or parts j 0) (runs_not (state_at s.states (get_or parts i 0)) m.runs).1 k)))
+            (kept.ran (get_or parts j 0) (kept.behind (get_or parts i 0) (get_or parts j 0) (ap is_waiting (running_is (state_at s.states (get_or parts i 0)) m.runs)) k)))
             p.1
 
 -- Histories.

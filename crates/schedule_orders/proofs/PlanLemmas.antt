@@ -3,9 +3,9 @@ use Rattle.std.proofs.Common.{◌≡◌, ℕ, zero, suc, ◌+◌, ◌-◌, ◌<�
 use Rattle.std.specs.Prelude.{nat_lt, not}
 use Rattle.std.specs.List.{list_all}
 use Rattle.std.proofs.Math.Seq.{get_or-append_right}
-use Rattle.std.proofs.lemmas.Bool.{false≢true, and_parts, eqb-true, eq-eqb, lt-ltb, ltb-true}
-use Rattle.std.proofs.lemmas.List.{get_or_append_left}
-use Rattle.plans.specs.declared.plan.Plan.{Plan}
+use Rattle.std.proofs.lemmas.Bool.{false≢true, and_parts, eqb-true, eq-eqb, lt-ltb, ltb-true, not-true}
+use Rattle.std.proofs.lemmas.List.{get_or_append_left, length-map}
+use Rattle.compilers.specs.declared.plans.plan.Plan.{Plan}
 use Rattle.command_files.specs.declared.steps.Role.TheVariants as roles
 use Rattle.command_files.specs.declared.steps.Step.{Step}
 use Rattle.command_files.specs.Files.{Files, must_follow}
@@ -34,8 +34,7 @@ abbrev records_of : List Step → List Files
 records_of steps = map record_of (map (λ s. s.files) steps)
 
 length-records_of : (steps : List Step) → length (records_of steps) ≡ length steps
-length-records_of [] = refl
-length-records_of (s ∷ steps) = ap suc (length-records_of steps)
+length-records_of steps = length-map (map (λ s. s.files) steps) record_of ∙ length-map steps (λ s. s.files)
 
 record_at : (steps : List Step) (n : ℕ) → files_at (records_of steps) n ≡ record_of (get_or steps n no_step).files
 record_at [] n = refl
@@ -151,16 +150,11 @@ moved_at offset (r ∷ rows) zero = refl
 moved_at offset (r ∷ rows) (suc j) = moved_at offset rows j
 
 length-moved : (offset : ℕ) (rows : List (List ℕ)) → length (map (map (moved offset)) rows) ≡ length rows
-length-moved offset [] = refl
-length-moved offset (r ∷ rows) = ap suc (length-moved offset rows)
-
-not_true : (b : Bool) → not b ≡ true → b ≡ false
-not_true true e = absurd (false≢true e)
-not_true false e = refl
+length-moved offset rows = length-map rows (map (moved offset))
 
 apart_from : (f : Files) (others : List Files) (j : ℕ) → list_all (λ g. not (must_follow f g)) others ≡ true → j < length others → must_follow f (files_at others j) ≡ false
 apart_from f [] j e k = absurd (omega (arith, k))
-apart_from f (g ∷ others) zero e k = not_true (must_follow f g) (and_parts (not (must_follow f g)) (list_all (λ g. not (must_follow f g)) others) e).0
+apart_from f (g ∷ others) zero e k = not-true (must_follow f g) (and_parts (not (must_follow f g)) (list_all (λ g. not (must_follow f g)) others) e).0
 apart_from f (g ∷ others) (suc j) e k = apart_from f others j (and_parts (not (must_follow f g)) (list_all (λ g. not (must_follow f g)) others) e).1 (omega (arith, k))
 
 apart_at : (some others : List Files) (i j : ℕ) → are_apart some others ≡ true → i < length some → j < length others → must_follow (files_at some i) (files_at others j) ≡ false

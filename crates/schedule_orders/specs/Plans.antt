@@ -1,7 +1,7 @@
 -- The products of plans: of one, and of several in one graph.
 use Rattle.std.specs.Prelude.{◌≡◌, ℕ, ◌<◌, ◌≤◌, List, [], ◌∷◌, ◌++◌, Bool, true, false, ◌&&◌, not, map, length, get_or}
 use Rattle.std.specs.List.{list_all}
-use Rattle.plans.specs.declared.plan.Plan.{Plan}
+use Rattle.compilers.specs.declared.plans.plan.Plan.{Plan}
 use Rattle.command_files.specs.Files.{Files, must_follow}
 use Rattle.command_files.specs.Order.{Effect, StaysWithin, Hold}
 use Rattle.command_files.specs.Overlap.{ArePartsOf, part_records}

@@ -1,8 +1,8 @@
 -- Chains of commands.
-use Rattle.std.proofs.Common.{◌≡◌, ◌≢◌, ℕ, zero, suc, ◌+◌, ◌<◌, ◌≤◌, List, [], ◌∷◌, Bool, true, false, cond, ◌||◌, ◌==◌, min, max, None, length, map, get_or, set, replicate, refl, sym, ap, subst, ◌∙◌, arith}
+use Rattle.std.proofs.Common.{◌≡◌, ℕ, zero, suc, ◌+◌, ◌<◌, ◌≤◌, List, [], ◌∷◌, Bool, true, false, cond, ◌||◌, ◌==◌, min, max, None, length, map, get_or, set, replicate, refl, sym, ap, subst, ◌∙◌, arith}
 use Rattle.std.specs.Prelude.{nat_lt, slice_index, slice_set}
 use Rattle.std.specs.List.{fold, list_any}
-use Rattle.std.proofs.lemmas.Bool.{false≢true, and_parts, eqb-true, eqb-false, lt-ltb, ltb-true}
+use Rattle.std.proofs.lemmas.Bool.{and_parts, eqb-true, eqb-false, ltb-false, ltb-true}
 use Rattle.std.proofs.lemmas.List.{length-set, length-map, length-replicate, get_or-map, get_or-set_same, get_or-set_other}
 use Rattle.schedules.specs.Chains.{raised, heavier, with_command, chains_from, behind, heaviest_from, WeightsAreHeaviest}
 use Rattle.schedules.specs.Entered.{are_below}
@@ -10,11 +10,8 @@ use Rattle.schedules.specs.Graphs.{first_late}
 use Rattle.schedules.proofs.GraphLemmas.{early, below_more}
 
 pub length-raised : (weight : ℕ) (chains : List ℕ) (m : ℕ) → length (raised weight chains m) ≡ length chains
-length-raised weight chains m = by (nat_lt (slice_index chains m) weight)
-  where
-    by : (b : Bool) → length (cond b (slice_set chains m weight) chains) ≡ length chains
-    by true = length-set chains m weight
-    by false = refl
+length-raised weight chains m =
+    elim (nat_lt (slice_index chains m) weight) as (λ b. length (cond b (slice_set chains m weight) chains) ≡ length chains) [ true ↦ length-set chains m weight | false ↦ refl ]
 
 length-all_raised : (weight : ℕ) (chains ms : List ℕ) → length (fold (raised weight) chains ms) ≡ length chains
 length-all_raised weight chains [] = refl
@@ -51,37 +48,31 @@ zero_at (suc count) (suc k) = zero_at count k
 
 -- what is raised is the greater one
 raised_same : (weight : ℕ) (chains : List ℕ) (m : ℕ) → m < length chains → get_or (raised weight chains m) m 0 ≡ max weight (get_or chains m 0)
-raised_same weight chains m h = by (nat_lt (get_or chains m 0) weight) refl
-  where
-    by : (b : Bool) → nat_lt (get_or chains m 0) weight ≡ b → get_or (cond b (set chains m weight) chains) m 0 ≡ max weight (get_or chains m 0)
-    by true e =
-        let less : get_or chains m 0 < weight = ltb-true (get_or chains m 0) weight e in
-        get_or-set_same chains m weight 0 h ∙ omega (arith, less)
-    by false e =
-        let least : get_or chains m 0 < weight → ⊥ = λ f. false≢true (sym e ∙ lt-ltb (get_or chains m 0) weight f) in
-        omega (arith, least)
+raised_same weight chains m h =
+    elim (nat_lt (get_or chains m 0) weight) as (λ b. nat_lt (get_or chains m 0) weight ≡ b → get_or (cond b (set chains m weight) chains) m 0 ≡ max weight (get_or chains m 0)) [
+      | true ↦ λ e. get_or-set_same chains m weight 0 h ∙ omega (arith, ltb-true (get_or chains m 0) weight e)
+      | false ↦ λ e. omega (arith, ltb-false (get_or chains m 0) weight e)
+    ] refl
 
 raised_other : (weight : ℕ) (chains : List ℕ) (m k : ℕ) → (m == k) ≡ false → get_or (raised weight chains m) k 0 ≡ get_or chains k 0
-raised_other weight chains m k e = by (nat_lt (get_or chains m 0) weight)
-  where
-    by : (b : Bool) → get_or (cond b (set chains m weight) chains) k 0 ≡ get_or chains k 0
-    by true = get_or-set_other chains m k weight 0 (λ f. eqb-false m k e (sym f))
-    by false = refl
+raised_other weight chains m k e =
+    elim (nat_lt (get_or chains m 0) weight) as (λ b. get_or (cond b (set chains m weight) chains) k 0 ≡ get_or chains k 0) [
+      | true ↦ get_or-set_other chains m k weight 0 (λ f. eqb-false m k e (sym f))
+      | false ↦ refl
+    ]
 
 abbrev raised_to : Bool → ℕ → ℕ → ℕ
 raised_to b weight chain = cond b (max weight chain) chain
 
 raised_once : (weight : ℕ) (chains : List ℕ) (m k : ℕ) → m < length chains → get_or (raised weight chains m) k 0 ≡ raised_to (m == k) weight (get_or chains k 0)
-raised_once weight chains m k h = by (m == k) refl
-  where
-    by : (b : Bool) → (m == k) ≡ b → get_or (raised weight chains m) k 0 ≡ raised_to b weight (get_or chains k 0)
-    by true e = subst (λ j. get_or (raised weight chains m) j 0 ≡ max weight (get_or chains j 0)) (eqb-true m k e) (raised_same weight chains m h)
-    by false e = raised_other weight chains m k e
+raised_once weight chains m k h =
+    elim (m == k) as (λ b. (m == k) ≡ b → get_or (raised weight chains m) k 0 ≡ raised_to b weight (get_or chains k 0)) [
+      | true ↦ λ e. subst (λ j. get_or (raised weight chains m) j 0 ≡ max weight (get_or chains j 0)) (eqb-true m k e) (raised_same weight chains m h)
+      | false ↦ λ e. raised_other weight chains m k e
+    ] refl
 
 raised_twice : (a b : Bool) (weight chain : ℕ) → raised_to b weight (raised_to a weight chain) ≡ raised_to (a || b) weight chain
-raised_twice true true weight chain = omega arith
-raised_twice true false weight chain = refl
-raised_twice false b weight chain = refl
+raised_twice a b weight chain = grind arith
 
 raised_by : (weight : ℕ) (chains ms : List ℕ) (k : ℕ) → are_below (length chains) ms ≡ true → get_or (fold (raised weight) chains ms) k 0 ≡ raised_to (list_any (λ m. m == k) ms) weight (get_or chains k 0)
 raised_by weight chains [] k e = refl
@@ -97,11 +88,10 @@ none_at : (n k : ℕ) (ms : List ℕ) → are_below n ms ≡ true → n ≤ k �
 none_at n k [] e h = refl
 none_at n k (m ∷ ms) e h =
     let parts : (nat_lt m n ≡ true) × (are_below n ms ≡ true) = and_parts (nat_lt m n) (are_below n ms) e in
-    by (m == k) refl (ltb-true m n parts.0) (none_at n k ms parts.1 h)
-  where
-    by : (b : Bool) → (m == k) ≡ b → m < n → list_any (λ j. j == k) ms ≡ false → (b || list_any (λ j. j == k) ms) ≡ false
-    by true f less rest = let same : m ≡ k = eqb-true m k f in absurd (omega (arith, same, less, h))
-    by false f less rest = rest
+    elim (m == k) as (λ b. (m == k) ≡ b → (b || list_any (λ j. j == k) ms) ≡ false) [
+      | true ↦ λ f. absurd (omega (arith, eqb-true m k f, ltb-true m n parts.0, h))
+      | false ↦ λ _. none_at n k ms parts.1 h
+    ] refl
 
 length-chains_from : (n : ℕ) (needs : List (List ℕ)) (weights chains : List ℕ) → length (chains_from n needs weights chains) ≡ length chains
 length-chains_from n [] weights chains = refl
@@ -109,8 +99,7 @@ length-chains_from n (ns ∷ needs) weights chains =
     length-with_command n ns (get_or weights n 0) (chains_from (n + 1) needs weights chains) ∙ length-chains_from (n + 1) needs weights chains
 
 or_nothing : (b : Bool) (weight chain : ℕ) → raised_to b weight chain ≡ max (cond b weight 0) chain
-or_nothing true weight chain = refl
-or_nothing false weight chain = omega arith
+or_nothing b weight chain = grind arith
 
 -- a chain after one command more, of which the needs are lower numbers
 one_more : (n k : ℕ) (ns : List ℕ) (weight : ℕ) (chains : List ℕ) → n < length chains → are_below n ns ≡ true

@@ -34,11 +34,11 @@ met_there : (states : List CommandState) (n : ℕ) (state : CommandState) → n 
 met_there states n state h = get_or-set_same states n state kinds.NotStarted h
 
 met_now : (states : List CommandState) (n m : ℕ) → n < length states → is_succeeded (state_at states n) ≡ false → not_met (set states n kinds.Succeeded) m + cond (m == n) 1 0 ≡ not_met states m
-met_now states n m h e = by (m == n) refl
-  where
-    by : (t : Bool) → (m == n) ≡ t → not_met (set states n kinds.Succeeded) m + cond t 1 0 ≡ not_met states m
-    by true same = let is : m ≡ n = eqb-true m n same in grind (arith, met_there states n kinds.Succeeded h)
-    by false other = let is : m ≢ n = eqb-false m n other in grind (arith, met_elsewhere states n m kinds.Succeeded is)
+met_now states n m h e =
+    elim (m == n) as (λ t. (m == n) ≡ t → not_met (set states n kinds.Succeeded) m + cond t 1 0 ≡ not_met states m) [
+      | true ↦ λ same. let is : m ≡ n = eqb-true m n same in grind (arith, met_there states n kinds.Succeeded h)
+      | false ↦ λ other. let is : m ≢ n = eqb-false m n other in grind (arith, met_elsewhere states n m kinds.Succeeded is)
+    ] refl
 
 pub unmet-succeeded : (states : List CommandState) (n : ℕ) (ns : List ℕ) → n < length states → is_succeeded (state_at states n) ≡ false → unmet (set states n kinds.Succeeded) ns + times n ns ≡ unmet states ns
 unmet-succeeded states n [] h e = refl
@@ -46,11 +46,11 @@ unmet-succeeded states n (m ∷ ms) h e = omega (arith, met_now states n m h e, 
 
 -- a command that doesn't succeed changes nothing for others
 same_now : (states : List CommandState) (n m : ℕ) (state : CommandState) → n < length states → is_succeeded (state_at states n) ≡ false → is_succeeded state ≡ false → is_succeeded (state_at (set states n state) m) ≡ is_succeeded (state_at states m)
-same_now states n m state h e f = by (m == n) refl
-  where
-    by : (t : Bool) → (m == n) ≡ t → is_succeeded (state_at (set states n state) m) ≡ is_succeeded (state_at states m)
-    by true same = let is : m ≡ n = eqb-true m n same in grind (arith, met_there states n state h)
-    by false other = let is : m ≢ n = eqb-false m n other in grind (arith, met_elsewhere states n m state is)
+same_now states n m state h e f =
+    elim (m == n) as (λ t. (m == n) ≡ t → is_succeeded (state_at (set states n state) m) ≡ is_succeeded (state_at states m)) [
+      | true ↦ λ same. let is : m ≡ n = eqb-true m n same in grind (arith, met_there states n state h)
+      | false ↦ λ other. let is : m ≢ n = eqb-false m n other in grind (arith, met_elsewhere states n m state is)
+    ] refl
 
 pub unmet-same : (states : List CommandState) (n : ℕ) (state : CommandState) (ns : List ℕ) → n < length states → is_succeeded (state_at states n) ≡ false → is_succeeded state ≡ false → unmet (set states n state) ns ≡ unmet states ns
 unmet-same states n state [] h e f = refl

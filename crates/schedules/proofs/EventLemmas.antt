@@ -24,32 +24,17 @@ accepts_second s (e ∷ es) other h = accepts_second (changed s e) es other h.1
 
 -- the state of a command after an event, by whether it is that command's
 state_now : (s : Scheduled) (n m : ℕ) (state : CommandState) → n < length s.states → state_at (with_state s n state).states m ≡ cond (n == m) state (state_at s.states m)
-state_now s n m state h = by (n == m) refl
-  where
-    by : (t : Bool) → (n == m) ≡ t → state_at (set s.states n state) m ≡ cond t state (state_at s.states m)
-    by true e = let is : n ≡ m = eqb-true n m e in subst (λ j. state_at (set s.states n state) j ≡ state) is (get_or-set_same s.states n state kinds.NotStarted h)
-    by false e = let other : m ≢ n = λ f. eqb-false n m e (sym f) in get_or-set_other s.states n m state kinds.NotStarted other
+state_now s n m state h =
+    elim (n == m) as (λ t. (n == m) ≡ t → state_at (set s.states n state) m ≡ cond t state (state_at s.states m)) [
+      | true ↦ λ e. subst (λ j. state_at (set s.states n state) j ≡ state) (eqb-true n m e) (get_or-set_same s.states n state kinds.NotStarted h)
+      | false ↦ λ e. get_or-set_other s.states n m state kinds.NotStarted (λ f. eqb-false n m e (sym f))
+    ] refl
 
 -- what stays the same
-pub same_needs : (s : Scheduled) (es : List Event) → (after s es).needs ≡ s.needs
-same_needs s [] = refl
-same_needs s (Started n ∷ es) = same_needs (with_state s n kinds.Running) es
-same_needs s (Ended n o ∷ es) = same_needs (with_state s n (ended_as o)) es
-
-pub same_priorities : (s : Scheduled) (es : List Event) → (after s es).priorities ≡ s.priorities
-same_priorities s [] = refl
-same_priorities s (Started n ∷ es) = same_priorities (with_state s n kinds.Running) es
-same_priorities s (Ended n o ∷ es) = same_priorities (with_state s n (ended_as o)) es
-
-pub same_slots : (s : Scheduled) (es : List Event) → (after s es).slots ≡ s.slots
-same_slots s [] = refl
-same_slots s (Started n ∷ es) = same_slots (with_state s n kinds.Running) es
-same_slots s (Ended n o ∷ es) = same_slots (with_state s n (ended_as o)) es
-
-pub same_setting : (s : Scheduled) (es : List Event) → (after s es).after_failure ≡ s.after_failure
-same_setting s [] = refl
-same_setting s (Started n ∷ es) = same_setting (with_state s n kinds.Running) es
-same_setting s (Ended n o ∷ es) = same_setting (with_state s n (ended_as o)) es
+pub only_states : (s : Scheduled) (es : List Event) → after s es ≡ record s { states = (after s es).states }
+only_states s [] = refl
+only_states s (Started n ∷ es) = only_states (with_state s n kinds.Running) es
+only_states s (Ended n o ∷ es) = only_states (with_state s n (ended_as o)) es
 
 pub same_count : (s : Scheduled) (es : List Event) → length (after s es).states ≡ length s.states
 same_count s [] = refl
@@ -67,22 +52,15 @@ ended_waits outcomes.Failure = refl
 ended_waits outcomes.Cancelled = refl
 
 start_by : (t waits : Bool) (starts rest : ℕ) → rest ≤ one_if (cond t false waits) → starts ≡ one_if t + rest → (t ≡ true → waits ≡ true) → starts ≤ one_if waits
-start_by true true starts rest h e f = omega arith
-start_by true false starts rest h e f = absurd (false≢true (f refl))
-start_by false true starts rest h e f = omega arith
-start_by false false starts rest h e f = omega arith
+start_by t waits starts rest h e f = grind arith
 
 still_by : (t waits : Bool) (rest : ℕ) → rest ≤ one_if (cond t false waits) → rest ≤ one_if waits
-still_by true true rest h = omega arith
-still_by true false rest h = omega arith
-still_by false waits rest h = h
+still_by t waits rest h = grind arith
 
 waits_now : (s : Scheduled) (n m : ℕ) (state : CommandState) → n < length s.states → is_waiting state ≡ false → is_waiting (state_at (with_state s n state).states m) ≡ cond (n == m) false (is_waiting (state_at s.states m))
-waits_now s n m state h e = ap is_waiting (state_now s n m state h) ∙ by (n == m)
-  where
-    by : (t : Bool) → is_waiting (cond t state (state_at s.states m)) ≡ cond t false (is_waiting (state_at s.states m))
-    by true = e
-    by false = refl
+waits_now s n m state h e =
+    ap is_waiting (state_now s n m state h)
+    ∙ elim (n == m) as (λ t. is_waiting (cond t state (state_at s.states m)) ≡ cond t false (is_waiting (state_at s.states m))) [ true ↦ e | false ↦ refl ]
 
 pub starts_once : (s : Scheduled) (es : List Event) (m : ℕ) → Accepts s es → count_by (is_start_of m) es ≤ one_if (is_waiting (state_at s.states m))
 starts_once s [] m h = omega arith
@@ -92,22 +70,13 @@ starts_once s (Started n ∷ es) m h =
     let rest : count_by (is_start_of m) es ≤ one_if (cond (n == m) false (is_waiting (state_at s.states m))) = subst (λ b. count_by (is_start_of m) es ≤ one_if b) now (starts_once (with_state s n kinds.Running) es m h.1) in
     start_by (n == m) (is_waiting (state_at s.states m)) (count_by (is_start_of m) (Started n ∷ es)) (count_by (is_start_of m) es) rest
     (sum_by-cons (λ e. cond (is_start_of m e) 1 0) (Started n) es)
-    (λ e. subst (λ j. is_waiting (state_at s.states j) ≡ true) (eqb-true n m e) can.waits)
+    (λ e. subst (λ j. is_waiting (state_at s.states j) ≡ true) (eqb-true n m e) (ap is_waiting can.waits))
 starts_once s (Ended n o ∷ es) m h =
-    let can : CanEnd s n = can_end s n h.0 in
-    let now : is_waiting (state_at (with_state s n (ended_as o)).states m) ≡ cond (n == m) false (is_waiting (state_at s.states m)) = waits_now s n m (ended_as o) can.there (ended_waits o) in
+    let now : is_waiting (state_at (with_state s n (ended_as o)).states m) ≡ cond (n == m) false (is_waiting (state_at s.states m)) = waits_now s n m (ended_as o) (can_end s n h.0).there (ended_waits o) in
     let rest : count_by (is_start_of m) es ≤ one_if (cond (n == m) false (is_waiting (state_at s.states m))) = subst (λ b. count_by (is_start_of m) es ≤ one_if b) now (starts_once (with_state s n (ended_as o)) es m h.1) in
-    let step : count_by (is_start_of m) (Ended n o ∷ es) ≡ 0 + count_by (is_start_of m) es = sum_by-cons (λ e. cond (is_start_of m e) 1 0) (Ended n o) es in
-    let less : count_by (is_start_of m) es ≤ one_if (is_waiting (state_at s.states m)) = still_by (n == m) (is_waiting (state_at s.states m)) (count_by (is_start_of m) es) rest in
-    omega (arith, step, less)
+    omega (arith, sum_by-cons (λ e. cond (is_start_of m e) 1 0) (Ended n o) es, still_by (n == m) (is_waiting (state_at s.states m)) (count_by (is_start_of m) es) rest)
 
 -- What has succeeded, succeeded by an event.
-
-or_behind : (a b c : Bool) → (a ≡ true) ⊎ (c ≡ true) → (b ≡ true → c ≡ true) → (a ≡ true) ⊎ ((b || c) ≡ true)
-or_behind a true c (inl e) f = inl e
-or_behind a true c (inr e) f = inr refl
-or_behind a false c (inl e) f = inl e
-or_behind a false c (inr e) f = inr e
 
 or_front : (b c : Bool) → b ≡ true → (b || c) ≡ true
 or_front true c e = refl
@@ -131,11 +100,11 @@ success_of s n m o h e = by (n == m) refl (ap is_succeeded (sym (state_now s n m
     by false f g = inl g
 
 running_is_no_success : (s : Scheduled) (n m : ℕ) → n < length s.states → is_succeeded (state_at (with_state s n kinds.Running).states m) ≡ true → is_succeeded (state_at s.states m) ≡ true
-running_is_no_success s n m h e = by (n == m) (ap is_succeeded (sym (state_now s n m kinds.Running h)) ∙ e)
-  where
-    by : (t : Bool) → is_succeeded (cond t kinds.Running (state_at s.states m)) ≡ true → is_succeeded (state_at s.states m) ≡ true
-    by true g = absurd (false≢true g)
-    by false g = g
+running_is_no_success s n m h e =
+    elim (n == m) as (λ t. is_succeeded (cond t kinds.Running (state_at s.states m)) ≡ true → is_succeeded (state_at s.states m) ≡ true) [
+      | true ↦ λ never. absurd (false≢true never)
+      | false ↦ λ was. was
+    ] (ap is_succeeded (sym (state_now s n m kinds.Running h)) ∙ e)
 
 pub by_success : (s : Scheduled) (es : List Event) (m : ℕ) → Accepts s es → is_succeeded (state_at (after s es).states m) ≡ true → (is_succeeded (state_at s.states m) ≡ true) ⊎ (list_any (is_success_of m) es ≡ true)
 by_success s [] m h e = inl e
@@ -161,20 +130,6 @@ ended_bad outcomes.Success e = absurd (false≢true (sym e))
 ended_bad outcomes.Failure e = refl
 ended_bad outcomes.Cancelled e = refl
 
-bad_not_waiting : (state : CommandState) → is_bad state ≡ true → is_waiting state ≡ true → ⊥
-bad_not_waiting kinds.NotStarted e f = false≢true e
-bad_not_waiting kinds.Running e f = false≢true e
-bad_not_waiting kinds.Succeeded e f = false≢true e
-bad_not_waiting kinds.Failed e f = false≢true f
-bad_not_waiting kinds.Cancelled e f = false≢true f
-
-bad_not_running : (state : CommandState) → is_bad state ≡ true → is_running state ≡ true → ⊥
-bad_not_running kinds.NotStarted e f = false≢true e
-bad_not_running kinds.Running e f = false≢true e
-bad_not_running kinds.Succeeded e f = false≢true e
-bad_not_running kinds.Failed e f = false≢true f
-bad_not_running kinds.Cancelled e f = false≢true f
-
 -- another command keeps its state
 kept_state : (s : Scheduled) (n m : ℕ) (state : CommandState) → m ≢ n → state_at (with_state s n state).states m ≡ state_at s.states m
 kept_state s n m state other = get_or-set_other s.states n m state kinds.NotStarted other
@@ -182,10 +137,10 @@ kept_state s n m state other = get_or-set_other s.states n m state kinds.NotStar
 pub stays_bad : (s : Scheduled) (es : List Event) (m : ℕ) → Accepts s es → is_bad (state_at s.states m) ≡ true → is_bad (state_at (after s es).states m) ≡ true
 stays_bad s [] m h e = e
 stays_bad s (Started n ∷ es) m h e =
-    let other : m ≢ n = λ f. bad_not_waiting (state_at s.states n) (subst (λ j. is_bad (state_at s.states j) ≡ true) f e) (can_start s n h.0).waits in
+    let other : m ≢ n = λ f. false≢true (sym (ap is_bad (can_start s n h.0).waits) ∙ subst (λ j. is_bad (state_at s.states j) ≡ true) f e) in
     stays_bad (with_state s n kinds.Running) es m h.1 (ap is_bad (kept_state s n m kinds.Running other) ∙ e)
 stays_bad s (Ended n o ∷ es) m h e =
-    let other : m ≢ n = λ f. bad_not_running (state_at s.states n) (subst (λ j. is_bad (state_at s.states j) ≡ true) f e) (can_end s n h.0).runs in
+    let other : m ≢ n = λ f. false≢true (sym (ap is_bad (can_end s n h.0).runs) ∙ subst (λ j. is_bad (state_at s.states j) ≡ true) f e) in
     stays_bad (with_state s n (ended_as o)) es m h.1 (ap is_bad (kept_state s n m (ended_as o) other) ∙ e)
 
 pub either : (b c : Bool) → (b || c) ≡ true → (b ≡ true) ⊎ (c ≡ true)
@@ -212,30 +167,17 @@ bad_by_event s (Ended n o ∷ es) m h e =
 
 -- How many run, and how many events are left.
 
-waiting_runs : (state : CommandState) → is_waiting state ≡ true → is_running state ≡ false
-waiting_runs kinds.NotStarted e = refl
-waiting_runs kinds.Running e = absurd (false≢true e)
-waiting_runs kinds.Succeeded e = refl
-waiting_runs kinds.Failed e = refl
-waiting_runs kinds.Cancelled e = refl
-
 ended_runs : (o : Outcome) → is_running (ended_as o) ≡ false
 ended_runs outcomes.Success = refl
 ended_runs outcomes.Failure = refl
 ended_runs outcomes.Cancelled = refl
 
 one_more_runs : (s : Scheduled) (n : ℕ) → CanStart s n → running (with_state s n kinds.Running).states ≡ running s.states + 1
-one_more_runs s n can =
-    let counts : running (with_state s n kinds.Running).states + one_if (is_running (state_at s.states n)) ≡ running s.states + 1 = count-set is_running s.states n kinds.Running can.there in
-    let none : one_if (is_running (state_at s.states n)) ≡ 0 = ap one_if (waiting_runs (state_at s.states n) can.waits) in
-    omega (arith, counts, none)
+one_more_runs s n can = omega (arith, count-set is_running s.states n kinds.Running can.there, ap (λ state. one_if (is_running state)) can.waits)
 
 one_less_runs : (s : Scheduled) (n : ℕ) (o : Outcome) → CanEnd s n → running (with_state s n (ended_as o)).states + 1 ≡ running s.states
 one_less_runs s n o can =
-    let counts : running (with_state s n (ended_as o)).states + one_if (is_running (state_at s.states n)) ≡ running s.states + one_if (is_running (ended_as o)) = count-set is_running s.states n (ended_as o) can.there in
-    let one : one_if (is_running (state_at s.states n)) ≡ 1 = ap one_if can.runs in
-    let none : one_if (is_running (ended_as o)) ≡ 0 = ap one_if (ended_runs o) in
-    omega (arith, counts, one, none)
+    omega (arith, count-set is_running s.states n (ended_as o) can.there, ap (λ state. one_if (is_running state)) can.runs, ap one_if (ended_runs o))
 
 count_start : (n : ℕ) (es : List Event) → (count_by is_start (Started n ∷ es) ≡ 1 + count_by is_start es) × (count_by is_end (Started n ∷ es) ≡ 0 + count_by is_end es)
 count_start n es = (sum_by-cons (λ e. cond (is_start e) 1 0) (Started n) es, sum_by-cons (λ e. cond (is_end e) 1 0) (Started n) es)
@@ -247,15 +189,11 @@ count_end n o es = (sum_by-cons (λ e. cond (is_start e) 1 0) (Ended n o) es, su
 pub runs_are : (s : Scheduled) (es : List Event) → Accepts s es → count_by is_start es + running s.states ≡ count_by is_end es + running (after s es).states
 runs_are s [] h = refl
 runs_are s (Started n ∷ es) h =
-    let now : running (with_state s n kinds.Running).states ≡ running s.states + 1 = one_more_runs s n (can_start s n h.0) in
-    let rest : count_by is_start es + running (with_state s n kinds.Running).states ≡ count_by is_end es + running (after (with_state s n kinds.Running) es).states = runs_are (with_state s n kinds.Running) es h.1 in
     let counts = count_start n es in
-    omega (arith, now, rest, counts.0, counts.1)
+    omega (arith, one_more_runs s n (can_start s n h.0), runs_are (with_state s n kinds.Running) es h.1, counts.0, counts.1)
 runs_are s (Ended n o ∷ es) h =
-    let now : running (with_state s n (ended_as o)).states + 1 ≡ running s.states = one_less_runs s n o (can_end s n h.0) in
-    let rest : count_by is_start es + running (with_state s n (ended_as o)).states ≡ count_by is_end es + running (after (with_state s n (ended_as o)) es).states = runs_are (with_state s n (ended_as o)) es h.1 in
     let counts = count_end n o es in
-    omega (arith, now, rest, counts.0, counts.1)
+    omega (arith, one_less_runs s n o (can_end s n h.0), runs_are (with_state s n (ended_as o)) es h.1, counts.0, counts.1)
 
 pub runs_within : (s : Scheduled) (es : List Event) → Accepts s es → running s.states ≤ s.slots → running (after s es).states ≤ s.slots
 runs_within s [] h le = le
@@ -275,20 +213,6 @@ events_left kinds.Cancelled = 0
 abbrev pub all_left : List CommandState → ℕ
 all_left states = sum_by events_left states
 
-left_waiting : (state : CommandState) → is_waiting state ≡ true → events_left state ≡ 2
-left_waiting kinds.NotStarted e = refl
-left_waiting kinds.Running e = absurd (false≢true e)
-left_waiting kinds.Succeeded e = absurd (false≢true e)
-left_waiting kinds.Failed e = absurd (false≢true e)
-left_waiting kinds.Cancelled e = absurd (false≢true e)
-
-left_running : (state : CommandState) → is_running state ≡ true → events_left state ≡ 1
-left_running kinds.NotStarted e = absurd (false≢true e)
-left_running kinds.Running e = refl
-left_running kinds.Succeeded e = absurd (false≢true e)
-left_running kinds.Failed e = absurd (false≢true e)
-left_running kinds.Cancelled e = absurd (false≢true e)
-
 left_ended : (o : Outcome) → events_left (ended_as o) ≡ 0
 left_ended outcomes.Success = refl
 left_ended outcomes.Failure = refl
@@ -298,9 +222,7 @@ pub events_fit : (s : Scheduled) (es : List Event) → Accepts s es → length e
 events_fit s [] h = omega arith
 events_fit s (Started n ∷ es) h =
     let can : CanStart s n = can_start s n h.0 in
-    let now : all_left (with_state s n kinds.Running).states + events_left (state_at s.states n) ≡ all_left s.states + 1 = sum_by-set events_left s.states n kinds.Running kinds.NotStarted can.there in
-    omega (arith, now, left_waiting (state_at s.states n) can.waits, events_fit (with_state s n kinds.Running) es h.1)
+    omega (arith, sum_by-set events_left s.states n kinds.Running kinds.NotStarted can.there, ap events_left can.waits, events_fit (with_state s n kinds.Running) es h.1)
 events_fit s (Ended n o ∷ es) h =
     let can : CanEnd s n = can_end s n h.0 in
-    let now : all_left (with_state s n (ended_as o)).states + events_left (state_at s.states n) ≡ all_left s.states + events_left (ended_as o) = sum_by-set events_left s.states n (ended_as o) kinds.NotStarted can.there in
-    omega (arith, now, left_running (state_at s.states n) can.runs, left_ended o, events_fit (with_state s n (ended_as o)) es h.1)
+    omega (arith, sum_by-set events_left s.states n (ended_as o) kinds.NotStarted can.there, ap events_left can.runs, left_ended o, events_fit (with_state s n (ended_as o)) es h.1)

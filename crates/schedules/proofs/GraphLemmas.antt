@@ -40,8 +40,7 @@ pub below_more : (m n : ℕ) (ns : List ℕ) → m ≤ n → are_below m ns ≡ 
 below_more m n [] h e = refl
 below_more m n (k ∷ ns) h e =
     let parts : (nat_lt k m ≡ true) × (are_below m ns ≡ true) = and_parts (nat_lt k m) (are_below m ns) e in
-    let here : nat_lt k n ≡ true = lt-ltb k n (omega (arith, ltb-true k m parts.0, h)) in
-    (λ i. here i && below_more m n ns h parts.1 i)
+    (λ i. lt-ltb k n (omega (arith, ltb-true k m parts.0, h)) i && below_more m n ns h parts.1 i)
 
 -- Joined plans.
 
@@ -70,37 +69,24 @@ row rows m = get_or rows m []
 
 -- one row gets one number
 times_with : (k n m : ℕ) (rows : List (List ℕ)) (need : ℕ) → need < length rows → times n (row (with_dependent k rows need) m) ≡ times n (row rows m) + cond (need == m) (cond (k == n) 1 0) 0
-times_with k n m rows need h = by (need == m) refl
-  where
-    by : (t : Bool) → (need == m) ≡ t → times n (row (with_dependent k rows need) m) ≡ times n (row rows m) + cond t (cond (k == n) 1 0) 0
-    by true e =
-        let is : need ≡ m = eqb-true need m e in
-        subst (λ j. times n (row (with_dependent k rows need) j) ≡ times n (row rows j) + cond (k == n) 1 0) is
-        (ap (times n) (get_or-set_same rows need (row rows need ++ k ∷ []) [] h) ∙ times-push n k (row rows need))
-    by false e =
-        let other : m ≢ need = λ f. eqb-false need m e (sym f) in
-        let same : row (with_dependent k rows need) m ≡ row rows m = get_or-set_other rows need m (row rows need ++ k ∷ []) [] other in
-        omega (arith, ap (times n) same)
+times_with k n m rows need h =
+    elim (need == m) as (λ t. (need == m) ≡ t → times n (row (with_dependent k rows need) m) ≡ times n (row rows m) + cond t (cond (k == n) 1 0) 0) [
+      | true ↦ λ e.
+          subst (λ j. times n (row (with_dependent k rows need) j) ≡ times n (row rows j) + cond (k == n) 1 0) (eqb-true need m e)
+          (ap (times n) (get_or-set_same rows need (row rows need ++ k ∷ []) [] h) ∙ times-push n k (row rows need))
+      | false ↦ λ e. omega (arith, ap (times n) (get_or-set_other rows need m (row rows need ++ k ∷ []) [] (λ f. eqb-false need m e (sym f))))
+    ] refl
 
 turn_by : (need_is it_is : Bool) (a b c t : ℕ) → a ≡ b + cond need_is (cond it_is 1 0) 0 → c ≡ a + cond it_is t 0 → c ≡ b + cond it_is (cond need_is 1 0 + t) 0
-turn_by true true a b c t e f = omega arith
-turn_by true false a b c t e f = omega arith
-turn_by false true a b c t e f = omega arith
-turn_by false false a b c t e f = omega arith
+turn_by need_is it_is a b c t e f = grind arith
 
 times-noted : (k n m : ℕ) (rows : List (List ℕ)) (ns : List ℕ) → are_below (length rows) ns ≡ true → times n (row (noted k rows ns) m) ≡ times n (row rows m) + cond (k == n) (times m ns) 0
-times-noted k n m rows [] h = by (k == n)
-  where
-    by : (t : Bool) → times n (row rows m) ≡ times n (row rows m) + cond t 0 0
-    by true = omega arith
-    by false = omega arith
+times-noted k n m rows [] h = grind arith
 times-noted k n m rows (need ∷ ns) h =
     let parts : (nat_lt need (length rows) ≡ true) × (are_below (length rows) ns ≡ true) = and_parts (nat_lt need (length rows)) (are_below (length rows) ns) h in
-    let one : times n (row (with_dependent k rows need) m) ≡ times n (row rows m) + cond (need == m) (cond (k == n) 1 0) 0 = times_with k n m rows need (ltb-true need (length rows) parts.0) in
-    let size : length (with_dependent k rows need) ≡ length rows = length-set rows need (row rows need ++ k ∷ []) in
-    let rest : times n (row (noted k (with_dependent k rows need) ns) m) ≡ times n (row (with_dependent k rows need) m) + cond (k == n) (times m ns) 0 =
-    times-noted k n m (with_dependent k rows need) ns (ap (λ l. are_below l ns) size ∙ parts.1) in
-    turn_by (need == m) (k == n) (times n (row (with_dependent k rows need) m)) (times n (row rows m)) (times n (row (noted k (with_dependent k rows need) ns) m)) (times m ns) one rest
+    turn_by (need == m) (k == n) (times n (row (with_dependent k rows need) m)) (times n (row rows m)) (times n (row (noted k (with_dependent k rows need) ns) m)) (times m ns)
+    (times_with k n m rows need (ltb-true need (length rows) parts.0))
+    (times-noted k n m (with_dependent k rows need) ns (ap (λ l. are_below l ns) (length-set rows need (row rows need ++ k ∷ [])) ∙ parts.1))
 
 -- how often the command with a number, of those from a number on, needs another
 abbrev needed_from : ℕ → ℕ → ℕ → List (List ℕ) → ℕ
@@ -111,23 +97,19 @@ times-all_noted : (k n m : ℕ) (rows needs : List (List ℕ)) → k + length ne
 times-all_noted k n m rows [] h e = omega arith
 times-all_noted k n m rows (ns ∷ needs) h e =
     let parts : (are_below k ns ≡ true) × (first_late (k + 1) needs ≡ None) = early k ns needs e in
-    let size : length (noted k rows ns) ≡ length rows = length-noted k rows ns in
-    let here : times n (row (noted k rows ns) m) ≡ times n (row rows m) + cond (k == n) (times m ns) 0 = times-noted k n m rows ns (below_more k (length rows) ns (omega arith) parts.0) in
-    let rest : times n (row (all_noted (k + 1) (noted k rows ns) needs) m) ≡ times n (row (noted k rows ns) m) + needed_from (k + 1) n m needs =
-    times-all_noted (k + 1) n m (noted k rows ns) needs (omega (arith, size, h)) parts.1 in
-    omega (arith, here, rest)
+    omega (
+      arith,
+      times-noted k n m rows ns (below_more k (length rows) ns (omega arith) parts.0),
+      times-all_noted (k + 1) n m (noted k rows ns) needs (omega (arith, length-noted k rows ns, h)) parts.1,
+    )
 
 none_before : (k n m : ℕ) (needs : List (List ℕ)) → n < k → needed_from k n m needs ≡ 0
 none_before k n m [] h = refl
-none_before k n m (ns ∷ needs) h =
-    let rest : needed_from (k + 1) n m needs ≡ 0 = none_before (k + 1) n m needs (omega arith) in
-    grind (arith, nat_tests)
+none_before k n m (ns ∷ needs) h = grind (arith, nat_tests, none_before (k + 1) n m needs (omega arith))
 
 needed_is : (k n m : ℕ) (needs : List (List ℕ)) → needed_from k (k + n) m needs ≡ times m (row needs n)
 needed_is k n m [] = refl
-needed_is k zero m (ns ∷ needs) =
-    let rest : needed_from (k + 1) (k + zero) m needs ≡ 0 = none_before (k + 1) (k + zero) m needs (omega arith) in
-    grind (arith, nat_tests)
+needed_is k zero m (ns ∷ needs) = grind (arith, nat_tests, none_before (k + 1) (k + zero) m needs (omega arith))
 needed_is k (suc n) m (ns ∷ needs) =
     let moved : (k + 1) + n ≡ k + suc n = omega arith in
     let rest : needed_from (k + 1) (k + suc n) m needs ≡ times m (row needs n) = subst (λ j. needed_from (k + 1) j m needs ≡ times m (row needs n)) moved (needed_is (k + 1) n m needs) in
@@ -201,9 +183,7 @@ none_bad (suc count) = ap suc (none_bad count)
 
 pub none_runs : (count : ℕ) → running (replicate count NotStarted) ≡ 0
 none_runs zero = refl
-none_runs (suc count) =
-    let step : running (NotStarted ∷ replicate count NotStarted) ≡ 0 + running (replicate count NotStarted) = sum_by-cons (λ s. cond (is_running s) 1 0) NotStarted (replicate count NotStarted) in
-    omega (arith, step, none_runs count)
+none_runs (suc count) = omega (arith, sum_by-cons (λ s. cond (is_running s) 1 0) NotStarted (replicate count NotStarted), none_runs count)
 
 all_allowed : (after : AfterFailure) (count : ℕ) → count ≡ limit after (replicate count NotStarted)
 all_allowed StartNothing count =

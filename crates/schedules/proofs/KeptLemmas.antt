@@ -24,9 +24,17 @@ passed : (b : Bool) (r : Refused) (rest : Option Refused) → cond (not b) (Some
 passed true r rest e = (refl, e)
 passed false r rest e = cc
 
+pub waiting_is : (state : CommandState) → is_waiting state ≡ true → state ≡ kinds.NotStarted
+waiting_is kinds.NotStarted e = refl
+waiting_is state e = absurd (false≢true e)
+
+pub running_is : (state : CommandState) → is_running state ≡ true → state ≡ kinds.Running
+running_is kinds.Running e = refl
+running_is state e = absurd (false≢true e)
+
 pub record CanStart (s : Scheduled) (n : ℕ) : Type 0 where
   pub there : n < length s.states
-  pub waits : is_waiting (state_at s.states n) ≡ true
+  pub waits : state_at s.states n ≡ kinds.NotStarted
   pub met : are_met s.needs s.states n ≡ true
   pub allowed : nat_lt n (limit s.after_failure s.states) ≡ true
   pub room : running s.states < s.slots
@@ -40,7 +48,7 @@ can_start s n e =
     let five = passed _ _ _ four.1 in
     record {
       there = ltb-true n (length s.states) one.0;
-      waits = two.0;
+      waits = waiting_is (state_at s.states n) two.0;
       met = three.0;
       allowed = four.0;
       room = ltb-true (running s.states) s.slots five.0;
@@ -48,67 +56,30 @@ can_start s n e =
 
 pub record CanEnd (s : Scheduled) (n : ℕ) : Type 0 where
   pub there : n < length s.states
-  pub runs : is_running (state_at s.states n) ≡ true
+  pub runs : state_at s.states n ≡ kinds.Running
 
 pub can_end : (s : Scheduled) (n : ℕ) → end_refusal s n ≡ None → CanEnd s n
 can_end s n e =
     let one = passed _ _ _ e in
     let two = passed _ _ _ one.1 in
-    record { there = ltb-true n (length s.states) one.0; runs = two.0 }
+    record { there = ltb-true n (length s.states) one.0; runs = running_is (state_at s.states n) two.0 }
 
 -- States.
 
 abbrev one_if : Bool → ℕ
 one_if b = cond b 1 0
 
-not_bad_waiting : (state : CommandState) → is_waiting state ≡ true → is_bad state ≡ false
-not_bad_waiting kinds.NotStarted e = refl
-not_bad_waiting kinds.Running e = refl
-not_bad_waiting kinds.Succeeded e = refl
-not_bad_waiting kinds.Failed e = absurd (false≢true e)
-not_bad_waiting kinds.Cancelled e = absurd (false≢true e)
-
-not_succeeded_waiting : (state : CommandState) → is_waiting state ≡ true → is_succeeded state ≡ false
-not_succeeded_waiting kinds.NotStarted e = refl
-not_succeeded_waiting kinds.Running e = refl
-not_succeeded_waiting kinds.Succeeded e = absurd (false≢true e)
-not_succeeded_waiting kinds.Failed e = refl
-not_succeeded_waiting kinds.Cancelled e = refl
-
-not_running_waiting : (state : CommandState) → is_waiting state ≡ true → is_running state ≡ false
-not_running_waiting kinds.NotStarted e = refl
-not_running_waiting kinds.Running e = absurd (false≢true e)
-not_running_waiting kinds.Succeeded e = refl
-not_running_waiting kinds.Failed e = refl
-not_running_waiting kinds.Cancelled e = refl
-
-running_is : (state : CommandState) → is_running state ≡ true → state ≡ kinds.Running
-running_is kinds.NotStarted e = absurd (false≢true e)
-running_is kinds.Running e = refl
-running_is kinds.Succeeded e = absurd (false≢true e)
-running_is kinds.Failed e = absurd (false≢true e)
-running_is kinds.Cancelled e = absurd (false≢true e)
-
 bad_waits : (state : CommandState) → is_bad state ≡ true → is_waiting state ≡ false
 bad_waits kinds.NotStarted e = absurd (false≢true e)
-bad_waits kinds.Running e = refl
-bad_waits kinds.Succeeded e = refl
-bad_waits kinds.Failed e = refl
-bad_waits kinds.Cancelled e = refl
+bad_waits state e = refl
 
 bad_runs : (state : CommandState) → is_bad state ≡ true → is_running state ≡ false
-bad_runs kinds.NotStarted e = refl
 bad_runs kinds.Running e = absurd (false≢true e)
-bad_runs kinds.Succeeded e = refl
-bad_runs kinds.Failed e = refl
-bad_runs kinds.Cancelled e = refl
+bad_runs state e = refl
 
 bad_succeeds : (state : CommandState) → is_bad state ≡ true → is_succeeded state ≡ false
-bad_succeeds kinds.NotStarted e = refl
-bad_succeeds kinds.Running e = refl
 bad_succeeds kinds.Succeeded e = absurd (false≢true e)
-bad_succeeds kinds.Failed e = refl
-bad_succeeds kinds.Cancelled e = refl
+bad_succeeds state e = refl
 
 -- Who may start.
 
@@ -135,37 +106,37 @@ entered_still ps tree states waiting below n state entered h e f = record {
     by k false other = free_elsewhere states waiting below n k state (eqb-false k n other)
 
 pub bounded : (ps tree : List ℕ) (states : List CommandState) (waiting : List ℕ) (below : ℕ) → AreEntered ps tree states waiting below → AreBounded ps tree
-bounded ps tree states waiting below entered k h = by (is_free states waiting below k) refl
-  where
-    by : (t : Bool) → is_free states waiting below k ≡ t → entrant ps tree k ≤ length ps
-    by true e = omega (arith, entered.entrants k h ∙ ap (λ b. cond b k (length ps)) e)
-    by false e = omega (arith, entered.entrants k h ∙ ap (λ b. cond b k (length ps)) e)
+bounded ps tree states waiting below entered k h = grind (arith, entered.entrants k h)
 
 -- A command starts.
 
-pub begun : (s : Scheduled) (dependents : List (List ℕ)) (waiting tree after : List ℕ) (run below n : ℕ)
-    → IsCounted s dependents waiting tree run below → CanStart s n → length after ≡ length tree → Played s.priorities after
-    → ((k : ℕ) → k < length s.priorities → entrant s.priorities after k ≡ cond (k == n) (length s.priorities) (entrant s.priorities tree k))
+-- (the code has the lists and a number under other names)
+pub begun : (s : Scheduled) (dependents : List (List ℕ)) (waiting tree was after ps : List ℕ) (run below n nobody : ℕ)
+    → IsCounted s dependents waiting tree run below → CanStart s n → ps ≡ s.priorities → was ≡ tree → nobody ≡ length s.priorities → length after ≡ length was → Played ps after
+    → ((k : ℕ) → k < length ps → entrant ps after k ≡ cond (k == n) nobody (entrant ps was k))
     → IsCounted (with_state s n kinds.Running) dependents waiting after (run + 1) below
-begun s dependents waiting tree after run below n kept can size played entrants = record {
+begun s dependents waiting tree was after ps run below n nobody kept can e f g size played entered = record {
   as_many_priorities = kept.as_many_priorities ∙ sym (length-set s.states n kinds.Running);
   as_many_needs = kept.as_many_needs ∙ sym (length-set s.states n kinds.Running);
   as_many_waiting = kept.as_many_waiting ∙ sym (length-set s.states n kinds.Running);
   turned = kept.turned;
-  counted = λ m h. kept.counted m (omega (arith, h, length-set s.states n kinds.Running)) ∙ sym (unmet-same s.states n kinds.Running (get_or s.needs m []) can.there (not_succeeded_waiting (state_at s.states n) can.waits) refl);
+  counted = λ m h. kept.counted m (omega (arith, h, length-set s.states n kinds.Running)) ∙ sym (unmet-same s.states n kinds.Running (get_or s.needs m []) can.there (ap is_succeeded can.waits) refl);
   entered = record {
-    size = size ∙ kept.entered.size;
-    played = played;
+    size = size ∙ ap length f ∙ kept.entered.size;
+    played = subst (λ q. Played q after) e played;
     entrants = λ k h. by k h (k == n) refl;
   };
-  limited = kept.limited ∙ sym (limit-same s.after_failure s.states n kinds.Running can.there (not_bad_waiting (state_at s.states n) can.waits) refl);
-  running_is =
-      let counts : running (set s.states n kinds.Running) + one_if (is_running (state_at s.states n)) ≡ running s.states + 1 = count-set is_running s.states n kinds.Running can.there in
-      let was : one_if (is_running (state_at s.states n)) ≡ 0 = ap one_if (not_running_waiting (state_at s.states n) can.waits) in
-      omega (arith, counts, was, kept.running_is);
+  limited = kept.limited ∙ sym (limit-same s.after_failure s.states n kinds.Running can.there (ap is_bad can.waits) refl);
+  running_is = omega (arith, count-set is_running s.states n kinds.Running can.there, ap (λ state. one_if (is_running state)) can.waits, kept.running_is);
   some_slot = kept.some_slot;
 }
   where
+    entrants : (k : ℕ) → k < length s.priorities → entrant s.priorities after k ≡ cond (k == n) (length s.priorities) (entrant s.priorities tree k)
+    entrants =
+        subst (λ m. (k : ℕ) → k < length s.priorities → entrant s.priorities after k ≡ cond (k == n) m (entrant s.priorities tree k)) g
+        (subst (λ t. (k : ℕ) → k < length s.priorities → entrant s.priorities after k ≡ cond (k == n) nobody (entrant s.priorities t k)) f
+        (subst (λ q. (k : ℕ) → k < length q → entrant q after k ≡ cond (k == n) nobody (entrant q was k)) e entered))
+
     by : (k : ℕ) → k < length s.priorities → (t : Bool) → (k == n) ≡ t → entrant s.priorities after k ≡ cond (is_free (set s.states n kinds.Running) waiting below k) k (length s.priorities)
     by k h true same =
         let is : k ≡ n = eqb-true k n same in
@@ -177,60 +148,46 @@ begun s dependents waiting tree after run below n kept can size played entrants 
 
 -- A command succeeds.
 
-waits_not_running : (state : CommandState) → is_running state ≡ true → is_waiting state ≡ false
-waits_not_running state e = ap is_waiting (running_is state e)
-
-succeeds_not_running : (state : CommandState) → is_running state ≡ true → is_succeeded state ≡ false
-succeeds_not_running state e = ap is_succeeded (running_is state e)
-
-bad_not_running : (state : CommandState) → is_running state ≡ true → is_bad state ≡ false
-bad_not_running state e = ap is_bad (running_is state e)
-
 -- each of those that need the command waits for it as often as it needs it
-pub enough : (s : Scheduled) (dependents : List (List ℕ)) (waiting tree : List ℕ) (run below n : ℕ) → IsCounted s dependents waiting tree run below → CanEnd s n
-    → (m : ℕ) → m < length s.states → times m (get_or dependents n []) ≤ get_or waiting m 0
-enough s dependents waiting tree run below n kept can m h =
-    let turned : times m (get_or dependents n []) ≡ times n (get_or s.needs m []) = kept.turned.turned n m (omega (arith, can.there, kept.as_many_needs)) (omega (arith, h, kept.as_many_needs)) in
-    let counted : get_or waiting m 0 ≡ unmet s.states (get_or s.needs m []) = kept.counted m h in
+pub enough : (s : Scheduled) (dependents : List (List ℕ)) (waiting held tree ps those : List ℕ) (run below n : ℕ)
+    → IsCounted s dependents waiting tree run below → CanEnd s n → ps ≡ s.priorities → held ≡ waiting → those ≡ get_or dependents n []
+    → (m : ℕ) → m < length ps → times m those ≤ get_or held m 0
+enough s dependents waiting held tree ps those run below n kept can e f h m w =
+    let there : m < length s.states = omega (arith, w, ap length e, kept.as_many_priorities) in
+    let turned : times m (get_or dependents n []) ≡ times n (get_or s.needs m []) = kept.turned.turned n m (omega (arith, can.there, kept.as_many_needs)) (omega (arith, there, kept.as_many_needs)) in
     let fewer : unmet (set s.states n kinds.Succeeded) (get_or s.needs m []) + times n (get_or s.needs m []) ≡ unmet s.states (get_or s.needs m []) =
-    unmet-succeeded s.states n (get_or s.needs m []) can.there (succeeds_not_running (state_at s.states n) can.runs) in
-    omega (arith, turned, counted, fewer)
+    unmet-succeeded s.states n (get_or s.needs m []) can.there (ap is_succeeded can.runs) in
+    omega (arith, turned, kept.counted m there, fewer, ap (times m) h, ap (λ t. get_or t m 0) f)
 
 run_less : (s : Scheduled) (run n : ℕ) (state : CommandState) → run ≡ running s.states → CanEnd s n → is_running state ≡ false → run - 1 ≡ running (set s.states n state)
 run_less s run n state is can e =
-    let counts : running (set s.states n state) + one_if (is_running (state_at s.states n)) ≡ running s.states + one_if (is_running state) = count-set is_running s.states n state can.there in
-    let was : one_if (is_running (state_at s.states n)) ≡ 1 = ap one_if can.runs in
-    let now : one_if (is_running state) ≡ 0 = ap one_if e in
-    omega (arith, counts, was, now, is)
+    omega (arith, count-set is_running s.states n state can.there, ap (λ state. one_if (is_running state)) can.runs, ap one_if e, is)
 
-pub some_run : (s : Scheduled) (run n : ℕ) → run ≡ running s.states → CanEnd s n → 0 < run
-some_run s run n is can =
-    let counts : running (set s.states n kinds.Failed) + one_if (is_running (state_at s.states n)) ≡ running s.states + 0 = count-set is_running s.states n kinds.Failed can.there in
-    let was : one_if (is_running (state_at s.states n)) ≡ 1 = ap one_if can.runs in
-    omega (arith, counts, was, is)
-
-pub succeeded : (s : Scheduled) (dependents : List (List ℕ)) (waiting now tree after : List ℕ) (run below n : ℕ)
-    → IsCounted s dependents waiting tree run below → CanEnd s n → length now ≡ length waiting
-    → AreEntered s.priorities after (set s.states n kinds.Succeeded) now below
-    → ((m : ℕ) → m < length s.priorities → get_or now m 0 + times m (get_or dependents n []) ≡ get_or waiting m 0)
+-- (under other names in the code)
+pub succeeded : (s : Scheduled) (dependents : List (List ℕ)) (waiting held now tree after ps those : List ℕ) (states : List CommandState) (run below n : ℕ)
+    → IsCounted s dependents waiting tree run below → CanEnd s n → ps ≡ s.priorities → held ≡ waiting → states ≡ set s.states n kinds.Succeeded → those ≡ get_or dependents n [] → length now ≡ length held
+    → AreEntered ps after states now below
+    → ((m : ℕ) → m < length ps → get_or now m 0 + times m those ≡ get_or held m 0)
     → IsCounted (with_state s n kinds.Succeeded) dependents now after (run - 1) below
-succeeded s dependents waiting now tree after run below n kept can size entered left = record {
+succeeded s dependents waiting held now tree after ps those states run below n kept can e f g h size entered fewer_wait = record {
   as_many_priorities = kept.as_many_priorities ∙ sym (length-set s.states n kinds.Succeeded);
   as_many_needs = kept.as_many_needs ∙ sym (length-set s.states n kinds.Succeeded);
-  as_many_waiting = size ∙ kept.as_many_waiting ∙ sym (length-set s.states n kinds.Succeeded);
+  as_many_waiting = size ∙ ap length f ∙ kept.as_many_waiting ∙ sym (length-set s.states n kinds.Succeeded);
   turned = kept.turned;
-  counted = λ m h.
-      let there : m < length s.states = omega (arith, h, length-set s.states n kinds.Succeeded) in
+  counted = λ m w.
+      let there : m < length s.states = omega (arith, w, length-set s.states n kinds.Succeeded) in
       let turned : times m (get_or dependents n []) ≡ times n (get_or s.needs m []) = kept.turned.turned n m (omega (arith, can.there, kept.as_many_needs)) (omega (arith, there, kept.as_many_needs)) in
-      let counted : get_or waiting m 0 ≡ unmet s.states (get_or s.needs m []) = kept.counted m there in
       let fewer : unmet (set s.states n kinds.Succeeded) (get_or s.needs m []) + times n (get_or s.needs m []) ≡ unmet s.states (get_or s.needs m []) =
-      unmet-succeeded s.states n (get_or s.needs m []) can.there (succeeds_not_running (state_at s.states n) can.runs) in
-      omega (arith, turned, counted, fewer, left m (omega (arith, there, kept.as_many_priorities)));
-  entered = entered;
-  limited = kept.limited ∙ sym (limit-same s.after_failure s.states n kinds.Succeeded can.there (bad_not_running (state_at s.states n) can.runs) refl);
+      unmet-succeeded s.states n (get_or s.needs m []) can.there (ap is_succeeded can.runs) in
+      omega (arith, turned, kept.counted m there, fewer, left m (omega (arith, there, kept.as_many_priorities)));
+  entered = subst (λ q. AreEntered s.priorities after q now below) g (subst (λ q. AreEntered q after states now below) e entered);
+  limited = kept.limited ∙ sym (limit-same s.after_failure s.states n kinds.Succeeded can.there (ap is_bad can.runs) refl);
   running_is = run_less s run n kinds.Succeeded kept.running_is can refl;
   some_slot = kept.some_slot;
 }
+  where
+    left : (m : ℕ) → m < length s.priorities → get_or now m 0 + times m (get_or dependents n []) ≡ get_or waiting m 0
+    left m w = subst (λ t. get_or now m 0 + times m t ≡ get_or waiting m 0) h (subst (λ t. get_or now m 0 + times m those ≡ get_or t m 0) f (fewer_wait m (subst (λ q. m < length q) (sym e) w)))
 
 -- A command ends without success.
 
@@ -243,63 +200,37 @@ lowered-le GoOn below n = omega arith
 lower_by : (waits free : Bool) (low below k nobody : ℕ) → low ≤ below → unless_between low below nobody k (cond (waits && (free && nat_lt k below)) k nobody) ≡ cond (waits && (free && nat_lt k low)) k nobody
 lower_by waits free low below k nobody h = grind (arith, nat_tests)
 
-pub failed : (s : Scheduled) (dependents : List (List ℕ)) (waiting tree after : List ℕ) (run below n : ℕ) (state : CommandState)
-    → IsCounted s dependents waiting tree run below → CanEnd s n → is_bad state ≡ true → length after ≡ length tree → Played s.priorities after
-    → ((k : ℕ) → k < length s.priorities → entrant s.priorities after k ≡ unless_between (lowered s.after_failure below n) below (length s.priorities) k (entrant s.priorities tree k))
-    → IsCounted (with_state s n state) dependents waiting after (run - 1) (lowered s.after_failure below n)
-failed s dependents waiting tree after run below n state kept can bad size played entrants = record {
+-- (under other names in the code)
+pub failed : (s : Scheduled) (dependents : List (List ℕ)) (waiting tree was after ps : List ℕ) (run below low n : ℕ) (state : CommandState)
+    → IsCounted s dependents waiting tree run below → CanEnd s n → is_bad state ≡ true → ps ≡ s.priorities → was ≡ tree → low ≡ lowered s.after_failure below n → length after ≡ length was → Played ps after
+    → ((k : ℕ) → k < length ps → entrant ps after k ≡ unless_between low below (length ps) k (entrant ps was k))
+    → IsCounted (with_state s n state) dependents waiting after (run - 1) low
+failed s dependents waiting tree was after ps run below low n state kept can bad e f g size played entered = subst (λ l. IsCounted (with_state s n state) dependents waiting after (run - 1) l) (sym g) (record {
   as_many_priorities = kept.as_many_priorities ∙ sym (length-set s.states n state);
   as_many_needs = kept.as_many_needs ∙ sym (length-set s.states n state);
   as_many_waiting = kept.as_many_waiting ∙ sym (length-set s.states n state);
   turned = kept.turned;
-  counted = λ m h. kept.counted m (omega (arith, h, length-set s.states n state)) ∙ sym (unmet-same s.states n state (get_or s.needs m []) can.there (succeeds_not_running (state_at s.states n) can.runs) (bad_succeeds state bad));
-  entered = record { size = size ∙ kept.entered.size; played = played; entrants = now };
-  limited = ap (λ b. lowered s.after_failure b n) kept.limited ∙ sym (limit-set s.after_failure s.states n state can.there (bad_not_running (state_at s.states n) can.runs) bad);
+  counted = λ m h. kept.counted m (omega (arith, h, length-set s.states n state)) ∙ sym (unmet-same s.states n state (get_or s.needs m []) can.there (ap is_succeeded can.runs) (bad_succeeds state bad));
+  entered = record { size = size ∙ ap length f ∙ kept.entered.size; played = subst (λ q. Played q after) e played; entrants = now };
+  limited = ap (λ b. lowered s.after_failure b n) kept.limited ∙ sym (limit-set s.after_failure s.states n state can.there (ap is_bad can.runs) bad);
   running_is = run_less s run n state kept.running_is can (bad_runs state bad);
   some_slot = kept.some_slot;
-}
+})
   where
+    entrants : (k : ℕ) → k < length s.priorities → entrant s.priorities after k ≡ unless_between (lowered s.after_failure below n) below (length s.priorities) k (entrant s.priorities tree k)
+    entrants =
+        subst (λ l. (k : ℕ) → k < length s.priorities → entrant s.priorities after k ≡ unless_between l below (length s.priorities) k (entrant s.priorities tree k)) g
+        (subst (λ t. (k : ℕ) → k < length s.priorities → entrant s.priorities after k ≡ unless_between low below (length s.priorities) k (entrant s.priorities t k)) f
+        (subst (λ q. (k : ℕ) → k < length q → entrant q after k ≡ unless_between low below (length q) k (entrant q was k)) e entered))
+
     -- the same commands wait, the one that ended aside, and that one didn't wait
     still : AreEntered s.priorities tree (set s.states n state) waiting below
-    still = entered_still s.priorities tree s.states waiting below n state kept.entered can.there (waits_not_running (state_at s.states n) can.runs) (bad_waits state bad)
+    still = entered_still s.priorities tree s.states waiting below n state kept.entered can.there (ap is_waiting can.runs) (bad_waits state bad)
 
     now : (k : ℕ) → k < length s.priorities → entrant s.priorities after k ≡ cond (is_free (set s.states n state) waiting (lowered s.after_failure below n) k) k (length s.priorities)
     now k h =
         entrants k h ∙ ap (unless_between (lowered s.after_failure below n) below (length s.priorities) k) (still.entrants k h)
         ∙ lower_by (is_waiting (state_at (set s.states n state) k)) (get_or waiting k 0 == 0) (lowered s.after_failure below n) below k (length s.priorities) (lowered-le s.after_failure below n)
-
--- The same, as the code has it: the lists under other names.
-
-pub begun_by : (s : Scheduled) (dependents : List (List ℕ)) (waiting tree was after ps : List ℕ) (run below n nobody : ℕ)
-    → IsCounted s dependents waiting tree run below → CanStart s n → ps ≡ s.priorities → was ≡ tree → nobody ≡ length s.priorities → length after ≡ length was → Played ps after
-    → ((k : ℕ) → k < length ps → entrant ps after k ≡ cond (k == n) nobody (entrant ps was k))
-    → IsCounted (with_state s n kinds.Running) dependents waiting after (run + 1) below
-begun_by s dependents waiting tree was after ps run below n nobody kept can e f g size played entrants =
-    begun s dependents waiting tree after run below n kept can (size ∙ ap length f) (subst (λ q. Played q after) e played)
-    (subst (λ m. (k : ℕ) → k < length s.priorities → entrant s.priorities after k ≡ cond (k == n) m (entrant s.priorities tree k)) g
-    (subst (λ t. (k : ℕ) → k < length s.priorities → entrant s.priorities after k ≡ cond (k == n) nobody (entrant s.priorities t k)) f
-    (subst (λ q. (k : ℕ) → k < length q → entrant q after k ≡ cond (k == n) nobody (entrant q was k)) e entrants)))
-
-pub succeeded_by : (s : Scheduled) (dependents : List (List ℕ)) (waiting held now tree after ps those : List ℕ) (states : List CommandState) (run below n : ℕ)
-    → IsCounted s dependents waiting tree run below → CanEnd s n → ps ≡ s.priorities → held ≡ waiting → states ≡ set s.states n kinds.Succeeded → those ≡ get_or dependents n [] → length now ≡ length held
-    → AreEntered ps after states now below
-    → ((m : ℕ) → m < length ps → get_or now m 0 + times m those ≡ get_or held m 0)
-    → IsCounted (with_state s n kinds.Succeeded) dependents now after (run - 1) below
-succeeded_by s dependents waiting held now tree after ps those states run below n kept can e f g h size entered left =
-    succeeded s dependents waiting now tree after run below n kept can (size ∙ ap length f)
-    (subst (λ q. AreEntered s.priorities after q now below) g (subst (λ q. AreEntered q after states now below) e entered))
-    (λ m w. subst (λ t. get_or now m 0 + times m t ≡ get_or waiting m 0) h (subst (λ t. get_or now m 0 + times m those ≡ get_or t m 0) f (left m (subst (λ q. m < length q) (sym e) w))))
-
-pub failed_by : (s : Scheduled) (dependents : List (List ℕ)) (waiting tree was after ps : List ℕ) (run below low n : ℕ) (state : CommandState)
-    → IsCounted s dependents waiting tree run below → CanEnd s n → is_bad state ≡ true → ps ≡ s.priorities → was ≡ tree → low ≡ lowered s.after_failure below n → length after ≡ length was → Played ps after
-    → ((k : ℕ) → k < length ps → entrant ps after k ≡ unless_between low below (length ps) k (entrant ps was k))
-    → IsCounted (with_state s n state) dependents waiting after (run - 1) low
-failed_by s dependents waiting tree was after ps run below low n state kept can bad e f g size played entrants =
-    subst (λ l. IsCounted (with_state s n state) dependents waiting after (run - 1) l) (sym g)
-    (failed s dependents waiting tree after run below n state kept can bad (size ∙ ap length f) (subst (λ q. Played q after) e played)
-    (subst (λ l. (k : ℕ) → k < length s.priorities → entrant s.priorities after k ≡ unless_between l below (length s.priorities) k (entrant s.priorities tree k)) g
-    (subst (λ t. (k : ℕ) → k < length s.priorities → entrant s.priorities after k ≡ unless_between low below (length s.priorities) k (entrant s.priorities t k)) f
-    (subst (λ q. (k : ℕ) → k < length q → entrant q after k ≡ unless_between low below (length q) k (entrant q was k)) e entrants))))
 
 -- What is next.
 
@@ -349,10 +280,3 @@ pub within_by : (s : Scheduled) (dependents : List (List ℕ)) (waiting tree ps 
 within_by s dependents waiting tree ps those run below n kept can e h =
     (λ i. are_below (length (e i)) (h i)) ∙ ap (λ m. are_below m (get_or dependents n [])) (kept.as_many_priorities ∙ sym kept.as_many_needs)
     ∙ kept.turned.within n (omega (arith, can.there, kept.as_many_needs))
-
-pub enough_by : (s : Scheduled) (dependents : List (List ℕ)) (waiting held tree ps those : List ℕ) (run below n : ℕ)
-    → IsCounted s dependents waiting tree run below → CanEnd s n → ps ≡ s.priorities → held ≡ waiting → those ≡ get_or dependents n []
-    → (m : ℕ) → m < length ps → times m those ≤ get_or held m 0
-enough_by s dependents waiting held tree ps those run below n kept can e f h m w =
-    let there : m < length s.states = omega (arith, w, ap length e, kept.as_many_priorities) in
-    subst (λ t. times m t ≤ get_or held m 0) (sym h) (subst (λ t. times m (get_or dependents n []) ≤ get_or t m 0) (sym f) (enough s dependents waiting tree run below n kept can m there))

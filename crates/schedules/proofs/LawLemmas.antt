@@ -20,9 +20,10 @@ use Rattle.schedules.specs.Graphs.{first_late, fresh}
 use Rattle.schedules.specs.Events.{Event, Started, Ended, after, Accepts}
 use Rattle.schedules.specs.Told.{told_from, between}
 use Rattle.schedules.specs.ScheduleLaws.{NeedsSucceedFirst, StartsOnce, SlotsSuffice, MayFollow, FailuresCount, EventsEnd, StartsEarlier, NeverStuck, told_in_order, EndsAs, AllEndAs, ToldInOrder, NothingElseTold}
+use Rattle.schedules.proofs.ChainLemmas.{needs_below}
 use Rattle.schedules.proofs.EventLemmas
-use Rattle.schedules.proofs.GraphLemmas.{IsGood, good, early, unstarted, none_runs}
-use Rattle.schedules.proofs.KeptLemmas.{CanStart, can_start, can_end}
+use Rattle.schedules.proofs.GraphLemmas.{IsGood, good, unstarted, none_runs}
+use Rattle.schedules.proofs.KeptLemmas.{CanStart, can_start, can_end, waiting_is}
 use Rattle.schedules.proofs.StateLemmas.{first_bad-le}
 use Rattle.schedules.proofs.TournamentLemmas.{some_best}
 
@@ -46,15 +47,14 @@ needs_first needs priorities slots setting events good accepts before n m is nee
     let all : Accepts s (before ++ Started n ∷ []) = subst (Accepts s) is accepts in
     let first : Accepts s before = EventLemmas.accepts_first s before (Started n ∷ []) all in
     let can : CanStart (after s before) n = can_start (after s before) n (EventLemmas.accepts_second s before (Started n ∷ []) all).0 in
-    let met : are_met needs (after s before).states n ≡ true = subst (λ q. are_met q (after s before).states n ≡ true) (EventLemmas.same_needs s before) can.met in
+    let met : are_met needs (after s before).states n ≡ true = subst (λ q. are_met q (after s before).states n ≡ true) (ap (λ t. t.needs) (EventLemmas.only_states s before)) can.met in
     elim (EventLemmas.by_success s before m first (all_any (λ k. is_succeeded (state_at (after s before).states k)) (get_or needs n []) m met needed)) [
       | inl was ↦ absurd (false≢true (ap is_succeeded (sym (unstarted (length needs) m)) ∙ was))
       | inr ended ↦ ended
     ]
 
 one_at_most : (b : Bool) → EventLemmas.one_if b ≤ 1
-one_at_most true = omega arith
-one_at_most false = omega arith
+one_at_most b = grind arith
 
 pub once : StartsOnce
 once needs priorities slots setting events good accepts n =
@@ -65,26 +65,21 @@ pub slots_suffice : SlotsSuffice
 slots_suffice needs priorities slots setting events good accepts =
     let s : Scheduled = start needs priorities slots setting in
     let none : running s.states ≡ 0 = none_runs (length needs) in
-    let within : running (after s events).states ≤ slots = EventLemmas.runs_within s events accepts (omega (arith, none)) in
-    omega (arith, none, within, EventLemmas.runs_are s events accepts)
+    omega (arith, none, EventLemmas.runs_within s events accepts (omega (arith, none)), EventLemmas.runs_are s events accepts)
 
 -- Failures.
 
 bound_by : (b : Bool) (first m : ℕ) → first ≤ m → cond b 0 (suc first) ≤ suc m
-bound_by true first m h = omega arith
-bound_by false first m h = omega arith
+bound_by b first m h = grind arith
 
 bad_bound : (ss : List CommandState) (m : ℕ) → is_bad (state_at ss m) ≡ true → (first_bad ss ≤ m) × (m < length ss)
 bad_bound [] m e = absurd (false≢true e)
-bad_bound (s ∷ ss) zero e = (let none : first_bad (s ∷ ss) ≡ 0 = ap (λ b. cond b 0 (suc (first_bad ss))) e in omega (arith, none), omega arith)
-bad_bound (s ∷ ss) (suc m) e =
-    let rest : (first_bad ss ≤ m) × (m < length ss) = bad_bound ss m e in
-    (bound_by (is_bad s) (first_bad ss) m rest.0, omega (arith, rest.1))
+bad_bound (s ∷ ss) zero e = (omega (arith, ap (λ b. cond b 0 (suc (first_bad ss))) e), omega arith)
+bad_bound (s ∷ ss) (suc m) e = (bound_by (is_bad s) (first_bad ss) m (bad_bound ss m e).0, omega (arith, (bad_bound ss m e).1))
 
 follows : (setting : AfterFailure) (ss : List CommandState) (n m : ℕ) → n < limit setting ss → first_bad ss ≤ m → m < length ss → MayFollow setting m n
 follows StartNothing ss n m h le some =
-    let none : limit StartNothing ss ≡ 0 = ap (λ b. cond b 0 (length ss)) (lt-ltb (first_bad ss) (length ss) (omega (arith, le, some))) in
-    omega (arith, none, h)
+    omega (arith, ap (λ b. cond b 0 (length ss)) (lt-ltb (first_bad ss) (length ss) (omega (arith, le, some))), h)
 follows StartEarlier ss n m h le some = omega (arith, h, le)
 follows GoOn ss n m h le some = tt
 
@@ -95,14 +90,12 @@ failures needs priorities slots setting events good accepts before n m is bad =
     let first : Accepts s before = EventLemmas.accepts_first s before (Started n ∷ []) all in
     let can : CanStart (after s before) n = can_start (after s before) n (EventLemmas.accepts_second s before (Started n ∷ []) all).0 in
     let bound : (first_bad (after s before).states ≤ m) × (m < length (after s before).states) = bad_bound (after s before).states m (EventLemmas.bad_by_event s before m first bad) in
-    let allowed : n < limit setting (after s before).states = subst (λ q. n < limit q (after s before).states) (EventLemmas.same_setting s before) (ltb-true n (limit (after s before).after_failure (after s before).states) can.allowed) in
+    let allowed : n < limit setting (after s before).states = subst (λ q. n < limit q (after s before).states) (ap (λ t. t.after_failure) (EventLemmas.only_states s before)) (ltb-true n (limit (after s before).after_failure (after s before).states) can.allowed) in
     follows setting (after s before).states n m allowed bound.0 bound.1
 
 all_are_left : (count : ℕ) → EventLemmas.all_left (replicate count kinds.NotStarted) ≡ count + count
 all_are_left zero = refl
-all_are_left (suc count) =
-    let step : EventLemmas.all_left (kinds.NotStarted ∷ replicate count kinds.NotStarted) ≡ 2 + EventLemmas.all_left (replicate count kinds.NotStarted) = sum_by-cons EventLemmas.events_left kinds.NotStarted (replicate count kinds.NotStarted) in
-    omega (arith, step, all_are_left count)
+all_are_left (suc count) = omega (arith, sum_by-cons EventLemmas.events_left kinds.NotStarted (replicate count kinds.NotStarted), all_are_left count)
 
 pub ends : EventsEnd
 ends needs priorities slots setting events good accepts =
@@ -132,10 +125,10 @@ over needs priorities slots setting events good e =
     record {
       none_runs = eqb-true (running (after s events).states) 0 parts.0;
       none_next = no_value (next (after s events)) parts.1;
-      some_slot = subst (λ n. 0 < n) (sym (EventLemmas.same_slots s events)) good.some_slot;
-      as_many = ap length (EventLemmas.same_priorities s events) ∙ good.as_many ∙ sym count;
-      in_time = subst (λ q. first_late 0 q ≡ None) (sym (EventLemmas.same_needs s events)) good.in_time;
-      as_many_needs = ap length (EventLemmas.same_needs s events) ∙ sym count;
+      some_slot = subst (λ n. 0 < n) (sym (ap (λ t. t.slots) (EventLemmas.only_states s events))) good.some_slot;
+      as_many = ap (λ t. length t.priorities) (EventLemmas.only_states s events) ∙ good.as_many ∙ sym count;
+      in_time = subst (λ q. first_late 0 q ≡ None) (sym (ap (λ t. t.needs) (EventLemmas.only_states s events))) good.in_time;
+      as_many_needs = ap (λ t. length t.needs) (EventLemmas.only_states s events) ∙ sym count;
     }
 
 some_command : (ps : List ℕ) (b : ℕ) → b < length ps → command_of ps b ≡ Some b
@@ -164,14 +157,6 @@ no_count test (s ∷ ss) (suc n) d e =
     let step : count_by test (s ∷ ss) ≡ EventLemmas.one_if (test s) + count_by test ss = sum_by-cons (λ t. cond (test t) 1 0) s ss in
     no_count test ss n d (omega (arith, step, e))
 
--- each command needs only earlier ones
-needs_below : (k n : ℕ) (needs : List (List ℕ)) → first_late k needs ≡ None → n < length needs → are_below (k + n) (get_or needs n []) ≡ true
-needs_below k n [] e h = absurd (omega arith)
-needs_below k zero (ns ∷ needs) e h = let same : k ≡ k + zero = omega arith in subst (λ j. are_below j ns ≡ true) same (early k ns needs e).0
-needs_below k (suc n) (ns ∷ needs) e h =
-    let same : (k + 1) + n ≡ k + suc n = omega arith in
-    subst (λ j. are_below j (get_or needs n []) ≡ true) same (needs_below (k + 1) n needs (early k ns needs e).1 (omega arith))
-
 met_if : (test : ℕ → Bool) (n : ℕ) (ms : List ℕ) → are_below n ms ≡ true → ((m : ℕ) → m < n → test m ≡ true) → list_all test ms ≡ true
 met_if test n [] e all = refl
 met_if test n (m ∷ ms) e all =
@@ -188,17 +173,16 @@ within_limit : (setting : AfterFailure) (ss : List CommandState) (n : ℕ) → n
 within_limit StartNothing ss n h (inl e) = absurd (false≢true e)
 within_limit StartNothing ss n h (inr e) =
     let none : nat_lt (first_bad ss) (length ss) ≡ false = grind (arith, nat_tests) in
-    let all : limit StartNothing ss ≡ length ss = ap (λ b. cond b 0 (length ss)) none in
-    omega (arith, all, e, h)
+    omega (arith, ap (λ b. cond b 0 (length ss)) none, e, h)
 within_limit StartEarlier ss n h either = h
 within_limit GoOn ss n h either = omega (arith, first_bad-le ss, h)
 
 before_bad : (ss : List CommandState) (n : ℕ) → n < first_bad ss → is_bad (state_at ss n) ≡ false
-before_bad ss n h = by (is_bad (state_at ss n)) refl
-  where
-    by : (b : Bool) → is_bad (state_at ss n) ≡ b → is_bad (state_at ss n) ≡ false
-    by true e = absurd (omega (arith, h, (bad_bound ss n e).0))
-    by false e = e
+before_bad ss n h =
+    elim (is_bad (state_at ss n)) as (λ b. is_bad (state_at ss n) ≡ b → is_bad (state_at ss n) ≡ false) [
+      | true ↦ λ e. absurd (omega (arith, h, (bad_bound ss n e).0))
+      | false ↦ λ e. e
+    ] refl
 
 not_waiting : (s : Scheduled) → IsOver s → (n : ℕ) → n < limit s.after_failure s.states → n < length s.states → are_met s.needs s.states n ≡ true → is_waiting (state_at s.states n) ≡ true → ⊥
 not_waiting s is n allowed h met waits = none_may s is n h (λ i. waits i && (met i && lt-ltb n (limit s.after_failure s.states) allowed i))
@@ -222,7 +206,7 @@ never_stuck needs priorities slots setting events fine accepts is n h either =
     let s : Scheduled = start needs priorities slots setting in
     let count : length (after s events).states ≡ length s.states = EventLemmas.same_count s events in
     all_succeed (after s events) (over needs priorities slots setting events (good needs (length priorities) slots fine) is)
-    (elim either [ inl e ↦ inl (ap StartsEarlier (EventLemmas.same_setting s events) ∙ e) | inr e ↦ inr (e ∙ sym count) ]) (suc n) n (omega arith) h
+    (elim either [ inl e ↦ inl (ap (λ t. StartsEarlier t.after_failure) (EventLemmas.only_states s events) ∙ e) | inr e ↦ inr (e ∙ sym count) ]) (suc n) n (omega arith) h
 
 -- What may be printed.
 
@@ -240,11 +224,13 @@ ended_state succeeds end n outcomes.Failure h = h
 ended_state succeeds end n outcomes.Cancelled h = h
 
 state_kept : (succeeds : ℕ → Bool) (end : ℕ) (ss : List CommandState) (n : ℕ) (state : CommandState) → n < length ss → StateAs succeeds end n state → ((m : ℕ) → StateAs succeeds end m (state_at ss m)) → (m : ℕ) → StateAs succeeds end m (state_at (set ss n state) m)
-state_kept succeeds end ss n state h so all m = by (m == n) refl
-  where
-    by : (t : Bool) → (m == n) ≡ t → StateAs succeeds end m (state_at (set ss n state) m)
-    by true e = let is : n ≡ m = sym (eqb-true m n e) in subst (λ j. StateAs succeeds end j (state_at (set ss n state) j)) is (subst (StateAs succeeds end n) (sym (get_or-set_same ss n state kinds.NotStarted h)) so)
-    by false e = subst (StateAs succeeds end m) (sym (get_or-set_other ss n m state kinds.NotStarted (eqb-false m n e))) (all m)
+state_kept succeeds end ss n state h so all m =
+    elim (m == n) as (λ t. (m == n) ≡ t → StateAs succeeds end m (state_at (set ss n state) m)) [
+      | true ↦ λ e.
+          subst (λ j. StateAs succeeds end j (state_at (set ss n state) j)) (sym (eqb-true m n e))
+          (subst (StateAs succeeds end n) (sym (get_or-set_same ss n state kinds.NotStarted h)) so)
+      | false ↦ λ e. subst (StateAs succeeds end m) (sym (get_or-set_other ss n m state kinds.NotStarted (eqb-false m n e))) (all m)
+    ] refl
 
 states_as : (succeeds : ℕ → Bool) (end : ℕ) (s : Scheduled) (es : List Event) → Accepts s es → AllEndAs succeeds end es → ((m : ℕ) → StateAs succeeds end m (state_at s.states m)) → (m : ℕ) → StateAs succeeds end m (state_at (after s es).states m)
 states_as succeeds end s [] h so all = all
@@ -259,19 +245,15 @@ unstarted_as succeeds end count m = subst (StateAs succeeds end m) (sym (unstart
 -- the plan's own order prints at least what it came to
 comes_to : (succeeds : ℕ → Bool) (n left : ℕ) → n ≤ (told_in_order succeeds n left).end
 comes_to succeeds n zero = omega arith
-comes_to succeeds n (suc left) = by (succeeds n) (comes_to succeeds (n + 1) left)
-  where
-    by : (t : Bool) → n + 1 ≤ (told_in_order succeeds (n + 1) left).end → n ≤ (cond t (told_in_order succeeds (n + 1) left) (record { end = n + 1; status = statuses.Failed })).end
-    by true h = omega arith
-    by false h = omega arith
+comes_to succeeds n (suc left) =
+    let rest : n + 1 ≤ (told_in_order succeeds (n + 1) left).end = comes_to succeeds (n + 1) left in
+    elim (succeeds n) as (λ t. n ≤ (cond t (told_in_order succeeds (n + 1) left) (record { end = n + 1; status = statuses.Failed })).end) [ true ↦ omega arith | false ↦ omega arith ]
 
 -- and more than the command that it comes to
 comes_past : (succeeds : ℕ → Bool) (n left : ℕ) → n < (told_in_order succeeds n (suc left)).end
-comes_past succeeds n left = by (succeeds n) (comes_to succeeds (n + 1) left)
-  where
-    by : (t : Bool) → n + 1 ≤ (told_in_order succeeds (n + 1) left).end → n < (cond t (told_in_order succeeds (n + 1) left) (record { end = n + 1; status = statuses.Failed })).end
-    by true h = omega arith
-    by false h = omega arith
+comes_past succeeds n left =
+    let rest : n + 1 ≤ (told_in_order succeeds (n + 1) left).end = comes_to succeeds (n + 1) left in
+    elim (succeeds n) as (λ t. n < (cond t (told_in_order succeeds (n + 1) left) (record { end = n + 1; status = statuses.Failed })).end) [ true ↦ omega arith | false ↦ omega arith ]
 
 rest_of : (ss : List CommandState) (n : ℕ) → n < length ss → drop n ss ≡ state_at ss n ∷ drop (n + 1) ss
 rest_of ss n h = drop_more ss n kinds.NotStarted h
@@ -303,38 +285,25 @@ nothing_else needs priorities slots setting events fine accepts succeeds so =
     (no_more succeeds end (after s events).states states (length s.states) 0 (omega (arith, count)))
 
 succeeded_is_good : (state : CommandState) → is_succeeded state ≡ true → is_bad state ≡ false
-succeeded_is_good kinds.NotStarted e = refl
-succeeded_is_good kinds.Running e = refl
-succeeded_is_good kinds.Succeeded e = refl
 succeeded_is_good kinds.Failed e = absurd (false≢true e)
 succeeded_is_good kinds.Cancelled e = absurd (false≢true e)
-
-waiting_is_good : (state : CommandState) → is_waiting state ≡ true → is_bad state ≡ false
-waiting_is_good kinds.NotStarted e = refl
-waiting_is_good kinds.Running e = refl
-waiting_is_good kinds.Succeeded e = refl
-waiting_is_good kinds.Failed e = absurd (false≢true e)
-waiting_is_good kinds.Cancelled e = absurd (false≢true e)
+succeeded_is_good state e = refl
 
 good_behind : (b : Bool) (first n : ℕ) → suc n ≤ cond b 0 (suc first) → (n ≤ first → n < first) → suc n < cond b 0 (suc first)
-good_behind true first n le f = absurd (omega arith)
-good_behind false first n le f = omega (arith, f (omega arith))
+good_behind b first n le f = grind arith
 
 more_succeeded : (ss : List CommandState) (n : ℕ) → ((m : ℕ) → m < n → is_succeeded (state_at ss m) ≡ true) → is_succeeded (state_at ss n) ≡ true → (m : ℕ) → m < n + 1 → is_succeeded (state_at ss m) ≡ true
-more_succeeded ss n all here m h = by (nat_lt m n) refl
-  where
-    by : (t : Bool) → nat_lt m n ≡ t → is_succeeded (state_at ss m) ≡ true
-    by true e = all m (ltb-true m n e)
-    by false e = let is : n ≡ m = omega (arith, ltb-false m n e, h) in subst (λ j. is_succeeded (state_at ss j) ≡ true) is here
+more_succeeded ss n all here m h =
+    elim (nat_lt m n) as (λ t. nat_lt m n ≡ t → is_succeeded (state_at ss m) ≡ true) [
+      | true ↦ λ e. all m (ltb-true m n e)
+      | false ↦ λ e. let is : n ≡ m = omega (arith, ltb-false m n e, h) in subst (λ j. is_succeeded (state_at ss j) ≡ true) is here
+    ] refl
 
 first_bad_from : (ss : List CommandState) (n : ℕ) → n ≤ length ss → ((m : ℕ) → m < n → is_succeeded (state_at ss m) ≡ true) → n ≤ first_bad ss
 first_bad_from ss zero h all = omega arith
 first_bad_from [] (suc n) h all = absurd (omega arith)
 first_bad_from (s ∷ ss) (suc n) h all =
-    let good : is_bad s ≡ false = succeeded_is_good s (all 0 (omega arith)) in
-    let behind : n ≤ first_bad ss = first_bad_from ss n (omega arith) (λ m k. all (suc m) (omega arith)) in
-    let here : first_bad (s ∷ ss) ≡ suc (first_bad ss) = ap (λ b. cond b 0 (suc (first_bad ss))) good in
-    omega (arith, behind, here)
+    omega (arith, first_bad_from ss n (omega arith) (λ m k. all (suc m) (omega arith)), ap (λ b. cond b 0 (suc (first_bad ss))) (succeeded_is_good s (all 0 (omega arith))))
 
 -- one that isn't bad is behind no bad one, so it may start
 good_is_before : (ss : List CommandState) (n : ℕ) → n < length ss → n ≤ first_bad ss → is_bad (state_at ss n) ≡ false → n < first_bad ss
@@ -345,7 +314,7 @@ good_is_before (s ∷ ss) (suc n) h le e = good_behind (is_bad s) (first_bad ss)
 -- a command that nothing failed before isn't waiting when all is over
 was_started : (s : Scheduled) → IsOver s → StartsEarlier s.after_failure ≡ true → (n : ℕ) → n < length s.states → ((m : ℕ) → m < n → is_succeeded (state_at s.states m) ≡ true) → is_waiting (state_at s.states n) ≡ true → ⊥
 was_started s is setting n h all waits =
-    let good : is_bad (state_at s.states n) ≡ false = waiting_is_good (state_at s.states n) waits in
+    let good : is_bad (state_at s.states n) ≡ false = ap is_bad (waiting_is (state_at s.states n) waits) in
     let before : n < first_bad s.states = good_is_before s.states n h (first_bad_from s.states n (omega arith) all) good in
     not_waiting s is n (within_limit s.after_failure s.states n before (inl setting)) h (met_at s is n h all) waits
 
@@ -374,5 +343,5 @@ told_in_order_is needs priorities slots setting events fine accepts succeeds so 
     let end : ℕ = (told_in_order succeeds 0 (length s.states)).end in
     let states : (m : ℕ) → StateAs succeeds end m (state_at (after s events).states m) = states_as succeeds end s events accepts so (unstarted_as succeeds end (length needs)) in
     ap (told_from 0) (all_between (after s events).states (length s.states) (sym count))
-    ∙ told_on succeeds end (after s events) (over needs priorities slots setting events (good needs (length priorities) slots fine) is) (ap StartsEarlier (EventLemmas.same_setting s events) ∙ earlier) states (length s.states) 0
+    ∙ told_on succeeds end (after s events) (over needs priorities slots setting events (good needs (length priorities) slots fine) is) (ap (λ t. StartsEarlier t.after_failure) (EventLemmas.only_states s events) ∙ earlier) states (length s.states) 0
     (omega (arith, count)) refl (λ m h. absurd (omega arith))

@@ -1,6 +1,6 @@
 -- What may be printed, command by command.
-use Rattle.std.proofs.Common.{◌≡◌, ℕ, suc, ◌+◌, ◌-◌, ◌<◌, ◌≤◌, List, [], ◌∷◌, length, take, drop, ap, ◌∙◌, arith}
-use Rattle.std.proofs.lemmas.List.{drop_more, drop_all, take_all}
+use Rattle.std.proofs.Common.{◌≡◌, ℕ, suc, ◌+◌, ◌-◌, ◌<◌, List, ◌∷◌, length, take, drop, ap, ◌∙◌, arith}
+use Rattle.std.proofs.lemmas.List.{drop_more}
 use Rattle.schedules.specs.declared.command.CommandState.{CommandState}
 use Rattle.schedules.specs.declared.command.CommandState.TheVariants as kinds
 use Rattle.schedules.specs.States.{state_at}
@@ -14,9 +14,3 @@ between_step states n end state h k e =
 -- what may be printed at a command, by its state
 pub told_at : (states : List CommandState) (n end : ℕ) (state : CommandState) → n < end → n < length states → state_at states n ≡ state → told_from n (between states n end) ≡ told_from n (state ∷ between states (n + 1) end)
 told_at states n end state h k e = ap (told_from n) (between_step states n end state h k e)
-
-pub between_none : (states : List CommandState) (n end : ℕ) → end ≤ n → between states n end ≡ []
-between_none states n end h = let none : end - n ≡ 0 = omega arith in ap (λ m. take m (drop n states)) none
-
-pub between_past : (states : List CommandState) (n end : ℕ) → length states ≤ n → between states n end ≡ []
-between_past states n end h = ap (take (end - n)) (drop_all n states h) ∙ take_all (end - n) [] (omega arith)

@@ -23,16 +23,10 @@ key_none ps n h = grind (arith, nat_tests)
 
 -- which of two commands is better, by their numbers
 second_better : (ps : List ℕ) (a b : ℕ) → a < length ps → b < length ps → precedes ps a b ≡ true → key ps a ≤ key ps b
-second_better ps a b h k e =
-    let one : key ps a ≡ get_or ps a 0 * suc (length ps) + (length ps - a) = key_some ps a h in
-    let other : key ps b ≡ get_or ps b 0 * suc (length ps) + (length ps - b) = key_some ps b k in
-    grind (arith, nat_tests, lex)
+second_better ps a b h k e = grind (arith, nat_tests, lex, key_some ps a h, key_some ps b k)
 
 first_better : (ps : List ℕ) (a b : ℕ) → a < length ps → b < length ps → precedes ps a b ≡ false → key ps b ≤ key ps a
-first_better ps a b h k e =
-    let one : key ps a ≡ get_or ps a 0 * suc (length ps) + (length ps - a) = key_some ps a h in
-    let other : key ps b ≡ get_or ps b 0 * suc (length ps) + (length ps - b) = key_some ps b k in
-    grind (arith, nat_tests, lex)
+first_better ps a b h k e = grind (arith, nat_tests, lex, key_some ps a h, key_some ps b k)
 
 -- the better one of two is one of them, and no worse than either
 record Beats (ps : List ℕ) (a b c : ℕ) : Type 0 where
@@ -86,10 +80,7 @@ beaten_above ps tree played k more within = grind (arith, beats, played (k / 2) 
 
 root_by : (ps tree : List ℕ) → Played ps tree → (k : ℕ) → 0 < k → k < length ps + length ps → (t : Bool) → nat_lt 1 k ≡ t
     → (1 < k → key ps (at tree (k / 2)) ≤ key ps (at tree 1)) → key ps (at tree k) ≤ key ps (at tree 1)
-root_by ps tree played k some within true e above =
-    let more : 1 < k = ltb-true 1 k e in
-    let up : key ps (at tree k) ≤ key ps (at tree (k / 2)) = beaten_above ps tree played k more within in
-    omega (arith, up, above more)
+root_by ps tree played k some within true e above = omega (arith, beaten_above ps tree played k (ltb-true 1 k e) within, above (ltb-true 1 k e))
 root_by ps tree played k some within false e above = let one : k ≡ 1 = omega (arith, ltb-false 1 k e) in grind arith
 
 root_beats : (ps tree : List ℕ) → Played ps tree → (fuel k : ℕ) → k ≤ fuel → 0 < k → k < length ps + length ps → key ps (at tree k) ≤ key ps (at tree 1)
@@ -130,11 +121,11 @@ best_step ps rest test from n false e passes (inl same) = absurd (false≢true (
 best_step ps rest test from n false e passes (inr le) = le
 
 here_or_behind : (from n : ℕ) → from ≤ n → (n ≡ from) ⊎ (from + 1 ≤ n)
-here_or_behind from n h = by (nat_lt from n) refl
-  where
-    by : (t : Bool) → nat_lt from n ≡ t → (n ≡ from) ⊎ (from + 1 ≤ n)
-    by true e = inr (omega (arith, ltb-true from n e))
-    by false e = inl (omega (arith, ltb-false from n e))
+here_or_behind from n h =
+    elim (nat_lt from n) as (λ t. nat_lt from n ≡ t → (n ≡ from) ⊎ (from + 1 ≤ n)) [
+      | true ↦ λ e. inr (omega (arith, ltb-true from n e))
+      | false ↦ λ e. inl (omega (arith, ltb-false from n e))
+    ] refl
 
 pub best_beats : (ps : List ℕ) (test : ℕ → Bool) (from count n : ℕ) → from ≤ n → n < from + count → test n ≡ true → key ps n ≤ key ps (best ps (filter test (range_with_len from count)))
 best_beats ps test from zero n h k e = absurd (omega arith)
@@ -179,11 +170,11 @@ entered_is_one ps tree test enter n (k, (h, e)) = by (test k) refl
 
 -- one of them has no greater number than one that no other has a greater one than
 no_better : (ps : List ℕ) (test : ℕ → Bool) (n best : ℕ) → IsOneOf ps test n → ((m : ℕ) → m < length ps → test m ≡ true → key ps m ≤ key ps best) → key ps n ≤ key ps best
-no_better ps test n best one beats = by (nat_lt n (length ps)) refl
-  where
-    by : (t : Bool) → nat_lt n (length ps) ≡ t → key ps n ≤ key ps best
-    by true e = let h : n < length ps = ltb-true n (length ps) e in beats n h (one.passes h)
-    by false e = omega (arith, key_none ps n (ltb-false n (length ps) e))
+no_better ps test n best one beats =
+    elim (nat_lt n (length ps)) as (λ t. nat_lt n (length ps) ≡ t → key ps n ≤ key ps best) [
+      | true ↦ λ e. let h : n < length ps = ltb-true n (length ps) e in beats n h (one.passes h)
+      | false ↦ λ e. omega (arith, key_none ps n (ltb-false n (length ps) e))
+    ] refl
 
 root_beats_all : (ps tree : List ℕ) (test : ℕ → Bool) → Played ps tree → Enter ps tree test → (m : ℕ) → m < length ps → test m ≡ true → key ps m ≤ key ps (at tree 1)
 root_beats_all ps tree test played enter m h e =

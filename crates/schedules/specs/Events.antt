@@ -2,7 +2,7 @@
 use Rattle.std.specs.Prelude.{◌≡◌, ℕ, List, [], ◌∷◌, Bool, true, false, ◌==◌, if◌then◌else◌, Option, None}
 use Rattle.schedules.specs.declared.command.CommandState.TheVariants.{Running}
 use Rattle.schedules.specs.declared.command.Outcome.{Outcome}
-use Rattle.schedules.specs.declared.command.Outcome.TheVariants.{Success, Failure, Cancelled}
+use Rattle.schedules.specs.declared.command.Outcome.TheVariants.{Success}
 use Rattle.schedules.specs.declared.command.Refused.{Refused}
 use Rattle.schedules.specs.States.{ended_as}
 use Rattle.schedules.specs.Scheduled.{Scheduled, start_refusal, end_refusal, with_state}
@@ -48,8 +48,7 @@ is_start_of m (Ended n outcome) = false
 
 abbrev pub is_success : Outcome → Bool
 is_success Success = true
-is_success Failure = false
-is_success Cancelled = false
+is_success _ = false
 
 abbrev pub is_success_of : ℕ → Event → Bool
 is_success_of m (Started n) = false

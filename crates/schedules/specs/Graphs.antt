@@ -35,10 +35,8 @@ fresh needs priorities slots after_failure = record {
 
 -- a fact, unless an allocation failed
 abbrev pub UnlessMemory : BadGraph → Type 0 → Type 0
-UnlessMemory NoSlot P = P
-UnlessMemory Priorities P = P
-UnlessMemory (NeedsLater n) P = P
 UnlessMemory Memory P = Unit {0}
+UnlessMemory _ P = P
 
 -- Several plans in one graph.
 

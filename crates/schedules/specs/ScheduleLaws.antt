@@ -48,8 +48,7 @@ EventsEnd = OfSchedules (λ s events. length events ≤ length s.states + length
 -- A schedule that is over has come to all that it can: each command that is earlier than all that ended without success has succeeded.
 abbrev pub StartsEarlier : AfterFailure → Bool
 StartsEarlier StartNothing = false
-StartsEarlier StartEarlier = true
-StartsEarlier GoOn = true
+StartsEarlier _ = true
 
 abbrev pub NeverStuck : Type 0
 NeverStuck = OfSchedules (λ s events. is_over (after s events) ≡ true → (n : ℕ) → n < first_bad (after s events).states

@@ -9,32 +9,21 @@ use Rattle.schedules.specs.declared.command.Outcome.TheVariants as outcomes
 
 abbrev pub is_waiting : CommandState → Bool
 is_waiting kinds.NotStarted = true
-is_waiting kinds.Running = false
-is_waiting kinds.Succeeded = false
-is_waiting kinds.Failed = false
-is_waiting kinds.Cancelled = false
+is_waiting _ = false
 
 abbrev pub is_running : CommandState → Bool
-is_running kinds.NotStarted = false
 is_running kinds.Running = true
-is_running kinds.Succeeded = false
-is_running kinds.Failed = false
-is_running kinds.Cancelled = false
+is_running _ = false
 
 abbrev pub is_succeeded : CommandState → Bool
-is_succeeded kinds.NotStarted = false
-is_succeeded kinds.Running = false
 is_succeeded kinds.Succeeded = true
-is_succeeded kinds.Failed = false
-is_succeeded kinds.Cancelled = false
+is_succeeded _ = false
 
 -- whether a command ended without success
 abbrev pub is_bad : CommandState → Bool
-is_bad kinds.NotStarted = false
-is_bad kinds.Running = false
-is_bad kinds.Succeeded = false
 is_bad kinds.Failed = true
 is_bad kinds.Cancelled = true
+is_bad _ = false
 
 -- the state of the command with a number
 abbrev pub state_at : List CommandState → ℕ → CommandState

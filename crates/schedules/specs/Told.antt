@@ -10,9 +10,7 @@ abbrev pub told_from : ℕ → List CommandState → Told
 told_from n [] = record { end = n; status = statuses.Succeeded }
 told_from n (kinds.Succeeded ∷ ss) = told_from (n + 1) ss
 told_from n (kinds.Failed ∷ ss) = record { end = n + 1; status = statuses.Failed }
-told_from n (kinds.NotStarted ∷ ss) = record { end = n; status = statuses.Unfinished }
-told_from n (kinds.Running ∷ ss) = record { end = n; status = statuses.Unfinished }
-told_from n (kinds.Cancelled ∷ ss) = record { end = n; status = statuses.Unfinished }
+told_from n (_ ∷ ss) = record { end = n; status = statuses.Unfinished }
 
 -- the states of the commands from one number up to another, without that one itself
 abbrev pub between : List CommandState → ℕ → ℕ → List CommandState

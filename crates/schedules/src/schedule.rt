@@ -153,22 +153,6 @@ impl Schedule {
         self.running == 0 && self.next().is_none()
     }
 
-    // Whether a command hasn't started.
-    fn is_waiting(&self, command: usize) -> bool
-        requires { command < length self.now.states }
-        ensures { result ≡ is_waiting (state_at self.now.states command) }
-    {
-        is_waiting(self.states[command])
-    }
-
-    // Whether a command runs.
-    fn is_running(&self, command: usize) -> bool
-        requires { command < length self.now.states }
-        ensures { result ≡ is_running (state_at self.now.states command) }
-    {
-        is_running(self.states[command])
-    }
-
     // Whether all that a command needs have succeeded.
     fn is_met(&self, command: usize) -> bool
         requires { command < length self.now.states }
@@ -177,33 +161,19 @@ impl Schedule {
         self.waiting[command] == 0
     }
 
-    // Whether no failure holds a command back.
-    fn is_allowed(&self, command: usize) -> bool
-        ensures { result ≡ nat_lt command (limit self.now.after_failure self.now.states) }
-    {
-        command < self.limit
-    }
-
-    // Whether one more command may run.
-    fn has_slot(&self) -> bool
-        ensures { result ≡ nat_lt (spec.running self.now.states) self.now.slots }
-    {
-        self.running < self.slots
-    }
-
     // Why a command can't start now.
     fn start_refusal(&self, command: usize) -> Option<Refused>
         ensures { result ≡ spec.start_refusal self.now command }
     {
         if command >= self.len() {
             Some(Refused::NoSuchCommand)
-        } else if !self.is_waiting(command) {
+        } else if !is_waiting(self.states[command]) {
             Some(Refused::StartedBefore)
         } else if !self.is_met(command) {
             Some(Refused::NeedsUnmet)
-        } else if !self.is_allowed(command) {
+        } else if command >= self.limit {
             Some(Refused::HeldBack)
-        } else if !self.has_slot() {
+        } else if self.running >= self.slots {
             Some(Refused::NoSlot)
         } else {
             None
@@ -216,7 +186,7 @@ impl Schedule {
     {
         if command >= self.len() {
             Some(Refused::NoSuchCommand)
-        } else if !self.is_running(command) {
+        } else if !is_running(self.states[command]) {
             Some(Refused::NotRunning)
         } else {
             None

@@ -216,10 +216,6 @@ behind_comment_slash c s = if c == 42 then goes Refused s else in_comment c s
 abbrev pub may_set_lines : ℕ → Bool
 may_set_lines c = (c == 108) || (c == 47) || (c == 92) || is_ascii_digit c
 
--- A directive ends with its line, if no comment goes on behind it.
-abbrev pub end_directive : Reading → Reading
-end_directive s = if s.is_open then goes Refused s else end_line s
-
 -- whether a comment is open after a byte: `/*` opens one, and `*/` closes it
 abbrev pub is_open_after : ℕ → Reading → Bool
 is_open_after c s =
@@ -233,9 +229,10 @@ last_after c s = if (c == 42) && (s.last == 47) then 0 else c
 abbrev pub grow_directive : ℕ → Reading → Reading
 grow_directive c s = record s { state = Directive; out = s.out ++ c ∷ []; last = last_after c s; is_open = is_open_after c s }
 
+-- A directive ends with its line, if no comment goes on behind it.
 abbrev pub in_directive : ℕ → Reading → Reading
 in_directive c s =
-    if c == 10 then end_directive s else
+    if c == 10 then (if s.is_open then goes Refused s else end_line s) else
     if c == 92 then grow DirectiveEscape c s else
     if is_odd c || ((c == 34) && (s.last == 82)) then goes Refused s else grow_directive c s
 

@@ -449,20 +449,12 @@ impl Reader {
         self.grow(inside, byte)
     }
 
-    fn end_directive(&mut self) -> Result<(), AllocError>
-        ensures { OnOk result (self.new ≡ spec.end_directive self.old) }
-    {
-        if self.is_open {
-            return self.refuse();
-        }
-        self.end_line()
-    }
-
     fn read_directive(&mut self, byte: u8) -> Result<(), AllocError>
         ensures { OnOk result (self.new ≡ spec.in_directive byte self.old) }
     {
         match byte {
-            b'\n' => self.end_directive(),
+            b'\n' if self.is_open => self.refuse(),
+            b'\n' => self.end_line(),
             b'\\' => self.grow(State::DirectiveEscape, byte),
             b'"' if self.last == b'R' => self.refuse(),
             _ if is_odd(byte) => self.refuse(),
@@ -515,24 +507,18 @@ impl Reader {
         self.read_directive(byte)
     }
 
-    // Ends the comment or the operator that the text's end ends.
-    fn end_token(&mut self) -> Result<(), AllocError>
-        ensures { OnOk result (self.new ≡ spec.ended self.old) }
-    {
-        match self.state {
-            State::Slash => self.start(State::Between, b'/'),
-            State::LineComment => self.end_comment(),
-            _ => Ok(()),
-        }
-    }
-
     pub(crate) fn finish(mut self) -> Result<Option<Vec<u8>>, AllocError>
         ensures { IfOk result (λ found. option_map (λ v. v.items) found ≡ spec.ending self) }
     {
         if !may_end(self.state) || self.is_open || !(self.is_lined || self.depth == 0) {
             return Ok(None);
         }
-        self.end_token()?;
+        // The end of the text also ends a comment or a `/`.
+        match self.state {
+            State::Slash => self.start(State::Between, b'/')?,
+            State::LineComment => self.end_comment()?,
+            _ => {}
+        }
         if !self.is_empty {
             self.out.push(b'\n')?;
         }

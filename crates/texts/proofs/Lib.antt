@@ -5,5 +5,13 @@ pub mod ListLemmas
 pub mod NumeralLemmas
 pub mod PathLaw
 pub mod PathLemmas
+pub mod PosixLemmas
 pub mod PushedLemmas
 pub mod RestLemmas
+pub mod ShellCompleteLemmas
+pub mod ShellLawLemmas
+pub mod ShellQuotingLemmas
+pub mod ShellSoundLemmas
+pub mod ShellSpanLemmas
+pub mod ShellSplittingLemmas
+pub mod SpanRunLemmas

@@ -8,8 +8,11 @@ pub mod Lists
 pub mod Numeral
 pub mod ObjectFlags
 pub mod Path
+pub mod Posix
+pub mod PosixExamples
 pub mod Results
 pub mod Rows
+pub mod Shell
 pub mod Status
 pub mod Variables
 pub mod VariablesView

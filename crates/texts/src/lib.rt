@@ -1,4 +1,4 @@
-//! What the lines and the dry runs are made of: texts, paths, words, variables, languages and faults.
+//! What the lines and the dry runs are made of: texts, paths, words, variables, languages and faults, and the words of shell commands.
 #![tactic(auto)]
 
 pub mod bytes;
@@ -9,6 +9,8 @@ pub mod extension;
 pub mod fault;
 pub mod language;
 pub mod laws;
+pub mod shell;
+pub mod shell_laws;
 pub mod status;
 pub mod text;
 pub mod variables;

@@ -9,20 +9,17 @@ use Rattle.token_texts.specs.declared.lexer.State.{State}
 use Rattle.token_texts.specs.declared.lexer.State.TheVariants.{LineStart, Slash, LineComment, Hash, Marker, MarkerNumber, Refused}
 use Rattle.token_texts.specs.Classes.{class_of}
 use Rattle.token_texts.specs.Lexing.{Lexing, goes, ends, step, step_in, tokens_from}
+use Rattle.token_texts.proofs.RunLemmas.{none_more}
 use Rattle.token_texts.specs.TokenLaws.{NumbersDontCount, CommentsDontCount, is_number, is_remark}
 
 -- a lexer in a state
 abbrev in_state : State → Lexing → Lexing
 in_state state s = record s { state = state }
 
-none_ends : (tokens : Option (List (List ℕ))) → option_map (λ ts. [] ++ ts) tokens ≡ tokens
-none_ends None = refl
-none_ends (Some ts) = refl
-
 -- a byte that only changes the state
 only_state : (s : Lexing) (c : ℕ) (cs : List ℕ) (state : State) → step c s ≡ (in_state state s, []) → tokens_from s (c ∷ cs) ≡ tokens_from (in_state state s) cs
 only_state s c cs state is =
-    ap (λ (next : Lexing × List (List ℕ)). option_map (λ ts. next.1 ++ ts) (tokens_from next.0 cs)) is ∙ none_ends (tokens_from (in_state state s) cs)
+    ap (λ (next : Lexing × List (List ℕ)). option_map (λ ts. next.1 ++ ts) (tokens_from next.0 cs)) is ∙ sym (none_more (tokens_from (in_state state s) cs))
 
 digit_class : (c : ℕ) → is_ascii_digit c ≡ true → class_of c ≡ Digit
 digit_class c is = grind (arith, nat_tests)

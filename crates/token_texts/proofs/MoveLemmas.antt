@@ -8,7 +8,8 @@ use Rattle.token_texts.specs.declared.lexer.State.{State}
 use Rattle.token_texts.specs.declared.lexer.State.TheVariants.{Marker, MarkerNumber, MarkerGap, MarkerName, MarkerEscape, Flags, Enters, Returns, Refused}
 use Rattle.token_texts.specs.Classes.{class_of}
 use Rattle.token_texts.specs.Lexing.{Step, beginning, step, state_after, tokens_from, tokens, in_move}
-use Rattle.token_texts.proofs.RunLemmas.{lexer, from, run, behind_lines, for_all_texts}
+use Rattle.token_texts.proofs.PlaceLemmas.{behind_lines}
+use Rattle.token_texts.proofs.RunLemmas.{lexer, from, run, for_all_texts}
 use Rattle.token_texts.specs.TokenLaws.{is_whole_lines, has_no_quote, has_flag, begins_with_flag, PartsHaveTheTokens}
 
 -- ---- a line marker that moves to another file
@@ -50,8 +51,8 @@ abbrev in_name : Bool → State
 in_name true = MarkerName
 in_name false = MarkerEscape
 
-none_on : (ended : List (List ℕ)) (found : Option (List (List ℕ))) → found ≡ None → option_map (λ ts. ended ++ ts) found ≡ None
-none_on ended found none = ap (option_map (λ ts. ended ++ ts)) none
+same_on : (ended : List (List ℕ)) (one two : Option (List (List ℕ))) → one ≡ two → option_map (λ ts. ended ++ ts) one ≡ option_map (λ ts. ended ++ ts) two
+same_on ended one two same = ap (option_map (λ ts. ended ++ ts)) same
 
 -- a name that has no end has no reading
 unnamed : (b : Bool) (t p text : List ℕ) → has_no_quote text ≡ true → tokens_from (lexer (in_name b) t p) text ≡ None
@@ -59,23 +60,23 @@ unnamed true t p [] none = refl
 unnamed false t p [] none = refl
 unnamed true t p (c ∷ cs) none =
     elim (c == 10) as (λ b. (c == 10) ≡ b → cond b true (cond (c == 34) false (has_no_quote cs)) ≡ true → tokens_from (lexer MarkerName t p) (c ∷ cs) ≡ None) [
-      | true ↦ λ is none. subst (λ c. tokens_from (lexer MarkerName t p) (c ∷ cs) ≡ None) (sym (eqb-true c 10 is)) (none_on [] _ (refused t p cs))
+      | true ↦ λ is none. subst (λ c. tokens_from (lexer MarkerName t p) (c ∷ cs) ≡ None) (sym (eqb-true c 10 is)) (same_on [] _ None (refused t p cs))
       | false ↦ λ no_end none.
           elim (c == 34) as (λ b. (c == 34) ≡ b → cond b false (has_no_quote cs) ≡ true → tokens_from (lexer MarkerName t p) (c ∷ cs) ≡ None) [
             | true ↦ λ is never. absurd (false≢true never)
             | false ↦ λ no_quote none.
                 none_else (c == 34) _ _ cs no_quote
-                (none_if (c == 92) _ _ cs (none_on [] _ (unnamed false (t ++ c ∷ []) p cs none))
-                (none_if (c == 10) _ _ cs (none_on [] _ (refused t p cs)) (none_on [] _ (unnamed true (t ++ c ∷ []) p cs none))))
+                (none_if (c == 92) _ _ cs (same_on [] _ None (unnamed false (t ++ c ∷ []) p cs none))
+                (none_if (c == 10) _ _ cs (same_on [] _ None (refused t p cs)) (same_on [] _ None (unnamed true (t ++ c ∷ []) p cs none))))
           ] refl none
     ] refl none
 unnamed false t p (c ∷ cs) none =
     elim (c == 10) as (λ b. (c == 10) ≡ b → cond b true (cond (c == 34) false (has_no_quote cs)) ≡ true → tokens_from (lexer MarkerEscape t p) (c ∷ cs) ≡ None) [
-      | true ↦ λ is none. subst (λ c. tokens_from (lexer MarkerEscape t p) (c ∷ cs) ≡ None) (sym (eqb-true c 10 is)) (none_on [] _ (refused t p cs))
+      | true ↦ λ is none. subst (λ c. tokens_from (lexer MarkerEscape t p) (c ∷ cs) ≡ None) (sym (eqb-true c 10 is)) (same_on [] _ None (refused t p cs))
       | false ↦ λ no_end none.
           elim (c == 34) as (λ b. cond b false (has_no_quote cs) ≡ true → tokens_from (lexer MarkerEscape t p) (c ∷ cs) ≡ None) [
             | true ↦ λ never. absurd (false≢true never)
-            | false ↦ λ none. none_else (c == 10) _ _ cs no_end (none_on [] _ (unnamed true (t ++ c ∷ []) p cs none))
+            | false ↦ λ none. none_else (c == 10) _ _ cs no_end (same_on [] _ None (unnamed true (t ++ c ∷ []) p cs none))
           ] none
     ] refl none
 
@@ -110,9 +111,6 @@ number_goes_on c no_end =
 number_begins : (k : Class) (c : ℕ) → is_in_marker (state_after Marker k c) ≡ true
 number_begins class.Digit c = refl
 number_begins k c = refl
-
-same_on : (ended : List (List ℕ)) (one two : Option (List (List ℕ))) → one ≡ two → option_map (λ ts. ended ++ ts) one ≡ option_map (λ ts. ended ++ ts) two
-same_on ended one two same = ap (option_map (λ ts. ended ++ ts)) same
 
 same_else : (b : Bool) (x y v w : Step) (cs : List ℕ) → b ≡ false → from y cs ≡ from w cs → from (cond b x y) cs ≡ from (cond b v w) cs
 same_else true x y v w cs is same = absurd (false≢true (sym is))

@@ -9,9 +9,9 @@ use Rattle.token_texts.specs.declared.class.Class.TheVariants as class
 use Rattle.token_texts.specs.declared.lexer.State.{State}
 use Rattle.token_texts.specs.declared.lexer.State.TheVariants.{LineStart, Between, Word, Number, Exponent, Separator, Operator, Dot, Slash, Text, TextEscape, Character, CharacterEscape, Closed, Suffix, RawDelimiter, Raw, LineComment, Comment, CommentStar, Hash, Directive, Marker, MarkerNumber, MarkerGap, MarkerName, MarkerEscape, Flags, Enters, Returns, Refused}
 use Rattle.token_texts.specs.Classes.{class_of}
-use Rattle.token_texts.specs.Lexing.{Step, beginning, begins, ends_and_begins, is_encoding, is_raw_prefix, is_exponent, in_word, in_number, in_operator, in_suffix, behind_literal, in_raw_delimiter, behind_separator, behind_dot, behind_hash, in_comment, in_line_comment, begins_comment, quoted, in_flags, is_doubtful, step, step_in, state_after, ending, tokens_from, tokens, in_move}
+use Rattle.token_texts.specs.Lexing.{Step, beginning, begins, ends_and_begins, is_encoding, is_raw_prefix, is_exponent, in_word, in_number, in_operator, in_suffix, behind_literal, in_raw_delimiter, behind_separator, behind_dot, behind_hash, in_comment, begins_comment, quoted, in_flags, is_doubtful, step, step_in, state_after, ending, tokens_from, tokens, in_move}
 use Rattle.token_texts.specs.TokenLaws.{is_whole_lines, are_parts, PartsDetermine}
-use Rattle.token_texts.proofs.RunLemmas.{lex, from, run, run_tokens, behind_lines, for_all_texts}
+use Rattle.token_texts.proofs.RunLemmas.{lex, lexer, from, run, run_on, run_tokens, start_again, for_all_texts, keeps_delimiter, held}
 
 -- ---- tokens of line markers
 
@@ -68,9 +68,6 @@ quote_add : (t : List ℕ) (c : ℕ) → begins_quote t ≡ true → begins_quot
 quote_add [] c is = absurd (false≢true is)
 quote_add (x ∷ xs) c is = is
 
-both_true : (a b : Bool) → a ≡ true → b ≡ true → (a && b) ≡ true
-both_true a b one two = ap (λ x. x && b) one ∙ two
-
 -- ---- what a token begins and ends with
 
 abbrev is_empty : List ℕ → Bool
@@ -105,12 +102,18 @@ record Kept (f : List ℕ → Step) : Type 0 where
   token : List ℕ
   delimiter : List ℕ
   ended : List (List ℕ)
-  is : (p : List ℕ) → f p ≡ (lex state token delimiter p, ended)
+  is : (p : List ℕ) → f p ≡ (held state token delimiter p, ended)
   plain : all_plain ended ≡ true
   fit : fits state token ≡ true
 
-kept : (state : State) (t d : List ℕ) (ended : List (List ℕ)) → all_plain ended ≡ true → fits state t ≡ true → Kept (λ p. (lex state t d p, ended))
-kept state t d ended plain fit = record { state = state; token = t; delimiter = d; ended = ended; is = λ p. refl; plain = plain; fit = fit }
+holds : (state : State) (t d : List ℕ) (ended : List (List ℕ)) → all_plain ended ≡ true → fits state t ≡ true → Kept (λ p. (held state t d p, ended))
+holds state t d ended plain fit = record { state = state; token = t; delimiter = d; ended = ended; is = λ p. refl; plain = plain; fit = fit }
+
+-- the same without a delimiter
+kept : (state : State) (t : List ℕ) (ended : List (List ℕ)) → all_plain ended ≡ true → fits state t ≡ true → Kept (λ p. (lex state t [] p, ended))
+kept state t ended plain fit =
+    let none : cond {A = List ℕ} (keeps_delimiter state) [] [] ≡ [] = elim (keeps_delimiter state) as (λ b. cond {A = List ℕ} b [] [] ≡ []) [ true ↦ refl | false ↦ refl ] in
+    record { state = state; token = t; delimiter = []; ended = ended; is = λ p. ap (λ d. (lex state t d p, ended)) (sym none); plain = plain; fit = fit }
 
 kept_on : (b : Bool) (f g : List ℕ → Step) → (b ≡ true → Kept f) → (b ≡ false → Kept g) → Kept (λ p. cond b (f p) (g p))
 kept_on true f g one two = one refl
@@ -137,22 +140,22 @@ plain_one t fit = ap (λ b. b && begins_quote t) (not-true _ fit)
 plain_ends : (t : List ℕ) → not (last_of t == 10) ≡ true → all_plain (t ∷ []) ≡ true
 plain_ends t fit = ap (λ b. cond b false true) (plain_one t fit)
 
-kept_begins : (k : Class) (c : ℕ) (state : State) (d : List ℕ) → (c == 10) ≡ false → Kept (λ p. begins k c (lex state [] d p))
-kept_begins class.Blank c state d end = kept Between [] d [] refl refl
-kept_begins class.LineEnd c state d end = kept LineStart [] d [] refl refl
-kept_begins class.Slash c state d end = kept Slash [] d [] refl refl
-kept_begins class.Other c state d end = kept Refused [] d [] refl refl
-kept_begins class.Lone c state d end = kept Between [] d ((c ∷ []) ∷ []) (plain_ends (c ∷ []) (ap not end)) refl
-kept_begins class.Word c state d end = kept Word (c ∷ []) d [] refl (ap not end)
-kept_begins class.Digit c state d end = kept Number (c ∷ []) d [] refl (ap not end)
-kept_begins class.Operator c state d end = kept Operator (c ∷ []) d [] refl (ap not end)
-kept_begins class.Dot c state d end = kept Dot (c ∷ []) d [] refl (ap not end)
-kept_begins class.DoubleQuote c state d end = kept Text (c ∷ []) d [] refl (ap not end)
-kept_begins class.SingleQuote c state d end = kept Character (c ∷ []) d [] refl (ap not end)
+kept_begins : (k : Class) (c : ℕ) (state : State) → (c == 10) ≡ false → Kept (λ p. begins k c (lex state [] [] p))
+kept_begins class.Blank c state end = kept Between [] [] refl refl
+kept_begins class.LineEnd c state end = kept LineStart [] [] refl refl
+kept_begins class.Slash c state end = kept Slash [] [] refl refl
+kept_begins class.Other c state end = kept Refused [] [] refl refl
+kept_begins class.Lone c state end = kept Between [] ((c ∷ []) ∷ []) (plain_ends (c ∷ []) (ap not end)) refl
+kept_begins class.Word c state end = kept Word (c ∷ []) [] refl (ap not end)
+kept_begins class.Digit c state end = kept Number (c ∷ []) [] refl (ap not end)
+kept_begins class.Operator c state end = kept Operator (c ∷ []) [] refl (ap not end)
+kept_begins class.Dot c state end = kept Dot (c ∷ []) [] refl (ap not end)
+kept_begins class.DoubleQuote c state end = kept Text (c ∷ []) [] refl (ap not end)
+kept_begins class.SingleQuote c state end = kept Character (c ∷ []) [] refl (ap not end)
 
-kept_ends : (k : Class) (c : ℕ) (state : State) (t d : List ℕ) → (c == 10) ≡ false → not (last_of t == 10) ≡ true → Kept (λ p. ends_and_begins k c (lex state t d p))
-kept_ends k c state t d end fit =
-    let next = kept_begins k c Between d end in
+kept_ends : (k : Class) (c : ℕ) (state : State) (t : List ℕ) → (c == 10) ≡ false → not (last_of t == 10) ≡ true → Kept (λ p. ends_and_begins k c (lex state t [] p))
+kept_ends k c state t end fit =
+    let next = kept_begins k c Between end in
     record {
       state = next.state;
       token = next.token;
@@ -172,77 +175,76 @@ raw_begins (c ∷ cs) raw =
       | false ↦ λ _. refl
     ] refl
 
-kept_word : (k : Class) (c : ℕ) (t d : List ℕ) → (c == 10) ≡ false → fits Word t ≡ true → Kept (λ p. in_word k c (lex Word t d p))
-kept_word class.Word c t d end fit = kept Word (t ++ c ∷ []) d [] refl (grown t c end)
-kept_word class.Digit c t d end fit = kept Word (t ++ c ∷ []) d [] refl (grown t c end)
-kept_word class.DoubleQuote c t d end fit =
-    kept_if (is_encoding t) _ _ (kept Text (t ++ c ∷ []) d [] refl (grown t c end))
-    (kept_on (is_raw_prefix t) _ _ (λ raw. kept RawDelimiter (t ++ c ∷ []) (41 ∷ []) [] refl (other_add t c (raw_begins t raw))) (λ _. kept_ends class.DoubleQuote c Word t d end fit))
-kept_word class.SingleQuote c t d end fit =
-    kept_if (is_encoding t) _ _ (kept Character (t ++ c ∷ []) d [] refl (grown t c end)) (kept_ends class.SingleQuote c Word t d end fit)
-kept_word k c t d end fit = kept_ends k c Word t d end fit
+kept_word : (k : Class) (c : ℕ) (t : List ℕ) → (c == 10) ≡ false → fits Word t ≡ true → Kept (λ p. in_word k c (lex Word t [] p))
+kept_word class.Word c t end fit = kept Word (t ++ c ∷ []) [] refl (grown t c end)
+kept_word class.Digit c t end fit = kept Word (t ++ c ∷ []) [] refl (grown t c end)
+kept_word class.DoubleQuote c t end fit =
+    kept_if (is_encoding t) _ _ (kept Text (t ++ c ∷ []) [] refl (grown t c end))
+    (kept_on (is_raw_prefix t) _ _ (λ raw. holds RawDelimiter (t ++ c ∷ []) (41 ∷ []) [] refl (other_add t c (raw_begins t raw))) (λ _. kept_ends class.DoubleQuote c Word t end fit))
+kept_word class.SingleQuote c t end fit =
+    kept_if (is_encoding t) _ _ (kept Character (t ++ c ∷ []) [] refl (grown t c end)) (kept_ends class.SingleQuote c Word t end fit)
+kept_word k c t end fit = kept_ends k c Word t end fit
 
-kept_number : (k : Class) (c : ℕ) (state : State) (t d : List ℕ) → (c == 10) ≡ false → fits Number t ≡ true → Kept (λ p. in_number k c (lex state t d p))
-kept_number class.Word c state t d end fit =
-    kept_if (is_exponent c) _ _ (kept Exponent (t ++ c ∷ []) d [] refl (grown t c end)) (kept Number (t ++ c ∷ []) d [] refl (grown t c end))
-kept_number class.Digit c state t d end fit = kept Number (t ++ c ∷ []) d [] refl (grown t c end)
-kept_number class.Dot c state t d end fit = kept Number (t ++ c ∷ []) d [] refl (grown t c end)
-kept_number class.SingleQuote c state t d end fit = kept Separator (t ++ c ∷ []) d [] refl (grown t c end)
-kept_number k c state t d end fit = kept_ends k c state t d end fit
+kept_number : (k : Class) (c : ℕ) (state : State) (t : List ℕ) → (c == 10) ≡ false → fits Number t ≡ true → Kept (λ p. in_number k c (lex state t [] p))
+kept_number class.Word c state t end fit =
+    kept_if (is_exponent c) _ _ (kept Exponent (t ++ c ∷ []) [] refl (grown t c end)) (kept Number (t ++ c ∷ []) [] refl (grown t c end))
+kept_number class.Digit c state t end fit = kept Number (t ++ c ∷ []) [] refl (grown t c end)
+kept_number class.Dot c state t end fit = kept Number (t ++ c ∷ []) [] refl (grown t c end)
+kept_number class.SingleQuote c state t end fit = kept Separator (t ++ c ∷ []) [] refl (grown t c end)
+kept_number k c state t end fit = kept_ends k c state t end fit
 
-kept_separator : (k : Class) (c : ℕ) (t d : List ℕ) → (c == 10) ≡ false → fits Separator t ≡ true → Kept (λ p. behind_separator k c (lex Separator t d p))
-kept_separator class.Word c t d end fit = kept_number class.Word c Separator t d end fit
-kept_separator class.Digit c t d end fit = kept_number class.Digit c Separator t d end fit
-kept_separator k c t d end fit = kept Refused t d [] refl refl
+kept_separator : (k : Class) (c : ℕ) (t : List ℕ) → (c == 10) ≡ false → fits Separator t ≡ true → Kept (λ p. behind_separator k c (lex Separator t [] p))
+kept_separator class.Word c t end fit = kept_number class.Word c Separator t end fit
+kept_separator class.Digit c t end fit = kept_number class.Digit c Separator t end fit
+kept_separator k c t end fit = kept Refused t [] refl refl
 
-kept_operator : (k : Class) (c : ℕ) (state : State) (t d : List ℕ) → (c == 10) ≡ false → fits Operator t ≡ true → Kept (λ p. in_operator k c (lex state t d p))
-kept_operator class.Operator c state t d end fit =
-    kept_if ((c == 58) && ends_with nat_eq t (codes "%")) _ _ (kept Refused t d [] refl refl) (kept Operator (t ++ c ∷ []) d [] refl (grown t c end))
-kept_operator class.Dot c state t d end fit = kept Dot (t ++ c ∷ []) d [] refl (grown t c end)
-kept_operator class.Slash c state t d end fit = kept Slash t d [] refl fit
-kept_operator k c state t d end fit = kept_ends k c state t d end fit
+kept_operator : (k : Class) (c : ℕ) (state : State) (t : List ℕ) → (c == 10) ≡ false → fits Operator t ≡ true → Kept (λ p. in_operator k c (lex state t [] p))
+kept_operator class.Operator c state t end fit =
+    kept_if ((c == 58) && ends_with nat_eq t (codes "%")) _ _ (kept Refused t [] refl refl) (kept Operator (t ++ c ∷ []) [] refl (grown t c end))
+kept_operator class.Dot c state t end fit = kept Dot (t ++ c ∷ []) [] refl (grown t c end)
+kept_operator class.Slash c state t end fit = kept Slash t [] refl fit
+kept_operator k c state t end fit = kept_ends k c state t end fit
 
-kept_dot : (k : Class) (c : ℕ) (t d : List ℕ) → (c == 10) ≡ false → fits Dot t ≡ true → Kept (λ p. behind_dot k c (lex Dot t d p))
-kept_dot class.Digit c t d end fit = kept Number (t ++ c ∷ []) d [] refl (grown t c end)
-kept_dot k c t d end fit = kept_operator k c Dot t d end fit
+kept_dot : (k : Class) (c : ℕ) (t : List ℕ) → (c == 10) ≡ false → fits Dot t ≡ true → Kept (λ p. behind_dot k c (lex Dot t [] p))
+kept_dot class.Digit c t end fit = kept Number (t ++ c ∷ []) [] refl (grown t c end)
+kept_dot k c t end fit = kept_operator k c Dot t end fit
 
-kept_remark : (state : State) (t d : List ℕ) → fits state [] ≡ true → fits Slash t ≡ true → Kept (λ p. begins_comment state (lex Slash t d p))
-kept_remark state [] d idle fit = kept state [] d [] refl idle
-kept_remark state (x ∷ xs) d idle fit =
+kept_remark : (state : State) (t : List ℕ) → fits state [] ≡ true → fits Slash t ≡ true → Kept (λ p. begins_comment state (lex Slash t [] p))
+kept_remark state [] idle fit = kept state [] [] refl idle
+kept_remark state (x ∷ xs) idle fit =
     let more : (length (x ∷ xs) == 0) ≡ false = grind (arith, nat_tests) in
-    kept_else (length (x ∷ xs) == 0) _ _ more (kept state [] d ((x ∷ xs) ∷ []) (plain_ends (x ∷ xs) fit) idle)
+    kept_else (length (x ∷ xs) == 0) _ _ more (kept state [] ((x ∷ xs) ∷ []) (plain_ends (x ∷ xs) fit) idle)
 
-kept_literal : (k : Class) (c : ℕ) (t d : List ℕ) → (c == 10) ≡ false → fits Closed t ≡ true → Kept (λ p. behind_literal k c (lex Closed t d p))
-kept_literal class.Word c t d end fit = kept Suffix (t ++ c ∷ []) d [] refl (grown t c end)
-kept_literal class.Digit c t d end fit = kept Refused t d [] refl refl
-kept_literal k c t d end fit = kept_ends k c Closed t d end fit
+kept_literal : (k : Class) (c : ℕ) (t : List ℕ) → (c == 10) ≡ false → fits Closed t ≡ true → Kept (λ p. behind_literal k c (lex Closed t [] p))
+kept_literal class.Word c t end fit = kept Suffix (t ++ c ∷ []) [] refl (grown t c end)
+kept_literal class.Digit c t end fit = kept Refused t [] refl refl
+kept_literal k c t end fit = kept_ends k c Closed t end fit
 
-kept_suffix : (k : Class) (c : ℕ) (t d : List ℕ) → (c == 10) ≡ false → fits Suffix t ≡ true → Kept (λ p. in_suffix k c (lex Suffix t d p))
-kept_suffix class.Word c t d end fit = kept Suffix (t ++ c ∷ []) d [] refl (grown t c end)
-kept_suffix class.Digit c t d end fit = kept Suffix (t ++ c ∷ []) d [] refl (grown t c end)
-kept_suffix class.DoubleQuote c t d end fit = kept Refused t d [] refl refl
-kept_suffix class.SingleQuote c t d end fit = kept Refused t d [] refl refl
-kept_suffix k c t d end fit = kept_ends k c Suffix t d end fit
+kept_suffix : (k : Class) (c : ℕ) (t : List ℕ) → (c == 10) ≡ false → fits Suffix t ≡ true → Kept (λ p. in_suffix k c (lex Suffix t [] p))
+kept_suffix class.Word c t end fit = kept Suffix (t ++ c ∷ []) [] refl (grown t c end)
+kept_suffix class.Digit c t end fit = kept Suffix (t ++ c ∷ []) [] refl (grown t c end)
+kept_suffix class.DoubleQuote c t end fit = kept Refused t [] refl refl
+kept_suffix class.SingleQuote c t end fit = kept Refused t [] refl refl
+kept_suffix k c t end fit = kept_ends k c Suffix t end fit
 
-kept_delimiter : (k : Class) (c : ℕ) (t d : List ℕ) → fits RawDelimiter t ≡ true → Kept (λ p. in_raw_delimiter k c (lex RawDelimiter t d p))
-kept_delimiter class.Word c t d fit = kept RawDelimiter (t ++ c ∷ []) (d ++ c ∷ []) [] refl (other_add t c fit)
-kept_delimiter class.Digit c t d fit = kept RawDelimiter (t ++ c ∷ []) (d ++ c ∷ []) [] refl (other_add t c fit)
+kept_delimiter : (k : Class) (c : ℕ) (t d : List ℕ) → fits RawDelimiter t ≡ true → Kept (λ p. in_raw_delimiter k c (held RawDelimiter t d p))
+kept_delimiter class.Word c t d fit = holds RawDelimiter (t ++ c ∷ []) (d ++ c ∷ []) [] refl (other_add t c fit)
+kept_delimiter class.Digit c t d fit = holds RawDelimiter (t ++ c ∷ []) (d ++ c ∷ []) [] refl (other_add t c fit)
 kept_delimiter k c t d fit =
-    kept_if ((c == 40) && nat_lt (length d) 18) _ _ (kept Raw (t ++ c ∷ []) d [] refl (other_add t c fit)) (kept Refused t d [] refl refl)
+    kept_if ((c == 40) && nat_lt (length d) 18) _ _ (holds Raw (t ++ c ∷ []) d [] refl (other_add t c fit)) (holds Refused t d [] refl refl)
 
-kept_hash : (k : Class) (c : ℕ) (d : List ℕ) → Kept (λ p. behind_hash k c (lex Hash [] d p))
-kept_hash class.Word c d = kept Directive (35 ∷ c ∷ []) d [] refl refl
-kept_hash k c d = kept_if (c == 32) _ _ (kept Marker [] d [] refl refl) (kept Refused [] d [] refl refl)
+kept_hash : (k : Class) (c : ℕ) → Kept (λ p. behind_hash k c (lex Hash [] [] p))
+kept_hash class.Word c = kept Directive (35 ∷ c ∷ []) [] refl refl
+kept_hash k c = kept_if (c == 32) _ _ (kept Marker [] [] refl refl) (kept Refused [] [] refl refl)
 
-kept_quoted : (quote : ℕ) (c : ℕ) (state escape after : State) (t d : List ℕ) → fits after (t ++ c ∷ []) ≡ true → fits escape (t ++ c ∷ []) ≡ true → fits state (t ++ c ∷ []) ≡ true →
-    Kept (λ p. quoted quote escape after c (lex state t d p))
-kept_quoted quote c state escape after t d one two three =
-    kept_if (c == quote) _ _ (kept after (t ++ c ∷ []) d [] refl one)
-    (kept_if (c == 92) _ _ (kept escape (t ++ c ∷ []) d [] refl two) (kept_if (c == 10) _ _ (kept Refused t d [] refl refl) (kept state (t ++ c ∷ []) d [] refl three)))
+kept_quoted : (quote : ℕ) (c : ℕ) (state escape after : State) (t : List ℕ) → fits after (t ++ c ∷ []) ≡ true → fits escape (t ++ c ∷ []) ≡ true → fits state (t ++ c ∷ []) ≡ true →
+    Kept (λ p. quoted quote escape after c (lex state t [] p))
+kept_quoted quote c state escape after t one two three =
+    kept_if (c == quote) _ _ (kept after (t ++ c ∷ []) [] refl one)
+    (kept_if (c == 92) _ _ (kept escape (t ++ c ∷ []) [] refl two) (kept_if (c == 10) _ _ (kept Refused t [] refl refl) (kept state (t ++ c ∷ []) [] refl three)))
 
 fits_number : (k : Class) (c : ℕ) → fits (state_after Marker k c) [] ≡ true
-fits_number class.Digit c = refl
-fits_number k c = refl
+fits_number k c = elim k as (λ k. fits (state_after Marker k c) [] ≡ true) [ class.Digit ↦ refl | _ ↦ refl ]
 
 fits_more : (k : Class) (c : ℕ) → fits (state_after MarkerNumber k c) [] ≡ true
 fits_more class.Digit c = refl
@@ -251,73 +253,73 @@ fits_more class.Blank c = fits_if (c == 32) _ _ [] refl refl
 fits_more k c = refl
 
 fits_flags : (t : List ℕ) (c : ℕ) → begins_quote t ≡ true → not (is_flag c) ≡ true → fits Flags (t ++ c ∷ []) ≡ true
-fits_flags t c quote other = both_true _ _ (quote_add t c quote) (ap (λ x. not (is_flag x)) (last_add t c) ∙ other)
+fits_flags t c quote other = λ i. quote_add t c quote i && (ap (λ x. not (is_flag x)) (last_add t c) ∙ other) i
 
 -- 3 or 4
 other_flag : (c : ℕ) → ((c == 51) || (c == 52)) ≡ true → not (is_flag c) ≡ true
 other_flag c is = grind (arith, nat_tests)
 
-kept_name : (c : ℕ) (t d : List ℕ) → fits MarkerName t ≡ true → Kept (λ p. quoted 34 MarkerEscape Flags c (lex MarkerName t d p))
-kept_name c t d fit =
-    kept_on (c == 34) _ _ (λ is. kept Flags (t ++ c ∷ []) d [] refl (fits_flags t c fit (ap (λ x. not (is_flag x)) (eqb-true c 34 is))))
-    (λ _. kept_if (c == 92) _ _ (kept MarkerEscape (t ++ c ∷ []) d [] refl (quote_add t c fit))
-    (kept_if (c == 10) _ _ (kept Refused t d [] refl refl) (kept MarkerName (t ++ c ∷ []) d [] refl (quote_add t c fit))))
+kept_name : (c : ℕ) (t : List ℕ) → fits MarkerName t ≡ true → Kept (λ p. quoted 34 MarkerEscape Flags c (lex MarkerName t [] p))
+kept_name c t fit =
+    kept_on (c == 34) _ _ (λ is. kept Flags (t ++ c ∷ []) [] refl (fits_flags t c fit (ap (λ x. not (is_flag x)) (eqb-true c 34 is))))
+    (λ _. kept_if (c == 92) _ _ (kept MarkerEscape (t ++ c ∷ []) [] refl (quote_add t c fit))
+    (kept_if (c == 10) _ _ (kept Refused t [] refl refl) (kept MarkerName (t ++ c ∷ []) [] refl (quote_add t c fit))))
 
-kept_flags : (c : ℕ) (t d : List ℕ) → (c == 10) ≡ false → fits Flags t ≡ true → Kept (λ p. in_flags c (lex Flags t d p))
-kept_flags c t d end fit =
+kept_flags : (c : ℕ) (t : List ℕ) → (c == 10) ≡ false → fits Flags t ≡ true → Kept (λ p. in_flags c (lex Flags t [] p))
+kept_flags c t end fit =
     kept_else (c == 10) _ _ end
-    (kept_if (c == 32) _ _ (kept Flags t d [] refl fit)
-    (kept_if (c == 49) _ _ (kept Enters t d [] refl fit)
-    (kept_if (c == 50) _ _ (kept Returns t d [] refl fit)
+    (kept_if (c == 32) _ _ (kept Flags t [] refl fit)
+    (kept_if (c == 49) _ _ (kept Enters t [] refl fit)
+    (kept_if (c == 50) _ _ (kept Returns t [] refl fit)
     (kept_on ((c == 51) || (c == 52)) _ _
-    (λ is. kept Flags (t ++ c ∷ []) d [] refl (fits_flags t c (and_parts _ _ fit).0 (other_flag c is))) (λ _. kept Refused t d [] refl refl)))))
+    (λ is. kept Flags (t ++ c ∷ []) [] refl (fits_flags t c (and_parts _ _ fit).0 (other_flag c is))) (λ _. kept Refused t [] refl refl)))))
 
-kept_move : (state : State) (flag c : ℕ) (t d : List ℕ) → ((t : List ℕ) → fits state t ≡ fits Flags t) → (c == 10) ≡ false → fits Flags t ≡ true → Kept (λ p. in_move flag c (lex state t d p))
-kept_move state flag c t d same end fit =
+kept_move : (state : State) (flag c : ℕ) (t : List ℕ) → ((t : List ℕ) → fits state t ≡ fits Flags t) → (c == 10) ≡ false → fits Flags t ≡ true → Kept (λ p. in_move flag c (lex state t [] p))
+kept_move state flag c t same end fit =
     kept_else (c == 10) _ _ end
-    (kept_if (c == 32) _ _ (kept state t d [] refl (same t ∙ fit))
+    (kept_if (c == 32) _ _ (kept state t [] refl (same t ∙ fit))
     (kept_on ((c == 51) || (c == 52)) _ _
-    (λ is. kept state (t ++ c ∷ []) d [] refl (same (t ++ c ∷ []) ∙ fits_flags t c (and_parts _ _ fit).0 (other_flag c is))) (λ _. kept Refused t d [] refl refl)))
+    (λ is. kept state (t ++ c ∷ []) [] refl (same (t ++ c ∷ []) ∙ fits_flags t c (and_parts _ _ fit).0 (other_flag c is))) (λ _. kept Refused t [] refl refl)))
 
 -- a byte that ends no line
-kept_byte : (state : State) (k : Class) (c : ℕ) (t d : List ℕ) → (c == 10) ≡ false → fits state t ≡ true → Kept (λ p. step_in state k c (lex state t d p))
-kept_byte LineStart k c [] d end fit = kept_if (c == 35) _ _ (kept Hash [] d [] refl refl) (kept_begins k c LineStart d end)
-kept_byte Between k c [] d end fit = kept_begins k c Between d end
-kept_byte Word k c t d end fit = kept_word k c t d end fit
-kept_byte Number k c t d end fit = kept_number k c Number t d end fit
+kept_byte : (state : State) (k : Class) (c : ℕ) (t d : List ℕ) → (c == 10) ≡ false → fits state t ≡ true → Kept (λ p. step_in state k c (held state t d p))
+kept_byte LineStart k c [] d end fit = kept_if (c == 35) _ _ (kept Hash [] [] refl refl) (kept_begins k c LineStart end)
+kept_byte Between k c [] d end fit = kept_begins k c Between end
+kept_byte Word k c t d end fit = kept_word k c t end fit
+kept_byte Number k c t d end fit = kept_number k c Number t end fit
 kept_byte Exponent k c t d end fit =
-    kept_if ((c == 43) || (c == 45)) _ _ (kept Number (t ++ c ∷ []) d [] refl (grown t c end)) (kept_number k c Exponent t d end fit)
-kept_byte Separator k c t d end fit = kept_separator k c t d end fit
-kept_byte Operator k c t d end fit = kept_operator k c Operator t d end fit
-kept_byte Dot k c t d end fit = kept_dot k c t d end fit
+    kept_if ((c == 43) || (c == 45)) _ _ (kept Number (t ++ c ∷ []) [] refl (grown t c end)) (kept_number k c Exponent t end fit)
+kept_byte Separator k c t d end fit = kept_separator k c t end fit
+kept_byte Operator k c t d end fit = kept_operator k c Operator t end fit
+kept_byte Dot k c t d end fit = kept_dot k c t end fit
 kept_byte Slash k c t d end fit =
-    kept_if (c == 47) _ _ (kept_remark LineComment t d refl fit)
-    (kept_if (c == 42) _ _ (kept_remark Comment t d refl fit) (kept_operator k c Slash (t ++ 47 ∷ []) d end (grown t 47 refl)))
-kept_byte Text k c t d end fit = kept_quoted 34 c Text TextEscape Closed t d (grown t c end) (grown t c end) (grown t c end)
-kept_byte TextEscape k c t d end fit = kept_if (c == 10) _ _ (kept Refused t d [] refl refl) (kept Text (t ++ c ∷ []) d [] refl (grown t c end))
-kept_byte Character k c t d end fit = kept_quoted 39 c Character CharacterEscape Closed t d (grown t c end) (grown t c end) (grown t c end)
-kept_byte CharacterEscape k c t d end fit = kept_if (c == 10) _ _ (kept Refused t d [] refl refl) (kept Character (t ++ c ∷ []) d [] refl (grown t c end))
-kept_byte Closed k c t d end fit = kept_literal k c t d end fit
-kept_byte Suffix k c t d end fit = kept_suffix k c t d end fit
+    kept_if (c == 47) _ _ (kept_remark LineComment t refl fit)
+    (kept_if (c == 42) _ _ (kept_remark Comment t refl fit) (kept_operator k c Slash (t ++ 47 ∷ []) end (grown t 47 refl)))
+kept_byte Text k c t d end fit = kept_quoted 34 c Text TextEscape Closed t (grown t c end) (grown t c end) (grown t c end)
+kept_byte TextEscape k c t d end fit = kept_if (c == 10) _ _ (kept Refused t [] refl refl) (kept Text (t ++ c ∷ []) [] refl (grown t c end))
+kept_byte Character k c t d end fit = kept_quoted 39 c Character CharacterEscape Closed t (grown t c end) (grown t c end) (grown t c end)
+kept_byte CharacterEscape k c t d end fit = kept_if (c == 10) _ _ (kept Refused t [] refl refl) (kept Character (t ++ c ∷ []) [] refl (grown t c end))
+kept_byte Closed k c t d end fit = kept_literal k c t end fit
+kept_byte Suffix k c t d end fit = kept_suffix k c t end fit
 kept_byte RawDelimiter k c t d end fit = kept_delimiter k c t d fit
 kept_byte Raw k c t d end fit =
-    kept_if ((c == 34) && ends_with nat_eq t d) _ _ (kept Closed (t ++ c ∷ []) [] [] refl (grown t c end)) (kept Raw (t ++ c ∷ []) d [] refl (other_add t c fit))
-kept_byte LineComment k c [] d end fit = kept (in_line_comment c) [] d [] refl (fits_if (c == 92) _ _ [] refl (fits_if (c == 10) _ _ [] refl refl))
-kept_byte Comment k c [] d end fit = kept (in_comment c) [] d [] refl (fits_if (c == 92) _ _ [] refl (fits_if (c == 42) _ _ [] refl refl))
+    kept_if ((c == 34) && ends_with nat_eq t d) _ _ (kept Closed (t ++ c ∷ []) [] refl (grown t c end)) (holds Raw (t ++ c ∷ []) d [] refl (other_add t c fit))
+kept_byte LineComment k c [] d end fit = kept (state_after LineComment k c) [] [] refl (fits_if (c == 92) _ _ [] refl (fits_if (c == 10) _ _ [] refl refl))
+kept_byte Comment k c [] d end fit = kept (in_comment c) [] [] refl (fits_if (c == 92) _ _ [] refl (fits_if (c == 42) _ _ [] refl refl))
 kept_byte CommentStar k c [] d end fit =
-    kept (cond (c == 47) Between (in_comment c)) [] d [] refl (fits_if (c == 47) _ _ [] refl (fits_if (c == 92) _ _ [] refl (fits_if (c == 42) _ _ [] refl refl)))
-kept_byte Hash k c [] d end fit = kept_hash k c d
+    kept (state_after CommentStar k c) [] [] refl (fits_if (c == 47) _ _ [] refl (fits_if (c == 92) _ _ [] refl (fits_if (c == 42) _ _ [] refl refl)))
+kept_byte Hash k c [] d end fit = kept_hash k c
 kept_byte Directive k c t d end fit =
-    kept_else (c == 10) _ _ end (kept_if (is_doubtful t c) _ _ (kept Refused t d [] refl refl) (kept Directive (t ++ c ∷ []) d [] refl (other_add t c fit)))
-kept_byte Marker k c [] d end fit = kept (state_after Marker k c) [] d [] refl (fits_number k c)
-kept_byte MarkerNumber k c [] d end fit = kept (state_after MarkerNumber k c) [] d [] refl (fits_more k c)
-kept_byte MarkerGap k c [] d end fit = kept_on (c == 34) _ _ (λ is. kept MarkerName (c ∷ []) d [] refl is) (λ _. kept Refused [] d [] refl refl)
-kept_byte MarkerName k c t d end fit = kept_name c t d fit
-kept_byte MarkerEscape k c t d end fit = kept_if (c == 10) _ _ (kept Refused t d [] refl refl) (kept MarkerName (t ++ c ∷ []) d [] refl (quote_add t c fit))
-kept_byte Flags k c t d end fit = kept_flags c t d end fit
-kept_byte Enters k c t d end fit = kept_move Enters 49 c t d (λ t. refl) end fit
-kept_byte Returns k c t d end fit = kept_move Returns 50 c t d (λ t. refl) end fit
-kept_byte Refused k c t d end fit = kept Refused t d [] refl refl
+    kept_else (c == 10) _ _ end (kept_if (is_doubtful t c) _ _ (kept Refused t [] refl refl) (kept Directive (t ++ c ∷ []) [] refl (other_add t c fit)))
+kept_byte Marker k c [] d end fit = kept (state_after Marker k c) [] [] refl (fits_number k c)
+kept_byte MarkerNumber k c [] d end fit = kept (state_after MarkerNumber k c) [] [] refl (fits_more k c)
+kept_byte MarkerGap k c [] d end fit = kept_on (c == 34) _ _ (λ is. kept MarkerName (c ∷ []) [] refl is) (λ _. kept Refused [] [] refl refl)
+kept_byte MarkerName k c t d end fit = kept_name c t fit
+kept_byte MarkerEscape k c t d end fit = kept_if (c == 10) _ _ (kept Refused t [] refl refl) (kept MarkerName (t ++ c ∷ []) [] refl (quote_add t c fit))
+kept_byte Flags k c t d end fit = kept_flags c t end fit
+kept_byte Enters k c t d end fit = kept_move Enters 49 c t (λ t. refl) end fit
+kept_byte Returns k c t d end fit = kept_move Returns 50 c t (λ t. refl) end fit
+kept_byte Refused k c t d end fit = holds Refused t d [] refl refl
 kept_byte state k c (x ∷ xs) d end fit = absurd (false≢true fit)
 
 other_plain : (t : List ℕ) → begins_other t ≡ true → is_marker (t ++ 10 ∷ []) ≡ false
@@ -333,47 +335,37 @@ is_named Enters = true
 is_named Returns = true
 is_named _ = false
 
-kept_end : (state : State) (t d : List ℕ) → is_named state ≡ false → fits state t ≡ true → Kept (λ p. step_in state class.LineEnd 10 (lex state t d p))
-kept_end LineStart [] d name fit = kept LineStart [] d [] refl refl
-kept_end Between [] d name fit = kept LineStart [] d [] refl refl
-kept_end Word t d name fit = kept LineStart [] d (t ∷ []) (plain_ends t fit) refl
-kept_end Number t d name fit = kept LineStart [] d (t ∷ []) (plain_ends t fit) refl
-kept_end Exponent t d name fit = kept LineStart [] d (t ∷ []) (plain_ends t fit) refl
-kept_end Separator t d name fit = kept Refused t d [] refl refl
-kept_end Operator t d name fit = kept LineStart [] d (t ∷ []) (plain_ends t fit) refl
-kept_end Dot t d name fit = kept LineStart [] d (t ∷ []) (plain_ends t fit) refl
-kept_end Slash t d name fit = kept LineStart [] d ((t ++ 47 ∷ []) ∷ []) (plain_ends (t ++ 47 ∷ []) (grown t 47 refl)) refl
-kept_end Text t d name fit = kept Refused t d [] refl refl
-kept_end TextEscape t d name fit = kept Refused t d [] refl refl
-kept_end Character t d name fit = kept Refused t d [] refl refl
-kept_end CharacterEscape t d name fit = kept Refused t d [] refl refl
-kept_end Closed t d name fit = kept LineStart [] d (t ∷ []) (plain_ends t fit) refl
-kept_end Suffix t d name fit = kept LineStart [] d (t ∷ []) (plain_ends t fit) refl
-kept_end RawDelimiter t d name fit = kept Refused t d [] refl refl
-kept_end Raw t d name fit = kept Raw (t ++ 10 ∷ []) d [] refl (other_add t 10 fit)
-kept_end LineComment [] d name fit = kept LineStart [] d [] refl refl
-kept_end Comment [] d name fit = kept Comment [] d [] refl refl
-kept_end CommentStar [] d name fit = kept Comment [] d [] refl refl
-kept_end Hash [] d name fit = kept Refused [] d [] refl refl
+kept_end : (state : State) (t d : List ℕ) → is_named state ≡ false → fits state t ≡ true → Kept (λ p. step_in state class.LineEnd 10 (held state t d p))
+kept_end LineStart t d name fit = kept LineStart t [] refl fit
+kept_end Between t d name fit = kept LineStart t [] refl fit
+kept_end LineComment t d name fit = kept LineStart t [] refl fit
+kept_end MarkerNumber t d name fit = kept LineStart t [] refl fit
+kept_end Comment t d name fit = kept Comment t [] refl fit
+kept_end CommentStar t d name fit = kept Comment t [] refl fit
+kept_end Word t d name fit = kept LineStart [] (t ∷ []) (plain_ends t fit) refl
+kept_end Number t d name fit = kept LineStart [] (t ∷ []) (plain_ends t fit) refl
+kept_end Exponent t d name fit = kept LineStart [] (t ∷ []) (plain_ends t fit) refl
+kept_end Operator t d name fit = kept LineStart [] (t ∷ []) (plain_ends t fit) refl
+kept_end Dot t d name fit = kept LineStart [] (t ∷ []) (plain_ends t fit) refl
+kept_end Slash t d name fit = kept LineStart [] ((t ++ 47 ∷ []) ∷ []) (plain_ends (t ++ 47 ∷ []) (grown t 47 refl)) refl
+kept_end Closed t d name fit = kept LineStart [] (t ∷ []) (plain_ends t fit) refl
+kept_end Suffix t d name fit = kept LineStart [] (t ∷ []) (plain_ends t fit) refl
+kept_end RawDelimiter t d name fit = holds Refused t d [] refl refl
+kept_end Raw t d name fit = holds Raw (t ++ 10 ∷ []) d [] refl (other_add t 10 fit)
 kept_end Directive t d name fit =
-    kept_if (starts_with nat_eq t (codes "#line")) _ _ (kept Refused t d [] refl refl)
-    (kept LineStart [] d ((t ++ 10 ∷ []) ∷ []) (ap (λ b. cond b false true) (other_plain t fit)) refl)
-kept_end Marker [] d name fit = kept Refused [] d [] refl refl
-kept_end MarkerNumber [] d name fit = kept LineStart [] d [] refl refl
-kept_end MarkerGap [] d name fit = kept Refused [] d [] refl refl
-kept_end MarkerName t d name fit = kept Refused t d [] refl refl
-kept_end MarkerEscape t d name fit = kept Refused t d [] refl refl
+    kept_if (starts_with nat_eq t (codes "#line")) _ _ (kept Refused t [] refl refl)
+    (kept LineStart [] ((t ++ 10 ∷ []) ∷ []) (ap (λ b. cond b false true) (other_plain t fit)) refl)
 kept_end Flags t d name fit = absurd (false≢true (sym name))
 kept_end Enters t d name fit = absurd (false≢true (sym name))
 kept_end Returns t d name fit = absurd (false≢true (sym name))
-kept_end Refused t d name fit = kept Refused t d [] refl refl
-kept_end state (x ∷ xs) d name fit = absurd (false≢true fit)
+kept_end Refused t d name fit = holds Refused t d [] refl refl
+kept_end state t d name fit = kept Refused t [] refl refl
 
 -- each step but the end of a line marker
-kept_step : (state : State) (c : ℕ) (t d : List ℕ) → ((c == 10) && is_named state) ≡ false → fits state t ≡ true → Kept (λ p. step c (lex state t d p))
+kept_step : (state : State) (c : ℕ) (t d : List ℕ) → ((c == 10) && is_named state) ≡ false → fits state t ≡ true → Kept (λ p. step c (held state t d p))
 kept_step state c t d other fit =
-    elim (c == 10) as (λ b. (c == 10) ≡ b → (b && is_named state) ≡ false → Kept (λ p. step c (lex state t d p))) [
-      | true ↦ λ is name. subst (λ c. Kept (λ p. step c (lex state t d p))) (sym (eqb-true c 10 is)) (kept_end state t d name fit)
+    elim (c == 10) as (λ b. (c == 10) ≡ b → (b && is_named state) ≡ false → Kept (λ p. step c (held state t d p))) [
+      | true ↦ λ is name. subst (λ c. Kept (λ p. step c (held state t d p))) (sym (eqb-true c 10 is)) (kept_end state t d name fit)
       | false ↦ λ end _. kept_byte state (class_of c) c t d end fit
     ] refl other
 
@@ -433,7 +425,7 @@ plain_map p ended (Some ts) plain = ap Some (plain_left p ended ts plain)
 
 -- a step that nothing of this changes
 step_left : (p : List ℕ) (f : List ℕ → Step) (next : Kept f) (cs : List ℕ) →
-    tokens_from (lex next.state next.token next.delimiter p) cs ≡ option_map (left p) (tokens_from (lex next.state next.token next.delimiter []) cs) →
+    tokens_from (held next.state next.token next.delimiter p) cs ≡ option_map (left p) (tokens_from (held next.state next.token next.delimiter []) cs) →
     from (f p) cs ≡ option_map (left p) (from (f []) cs)
 step_left p f next cs on =
     ap (λ after. from after cs) (next.is p) ∙ ap (option_map (λ ts. next.ended ++ ts)) on
@@ -469,17 +461,17 @@ stay_map t p b (Some ts) fit is =
     ap Some (elim b as (λ b. cond b [] ((t ++ 10 ∷ []) ∷ []) ++ ts ≡ cond b ts ((t ++ 10 ∷ []) ∷ ts)) [ true ↦ refl | false ↦ refl ]
     ∙ sym (stay_one t p ts fit ∙ ap (λ b. cond b ts ((t ++ 10 ∷ []) ∷ ts)) is))
 
-stay_left : (t d p cs : List ℕ) → fits Flags t ≡ true → tokens_from (lex Flags t d p) (10 ∷ cs) ≡ option_map (left p) (tokens_from (lex Flags t d []) (10 ∷ cs))
-stay_left [] d p cs fit = absurd (false≢true fit)
-stay_left (x ∷ xs) d p cs fit =
+stay_left : (t p cs : List ℕ) → fits Flags t ≡ true → tokens_from (lex Flags t [] p) (10 ∷ cs) ≡ option_map (left p) (tokens_from (lex Flags t [] []) (10 ∷ cs))
+stay_left [] p cs fit = absurd (false≢true fit)
+stay_left (x ∷ xs) p cs fit =
     let t = x ∷ xs in
     let marker = t ++ 10 ∷ [] in
     elim (bytes_eq t p) as (λ b. bytes_eq t p ≡ b →
-    from (cond b (lex LineStart [] d p, []) (lex LineStart [] d t, marker ∷ [])) cs ≡ option_map (left p) (option_map (λ ts. (marker ∷ []) ++ ts) (tokens_from (lex LineStart [] d t) cs))) [
+    from (cond b (lex LineStart [] [] p, []) (lex LineStart [] [] t, marker ∷ [])) cs ≡ option_map (left p) (option_map (λ ts. (marker ∷ []) ++ ts) (tokens_from (lex LineStart [] [] t) cs))) [
       | true ↦ λ is.
-          ap (λ q. option_map (λ ts. [] ++ ts) (tokens_from (lex LineStart [] d q) cs)) (sym ((bytes_eq-Decides t p).0 is))
-          ∙ stay_map t p true (tokens_from (lex LineStart [] d t) cs) fit is
-      | false ↦ λ is. stay_map t p false (tokens_from (lex LineStart [] d t) cs) fit is
+          ap (λ q. option_map (λ ts. [] ++ ts) (tokens_from (lex LineStart [] [] q) cs)) (sym ((bytes_eq-Decides t p).0 is))
+          ∙ stay_map t p true (tokens_from (lex LineStart [] [] t) cs) fit is
+      | false ↦ λ is. stay_map t p false (tokens_from (lex LineStart [] [] t) cs) fit is
     ] refl
 
 move_one : (t p : List ℕ) (flag : ℕ) (ts : List (List ℕ)) → is_flag flag ≡ true → begins_quote t ≡ true →
@@ -497,79 +489,107 @@ move_map : (t p : List ℕ) (flag : ℕ) (found : Option (List (List ℕ))) → 
 move_map t p flag None is quote = refl
 move_map t p flag (Some ts) is quote = ap Some (sym (move_one t p flag ts is quote))
 
-move_left : (state : State) (flag : ℕ) → is_flag flag ≡ true → ((t d p : List ℕ) → step 10 (lex state t d p) ≡ in_move flag 10 (lex state t d p)) →
-    (t d p cs : List ℕ) → fits Flags t ≡ true → tokens_from (lex state t d p) (10 ∷ cs) ≡ option_map (left p) (tokens_from (lex state t d []) (10 ∷ cs))
-move_left state flag is steps t d p cs fit =
-    ap (λ next. from next cs) (steps t d p)
-    ∙ move_map t p flag (tokens_from (lex LineStart [] d t) cs) is (and_parts _ _ fit).0
-    ∙ sym (ap (λ next. option_map (left p) (from next cs)) (steps t d []))
+move_left : (state : State) (flag : ℕ) → is_flag flag ≡ true → ((t p : List ℕ) → step 10 (lex state t [] p) ≡ in_move flag 10 (lex state t [] p)) →
+    (t p cs : List ℕ) → fits Flags t ≡ true → tokens_from (lex state t [] p) (10 ∷ cs) ≡ option_map (left p) (tokens_from (lex state t [] []) (10 ∷ cs))
+move_left state flag is steps t p cs fit =
+    ap (λ next. from next cs) (steps t p)
+    ∙ move_map t p flag (tokens_from (lex LineStart [] [] t) cs) is (and_parts _ _ fit).0
+    ∙ sym (ap (λ next. option_map (left p) (from next cs)) (steps t []))
 
 named_left : (state : State) (t d p cs : List ℕ) → is_named state ≡ true → fits state t ≡ true →
-    tokens_from (lex state t d p) (10 ∷ cs) ≡ option_map (left p) (tokens_from (lex state t d []) (10 ∷ cs))
-named_left Flags t d p cs name fit = stay_left t d p cs fit
-named_left Enters t d p cs name fit = move_left Enters 49 refl (λ t d p. refl) t d p cs fit
-named_left Returns t d p cs name fit = move_left Returns 50 refl (λ t d p. refl) t d p cs fit
+    tokens_from (held state t d p) (10 ∷ cs) ≡ option_map (left p) (tokens_from (held state t d []) (10 ∷ cs))
+named_left Flags t d p cs name fit = stay_left t p cs fit
+named_left Enters t d p cs name fit = move_left Enters 49 refl (λ t p. refl) t p cs fit
+named_left Returns t d p cs name fit = move_left Returns 50 refl (λ t p. refl) t p cs fit
 named_left state t d p cs name fit = absurd (false≢true name)
 
 -- the tokens of a text behind a file
-text_left : (state : State) (t d p text : List ℕ) → fits state t ≡ true → tokens_from (lex state t d p) text ≡ option_map (left p) (tokens_from (lex state t d []) text)
+text_left : (state : State) (t d p text : List ℕ) → fits state t ≡ true → tokens_from (held state t d p) text ≡ option_map (left p) (tokens_from (held state t d []) text)
 text_left state t d p [] fit = ending_left p state t fit
 text_left state t d p (c ∷ cs) fit =
-    elim ((c == 10) && is_named state) as (λ b. ((c == 10) && is_named state) ≡ b → tokens_from (lex state t d p) (c ∷ cs) ≡ option_map (left p) (tokens_from (lex state t d []) (c ∷ cs))) [
+    elim ((c == 10) && is_named state) as (λ b. ((c == 10) && is_named state) ≡ b → tokens_from (held state t d p) (c ∷ cs) ≡ option_map (left p) (tokens_from (held state t d []) (c ∷ cs))) [
       | true ↦ λ both.
           let parts = and_parts (c == 10) (is_named state) both in
-          subst (λ c. tokens_from (lex state t d p) (c ∷ cs) ≡ option_map (left p) (tokens_from (lex state t d []) (c ∷ cs))) (sym (eqb-true c 10 parts.0))
+          subst (λ c. tokens_from (held state t d p) (c ∷ cs) ≡ option_map (left p) (tokens_from (held state t d []) (c ∷ cs))) (sym (eqb-true c 10 parts.0))
           (named_left state t d p cs parts.1 fit)
       | false ↦ λ other.
-          let next : Kept (λ p. step c (lex state t d p)) = kept_step state c t d other fit in
-          step_left p (λ p. step c (lex state t d p)) next cs (text_left next.state next.token next.delimiter p cs next.fit)
+          let next : Kept (λ p. step c (held state t d p)) = kept_step state c t d other fit in
+          step_left p (λ p. step c (held state t d p)) next cs (text_left next.state next.token next.delimiter p cs next.fit)
     ] refl
 
--- the file that a lexer ends at is that of its tokens
-abbrev Placed : List ℕ → Step → Type 0
-Placed p after = place_after p after.1 ≡ after.0.place
+-- the file that a lexer ends at is that of its tokens, and it holds only what its state needs
+record Placed (p : List ℕ) (after : Step) : Type 0 where
+  place : place_after p after.1 ≡ after.0.place
+  fit : fits after.0.state after.0.token ≡ true
+  is : after.0 ≡ held after.0.state after.0.token after.0.delimiter after.0.place
 
-marker_placed : (t d p token cs : List ℕ) → is_marker token ≡ true → place_of token ≡ t → Placed t (run (lex LineStart [] d t) cs) →
-    Placed p ((run (lex LineStart [] d t) cs).0, (token ∷ []) ++ (run (lex LineStart [] d t) cs).1)
-marker_placed t d p token cs marker place on =
-    let more = (run (lex LineStart [] d t) cs).1 in
-    ap (λ b. place_after (cond b (place_of token) p) more) marker ∙ ap (λ q. place_after q more) place ∙ on
+marker_placed : (t p token cs : List ℕ) → is_marker token ≡ true → place_of token ≡ t → Placed t (run (lex LineStart [] [] t) cs) →
+    Placed p ((run (lex LineStart [] [] t) cs).0, (token ∷ []) ++ (run (lex LineStart [] [] t) cs).1)
+marker_placed t p token cs marker place on =
+    let more = (run (lex LineStart [] [] t) cs).1 in
+    record {
+      place = ap (λ b. place_after (cond b (place_of token) p) more) marker ∙ ap (λ q. place_after q more) place ∙ on.place;
+      fit = on.fit;
+      is = on.is;
+    }
 
-move_placed : (state : State) (flag : ℕ) → is_flag flag ≡ true → ((t d p : List ℕ) → step 10 (lex state t d p) ≡ in_move flag 10 (lex state t d p)) →
-    (t d p cs : List ℕ) → fits Flags t ≡ true → Placed t (run (lex LineStart [] d t) cs) → Placed p (run (lex state t d p) (10 ∷ cs))
-move_placed state flag is steps t d p cs fit on =
-    subst (λ (after : Step). Placed p ((run after.0 cs).0, after.1 ++ (run after.0 cs).1)) (sym (steps t d p))
-    (marker_placed t d p ((t ++ flag ∷ []) ++ 10 ∷ []) cs (marker_here (t ++ flag ∷ []) (quote_add t flag (and_parts _ _ fit).0)) (place_moves t flag is) on)
+move_placed : (state : State) (flag : ℕ) → is_flag flag ≡ true → ((t p : List ℕ) → step 10 (lex state t [] p) ≡ in_move flag 10 (lex state t [] p)) →
+    (t p cs : List ℕ) → fits Flags t ≡ true → Placed t (run (lex LineStart [] [] t) cs) → Placed p (run (lex state t [] p) (10 ∷ cs))
+move_placed state flag is steps t p cs fit on =
+    subst (λ (after : Step). Placed p ((run after.0 cs).0, after.1 ++ (run after.0 cs).1)) (sym (steps t p))
+    (marker_placed t p ((t ++ flag ∷ []) ++ 10 ∷ []) cs (marker_here (t ++ flag ∷ []) (quote_add t flag (and_parts _ _ fit).0)) (place_moves t flag is) on)
 
-named_placed : (state : State) (t d p cs : List ℕ) → is_named state ≡ true → fits state t ≡ true → ((q : List ℕ) → Placed q (run (lex LineStart [] d q) cs)) →
-    Placed p (run (lex state t d p) (10 ∷ cs))
+named_placed : (state : State) (t d p cs : List ℕ) → is_named state ≡ true → fits state t ≡ true → ((q : List ℕ) → Placed q (run (lex LineStart [] [] q) cs)) →
+    Placed p (run (held state t d p) (10 ∷ cs))
 named_placed Flags t d p cs name fit on =
     elim (bytes_eq t p) as (λ b.
-    let after : Step = cond b (lex LineStart [] d p, []) (lex LineStart [] d t, (t ++ 10 ∷ []) ∷ []) in
+    let after : Step = cond b (lex LineStart [] [] p, []) (lex LineStart [] [] t, (t ++ 10 ∷ []) ∷ []) in
     Placed p ((run after.0 cs).0, after.1 ++ (run after.0 cs).1)) [
       | true ↦ on p
-      | false ↦ marker_placed t d p (t ++ 10 ∷ []) cs (marker_here t (and_parts _ _ fit).0) (place_stays t fit) (on t)
+      | false ↦ marker_placed t p (t ++ 10 ∷ []) cs (marker_here t (and_parts _ _ fit).0) (place_stays t fit) (on t)
     ]
-named_placed Enters t d p cs name fit on = move_placed Enters 49 refl (λ t d p. refl) t d p cs fit (on t)
-named_placed Returns t d p cs name fit on = move_placed Returns 50 refl (λ t d p. refl) t d p cs fit (on t)
+named_placed Enters t d p cs name fit on = move_placed Enters 49 refl (λ t p. refl) t p cs fit (on t)
+named_placed Returns t d p cs name fit on = move_placed Returns 50 refl (λ t p. refl) t p cs fit (on t)
 named_placed state t d p cs name fit on = absurd (false≢true name)
 
-placed : (state : State) (t d p text : List ℕ) → fits state t ≡ true → Placed p (run (lex state t d p) text)
-placed state t d p [] fit = refl
+placed : (state : State) (t d p text : List ℕ) → fits state t ≡ true → Placed p (run (held state t d p) text)
+placed state t d p [] fit = record {
+  place = refl;
+  fit = fit;
+  is = ap (λ d. lex state t d p) (elim (keeps_delimiter state) as (λ b. cond b d [] ≡ cond b (cond b d []) []) [ true ↦ refl | false ↦ refl ]);
+}
 placed state t d p (c ∷ cs) fit =
-    elim ((c == 10) && is_named state) as (λ b. ((c == 10) && is_named state) ≡ b → Placed p (run (lex state t d p) (c ∷ cs))) [
+    elim ((c == 10) && is_named state) as (λ b. ((c == 10) && is_named state) ≡ b → Placed p (run (held state t d p) (c ∷ cs))) [
       | true ↦ λ both.
           let parts = and_parts (c == 10) (is_named state) both in
-          subst (λ c. Placed p (run (lex state t d p) (c ∷ cs))) (sym (eqb-true c 10 parts.0))
+          subst (λ c. Placed p (run (held state t d p) (c ∷ cs))) (sym (eqb-true c 10 parts.0))
           (named_placed state t d p cs parts.1 fit (λ q. placed LineStart [] d q cs refl))
       | false ↦ λ other.
-          let next : Kept (λ p. step c (lex state t d p)) = kept_step state c t d other fit in
-          let more = run (lex next.state next.token next.delimiter p) cs in
+          let next : Kept (λ p. step c (held state t d p)) = kept_step state c t d other fit in
+          let more : Placed p (run (held next.state next.token next.delimiter p) cs) = placed next.state next.token next.delimiter p cs next.fit in
           subst (λ (after : Step). Placed p ((run after.0 cs).0, after.1 ++ (run after.0 cs).1)) (sym (next.is p))
-          (plain_place p next.ended more.1 next.plain ∙ placed next.state next.token next.delimiter p cs next.fit)
+          (record { place = plain_place p next.ended _ next.plain ∙ more.place; fit = more.fit; is = more.is })
     ] refl
 
 -- ---- a text and its parts
+
+empty : (t : List ℕ) → is_empty t ≡ true → t ≡ []
+empty [] none = refl
+empty (c ∷ cs) none = absurd (false≢true none)
+
+-- behind whole lines a lexer is where it began, but for the file of the last line marker
+pub behind_lines : (part rest : List ℕ) (ended : List (List ℕ)) → is_whole_lines part ≡ true → tokens_from beginning part ≡ Some ended →
+    tokens_from beginning (part ++ rest) ≡ option_map (λ ts. ended ++ ts) (tokens_from (lexer LineStart [] (run beginning part).0.place) rest)
+behind_lines part rest ended whole reads =
+    let after = run beginning part in
+    let there : Placed [] after = placed LineStart [] [] [] part refl in
+    let starts : after.0.state ≡ LineStart = start_again beginning part ended refl whole reads in
+    let is : after.0 ≡ lexer LineStart [] after.0.place =
+    there.is ∙ ap (λ state. held state after.0.token after.0.delimiter after.0.place) starts
+    ∙ ap (λ token. lexer LineStart token after.0.place) (empty after.0.token (ap (λ state. fits state after.0.token) (sym starts) ∙ there.fit)) in
+    run_on beginning part rest
+    ∙ ap (λ (first : List (List ℕ)). option_map (λ ts. first ++ ts) (tokens_from after.0 rest)) (run_tokens part ended whole reads)
+    ∙ ap (λ v. option_map (λ ts. ended ++ ts) (tokens_from v rest)) is
 
 -- the tokens of a text from those of its first part and of the rest
 abbrev joined : List (List ℕ) → List (List ℕ) → List (List ℕ)
@@ -583,7 +603,7 @@ join_maps ended p (Some ts) = refl
 lines_join : (part rest : List ℕ) (ended : List (List ℕ)) → is_whole_lines part ≡ true → tokens_from beginning part ≡ Some ended →
     tokens_from beginning (part ++ rest) ≡ option_map (joined ended) (tokens_from beginning rest)
 lines_join part rest ended whole reads =
-    let place : (run beginning part).0.place ≡ place_after [] ended = sym (placed LineStart [] [] [] part refl) ∙ ap (place_after []) (run_tokens part ended whole reads) in
+    let place : (run beginning part).0.place ≡ place_after [] ended = sym (placed LineStart [] [] [] part refl).place ∙ ap (place_after []) (run_tokens part ended whole reads) in
     behind_lines part rest ended whole reads
     ∙ ap (λ p. option_map (λ ts. ended ++ ts) (tokens_from (lex LineStart [] [] p) rest)) place
     ∙ ap (option_map (λ ts. ended ++ ts)) (text_left LineStart [] [] (place_after [] ended) rest refl)

@@ -40,17 +40,13 @@ grow state c s = (record s { state = state; token = s.token ++ c ∷ [] }, [])
 abbrev pub ends : State → Lexing → Step
 ends state s = (record s { state = state; token = [] }, s.token ∷ [])
 
--- the byte is a token
-abbrev pub lone : ℕ → Lexing → Step
-lone c s = (record s { state = Between }, (c ∷ []) ∷ [])
-
 -- what a byte does that isn't in a token
 abbrev pub begins : Class → ℕ → Lexing → Step
 begins class.Blank c s = goes Between s
 begins class.LineEnd c s = goes LineStart s
 begins class.Slash c s = goes Slash s
 begins class.Other c s = goes Refused s
-begins class.Lone c s = lone c s
+begins class.Lone c s = (record s { state = Between }, (c ∷ []) ∷ [])
 begins class.Word c s = grow Word c s
 begins class.Digit c s = grow Number c s
 begins class.Operator c s = grow Operator c s
@@ -78,16 +74,12 @@ is_raw_prefix word =
     bytes_eq word (codes "R") || bytes_eq word (codes "LR") || bytes_eq word (codes "uR") || bytes_eq word (codes "UR")
     || bytes_eq word (codes "u8R")
 
--- a raw string's `"`
-abbrev pub begins_raw : ℕ → Lexing → Step
-begins_raw c s = grow RawDelimiter c (record s { delimiter = 41 ∷ [] })
-
 abbrev pub in_word : Class → ℕ → Lexing → Step
 in_word class.Word c s = grow Word c s
 in_word class.Digit c s = grow Word c s
 in_word class.DoubleQuote c s =
     if is_encoding s.token then grow Text c s else
-    if is_raw_prefix s.token then begins_raw c s else ends_and_begins class.DoubleQuote c s
+    if is_raw_prefix s.token then grow RawDelimiter c (record s { delimiter = 41 ∷ [] }) else ends_and_begins class.DoubleQuote c s
 in_word class.SingleQuote c s = if is_encoding s.token then grow Character c s else ends_and_begins class.SingleQuote c s
 in_word k c s = ends_and_begins k c s
 
@@ -137,15 +129,8 @@ behind_slash k c s =
     if c == 42 then begins_comment Comment s else in_operator k c (record s { token = s.token ++ 47 ∷ [] })
 
 -- In comments, a backslash has no reading: it may join two lines.
-abbrev pub in_line_comment : ℕ → State
-in_line_comment c = if c == 92 then Refused else if c == 10 then LineStart else LineComment
-
 abbrev pub in_comment : ℕ → State
 in_comment c = if c == 92 then Refused else if c == 42 then CommentStar else Comment
-
--- after a `*`
-abbrev pub behind_star : ℕ → State
-behind_star c = if c == 47 then Between else in_comment c
 
 -- ---- literals
 
@@ -188,11 +173,6 @@ abbrev pub behind_hash : Class → ℕ → Lexing → Step
 behind_hash class.Word c s = grow Directive c (record s { token = s.token ++ 35 ∷ [] })
 behind_hash k c s = if c == 32 then goes Marker s else goes Refused s
 
-abbrev pub ends_directive : ℕ → Lexing → Step
-ends_directive c s =
-    if starts_with nat_eq s.token (codes "#line") then goes Refused s
-    else ends LineStart (record s { token = s.token ++ c ∷ [] })
-
 -- what may begin a comment or a raw string in a directive, or join two lines
 abbrev pub is_doubtful : List ℕ → ℕ → Bool
 is_doubtful token c =
@@ -202,7 +182,7 @@ is_doubtful token c =
 -- a directive ends with its line
 abbrev pub in_directive : ℕ → Lexing → Step
 in_directive c s =
-    if c == 10 then ends_directive c s else
+    if c == 10 then (if starts_with nat_eq s.token (codes "#line") then goes Refused s else ends LineStart (record s { token = s.token ++ c ∷ [] })) else
     if is_doubtful s.token c then goes Refused s else grow Directive c s
 
 -- what a line marker leaves: its file, and the flags 3 and 4
@@ -215,10 +195,6 @@ ends_marker c s =
     if bytes_eq s.token s.place then (record s { state = LineStart; token = [] }, [])
     else ends LineStart (record s { place = s.token; token = s.token ++ c ∷ [] })
 
--- a line marker that enters a file, or returns to one
-abbrev pub ends_move : ℕ → ℕ → Lexing → Step
-ends_move flag c s = ends LineStart (record s { place = s.token; token = (s.token ++ flag ∷ []) ++ c ∷ [] })
-
 -- in front of the file's name
 abbrev pub in_marker_gap : ℕ → Lexing → Step
 in_marker_gap c s = if c == 34 then grow MarkerName c s else goes Refused s
@@ -226,7 +202,7 @@ in_marker_gap c s = if c == 34 then grow MarkerName c s else goes Refused s
 -- the flags of a line marker that moves to another file: 3 for a system header, 4 for one of C
 abbrev pub in_move : ℕ → ℕ → Lexing → Step
 in_move flag c s =
-    if c == 10 then ends_move flag c s else
+    if c == 10 then ends LineStart (record s { place = s.token; token = (s.token ++ flag ∷ []) ++ c ∷ [] }) else
     if c == 32 then (s, []) else
     if (c == 51) || (c == 52) then grow s.state c s else goes Refused s
 
@@ -243,9 +219,9 @@ in_flags c s =
 
 -- the state after a byte that is in no token: in a comment, or in a line marker's number, which is left out
 abbrev pub state_after : State → Class → ℕ → State
-state_after LineComment k c = in_line_comment c
+state_after LineComment k c = if c == 92 then Refused else if c == 10 then LineStart else LineComment
 state_after Comment k c = in_comment c
-state_after CommentStar k c = behind_star c
+state_after CommentStar k c = if c == 47 then Between else in_comment c
 state_after Marker class.Digit c = MarkerNumber
 state_after MarkerNumber class.Digit c = MarkerNumber
 state_after MarkerNumber class.LineEnd c = LineStart

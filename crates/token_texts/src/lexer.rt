@@ -83,7 +83,11 @@ fn state_after(state: State, class: Class, byte: u8) -> State
     ensures { result ≡ spec.state_after state class byte }
 {
     match (state, class) {
-        (State::LineComment, _) => line_comment_after(byte),
+        (State::LineComment, _) => match byte {
+            b'\\' => State::Refused,
+            b'\n' => State::LineStart,
+            _ => State::LineComment,
+        },
         (State::Comment, _) => comment_after(byte),
         (State::CommentStar, _) if byte == b'/' => State::Between,
         (State::CommentStar, _) => comment_after(byte),
@@ -91,16 +95,6 @@ fn state_after(state: State, class: Class, byte: u8) -> State
         (State::MarkerNumber, Class::LineEnd) => State::LineStart,
         (State::MarkerNumber, Class::Blank) if byte == b' ' => State::MarkerGap,
         _ => State::Refused,
-    }
-}
-
-fn line_comment_after(byte: u8) -> State
-    ensures { result ≡ spec.in_line_comment byte }
-{
-    match byte {
-        b'\\' => State::Refused,
-        b'\n' => State::LineStart,
-        _ => State::LineComment,
     }
 }
 
@@ -218,7 +212,10 @@ impl Lexer {
             Class::LineEnd => self.state = State::LineStart,
             Class::Slash => self.state = State::Slash,
             Class::Other => self.state = State::Refused,
-            Class::Lone => return self.write_lone(byte),
+            Class::Lone => {
+                push_token(&mut self.out, &[byte])?;
+                self.state = State::Between;
+            }
             Class::Word => return self.grow(State::Word, byte),
             Class::Digit => return self.grow(State::Number, byte),
             Class::Operator => return self.grow(State::Operator, byte),
@@ -234,14 +231,6 @@ impl Lexer {
     {
         self.token.push(byte)?;
         self.state = state;
-        Ok(())
-    }
-
-    fn write_lone(&mut self, byte: u8) -> Result<(), AllocError>
-        ensures { OnOk result (self.new ≡ applied (spec.lone byte self.old.at) self.old) }
-    {
-        push_token(&mut self.out, &[byte])?;
-        self.state = State::Between;
         Ok(())
     }
 
@@ -282,20 +271,16 @@ impl Lexer {
                 State::Text,
                 byte,
             ),
-            Class::DoubleQuote if is_raw_prefix(self.token.as_slice()) => self.begin_raw(byte),
+            Class::DoubleQuote if is_raw_prefix(self.token.as_slice()) => {
+                self.delimiter.clear();
+                self.delimiter.push(b')')?;
+                self.grow(State::RawDelimiter, byte)
+            }
             Class::SingleQuote if is_encoding(self.token.as_slice()) => {
                 self.grow(State::Character, byte)
             }
             _ => self.end_and_begin(class, byte),
         }
-    }
-
-    fn begin_raw(&mut self, byte: u8) -> Result<(), AllocError>
-        ensures { OnOk result (self.new ≡ applied (spec.begins_raw byte self.old.at) self.old) }
-    {
-        self.delimiter.clear();
-        self.delimiter.push(b')')?;
-        self.grow(State::RawDelimiter, byte)
     }
 
     fn read_number(&mut self, class: Class, byte: u8) -> Result<(), AllocError>
@@ -486,24 +471,20 @@ impl Lexer {
         ensures { OnOk result (self.new ≡ applied (spec.in_directive byte self.old.at) self.old) }
     {
         match byte {
-            b'\n' => self.end_directive(byte),
+            b'\n' if self.token.starts_with(b"#line") => {
+                self.state = State::Refused;
+                Ok(())
+            }
+            b'\n' => {
+                self.token.push(byte)?;
+                self.end(State::LineStart)
+            }
             _ if is_doubtful(self.token.as_slice(), byte) => {
                 self.state = State::Refused;
                 Ok(())
             }
             _ => self.grow(State::Directive, byte),
         }
-    }
-
-    fn end_directive(&mut self, byte: u8) -> Result<(), AllocError>
-        ensures { OnOk result (self.new ≡ applied (spec.ends_directive byte self.old.at) self.old) }
-    {
-        if self.token.starts_with(b"#line") {
-            self.state = State::Refused;
-            return Ok(());
-        }
-        self.token.push(byte)?;
-        self.end(State::LineStart)
     }
 
     fn read_marker_gap(&mut self, byte: u8) -> Result<(), AllocError>
@@ -535,7 +516,12 @@ impl Lexer {
         ensures { OnOk result (self.new ≡ applied (spec.in_move flag byte self.old.at) self.old) }
     {
         match byte {
-            b'\n' => return self.end_move(flag, byte),
+            b'\n' => {
+                self.keep_place()?;
+                self.token.push(flag)?;
+                self.token.push(byte)?;
+                return self.end(State::LineStart);
+            }
             b'3' | b'4' => return self.grow(self.state, byte),
             b' ' => {}
             _ => self.state = State::Refused,
@@ -553,15 +539,6 @@ impl Lexer {
             return Ok(());
         }
         self.keep_place()?;
-        self.token.push(byte)?;
-        self.end(State::LineStart)
-    }
-
-    fn end_move(&mut self, flag: u8, byte: u8) -> Result<(), AllocError>
-        ensures { OnOk result (self.new ≡ applied (spec.ends_move flag byte self.old.at) self.old) }
-    {
-        self.keep_place()?;
-        self.token.push(flag)?;
         self.token.push(byte)?;
         self.end(State::LineStart)
     }

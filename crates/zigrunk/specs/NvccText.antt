@@ -4,7 +4,7 @@ use Rattle.texts.specs.declared.fault.Fault.{Fault}
 use Rattle.nvcc_calls.specs.declared.answer.Answer.{Answer}
 use Rattle.nvcc_calls.specs.declared.answer.Answer.TheVariants as answers
 use Rattle.nvcc_calls.specs.Answer.{nvcc_answer}
-use Rattle.nvcc_lines.specs.Calls.{NvccOf}
+use Rattle.compilers.specs.Calls.{NvccOf}
 use Rattle.nvcc_calls.specs.OutlineTexts.{outline_text}
 use Rattle.programs.specs.declared.stop.Stop.{Stop}
 use Rattle.programs.specs.declared.stop.Stop.TheVariants as stops

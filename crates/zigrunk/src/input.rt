@@ -16,25 +16,19 @@ impl<'a, R: Files + AllocGlobal> Input<'a, R> {
     pub fn new(rt: &'a R, stdin: Stdin) -> Input<'a, R> {
         Input { rt, stdin }
     }
-
-    // What is left of standard input.
-    fn rest(&self) -> Result<Vec<u8>, Unread> {
-        let mut bytes = Vec::new(self.rt.alloc());
-        match (&self.stdin).read_to_end(&mut bytes) {
-            Ok(_) => Ok(bytes),
-            Err(error) => Err(unread_of(&error)),
-        }
-    }
 }
 
 impl<R: Files + AllocGlobal> Sources for Input<'_, R> {
     ghost holds = { λ _ _ _. Unit {0} };
 
     fn read(&self, path: &str) -> Result<Vec<u8>, Unread> {
-        if path == "-" {
-            self.rest()
-        } else {
-            Disk::new(self.rt).read(path)
+        if path != "-" {
+            return Disk::new(self.rt).read(path);
+        }
+        let mut bytes = Vec::new(self.rt.alloc());
+        match (&self.stdin).read_to_end(&mut bytes) {
+            Ok(_) => Ok(bytes),
+            Err(error) => Err(unread_of(&error)),
         }
     }
 }

@@ -3,19 +3,18 @@
 ghost use Rattle.std.specs.Prelude.{◌≡◌, [], ◌∷◌, ◌++◌, map, Ok, string_bytes};
 ghost use Rattle.texts.specs.Variables.{pair_of};
 ghost use Rattle.nvcc_calls.specs.Directory as directories;
-ghost use Rattle.nvcc_lines.specs.Calls.{directory_of, nvcc_of};
+ghost use Rattle.compilers.specs.Calls.{directory_of, nvcc_of};
 ghost use Rattle.programs.specs.Delivery.{Delivers};
-ghost use Rattle.program_calls.specs.Calls as forms;
+ghost use Rattle.programs.specs.Calls as forms;
 ghost use Rattle.zigrunk.specs.Endings as spec;
 
 use crate::nvcc_text::write_nvcc_text;
 use crate::options_files::options_files;
+use compilers::{DirectoryCall, NvccCall};
 use nvcc_calls::directory_name;
-use nvcc_lines::{DirectoryCall, NvccCall};
-use program_calls::{Call, HELP, VERSION, call_of};
 use programs::{
-    Sources, Stop, complain_of_answer, complain_of_misuse, deliver, export_files, show_files,
-    write_line,
+    Call, HELP, Sources, Stop, VERSION, call_of, complain_of_answer, complain_of_misuse, deliver,
+    export_files, show_files, write_line,
 };
 use std::alloc::Global;
 use std::fs::Files;
@@ -86,33 +85,14 @@ fn serve<R: Files + AllocGlobal, S: Sources, W: Write, E: Write>(
     complain_of_answer(alloc, answer, err)
 }
 
-// The exit status of a call that reads an nvcc line, if it stops.
-fn nvcc_status(stop: &Stop) -> u8
-    ensures { result ≡ spec.nvcc_status stop.now }
-{
-    match stop {
-        Stop::NotCompilation | Stop::ToNvcc(_) => 3,
-        Stop::Fault(_) | Stop::Unwritable(_) | Stop::Write => 1,
-    }
-}
-
-// The exit status of a call that stops.
-fn stopped_status(call: &Call<'_>, stop: &Stop) -> u8
-    ensures { result ≡ spec.stopped_status (forms.seen call.now) stop.now }
-{
-    match call {
-        Call::Nvcc(_) => nvcc_status(stop),
-        _ => 1,
-    }
-}
-
 // The exit status of an engine's answer.
 fn ended(call: &Call<'_>, answer: &Result<(), Stop>) -> u8
     ensures { result ≡ spec.status_of (forms.seen call.now) answer.now }
 {
-    match answer {
-        Ok(()) => 0,
-        Err(stop) => stopped_status(call, stop),
+    match (call, answer) {
+        (_, Ok(())) => 0,
+        (Call::Nvcc(_), Err(Stop::NotCompilation | Stop::ToNvcc(_))) => 3,
+        _ => 1,
     }
 }
 

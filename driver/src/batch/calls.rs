@@ -145,7 +145,10 @@ impl Making<'_> {
         let variables = given.into_iter().filter_map(|(name, value)| Some((name.to_owned(), Some(value?.clone())))).collect();
         let job = Job { words: [&self.context.settings.runner[..], words].concat(), folder: self.call.folder.clone(), variables, ..Job::default() };
         match self.job(job) {
-            Ok(ended) => self.take_end(ended),
+            Ok(ended) => {
+                self.made.status = ended.status.code;
+                self.made.said.extend([(false, ended.out), (true, ended.errors), (true, tasks::words_of_death(ended.status).into_bytes())]);
+            }
             Err(Stop::Signal(_)) => return Err(Signalled),
             Err(Stop::ByNvcc(reason)) => {
                 self.made.complain(&format!("zigrunk-batch: {reason}"));
@@ -158,11 +161,6 @@ impl Making<'_> {
     fn job(&mut self, job: Job) -> Result<Ended, Stop> {
         let done = run::run(self.turns, &mut NoRule, &[Task { job, ..Task::default() }], 1)?;
         done.into_iter().next().and_then(|done| done.ended).ok_or_else(|| Stop::ByNvcc("a command didn't run".into()))
-    }
-
-    fn take_end(&mut self, ended: Ended) {
-        self.made.status = ended.status.code;
-        self.made.said.extend([(false, ended.out), (true, ended.errors), (true, tasks::words_of_death(ended.status).into_bytes())]);
     }
 
     /// Makes a call of nvcc: split, or whole.
@@ -268,6 +266,7 @@ mod tests {
     use crate::forked::in_own_process;
     use crate::machine::Event;
     use crate::system::{Status, TERM};
+    use crate::test_folder::TestFolder;
     use std::collections::VecDeque;
     use std::fs;
     use std::io;
@@ -275,15 +274,11 @@ mod tests {
     use std::sync::Arc;
 
     /// A folder of a test, which goes with it.
-    struct Room(CallFolder);
+    struct Room(TestFolder);
 
     impl Room {
-        fn new() -> Room {
-            Room(CallFolder::take(&env::temp_dir(), "calls-of-a-test").unwrap())
-        }
-
         fn path(&self, name: &str) -> String {
-            self.0.path().join(name).to_string_lossy().into_owned()
+            self.0.join(name).to_string_lossy().into_owned()
         }
 
         fn call(&self, asked: Asked) -> BatchCall {
@@ -295,15 +290,9 @@ mod tests {
             let nvcc = self.path("nvcc");
             fs::write(&nvcc, "").unwrap();
             fs::set_permissions(&nvcc, PermissionsExt::from_mode(0o755)).unwrap();
-            let settings = Settings { nvcc: nvcc.into(), temporary: self.0.path().to_owned(), ..Settings::default() };
-            let temporary = self.0.path().to_owned();
+            let settings = Settings { nvcc: nvcc.into(), temporary: self.0.to_owned(), ..Settings::default() };
+            let temporary = self.0.to_owned();
             Context { settings, temporary, scratch: None, at_once: 1, records: None, refusals: Refusals::default(), has_few_files: false }
-        }
-    }
-
-    impl Drop for Room {
-        fn drop(&mut self) {
-            self.0.remove();
         }
     }
 
@@ -346,7 +335,7 @@ mod tests {
 
     #[test]
     fn other_programs_run_as_they_are() {
-        let room = Room::new();
+        let room = Room(TestFolder::new());
         let mut context = room.context();
         (context.settings.runner, context.scratch) = (words("step -n"), Some("/scratch".into()));
         let (made, jobs) = self::made(room.call(Asked::Program(words("make all"))), context, |_| Some(ended(139, "out\n", "err\n")));
@@ -366,7 +355,7 @@ mod tests {
 
     #[test]
     fn a_call_needs_its_folder() {
-        let room = Room::new();
+        let room = Room(TestFolder::new());
         let call = BatchCall { folder: "/missing".into(), ..room.call(Asked::Program(words("make"))) };
         let (made, jobs) = self::made(call, room.context(), |_| None);
         assert_eq!((made.status, said(&made), jobs.len()), (2, "!zigrunk-batch: no folder /missing\n".into(), 0));
@@ -374,7 +363,7 @@ mod tests {
 
     #[test]
     fn a_signal_cancels_a_call() {
-        let room = Room::new();
+        let room = Room(TestFolder::new());
         for asked in [Asked::Program(words("make")), Asked::Nvcc(words("-c k.cu -o k.o")), Asked::Nvcc(words("--version"))] {
             let (made, _) = self::made(room.call(asked), room.context(), |_| None);
             assert_eq!((made.cancelled, said(&made)), (true, String::new()));
@@ -383,7 +372,7 @@ mod tests {
 
     #[test]
     fn a_call_without_a_process_fails() {
-        let room = Room::new();
+        let room = Room(TestFolder::new());
         let (call, context) = (room.call(Asked::Program(words("make"))), room.context());
         let mut maker = Maker::begin(move |turns| make(&call, &context, turns)).unwrap();
         let made = loop {
@@ -398,7 +387,7 @@ mod tests {
 
     #[test]
     fn a_call_that_succeeds_has_made_its_products() {
-        let room = Room::new();
+        let room = Room(TestFolder::new());
         let compiler = || room.call(Asked::Compiler(words("g++ -c a.cc -o a.o")));
         let writes = |_: &Job| {
             fs::write(room.path("a.o"), "object").unwrap();
@@ -428,7 +417,7 @@ mod tests {
 
     #[test]
     fn a_call_whose_dry_run_fails_is_nvccs() {
-        let room = Room::new();
+        let room = Room(TestFolder::new());
         let own = Path::new(&room.path("")).join(format!("zigrunk-{}", crate::system::user()));
         let folders = || fs::read_dir(&own).into_iter().flatten().count();
         let end = |job: &Job| {
@@ -453,7 +442,7 @@ mod tests {
 
     #[test]
     fn some_calls_of_nvcc_are_never_split() {
-        let room = Room::new();
+        let room = Room(TestFolder::new());
         let call = || room.call(Asked::Nvcc(words("nvcc-13.0 -c k.cu -o k.o")));
         let lines = |context: Context| {
             let (made, jobs) = self::made(call(), context, |_| Some(ended(5, "", "")));
@@ -475,7 +464,7 @@ mod tests {
     #[test]
     fn a_call_without_an_nvcc_fails() {
         in_own_process(|| {
-            let room = Room::new();
+            let room = Room(TestFolder::new());
             let mut context = room.context();
             context.settings.nvcc = env::current_exe().unwrap().into();
             // SAFETY: this process has no other thread.
@@ -487,7 +476,7 @@ mod tests {
 
     #[test]
     fn calls_have_the_products_that_their_words_name() {
-        let room = Room::new();
+        let room = Room(TestFolder::new());
         let paths = |asked: Asked| products_of(&room.call(asked)).into_iter().map(|product| product.path).collect::<Vec<_>>();
         assert_eq!(paths(Asked::Nvcc(words("-c k.cu -o sub/k.o"))), [PathBuf::from(room.path("sub/k.o"))]);
         assert_eq!(paths(Asked::Compiler(words("g++ -c a.cc -o /a.o"))), [PathBuf::from("/a.o")]);

@@ -24,10 +24,7 @@ pub fn is_object(text: &[u8]) -> bool {
 }
 
 /// The entries of a database.
-///
-/// # Errors
-///
-/// Why the text isn't one.
+/// Errors: why the text isn't one.
 pub fn entries(text: &[u8]) -> Result<Vec<DatabaseEntry>, String> {
     let value = parse(text).map_err(|fault| format!("byte {}: {}", fault.at, fault.reason))?;
     let entries = value.list().ok_or("it isn't an array")?;
@@ -53,7 +50,7 @@ fn entry(value: &Value) -> Result<DatabaseEntry, &'static str> {
 /// needn't be UTF-8.
 fn split(command: &[u8]) -> Option<Vec<Vec<u8>>> {
     let text: String = command.iter().copied().map(char::from).collect();
-    let split = shell_words::split(Global, &text).ok()??;
+    let split = texts::shell::split(Global, &text).ok()??;
     let bytes = |word: &str| word.chars().map(|character| u8::try_from(character).ok()).collect();
     split.as_slice().iter().map(|word| bytes(word.as_str())).collect()
 }

@@ -17,10 +17,7 @@ pub trait Calls {
     /// The name of a call for messages.
     fn name(&self, call: usize) -> String;
     /// Starts to make a call.
-    ///
-    /// # Errors
-    ///
-    /// If there is no thread for it.
+    /// An error if there is no thread for it.
     fn begin(&self, call: usize) -> std::io::Result<Maker<Made>>;
     /// Hears what became of a call, in the order of the list.
     fn told(&mut self, call: usize, made: &Made);
@@ -166,11 +163,6 @@ impl<'a, M: Machine, C: Calls, W: Write> Graph<'a, M, C, W> {
         self.active.is_empty() && (self.is_stopped() || self.outcomes.signal.is_some() || self.schedule.over())
     }
 
-    /// How many jobs have slots, and how many calls are planned now.
-    fn slots_used(&self) -> usize {
-        self.running.iter().flatten().filter(|running| running.has_slot).count()
-    }
-
     fn may_plan(&self) -> bool {
         let planned = self.active.iter().filter(|active| active.wish.plans && active.running > 0).count();
         planned < self.limits.planned_at_once
@@ -183,7 +175,8 @@ impl<'a, M: Machine, C: Calls, W: Write> Graph<'a, M, C, W> {
     }
 
     fn may_start(&self) -> bool {
-        let has_room = self.slots_used() < self.limits.at_once && !self.is_full;
+        let slots_used = self.running.iter().flatten().filter(|running| running.has_slot).count();
+        let has_room = slots_used < self.limits.at_once && !self.is_full;
         has_room
             && !self.is_stopped()
             && (!self.held.is_empty() || self.wanting().is_some() || (self.may_plan() && (self.unbegun.is_some() || self.schedule.next().is_some())))

@@ -37,7 +37,9 @@ pub fn calls(text: &[u8], variable: &dyn Fn(&[u8]) -> Option<Vec<u8>>) -> Vec<Li
 pub fn words(line: &[u8], variable: &dyn Fn(&[u8]) -> Option<Vec<u8>>) -> Option<Vec<Vec<u8>>> {
     let begin = line.iter().position(|byte| !is_blank(*byte)).unwrap_or(line.len());
     let first = line[begin..].split(|&byte| is_blank(byte)).next().unwrap_or_default();
-    if RESERVED.contains(&first) || sets_variable(first) {
+    let name = name_size(first);
+    let sets_variable = name > 0 && first.get(name) == Some(&b'=');
+    if RESERVED.contains(&first) || sets_variable {
         return None;
     }
     let mut reader = Reader { line, at: begin, words: Vec::new(), word: None, variable };
@@ -56,11 +58,6 @@ fn is_blank(byte: u8) -> bool {
 fn name_size(text: &[u8]) -> usize {
     let is_part = |byte: &&u8| byte.is_ascii_alphanumeric() || **byte == b'_';
     if text.first().is_some_and(u8::is_ascii_digit) { 0 } else { text.iter().take_while(is_part).count() }
-}
-
-fn sets_variable(word: &[u8]) -> bool {
-    let size = name_size(word);
-    size > 0 && word.get(size) == Some(&b'=')
 }
 
 struct Reader<'a> {

@@ -78,19 +78,8 @@ fn asked_by(words: &[Vec<u8>], settings: &Settings) -> Asked {
     texts.map_or_else(|| Asked::Shell(words.iter().map(|word| encoded(word)).collect::<Vec<_>>().join(" ")), |texts| asked(texts, settings))
 }
 
-fn asked_by_line(call: lists::ListedCall, settings: &Settings) -> BatchCall {
-    let asked = match call.asks {
-        Listed::Words(words) => asked_by(&words, settings),
-        Listed::Whole => Asked::Shell(String::from_utf8(call.line.clone()).unwrap_or_else(|_| format!("eval {}", encoded(&call.line)))),
-    };
-    BatchCall { number: call.number, name: String::from_utf8_lossy(&call.line).trim().to_owned(), folder: String::new(), asked }
-}
-
 /// The calls that a text lists.
-///
-/// # Errors
-///
-/// Why the text is no `compile_commands.json`, if it begins as one.
+/// Errors: why the text is no `compile_commands.json`, if it begins as one.
 fn calls_of(text: &[u8], folder: &Path, cwd: &Path, settings: &Settings) -> Result<(Vec<BatchCall>, &'static str), String> {
     let cwd = cwd.to_string_lossy();
     if databases::is_object(text) {
@@ -98,8 +87,14 @@ fn calls_of(text: &[u8], folder: &Path, cwd: &Path, settings: &Settings) -> Resu
     }
     if !databases::is_database(text) {
         let variable = |name: &[u8]| env::var_os(OsStr::from_bytes(name)).map(OsString::into_vec);
-        let calls = lists::calls(text, &variable).into_iter().map(|call| BatchCall { folder: cwd.to_string(), ..asked_by_line(call, settings) });
-        return Ok((calls.collect(), "line"));
+        let call = |call: lists::ListedCall| {
+            let asked = match call.asks {
+                Listed::Words(words) => asked_by(&words, settings),
+                Listed::Whole => Asked::Shell(String::from_utf8(call.line.clone()).unwrap_or_else(|_| format!("eval {}", encoded(&call.line)))),
+            };
+            BatchCall { number: call.number, name: String::from_utf8_lossy(&call.line).trim().to_owned(), folder: cwd.to_string(), asked }
+        };
+        return Ok((lists::calls(text, &variable).into_iter().map(call).collect(), "line"));
     }
     let call = |(at, entry): (usize, databases::DatabaseEntry)| BatchCall {
         number: at + 1,
@@ -111,10 +106,7 @@ fn calls_of(text: &[u8], folder: &Path, cwd: &Path, settings: &Settings) -> Resu
 }
 
 /// Reads a list.
-///
-/// # Errors
-///
-/// If it can't be read, or is no list.
+/// An error if it can't be read, or is no list.
 fn list(name: Option<&OsString>, settings: &Settings) -> Result<List, String> {
     let cwd = working_directory().ok_or("there is no working directory")?;
     let mut text = Vec::new();
@@ -194,10 +186,7 @@ fn limits(options: &Options, settings: &Settings) -> Limits {
 }
 
 /// Makes the calls of a list. Says the status.
-///
-/// # Errors
-///
-/// What keeps it from making them.
+/// Errors: what keeps it from making them.
 fn make(options: &Options) -> Result<i32, String> {
     let has_few_files = system::spare_files() < FEWEST_FILES;
     let settings = Settings { has_workers: options.workers.is_some(), ..Settings::of_environment() };

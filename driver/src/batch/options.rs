@@ -118,10 +118,7 @@ impl Workers {
 }
 
 /// Parses the words.
-///
-/// # Errors
-///
-/// What is wrong with them.
+/// Errors: what is wrong with them.
 pub fn parse(words: &[OsString]) -> Result<Wanted, String> {
     let mut options = Options::default();
     let mut rest = words.iter();

@@ -123,6 +123,7 @@ pub fn outputs(words: &[String]) -> Vec<String> {
 #[cfg(test)]
 mod tests {
     use super::*;
+    use crate::test_folder::TestFolder;
 
     #[test]
     fn words_name_products() {
@@ -179,7 +180,7 @@ mod tests {
 
     #[test]
     fn a_product_counts_if_it_is_new() {
-        let folder = std::env::temp_dir().join(format!("zigrunk-products-{}", std::process::id()));
+        let folder = TestFolder::new();
         fs::create_dir_all(folder.join("sub")).unwrap();
         let product = Product::new("sub/../p", &folder).unwrap();
         assert!(!product.is_new());
@@ -194,6 +195,5 @@ mod tests {
         assert!(again.is_new());
         assert_eq!(Product::new("sub", &folder), None);
         assert_eq!(fs::read_dir(&folder).unwrap().count(), 2);
-        fs::remove_dir_all(&folder).unwrap();
     }
 }

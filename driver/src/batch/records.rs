@@ -103,10 +103,7 @@ fn rule_of(words: &[String], product: &str) -> Option<String> {
 
 impl Records {
     /// The records in this folder, which is made if it isn't there.
-    ///
-    /// # Errors
-    ///
-    /// If it can't be made.
+    /// An error if it can't be made.
     pub fn open(folder: PathBuf) -> io::Result<Records> {
         fs::create_dir_all(&folder).map(|()| Records(folder))
     }
@@ -209,6 +206,7 @@ pub fn without_rule(words: &[String]) -> Vec<String> {
 #[cfg(test)]
 mod tests {
     use super::*;
+    use crate::test_folder::TestFolder;
     use std::time::Duration;
 
     fn set(files: &[&str]) -> BTreeSet<String> {
@@ -252,10 +250,9 @@ mod tests {
 
     #[test]
     fn a_call_is_current_while_all_that_it_has_read_stays() {
-        let folder = env::temp_dir().join(format!("records-{}", std::process::id()));
-        fs::create_dir_all(&folder).unwrap();
+        let folder = TestFolder::new();
         let (record, head, named) = (folder.join("record"), "= call\n".to_owned(), set(&["k.cu"]));
-        let call = Described { record, folder: folder.clone(), head, products: Vec::new(), named, rule: None };
+        let call = Described { record, folder: folder.to_owned(), head, products: Vec::new(), named, rule: None };
         let reads = Reads::Files(set(&["a.h"]));
         for name in ["k.cu", "a.h"] {
             fs::write(folder.join(name), "old").unwrap();
@@ -269,17 +266,15 @@ mod tests {
             fs::write(folder.join(name), "other").unwrap();
             assert!(!call.is_current(), "{name} has changed");
         }
-        fs::remove_dir_all(folder).unwrap();
     }
 
     #[test]
     fn states_name_their_files() {
-        let folder = std::env::temp_dir();
+        let folder = TestFolder::new();
         for name in ["a b", "q\"\\h", "n\nl\u{e4}"] {
             fs::write(folder.join(name), "x").unwrap();
             let line = state(&folder, name).unwrap();
             assert_eq!((line.lines().count(), file_of(line.trim_end_matches('\n')).as_deref()), (1, Some(name)));
-            fs::remove_file(folder.join(name)).unwrap();
         }
         assert_eq!((state(&folder, "missing/x"), file_of("= x"), file_of("@ 1"), file_of("@ 1 2 x")), (None, None, None, None));
     }

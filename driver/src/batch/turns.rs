@@ -102,10 +102,7 @@ pub struct Maker<T> {
 
 impl<T: Send + 'static> Maker<T> {
     /// Starts the thread of a call, which this function makes.
-    ///
-    /// # Errors
-    ///
-    /// If there is no thread for it.
+    /// An error if there is no thread for it.
     pub fn begin(make: impl FnOnce(&mut Turns<T>) -> T + Send + 'static) -> io::Result<Maker<T>> {
         let ((to_batch, steps), (answers, to_call)) = (channel(), channel());
         let thread = Builder::new().spawn(move || {

@@ -91,13 +91,11 @@ impl Known {
 #[cfg(test)]
 mod tests {
     use super::*;
-    use std::env;
+    use crate::test_folder::TestFolder;
 
     #[test]
     fn what_is_known_of_a_text_stays() {
-        let room = env::temp_dir().join(format!("ahead-{}", std::process::id()));
-        let _ = fs::remove_dir_all(&room);
-        fs::create_dir(&room).unwrap();
+        let room = TestFolder::new();
         let (mut known, text) = (Known::default(), room.join("k.ii"));
         assert_eq!((known.written(&text), Known::default().found(&text)), (None, None));
         fs::write(&text, "# 1 \"a.h\" 1\n__LINE__ \"12:34:56\"\n").unwrap();
@@ -114,7 +112,6 @@ mod tests {
         fs::write(room.join("a.h"), "#import <c.h>\n").unwrap();
         assert_eq!(known.scanned(header, &room).map(|again| again.seen.digest), Some(scanned.seen.digest));
         assert!(Known::default().scanned(header, &room).unwrap().has_import);
-        fs::remove_dir_all(room).unwrap();
     }
 
     #[test]

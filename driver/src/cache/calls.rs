@@ -212,6 +212,7 @@ pub fn keep(store: &Store, line: &Line, nvcc: &Path, folder_counts: bool, manife
 mod tests {
     use super::*;
     use crate::cache::manifest::{Form, Lacking, Seen, Vain};
+    use crate::test_folder::TestFolder;
     use std::fs;
 
     fn line(words: &str, cwd: &str) -> Line {
@@ -266,9 +267,7 @@ mod tests {
 
     #[test]
     fn a_kept_call_is_served_while_all_is_as_it_was() {
-        let room = env::temp_dir().join(format!("calls-{}", std::process::id()));
-        let _ = fs::remove_dir_all(&room);
-        fs::create_dir_all(&room).unwrap();
+        let room = TestFolder::new();
         let (store, line, nvcc) = (Store::new(room.join("store"), 1 << 20), line("-c k.cu", room.to_str().unwrap()), Path::new("/b/nvcc"));
         let keep = |text: &str, folder_counts: bool| {
             fs::write(room.join("k.cu"), text).unwrap();
@@ -290,14 +289,11 @@ mod tests {
         assert!(served().is_some() && room.join("k.o").exists());
         fs::write(room.join("a.h"), "").unwrap();
         assert_eq!(served(), None);
-        fs::remove_dir_all(room).unwrap();
     }
 
     #[test]
     fn a_silent_call_is_served_while_its_source_has_the_same_layout() {
-        let room = env::temp_dir().join(format!("layouts-{}", std::process::id()));
-        let _ = fs::remove_dir_all(&room);
-        fs::create_dir_all(&room).unwrap();
+        let room = TestFolder::new();
         let (store, line, nvcc) = (Store::new(room.join("store"), 1 << 20), line("-c k.cu", room.to_str().unwrap()), Path::new("/b/nvcc"));
         let put = |text: &str| fs::write(room.join("k.cu"), text).unwrap();
         let keep = |said: &[u8]| {
@@ -319,6 +315,5 @@ mod tests {
         assert!(served());
         put("// x\n\nint a;\n");
         assert!(!served(), "a message may name lines");
-        fs::remove_dir_all(room).unwrap();
     }
 }

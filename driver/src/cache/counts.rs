@@ -78,10 +78,12 @@ pub fn clear(folder: &Path) {
 #[cfg(test)]
 mod tests {
     use super::*;
+    use crate::test_folder::TestFolder;
 
     #[test]
     fn counts_add_up() {
-        let folder = std::env::temp_dir().join(format!("counts-{}", std::process::id()));
+        let room = TestFolder::new();
+        let folder = room.join("cache");
         let counts = |hits, misses| Counts { hits, misses, calls: 0 };
         add(&folder, counts(1, 2));
         assert_eq!(of(&folder), counts(0, 0), "no folder");
@@ -99,6 +101,5 @@ mod tests {
         assert_eq!((of(&folder), fs::metadata(file(&folder)).unwrap().len()), (counts(300_006, 300_008), 16));
         clear(&folder);
         assert_eq!(of(&folder), counts(0, 0));
-        fs::remove_dir_all(folder).unwrap();
     }
 }

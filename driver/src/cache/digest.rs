@@ -98,17 +98,12 @@ macro_rules! rounds {
     };
 }
 
-/// A block as words.
-fn words_of(block: &[u8; BLOCK]) -> [u64; 16] {
-    std::array::from_fn(|place| {
-        let bytes = &block[8 * place..8 * place + 8];
-        u64::from_le_bytes(std::array::from_fn(|at| bytes[at]))
-    })
-}
-
 /// Mixes a block into a state, behind which so many bytes are mixed in, with it.
 fn mix_in(state: &mut [u64; 8], block: &[u8; BLOCK], mixed: u64, is_last: bool) {
-    let words = words_of(block);
+    let words: [u64; 16] = std::array::from_fn(|place| {
+        let bytes = &block[8 * place..8 * place + 8];
+        u64::from_le_bytes(std::array::from_fn(|at| bytes[at]))
+    });
     let mut work = [0; 16];
     work[..8].copy_from_slice(state);
     work[8..].copy_from_slice(&START);

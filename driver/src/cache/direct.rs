@@ -2,6 +2,7 @@
 use crate::cache::digest::Digest;
 use crate::cache::entry::{Rest, put_number};
 use crate::cache::key::{self, Role, Text};
+use crate::cache::lines::may_be_open;
 use crate::cache::manifest::{Manifest, Seen};
 use crate::cache::marked::contains;
 use crate::cache::recipe::Recipe;
@@ -62,15 +63,9 @@ fn generated(recipe: &Recipe) -> Option<Vec<PathBuf>> {
     Some(recipe.reads.iter().cloned().chain([stub, fatbin]).collect())
 }
 
-/// Whether a line is joined to the next, or a comment may be open behind it that begins there.
-fn goes_on(line: &[u8]) -> bool {
-    let last = |sought: &[u8]| line.windows(2).rposition(|pair| pair == sought);
-    let is_open = || last(b"/*").is_some_and(|open| last(b"*/").is_none_or(|close| close < open + 2));
-    join_of(line).is_some() || (line.contains(&b'*') && is_open())
-}
-
 /// Whether a raw string, or a comment of several lines, may begin in a text, or lines are joined.
 fn may_go_on(text: &[u8]) -> bool {
+    let goes_on = |line: &[u8]| join_of(line).is_some() || (line.contains(&b'*') && may_be_open(line));
     text.split(|&byte| byte == b'\n').any(goes_on)
         || contains(text, b"??")
         || (1..text.len()).any(|place| text[place] == b'"' && text[place - 1] == b'R' && begins_raw_string(&text[..place]))

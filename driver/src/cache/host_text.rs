@@ -12,11 +12,6 @@ const ASSEMBLED: [&[u8]; 6] = [b"asm", b"section", b"symver", b"weakref", b"alia
 /// The words by which a text sees its lines.
 const LINE_WORDS: [&[u8]; 5] = [b"__LINE__", b"__builtin_LINE", b"__builtin_FILE", b"__builtin_COLUMN", b"source_location"];
 
-/// Whether a string of C has a byte by its number, which may hide a directive.
-fn has_numbers(text: &[u8]) -> bool {
-    text.windows(2).any(|pair| pair[0] == b'\\' && (pair[1].is_ascii_digit() || matches!(pair[1], b'x' | b'u' | b'U' | b'N')))
-}
-
 /// Where the statement ends that a text begins with: at a semicolon that isn't in a string.
 fn end_of_statement(text: &[u8]) -> usize {
     let (mut is_inside, mut place) = (false, 0);
@@ -32,12 +27,6 @@ fn end_of_statement(text: &[u8]) -> usize {
     text.len()
 }
 
-/// Whether this may follow the word with which a statement begins: a bracket, behind words as `volatile` and line markers.
-fn is_statement(rest: &[u8]) -> bool {
-    let is_between = |byte: &u8| byte.is_ascii_whitespace() || byte.is_ascii_lowercase() || *byte == b'_';
-    rest.iter().find(|byte| !is_between(byte)).is_some_and(|byte| matches!(byte, b'(' | b'#'))
-}
-
 /// The rest of each statement from a word on.
 fn statements<'a>(text: &'a [u8], word: &'a [u8]) -> impl Iterator<Item = &'a [u8]> {
     let mut rest = text;
@@ -46,7 +35,10 @@ fn statements<'a>(text: &'a [u8], word: &'a [u8]) -> impl Iterator<Item = &'a [u
         rest = &rest[begin + word.len()..];
         Some(rest)
     };
-    std::iter::from_fn(next).filter(|rest| is_statement(rest)).map(|rest| &rest[..end_of_statement(rest)])
+    // (a bracket may follow behind words as `volatile`, and line markers)
+    let is_between = |byte: &u8| byte.is_ascii_whitespace() || byte.is_ascii_lowercase() || *byte == b'_';
+    let first = move |rest: &[u8]| rest.iter().find(|byte| !is_between(byte)).copied();
+    std::iter::from_fn(next).filter(move |rest| matches!(first(rest), Some(b'(' | b'#'))).map(|rest| &rest[..end_of_statement(rest)])
 }
 
 /// A text in small letters without what may stand between the parts of a directive.
@@ -61,7 +53,9 @@ fn has_any(text: &[u8], words: &[&[u8]]) -> bool {
 
 /// Whether a statement may have the assembler read a file, though no directive for that is seen.
 fn may_hide(statement: &[u8]) -> bool {
-    has_numbers(statement) || contains(statement, b"R\"") || has_any(&joined(statement), &HIDING)
+    let is_number = |byte: u8| byte.is_ascii_digit() || matches!(byte, b'x' | b'u' | b'U' | b'N');
+    let has_numbers = || statement.windows(2).any(|pair| pair[0] == b'\\' && is_number(pair[1]));
+    has_numbers() || contains(statement, b"R\"") || has_any(&joined(statement), &HIDING)
 }
 
 /// Whether a compiler that reads this text, or the assembler that it runs, may read a file that isn't in it: by a directive, also one that
@@ -77,11 +71,6 @@ pub fn assembler_reads_more(text: &[u8], included: &str) -> bool {
     let Some(begin) = find(text, own.as_bytes()) else { return true };
     let others = [&text[..begin], &text[begin + own.len()..]].map(joined);
     others.iter().any(|text| has_any(text, &DIRECTIVES) || has_any(text, &HIDING))
-}
-
-/// The name in a line marker.
-fn name_in(line: &[u8]) -> Option<&[u8]> {
-    between_quotes(line.strip_prefix(b"# ")?).filter(|name| !name.is_empty() && !name.starts_with(b"<"))
 }
 
 /// The line markers of a text, each with its place.
@@ -143,7 +132,8 @@ pub fn shown_files<'a>(text: &'a [u8], messages: &[u8]) -> BTreeSet<&'a [u8]> {
     if messages.is_empty() {
         return BTreeSet::new();
     }
-    let names: BTreeSet<&[u8]> = text.split(|&byte| byte == b'\n').filter_map(name_in).collect();
+    let name = |line: &'a [u8]| between_quotes(line.strip_prefix(b"# ")?).filter(|name| !name.is_empty() && !name.starts_with(b"<"));
+    let names: BTreeSet<&[u8]> = text.split(|&byte| byte == b'\n').filter_map(name).collect();
     names.into_iter().filter(|name| contains(messages, name)).collect()
 }
 

@@ -7,7 +7,7 @@ use crate::cache::recipe::Recipe;
 use crate::cache::store::Store;
 use crate::cache::tool::Kind;
 use command_keys::{command_key, tool_variables};
-use plans::Program;
+use compilers::plans::Program;
 use rattle_std::alloc::Global;
 use std::borrow::Cow;
 use std::ffi::{OsStr, OsString};
@@ -116,20 +116,16 @@ fn words_key(recipe: &Recipe, environment: &[(OsString, OsString)]) -> Option<Ve
     Some(key.as_slice().to_vec())
 }
 
-/// Takes a file into a key as ptxas sees it: it writes the size of each file that PTX names for debuggers, and when that was changed.
-fn add_stamp(hasher: &mut Hasher, file: &Path) {
-    let status = fs::metadata(file).ok();
-    let stamp = status.map(|status| format!("{} {} {}", status.len(), status.mtime(), status.mtime_nsec()));
-    hasher.add(stamp.unwrap_or_default().as_bytes());
-}
-
-/// What PTX says of files counts by their stamps. `None` if it names one with a backslash, which may quote something.
+/// The files that PTX names for debuggers count by their sizes and times, which ptxas writes. `None` if it names one with a backslash, which may
+/// quote something.
 fn add_named(hasher: &mut Hasher, ptx: &[u8], folder: &Path) -> Option<()> {
     for name in files_of_ptx(ptx) {
         if name.contains(&b'\\') {
             return None;
         }
-        add_stamp(hasher, &folder.join(OsStr::from_bytes(name)));
+        let status = fs::metadata(folder.join(OsStr::from_bytes(name))).ok();
+        let stamp = status.map(|status| format!("{} {} {}", status.len(), status.mtime(), status.mtime_nsec()));
+        hasher.add(stamp.unwrap_or_default().as_bytes());
     }
     Some(())
 }
@@ -214,6 +210,7 @@ impl Part {
 mod tests {
     use super::*;
     use crate::machine::Job;
+    use crate::test_folder::TestFolder;
 
     /// A store without entries.
     fn store() -> Store {
@@ -303,8 +300,8 @@ mod tests {
 
     #[test]
     fn tokens_of_large_parts_are_kept() {
-        let folder = std::env::temp_dir().join(format!("tokens-{}", std::process::id()));
-        let (store, cicc) = (Store::new(folder, 1 << 20), recipe("-m64", "/t"));
+        let folder = TestFolder::new();
+        let (store, cicc) = (Store::new(folder.join("store"), 1 << 20), recipe("-m64", "/t"));
         let text = |header: &str| format!("# 0 \"k.cu\"\n# 1 \"a.h\" 1\n{}# 2 \"k.cu\" 2\nint k;\n", header.repeat(LARGE / 6));
         let of = |text: &str, recipe: &Recipe| token_identity(text.as_bytes(), recipe, &store);
         let entries = || store.content().entries;
@@ -319,8 +316,6 @@ mod tests {
         for text in ["f(\"/t/a\");\n", "f(\"k.cudafe1\");\n", "f(\"\0\");\n"].map(text) {
             assert_eq!((of(&text, &named).is_some(), entries()), (!text.contains('\0'), kept + 1), "{text}");
         }
-        store.clear().unwrap();
-        fs::remove_dir(store.folder()).unwrap();
     }
 
     #[test]
@@ -434,8 +429,7 @@ mod tests {
 
     #[test]
     fn ptxas_sees_when_a_source_was_changed() {
-        let folder = std::env::temp_dir().join(format!("key-{}", std::process::id()));
-        fs::create_dir_all(&folder).unwrap();
+        let folder = TestFolder::new();
         let source = folder.join("k.cu");
         let ptx = format!(".file 1 \"{}\"", source.display());
         let ptxas = Recipe { kind: Kind::Ptxas, ..recipe("-m64", "/t") };
@@ -446,7 +440,6 @@ mod tests {
         let keys = [of(None), of(Some("a")), of(Some("ab"))];
         fs::File::options().write(true).open(&source).unwrap().set_modified(std::time::SystemTime::UNIX_EPOCH).unwrap();
         let changed = key(&ptxas, &[], &ptx);
-        fs::remove_dir_all(folder).unwrap();
         assert!(keys[0] != keys[1] && keys[1] != keys[2] && keys[2] != changed);
     }
 }

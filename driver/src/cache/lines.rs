@@ -39,12 +39,16 @@ pub fn behind_blanks(mut text: &[u8]) -> &[u8] {
     }
 }
 
+/// Whether a comment that begins in a text may be open behind it.
+pub fn may_be_open(text: &[u8]) -> bool {
+    let last = |sought: &[u8]| text.windows(2).rposition(|pair| pair == sought);
+    last(b"/*").is_some_and(|open| last(b"*/").is_none_or(|close| close < open + 2))
+}
+
 /// Where a directive ends: with its line, unless a comment may be open there.
 fn end_of_directive(text: &[u8]) -> usize {
-    let last = |end: usize, sought: &[u8]| text[..end].windows(2).rposition(|pair| pair == sought);
-    let is_open = |end: usize| last(end, b"/*").is_some_and(|open| last(end, b"*/").is_none_or(|close| close < open + 2));
-    let mut ends = text.iter().enumerate().filter(|(_, byte)| **byte == b'\n').map(|(place, _)| place);
-    ends.find(|&end| !is_open(end)).unwrap_or(text.len())
+    let mut ends = (0..text.len()).filter(|&place| text[place] == b'\n');
+    ends.find(|&end| !may_be_open(&text[..end])).unwrap_or(text.len())
 }
 
 impl<'a> Macros<'a> {

@@ -124,7 +124,8 @@ impl Seen {
         let place = if let Form::Placed(_) = self.form { Some(Form::Placed(fs::canonicalize(cwd.join(&self.path)).ok()?)) } else { None };
         let is_in_place = place.as_ref().is_none_or(|place| *place == self.form);
         if is_in_place && self.stamp.is_some_and(|stamp| stamp == Stamp::of(&status)) {
-            return may_be_read(&cwd.join(&self.path), &status).then(|| self.clone());
+            let is_for_all = status.mode() & 0o444 == 0o444;
+            return (is_for_all || File::open(cwd.join(&self.path)).is_ok()).then(|| self.clone());
         }
         if let Some(form) = place {
             return Some(Seen { form, ..Seen::now(&self.path, cwd)? });
@@ -143,11 +144,6 @@ impl Seen {
     fn layouts(&self) -> Option<&Layouts> {
         if let Form::Source(layouts) = &self.form { Some(layouts) } else { None }
     }
-}
-
-/// Whether a process of this user may read a file. Most may be read by all.
-fn may_be_read(path: &Path, status: &Metadata) -> bool {
-    status.mode() & 0o444 == 0o444 || File::open(path).is_ok()
 }
 
 /// Where a path leads, seen from a working directory as the path is.
@@ -399,15 +395,14 @@ fn lacking(rest: &mut Rest<'_>) -> Option<Lacking> {
 #[cfg(test)]
 mod tests {
     use super::*;
-    use std::env;
+    use crate::test_folder::TestFolder;
 
     /// A folder for a test, which goes with it.
-    struct Scratch(PathBuf);
+    struct Scratch(TestFolder);
 
     impl Scratch {
-        fn new(name: &str) -> Scratch {
-            let path = env::temp_dir().join(format!("manifest-{name}-{}", std::process::id()));
-            let _ = fs::remove_dir_all(&path);
+        fn new() -> Scratch {
+            let path = TestFolder::new();
             fs::create_dir_all(path.join("inc")).unwrap();
             fs::write(path.join("k.cu"), "one").unwrap();
             std::os::unix::fs::symlink("inc", path.join("way")).unwrap();
@@ -426,15 +421,9 @@ mod tests {
         }
     }
 
-    impl Drop for Scratch {
-        fn drop(&mut self) {
-            let _ = fs::remove_dir_all(&self.0);
-        }
-    }
-
     #[test]
     fn manifests_are_read_back() {
-        let scratch = Scratch::new("form");
+        let scratch = Scratch::new();
         let mut manifest = scratch.manifest();
         manifest.files[0].stamp = Some(Stamp([[1; 8], [2; 8], [3; 8], [4; 8], [5; 8], [6; 8], [255; 8]]));
         manifest.defines = Some(vec![b"A=1".to_vec(), Vec::new()]);
@@ -453,7 +442,7 @@ mod tests {
 
     #[test]
     fn the_contents_of_files_count() {
-        let scratch = Scratch::new("contents");
+        let scratch = Scratch::new();
         let manifest = scratch.manifest();
         let first = manifest.digest(&Digest::of(b"call"));
         assert_eq!(scratch.again(&manifest), Some(first));
@@ -470,7 +459,7 @@ mod tests {
 
     #[test]
     fn where_paths_lead_counts() {
-        let scratch = Scratch::new("ways");
+        let scratch = Scratch::new();
         let manifest = Manifest { vain: Vec::new(), defines: Some(Vec::new()), ..scratch.manifest() };
         let first = scratch.again(&manifest);
         assert!(first.is_some());
@@ -491,7 +480,7 @@ mod tests {
 
     #[test]
     fn the_place_of_a_program_counts() {
-        let scratch = Scratch::new("placed");
+        let scratch = Scratch::new();
         let own = |name: &str| scratch.0.join(name);
         for name in ["one", "two"] {
             fs::create_dir(own(name)).unwrap();
@@ -515,7 +504,7 @@ mod tests {
 
     #[test]
     fn times_count_if_that_is_asked_for() {
-        let scratch = Scratch::new("dated");
+        let scratch = Scratch::new();
         let manifest = Manifest { files: vec![Seen::dated(Path::new("k.cu"), &scratch.0).unwrap()], ..Manifest::default() };
         let first = manifest.digest(&Digest::of(b"call"));
         assert_eq!(scratch.again(&manifest), Some(first));
@@ -534,7 +523,7 @@ mod tests {
 
     #[test]
     fn a_stamp_stands_for_contents() {
-        let scratch = Scratch::new("stamp");
+        let scratch = Scratch::new();
         let mut manifest = scratch.manifest();
         assert_eq!((manifest.files[0].stamp, manifest.vain[0].stamp), (None, None), "they are fresh");
         let first = manifest.digest(&Digest::of(b"call"));
@@ -568,7 +557,7 @@ mod tests {
 
     #[test]
     fn a_source_of_the_same_layout_stands_for_another() {
-        let scratch = Scratch::new("alike");
+        let scratch = Scratch::new();
         let is_alike = |header: &str, texts: [&str; 2], defines: &str| alike(&scratch, header, texts, defines).is_some();
         let header = "#define check(x) fail(x, __LINE__)\n#define SIZE 64\n";
         let cases = [
@@ -596,7 +585,7 @@ mod tests {
 
     #[test]
     fn lines_that_do_not_count_are_known_the_next_time() {
-        let scratch = Scratch::new("free");
+        let scratch = Scratch::new();
         let manifest = alike(&scratch, "#define A 1\n", ["A\n", "\nA\n"], "").unwrap();
         assert!(manifest.files[0].layouts().unwrap().is_free);
         fs::write(scratch.0.join("inc/a.h"), "").unwrap();
@@ -623,7 +612,7 @@ mod tests {
 
     #[test]
     fn a_name_that_appears_is_noticed() {
-        let scratch = Scratch::new("vain");
+        let scratch = Scratch::new();
         let manifest = scratch.manifest();
         let after = |name: &str, is_folder: bool| {
             let path = scratch.0.join("inc").join(name);

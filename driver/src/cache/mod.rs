@@ -18,7 +18,7 @@ mod recipe;
 mod searches;
 mod source;
 mod store;
-mod tool;
+pub mod tool;
 pub mod whole;
 mod words;
 
@@ -35,7 +35,8 @@ use digest::{Digest, Hasher};
 use direct::Direct;
 use entry::{Entry, Made};
 use key::{Part, Role, Text};
-use marked::{Marked, contains, has_symbol};
+pub use marked::contains;
+use marked::{Marked, has_symbol};
 use recipe::{Output, Recipe};
 use std::collections::BTreeMap;
 use std::env;
@@ -214,25 +215,22 @@ impl<'a> Session<'a> {
         let waits = |candidate: &&mut Candidate| matches!(candidate.state, State::Fresh | State::Begun(..));
         let Some(candidate) = self.candidates.get_mut(&task).filter(waits) else { return Step::Own };
         let recipe = &candidate.recipe;
-        if !recipe.has_plain_outputs() {
+        // A new file takes each product's place, so nothing may be there but a plain file.
+        let is_plain = |output: &Output| fs::symlink_metadata(&output.path).map_or(true, |status| status.is_file());
+        if !recipe.outputs.iter().all(is_plain) {
             candidate.state = State::Own;
             return Step::Own;
         }
         let now = host::now();
-        if recipe.question.is_some() {
-            return self.ask(task, now);
+        if let Some((job, _)) = &recipe.question {
+            let preprocesses = job.clone();
+            if let Some(taken) = self.take_directly(task, (now, now)) {
+                return self.hit(task, taken);
+            }
+            self.set(task, State::Asked, None);
+            return Step::Instead(preprocesses);
         }
         self.look_up(task, (now, now))
-    }
-
-    /// Looks a compile up by what it reads, or else has that preprocessed.
-    fn ask(&mut self, task: usize, now: f64) -> Step {
-        if let Some(taken) = self.take_directly(task, (now, now)) {
-            return self.hit(task, taken);
-        }
-        self.set(task, State::Asked, None);
-        let question = self.candidates.get(&task).and_then(|candidate| candidate.recipe.question.as_ref());
-        question.map_or(Step::Own, |(job, _)| Step::Instead(job.clone()))
     }
 
     /// What to do with a task whose process, which was started in place of its own, has ended.
@@ -381,7 +379,9 @@ impl<'a> Session<'a> {
 
     /// Makes and says what an entry has. `None` if it doesn't fit, or can't be made here.
     fn take(&self, recipe: &Recipe, entry: &Entry, times: (f64, f64)) -> Option<Taken> {
-        if recipe.outputs.len() != entry.outputs.len() || (entry.speaks() && !self.may_say(recipe, entry)) {
+        let is_shown = |(name, digest): &(Vec<u8>, Digest)| shown_file(recipe, name).is_some_and(|now| now == *digest);
+        let may_say = || entry.terminal == self.terminal && entry.shown.iter().all(is_shown);
+        if recipe.outputs.len() != entry.outputs.len() || (entry.speaks() && !may_say()) {
             return None;
         }
         let (directory, mut products) = (self.tmp.as_bytes(), Vec::new());
@@ -397,24 +397,19 @@ impl<'a> Session<'a> {
         Some(Taken { ended, products })
     }
 
-    /// Whether an entry's messages would be the same now.
-    fn may_say(&self, recipe: &Recipe, entry: &Entry) -> bool {
-        let is_same = |(name, digest): &(Vec<u8>, Digest)| shown_file(recipe, name).is_some_and(|now| now == *digest);
-        entry.terminal == self.terminal && entry.shown.iter().all(is_same)
-    }
-
     /// What to do with a task that has run.
     fn ran(&mut self, task: usize, keys: &Keys, text: &[u8], ended: Ended) -> Step {
         let Some(candidate) = self.candidates.get(&task) else { return Step::Ended(ended) };
         let recipe = &candidate.recipe;
-        let mut moved = recipe.outputs.iter().filter(|output| output.path != output.written_to);
-        let shows_where = moved.any(|output| speaks_of(&ended, &output.written_to) || has_own_name(output));
+        let moved = || recipe.outputs.iter().filter(|output| output.path != output.written_to);
+        let speaks_of = |file: &Path| [&ended.out, &ended.errors].iter().any(|text| contains(text, file.as_os_str().as_bytes()));
+        let shows_where = moved().any(|output| speaks_of(&output.written_to) || has_own_name(output));
         let may_move = !recipe.has_products() || (ended.status.succeeded() && !shows_where);
-        let Some(products) = may_move.then(|| move_products(recipe)).flatten() else { return self.runs_alone(task) };
+        let put = |output: &Output| recipe.put(output, content_of(&output.written_to).ok()?).ok()?;
+        let Some(products) = may_move.then(|| moved().map(put).collect::<Option<Vec<_>>>()).flatten() else { return self.runs_alone(task) };
         let entry = if ended.status.succeeded() { self.entry_of(recipe, text, &ended) } else { None };
         if let Some(entry) = entry {
-            let written = self.keep(keys, &entry);
-            self.tell(written);
+            self.keep(keys, &entry);
             self.set(task, State::Kept, None);
             self.found(task, keys.texts);
         }
@@ -422,16 +417,11 @@ impl<'a> Session<'a> {
         Step::Ended(ended)
     }
 
-    /// Keeps an entry by its texts. One without messages is found by its tokens too.
-    fn keep(&self, keys: &Keys, entry: &Entry) -> io::Result<()> {
-        self.store.write(&keys.texts, &entry.to_bytes())?;
-        keys.marks.iter().try_for_each(|mark| self.store.write(mark, &keys.texts.0))?;
+    /// Keeps an entry by its texts. One without messages is found by its tokens too. Says once that the store can't be written.
+    fn keep(&mut self, keys: &Keys, entry: &Entry) {
         let tokens = keys.tokens.filter(|_| !entry.speaks());
-        tokens.map_or(Ok(()), |tokens| self.store.write(&tokens, &keys.texts.0))
-    }
-
-    /// Says once that the store can't be written.
-    fn tell(&mut self, written: io::Result<()>) {
+        let lead = || keys.marks.iter().chain(&tokens).try_for_each(|key| self.store.write(key, &keys.texts.0));
+        let written = self.store.write(&keys.texts, &entry.to_bytes()).and_then(|()| lead());
         if let (Err(error), false) = (written, self.has_complained) {
             self.has_complained = true;
             complain(&format!("zigrunk-nvcc: cannot write to the cache {}: {error}", self.store.folder().display()));
@@ -496,33 +486,21 @@ fn shown_file(recipe: &Recipe, name: &[u8]) -> Option<Digest> {
     content_of(&path_of(recipe, name)).ok().map(|text| Digest::of(&text))
 }
 
-/// Whether what a process said names a file.
-fn speaks_of(ended: &Ended, file: &Path) -> bool {
-    [&ended.out, &ended.errors].iter().any(|text| contains(text, file.as_os_str().as_bytes()))
-}
-
 /// Whether a product has the name of its file in it, which isn't its own yet.
 fn has_own_name(output: &Output) -> bool {
     let name = output.written_to.file_name().unwrap_or_default().as_bytes();
     content_of(&output.written_to).is_ok_and(|text| contains(&text, name))
 }
 
-/// Puts the products of a command in their places.
-fn move_products(recipe: &Recipe) -> Option<Vec<Product>> {
-    let products = recipe.outputs.iter().filter(|output| output.path != output.written_to);
-    products.map(|output| recipe.put(output, content_of(&output.written_to).ok()?).ok()?).collect()
-}
-
 #[cfg(test)]
 mod tests {
     use super::*;
+    use crate::test_folder::TestFolder;
     use std::os::unix::fs::symlink;
 
     #[test]
     fn products_come_where_a_tool_puts_them() {
-        let folder = env::temp_dir().join(format!("put-{}", std::process::id()));
-        let _ = fs::remove_dir_all(&folder);
-        fs::create_dir(&folder).unwrap();
+        let folder = TestFolder::new();
         let [file, other, link] = ["file", "other", "link"].map(|name| folder.join(name));
         put(true, &file, b"one").unwrap();
         fs::hard_link(&file, &other).unwrap();
@@ -540,7 +518,6 @@ mod tests {
         }
         assert_eq!((fs::read(&other).unwrap(), fs::read_link(&link).unwrap()), (b"two".to_vec(), other), "what is no plain file stays");
         assert!(put(true, &folder.join("missing/file"), b"five").is_err());
-        fs::remove_dir_all(folder).unwrap();
     }
 
     fn store() -> Store {
@@ -567,8 +544,7 @@ mod tests {
 
     #[test]
     fn what_begins_early_has_the_keys_of_what_begins_late() {
-        let folder = env::temp_dir().join(format!("early-{}", std::process::id()));
-        fs::create_dir_all(&folder).unwrap();
+        let folder = TestFolder::new();
         let recipe = recipe(Kind::Cicc, ["k.ii", "k.module_id"].map(|name| folder.join(name)).to_vec());
         let parts = |has_late: bool| {
             let texts = Session::texts(&recipe, has_late).unwrap();
@@ -585,13 +561,11 @@ mod tests {
         let State::Missed(keys, text) = &session.candidates[&7].state else { panic!("it runs, and is to be kept") };
         let (late, texts) = parts(true);
         assert_eq!((keys, text, keys.marks.len()), (&late.keys(&recipe, &texts), &texts[0].content, 2));
-        fs::remove_dir_all(folder).unwrap();
     }
 
     #[test]
     fn what_names_the_calls_directory_is_no_entry() {
-        let folder = env::temp_dir().join(format!("named-{}", std::process::id()));
-        fs::create_dir_all(&folder).unwrap();
+        let folder = TestFolder::new();
         let path = folder.join("k.ptx");
         let output = Output { path: path.clone(), is_optional: false, written_to: path.clone() };
         let has_entry = |text: &str, directory: &str| {
@@ -600,7 +574,6 @@ mod tests {
         };
         assert!(has_entry("in /t/call.7/k.cu", "/t/call.7"), "a mark has the path's place");
         assert!(!has_entry("in call.7", "/t/call.7") && has_entry("in call.7", "/t/call.8"));
-        fs::remove_dir_all(folder).unwrap();
     }
 
     #[test]

@@ -69,19 +69,19 @@ mod tests {
     use super::*;
     use crate::forked::in_own_process;
     use crate::system;
-    use std::env;
+    use crate::test_folder::TestFolder;
     use std::fs::{self, File};
 
     #[test]
     fn a_size_that_is_none_is_said() {
         in_own_process(|| {
-            let path = env::temp_dir().join(format!("said-{}", std::process::id()));
+            let folder = TestFolder::new();
+            let path = folder.join("said");
             // The next file gets the number of standard error.
             system::close(2);
             let _errors = File::create(&path).unwrap();
             assert_eq!(limit(&Store::new("/missing".into(), 1), Some("9x")), 1);
             assert_eq!(fs::read_to_string(&path).unwrap(), "zigrunk-cache: a size has digits, and K, M, G or T\n");
-            fs::remove_file(path).unwrap();
         });
     }
 }

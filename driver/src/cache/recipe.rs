@@ -12,7 +12,6 @@ use std::borrow::Cow;
 use std::collections::{BTreeMap, BTreeSet};
 use std::env;
 use std::ffi::{OsStr, OsString};
-use std::fs;
 use std::path::{Path, PathBuf};
 
 /// Variables by which gcc writes or compares more than its words say.
@@ -151,11 +150,6 @@ impl Recipe {
     /// The directory whose path doesn't count in texts that the command reads. fatbinary packs them, so nobody sees whether its product has it.
     pub fn directory_in_texts(&self) -> &[u8] {
         if self.kind == Kind::Fatbinary { b"" } else { self.directory.as_bytes() }
-    }
-
-    /// Whether each product can be made by a new file in its place: nothing is there, or a plain file.
-    pub fn has_plain_outputs(&self) -> bool {
-        self.outputs.iter().all(|output| fs::symlink_metadata(&output.path).map_or(true, |status| status.is_file()))
     }
 
     /// What the text of a file is that the command reads.

@@ -235,15 +235,15 @@ impl<'a> Search<'a> {
 mod tests {
     use super::*;
     use crate::cache::includes::names_in;
+    use crate::test_folder::TestFolder;
     use std::thread;
 
     /// A folder for a test, which goes with it.
-    struct Scratch(PathBuf);
+    struct Scratch(TestFolder);
 
     impl Scratch {
-        fn new(name: &str, files: &[&str]) -> Scratch {
-            let path = env::temp_dir().join(format!("searches-{name}-{}", std::process::id()));
-            let _ = fs::remove_dir_all(&path);
+        fn new(files: &[&str]) -> Scratch {
+            let path = TestFolder::new();
             for file in files {
                 let file = path.join(file);
                 fs::create_dir_all(file.parent().unwrap()).unwrap();
@@ -262,12 +262,6 @@ mod tests {
         }
     }
 
-    impl Drop for Scratch {
-        fn drop(&mut self) {
-            let _ = fs::remove_dir_all(&self.0);
-        }
-    }
-
     fn folders(quoted: &[&str], all: &[&str], doubled: &[&str], missing: &[&str]) -> Folders {
         let list = |names: &[&str]| names.iter().map(PathBuf::from).collect();
         Folders { quoted: list(quoted), all: list(all), doubled: list(doubled), missing: list(missing), ..Folders::default() }
@@ -275,7 +269,7 @@ mod tests {
 
     #[test]
     fn what_comes_before_a_file_is_noted() {
-        let scratch = Scratch::new("before", &["src/k.cu", "one/x", "two/a.h", "two/sub/b.h", "three/a.h", "q/x"]);
+        let scratch = Scratch::new(&["src/k.cu", "one/x", "two/a.h", "two/sub/b.h", "three/a.h", "q/x"]);
         let folders = folders(&["q"], &["one", "two", "three"], &[], &["none"]);
         let vain = |text: &str| scratch.vain(&folders, |search| search.seek_all(Path::new("src/k.cu"), &names_in(text.as_bytes()), &BTreeSet::new()));
         let cases = [
@@ -297,7 +291,7 @@ mod tests {
 
     #[test]
     fn a_folder_that_is_another_is_noted_for_all_names() {
-        let scratch = Scratch::new("doubled", &["one/a.h", "two/b.h", "three/c.h"]);
+        let scratch = Scratch::new(&["one/a.h", "two/b.h", "three/c.h"]);
         let folders = folders(&[], &["one", "two", "three"], &["link"], &[]);
         std::os::unix::fs::symlink("one", scratch.0.join("link")).unwrap();
         let vain = scratch.vain(&folders, |search| {
@@ -308,7 +302,7 @@ mod tests {
 
     #[test]
     fn names_by_macros_may_be_any() {
-        let scratch = Scratch::new("macros", &["src/k.cu", "one/a.h"]);
+        let scratch = Scratch::new(&["src/k.cu", "one/a.h"]);
         let (folders, any) = (folders(&[], &["one"], &[], &[]), BTreeSet::from([b"a.h".to_vec()]));
         let vain = |text: &str| scratch.vain(&folders, |search| search.seek_all(Path::new("src/k.cu"), &names_in(text.as_bytes()), &any)).unwrap();
         assert_eq!((vain("#include NAME\n"), vain("#include <a.h>\n")), (vec!["src: a.h/".to_owned()], vec![]));
@@ -316,7 +310,7 @@ mod tests {
 
     #[test]
     fn programs_are_sought_on_the_path() {
-        let scratch = Scratch::new("programs", &["a/other", "b/gcc", "c/x"]);
+        let scratch = Scratch::new(&["a/other", "b/gcc", "c/x"]);
         let own = |folder: &str| scratch.0.join(folder);
         let path = env::join_paths([own("a"), own("missing"), own("b"), own("c")]).unwrap();
         let vain = scratch.vain(&folders(&[], &[], &[], &[]), |search| search.seek_program(&own("b").join("gcc"), &path)).unwrap();
@@ -329,7 +323,7 @@ mod tests {
 
     #[test]
     fn what_was_another_folder_makes_it_unsure() {
-        let scratch = Scratch::new("swapped", &["one/a.h", "two/a.h", "three/sub/a.h"]);
+        let scratch = Scratch::new(&["one/a.h", "two/a.h", "three/sub/a.h"]);
         let own = |name: &str| scratch.0.join(name);
         std::os::unix::fs::symlink("one", own("link")).unwrap();
         std::os::unix::fs::symlink("link", own("links")).unwrap();
@@ -355,7 +349,7 @@ mod tests {
 
     #[test]
     fn a_file_counts_for_which_a_text_asks() {
-        let scratch = Scratch::new("asked", &["one/a.h", "two/a.h", "two/b.h", "link/b.h"]);
+        let scratch = Scratch::new(&["one/a.h", "two/a.h", "two/b.h", "link/b.h"]);
         let folders = folders(&[], &["one", "two"], &["link"], &[]);
         let present = |text: &str| {
             let mut search = Search::new(&scratch.0, &folders, SystemTime::now() + Duration::from_secs(9));
@@ -375,7 +369,7 @@ mod tests {
 
     #[test]
     fn a_file_that_is_too_new_makes_it_unsure() {
-        let scratch = Scratch::new("new", &["one/a.h"]);
+        let scratch = Scratch::new(&["one/a.h"]);
         let folders = folders(&[], &["one"], &[], &[]);
         let mut search = Search::new(&scratch.0, &folders, SystemTime::now());
         assert_eq!((search.seek(None, b"a.h", Way::default()), search.seek(None, b"b.h", Way::default())), (None, Some(())));

@@ -58,13 +58,6 @@ fn is_unfinished(entry: &DirEntry) -> bool {
     entry.file_name().to_str().is_some_and(|name| name.starts_with(UNFINISHED))
 }
 
-/// What the file of an entry has behind its head and its digest, if that fits.
-fn checked(mut text: Vec<u8>) -> Option<Vec<u8>> {
-    let begin = HEAD.len() + 32;
-    let content = text.get(begin..)?;
-    (text.starts_with(HEAD) && text[HEAD.len()..begin] == Digest::of(content).0).then(|| text.split_off(begin))
-}
-
 impl Store {
     /// The store of a folder, which is made once something is written.
     pub fn new(folder: PathBuf, limit: u64) -> Store {
@@ -89,20 +82,20 @@ impl Store {
         let size = usize::try_from(status.len()).ok().filter(|_| status.len() <= LARGEST)?;
         let mut text = Vec::with_capacity(size + 1);
         file.read_to_end(&mut text).ok()?;
-        let content = checked(text);
-        if content.is_none() {
+        let begin = HEAD.len() + 32;
+        let fits = |content: &[u8]| text.starts_with(HEAD) && text[HEAD.len()..begin] == Digest::of(content).0;
+        if !text.get(begin..).is_some_and(fits) {
             let _ = fs::remove_file(&path);
-        } else if age(&status) > OLD {
+            return None;
+        }
+        if age(&status) > OLD {
             let _ = file.set_modified(SystemTime::now());
         }
-        content
+        Some(text.split_off(begin))
     }
 
     /// Puts a text under a key.
-    ///
-    /// # Errors
-    ///
-    /// Those of writing. Then the store has what it had, as for a text that is too large.
+    /// Errors: those of writing. Then the store has what it had, as for a text that is too large.
     pub fn write(&self, key: &Digest, content: &[u8]) -> io::Result<()> {
         if content.len() as u64 > LARGEST / 2 {
             return Ok(());
@@ -161,10 +154,7 @@ impl Store {
     }
 
     /// Removes all entries, and what isn't whole. What else is in the folder stays.
-    ///
-    /// # Errors
-    ///
-    /// The first of removing.
+    /// Errors: the first of removing.
     pub fn clear(&self) -> io::Result<()> {
         for folder in self.folders() {
             for (entry, _) in files(&folder) {
@@ -180,10 +170,7 @@ impl Store {
 }
 
 /// The digest of a file's contents, read in parts.
-///
-/// # Errors
-///
-/// Those of reading.
+/// Errors: those of reading.
 pub fn digest_of(file: &mut File) -> io::Result<Digest> {
     let (mut hasher, mut part) = (Hasher::default(), vec![0; 1 << 18]);
     loop {
@@ -197,31 +184,9 @@ pub fn digest_of(file: &mut File) -> io::Result<Digest> {
 #[cfg(test)]
 mod tests {
     use super::*;
-    use std::env;
+    use crate::test_folder::TestFolder;
     use std::os::unix::fs::symlink;
     use std::thread;
-
-    /// A store for a test, which goes with it.
-    struct Scratch(Store);
-
-    impl Scratch {
-        fn new(name: &str, limit: u64) -> Scratch {
-            let folder = env::temp_dir().join(format!("store-{name}-{}", std::process::id()));
-            let _ = fs::remove_dir_all(&folder);
-            Scratch(Store::new(folder, limit))
-        }
-
-        /// The path of an entry's file.
-        fn file(&self, key: &Digest) -> PathBuf {
-            self.0.path_of(key)
-        }
-    }
-
-    impl Drop for Scratch {
-        fn drop(&mut self) {
-            let _ = fs::remove_dir_all(&self.0.folder);
-        }
-    }
 
     /// Keys of one folder, whose entries have it looked through or not.
     fn key(number: u8, tidies: bool) -> Digest {
@@ -236,8 +201,8 @@ mod tests {
 
     #[test]
     fn what_is_written_is_read() {
-        let scratch = Scratch::new("read", 1 << 20);
-        let store = &scratch.0;
+        let folder = TestFolder::new();
+        let store = &Store::new(folder.join("store"), 1 << 20);
         assert_eq!(store.read(&key(1, false)), None);
         for text in [&b"one"[..], b"", b"another"] {
             store.write(&key(1, false), text).unwrap();
@@ -250,32 +215,32 @@ mod tests {
 
     #[test]
     fn a_file_that_is_not_whole_goes() {
-        let scratch = Scratch::new("whole", 1 << 20);
-        let (store, key) = (&scratch.0, key(1, false));
+        let folder = TestFolder::new();
+        let (store, key) = (Store::new(folder.join("store"), 1 << 20), key(1, false));
         store.write(&key, b"content").unwrap();
-        let whole = fs::read(scratch.file(&key)).unwrap();
+        let whole = fs::read(store.path_of(&key)).unwrap();
         for size in 0..whole.len() {
-            fs::write(scratch.file(&key), &whole[..size]).unwrap();
-            assert_eq!((store.read(&key), scratch.file(&key).exists()), (None, false), "{size}");
+            fs::write(store.path_of(&key), &whole[..size]).unwrap();
+            assert_eq!((store.read(&key), store.path_of(&key).exists()), (None, false), "{size}");
         }
         for place in 0..whole.len() {
             let mut changed = whole.clone();
             changed[place] ^= 1;
-            fs::write(scratch.file(&key), changed).unwrap();
-            assert_eq!((store.read(&key), scratch.file(&key).exists()), (None, false), "byte {place}");
+            fs::write(store.path_of(&key), changed).unwrap();
+            assert_eq!((store.read(&key), store.path_of(&key).exists()), (None, false), "byte {place}");
         }
-        fs::write(scratch.file(&key), whole).unwrap();
+        fs::write(store.path_of(&key), whole).unwrap();
         assert!(store.read(&key).is_some());
     }
 
     #[test]
     fn only_plain_files_are_entries() {
-        let scratch = Scratch::new("plain", 1 << 20);
-        let (store, key) = (&scratch.0, key(1, false));
-        fs::create_dir_all(scratch.file(&key)).unwrap();
-        assert_eq!((store.read(&key), store.write(&key, b"x").is_err(), scratch.file(&key).is_dir()), (None, true, true));
-        fs::remove_dir(scratch.file(&key)).unwrap();
-        symlink("/dev/zero", scratch.file(&key)).unwrap();
+        let folder = TestFolder::new();
+        let (store, key) = (Store::new(folder.join("store"), 1 << 20), key(1, false));
+        fs::create_dir_all(store.path_of(&key)).unwrap();
+        assert_eq!((store.read(&key), store.write(&key, b"x").is_err(), store.path_of(&key).is_dir()), (None, true, true));
+        fs::remove_dir(store.path_of(&key)).unwrap();
+        symlink("/dev/zero", store.path_of(&key)).unwrap();
         assert_eq!(store.read(&key), None);
         assert_eq!(store.content(), Content::default());
         store.write(&key, b"x").unwrap();
@@ -284,13 +249,13 @@ mod tests {
 
     #[test]
     fn the_least_recently_used_goes_first() {
-        let scratch = Scratch::new("tidy", 256 * 10_000);
-        let store = &scratch.0;
+        let folder = TestFolder::new();
+        let store = &Store::new(folder.join("store"), 256 * 10_000);
         for (number, seconds) in [(1, 500), (2, 4000), (3, 300), (4, 3000)] {
             store.write(&key(number, false), &[0; 2400]).unwrap();
-            set_age(&scratch.file(&key(number, false)), seconds);
+            set_age(&store.path_of(&key(number, false)), seconds);
         }
-        let left = |count: u8| (1..=count).filter(|&number| scratch.file(&key(number, false)).exists()).collect::<Vec<u8>>();
+        let left = |count: u8| (1..=count).filter(|&number| store.path_of(&key(number, false)).exists()).collect::<Vec<u8>>();
         assert!(store.read(&key(2, false)).is_some(), "it is used now");
         store.write(&key(9, true), b"").unwrap();
         assert_eq!(left(4), [1, 2, 3, 4], "they have room");
@@ -306,11 +271,11 @@ mod tests {
 
     #[test]
     fn what_killed_writers_left_goes_later() {
-        let scratch = Scratch::new("killed", 1 << 20);
-        let store = &scratch.0;
+        let folder = TestFolder::new();
+        let store = &Store::new(folder.join("store"), 1 << 20);
         store.write(&key(1, false), b"x").unwrap();
-        let folder = scratch.file(&key(1, false)).parent().unwrap().to_owned();
-        let [old, new] = ["old", "new"].map(|name| folder.join(format!("{UNFINISHED}{name}")));
+        let of_entry = store.path_of(&key(1, false)).parent().unwrap().to_owned();
+        let [old, new] = ["old", "new"].map(|name| of_entry.join(format!("{UNFINISHED}{name}")));
         for (path, seconds) in [(&old, 2 * 24 * 3600), (&new, 3600)] {
             fs::write(path, b"part").unwrap();
             set_age(path, seconds);
@@ -331,8 +296,8 @@ mod tests {
 
     #[test]
     fn many_write_at_once() {
-        let scratch = Scratch::new("many", 1 << 30);
-        let store = &scratch.0;
+        let folder = TestFolder::new();
+        let store = &Store::new(folder.join("store"), 1 << 30);
         thread::scope(|scope| {
             for writer in 0..8_u8 {
                 scope.spawn(move || {
@@ -349,9 +314,8 @@ mod tests {
 
     #[test]
     fn a_file_has_the_digest_of_its_text() {
-        let scratch = Scratch::new("digest", 0);
-        fs::create_dir_all(scratch.0.folder()).unwrap();
-        let path = scratch.0.folder().join("file");
+        let folder = TestFolder::new();
+        let path = folder.join("file");
         fs::write(&path, vec![3; 600_000]).unwrap();
         assert_eq!(digest_of(&mut File::open(path).unwrap()).unwrap(), Digest::of(&vec![3; 600_000]));
     }

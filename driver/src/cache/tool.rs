@@ -52,20 +52,28 @@ pub enum Kind {
 }
 
 impl Kind {
-    /// The kind of a program, if the cache knows it.
-    pub fn of(program: &str) -> Option<Kind> {
-        match Path::new(program).file_name()?.to_str()? {
+    /// The kind of one of nvcc's own tools.
+    pub fn of_nvccs(name: &str) -> Option<Kind> {
+        match name {
             "cudafe++" => Some(Kind::CudaFe),
             "cicc" => Some(Kind::Cicc),
             "ptxas" => Some(Kind::Ptxas),
             "fatbinary" => Some(Kind::Fatbinary),
-            name => {
-                let version = name.strip_prefix("gcc").or_else(|| name.strip_prefix("g++"))?;
-                let is_version = version.trim_start_matches('-').bytes().all(|byte| byte.is_ascii_digit() || byte == b'.');
-                is_version.then_some(Kind::Host)
-            }
+            _ => None,
         }
     }
+
+    /// The kind of a program, if the cache knows it.
+    pub fn of(program: &str) -> Option<Kind> {
+        let name = Path::new(program).file_name()?.to_str()?;
+        Kind::of_nvccs(name).or_else(|| is_gcc(name).then_some(Kind::Host))
+    }
+}
+
+/// Whether a program's name is gcc's, as `g++-12`.
+pub fn is_gcc(name: &str) -> bool {
+    let version = name.strip_prefix("gcc").or_else(|| name.strip_prefix("g++"));
+    version.is_some_and(|version| version.trim_start_matches('-').bytes().all(|byte| byte.is_ascii_digit() || byte == b'.'))
 }
 
 /// What tells a file from what it was, or what had its name.
@@ -308,13 +316,14 @@ impl Tools {
 mod tests {
     use super::*;
     use crate::forked::in_own_process;
+    use crate::test_folder::TestFolder;
     use std::env;
     use std::os::unix::fs::{PermissionsExt, symlink};
 
     #[test]
     fn calls_take_turns() {
         in_own_process(|| {
-            let folder = env::temp_dir().join(format!("turns-{}", std::process::id()));
+            let folder = TestFolder::new();
             let store = Store::new(folder.join("store"), 1 << 20);
             let first = turn(&store).expect("it makes the store's folder");
             let other = store.clone();
@@ -323,7 +332,6 @@ mod tests {
             assert!(!next.is_finished());
             drop(first);
             assert!(next.join().unwrap());
-            fs::remove_dir_all(folder).unwrap();
         });
     }
 
@@ -347,12 +355,11 @@ mod tests {
     }
 
     /// A folder with tools, for a test, which goes with it.
-    struct Scratch(PathBuf);
+    struct Scratch(TestFolder);
 
     impl Scratch {
-        fn new(name: &str) -> Scratch {
-            let folder = env::temp_dir().join(format!("tool-{name}-{}", std::process::id()));
-            let _ = fs::remove_dir_all(&folder);
+        fn new() -> Scratch {
+            let folder = TestFolder::new();
             fs::create_dir_all(folder.join("bin")).unwrap();
             Scratch(folder)
         }
@@ -376,15 +383,9 @@ mod tests {
         }
     }
 
-    impl Drop for Scratch {
-        fn drop(&mut self) {
-            let _ = fs::remove_dir_all(&self.0);
-        }
-    }
-
     #[test]
     fn the_contents_of_a_tool_count() {
-        let scratch = Scratch::new("contents");
+        let scratch = Scratch::new();
         let cicc = scratch.put("bin/cicc", "\x7fELF one");
         let first = scratch.identity().unwrap();
         assert_eq!(scratch.identity(), Some(first));
@@ -405,7 +406,7 @@ mod tests {
 
     #[test]
     fn a_tool_that_is_settled_is_not_read_again() {
-        let scratch = Scratch::new("settled");
+        let scratch = Scratch::new();
         let store = Store::new(scratch.0.join("store"), 1 << 20);
         let settled = Path::new("/bin/sh");
         assert!(is_settled(&fs::metadata(settled).unwrap()));
@@ -425,7 +426,7 @@ mod tests {
 
     #[test]
     fn a_script_is_no_known_tool() {
-        let scratch = Scratch::new("script");
+        let scratch = Scratch::new();
         scratch.put("bin/cicc", "#!/bin/sh\n");
         assert_eq!(scratch.identity(), None);
         fs::remove_file(scratch.0.join("bin/cicc")).unwrap();
@@ -434,7 +435,7 @@ mod tests {
 
     #[test]
     fn another_cache_with_gccs_name_is_no_compiler() {
-        let scratch = Scratch::new("masquerade");
+        let scratch = Scratch::new();
         let [real, cache] = ["bin/x86_64-linux-gnu-g++-12", "bin/ccache"].map(|name| scratch.put(name, "\x7fELF one"));
         let [gcc, other] = ["gcc", "g++"].map(|name| scratch.0.join(name));
         symlink(&real, &gcc).unwrap();
@@ -453,7 +454,7 @@ mod tests {
             let run = Run { kind: Kind::Host, program: &gcc, folder: Path::new("/"), environment };
             ["cc1", "as"].map(|name| run.part(name).map(|(part, _)| part))
         };
-        let scratch = Scratch::new("gcc");
+        let scratch = Scratch::new();
         let other = scratch.put("bin/as", "\x7fELF");
         let own = env::var_os("PATH").unwrap();
         let before: OsString = [other.parent().unwrap().as_os_str(), OsStr::new(":"), &own].into_iter().collect();

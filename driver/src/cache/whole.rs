@@ -490,14 +490,13 @@ mod tests {
     use super::*;
     use crate::cache::ahead::Known;
     use crate::cache::store::Store;
+    use crate::test_folder::TestFolder;
     use std::os::unix::fs::symlink;
     use std::thread;
 
     #[test]
     fn a_file_that_has_changed_since_it_was_known_is_not_kept() {
-        let room = env::temp_dir().join(format!("known-{}", std::process::id()));
-        let _ = fs::remove_dir_all(&room);
-        fs::create_dir(&room).unwrap();
+        let room = TestFolder::new();
         fs::write(room.join("a.h"), "one").unwrap();
         thread::sleep(2 * MARGIN);
         let (begun, folders) = (SystemTime::now(), Folders::default());
@@ -509,7 +508,6 @@ mod tests {
         assert_eq!(gathered.add(seen.clone(), &room), None);
         fs::remove_file(room.join("a.h")).unwrap();
         assert_eq!(gathered.add(seen, &room), None);
-        fs::remove_dir_all(room).unwrap();
     }
 
     fn command(words: &str, reads: &[&str], writes: &[&str]) -> PlannedCommand {
@@ -574,9 +572,7 @@ mod tests {
 
     #[test]
     fn files_that_ptx_names_count_by_their_times() {
-        let room = env::temp_dir().join(format!("named-{}", std::process::id()));
-        let _ = fs::remove_dir_all(&room);
-        fs::create_dir(&room).unwrap();
+        let room = TestFolder::new();
         let path = |name: &str| room.join(name).to_string_lossy().into_owned();
         fs::write(path("k.cu"), "int a;\n").unwrap();
         fs::write(path("k.ptx"), format!(".file 1 \"{}\"\n.file 2 \"missing.h\"\n", path("k.cu"))).unwrap();
@@ -596,7 +592,6 @@ mod tests {
         assert_eq!(gathered(), (true, vec![(path("k.cu"), Form::Dated)], Some(1)));
         fs::write(path("k.cu"), "int b;\n").unwrap();
         assert!(!gathered().0, "it has only just been changed");
-        fs::remove_dir_all(room).unwrap();
     }
 
     #[test]
@@ -614,9 +609,7 @@ mod tests {
 
     #[test]
     fn a_copy_of_what_is_read_once_may_be_left_out() {
-        let room = env::temp_dir().join(format!("once-{}", std::process::id()));
-        let _ = fs::remove_dir_all(&room);
-        fs::create_dir(&room).unwrap();
+        let room = TestFolder::new();
         let path = |name: &str| room.join(name).to_string_lossy().into_owned();
         let texts = [
             ("a.h", "#pragma once\nint a;\n"),
@@ -641,7 +634,6 @@ mod tests {
             })
         };
         assert_eq!([["a.h", "b.h"], ["c.h", "d.h"], ["a.h", "copy.h"]].map(gathers), [Some(0), Some(0), Some(2)]);
-        fs::remove_dir_all(room).unwrap();
     }
 
     #[test]
@@ -687,8 +679,7 @@ mod tests {
 
     #[test]
     fn an_nvcc_has_scripts_a_program_and_profiles() {
-        let room = env::temp_dir().join(format!("nvcc-{}", std::process::id()));
-        let _ = fs::remove_dir_all(&room);
+        let room = TestFolder::new();
         fs::create_dir_all(room.join("bin")).unwrap();
         fs::create_dir_all(room.join("real")).unwrap();
         let path = |name: &str| room.join(name);
@@ -703,7 +694,6 @@ mod tests {
         let profiles = ["bin/nvcc.profile", "real/nvcc.profile"].map(path);
         assert_eq!(parts_of_nvcc(&path("bin/nvcc")), Some((vec![path("bin/nvcc"), path("bin/link")], profiles.into())));
         assert_eq!(["bin/circle", "bin/other", "bin/cached", "bin/missing"].map(|name| parts_of_nvcc(&path(name))), [None, None, None, None]);
-        fs::remove_dir_all(room).unwrap();
     }
 
     #[test]

@@ -22,10 +22,7 @@ pub struct Connection {
 
 impl Connection {
     /// A connection with somebody who has to show that he knows the secret.
-    ///
-    /// # Errors
-    ///
-    /// If it can't be set not to wait.
+    /// An error if it can't be set not to wait.
     pub fn new(stream: TcpStream) -> io::Result<Connection> {
         stream.set_nonblocking(true)?;
         stream.set_nodelay(true)?;
@@ -72,10 +69,7 @@ impl Connection {
     }
 
     /// Reads what has come.
-    ///
-    /// # Errors
-    ///
-    /// If the connection is gone. What came before can still be taken.
+    /// An error if the connection is gone. What came before can still be taken.
     pub fn read(&mut self) -> io::Result<()> {
         self.inbox.drain(..std::mem::take(&mut self.taken));
         loop {
@@ -98,10 +92,7 @@ impl Connection {
     }
 
     /// The next message that has come.
-    ///
-    /// # Errors
-    ///
-    /// If what has come is none.
+    /// An error if what has come is none.
     pub fn next(&mut self) -> Result<Option<Message>, Unreadable> {
         let found = Message::of_bytes(&self.inbox[self.taken..], self.longest)?;
         Ok(found.map(|(message, size)| {

@@ -4,6 +4,7 @@
 //! beside each product, and the batch renames what a worker made that it hasn't given up. These can't be made so, and are written in place:
 //! what nvcc itself or another program makes; what a host compiler makes that derives names from its product's, or writes that name into a
 //! file; a product that isn't a regular file.
+use crate::cache::tool::Kind;
 use crate::machine::Job;
 use std::fs;
 use std::io;
@@ -23,16 +24,6 @@ pub struct Drafts {
     pub folders: Vec<PathBuf>,
     /// What the command's words have in place of the beginnings of the products' names, and those beginnings.
     renamed: Vec<(String, String)>,
-}
-
-/// A program whose products are known.
-#[derive(Clone, Copy, PartialEq, Eq, Debug)]
-pub enum Tool {
-    Cicc,
-    CudaFe,
-    Ptxas,
-    Fatbinary,
-    Host,
 }
 
 /// Options with which a host compiler makes more than it names, or names its product.
@@ -60,50 +51,34 @@ fn is_host_compiler(name: &str) -> bool {
     stem == "cc" || stem == "clang" || stem.ends_with("gcc") || stem.ends_with("++")
 }
 
-impl Tool {
-    /// The tool that words run, and its word's place. The words before it are a launcher.
-    pub fn of(words: &[String]) -> Option<(Tool, usize)> {
-        let options = words.iter().take_while(|word| !word.starts_with('-')).enumerate();
-        let mut names = options.map(|(at, word)| (at, word.rsplit('/').next().unwrap_or_default())).take_while(|(_, name)| *name != "nvcc");
-        names.find_map(|(at, name)| {
-            let tool = match name {
-                "cicc" => Tool::Cicc,
-                "cudafe++" => Tool::CudaFe,
-                "ptxas" => Tool::Ptxas,
-                "fatbinary" => Tool::Fatbinary,
-                _ if is_host_compiler(name) => Tool::Host,
-                _ => return None,
-            };
-            Some((tool, at))
-        })
-    }
-
-    /// Whether an option names a product.
-    fn names_product(self, option: &str, makes_id: bool) -> bool {
-        let options: &[&str] = match self {
-            Tool::Cicc => &["-o", "--gen_c_file_name", "--gen_device_file_name", "--stub_file_name"],
-            Tool::CudaFe => &["--gen_c_file_name"],
-            Tool::Ptxas => &["-o", "--output-file"],
-            Tool::Fatbinary => &["--create", "--embedded-fatbin"],
-            Tool::Host => &["-o"],
-        };
-        options.contains(&option) || (makes_id && option == "--module_id_file_name")
-    }
+/// The tool that words run, and its word's place. The words before it are a launcher.
+pub fn tool_of(words: &[String]) -> Option<(Kind, usize)> {
+    let options = words.iter().take_while(|word| !word.starts_with('-')).enumerate();
+    let mut names = options.map(|(at, word)| (at, word.rsplit('/').next().unwrap_or_default())).take_while(|(_, name)| *name != "nvcc");
+    names.find_map(|(at, name)| Some((Kind::of_nvccs(name).or_else(|| is_host_compiler(name).then_some(Kind::Host))?, at)))
 }
 
 /// Where in these words the products' names are: the word, and where in it the name begins.
-fn places(words: &[String], tool: Tool) -> Vec<(usize, usize)> {
+fn places(words: &[String], tool: Kind) -> Vec<(usize, usize)> {
     let makes_id = words.iter().any(|word| word == "--gen_module_id_file");
+    let options: &[&str] = match tool {
+        Kind::Cicc => &["-o", "--gen_c_file_name", "--gen_device_file_name", "--stub_file_name"],
+        Kind::CudaFe => &["--gen_c_file_name"],
+        Kind::Ptxas => &["-o", "--output-file"],
+        Kind::Fatbinary => &["--create", "--embedded-fatbin"],
+        Kind::Host => &["-o"],
+    };
+    let names_product = |option: &str| options.contains(&option) || (makes_id && option == "--module_id_file_name");
     let (mut places, mut at) = (Vec::new(), 0);
     while at < words.len() {
         let word = &words[at];
-        let assigned = word.split_once('=').filter(|(option, _)| tool != Tool::Host && tool.names_product(option, makes_id));
-        if tool.names_product(word, makes_id) {
+        let assigned = word.split_once('=').filter(|(option, _)| tool != Kind::Host && names_product(option));
+        if names_product(word) {
             at += 1;
             places.extend((at < words.len()).then_some((at, 0)));
         } else if let Some((option, _)) = assigned {
             places.push((at, option.len() + 1));
-        } else if tool == Tool::Host && word.starts_with("-o") {
+        } else if tool == Kind::Host && word.starts_with("-o") {
             places.push((at, 2));
         }
         at += 1;
@@ -123,9 +98,9 @@ fn is_plain(path: &Path) -> bool {
 pub fn redirect(job: &Job, name: &str) -> (Job, Drafts) {
     let mut drafts = Drafts { renamed: vec![(format!("{name}/"), String::new())], ..Drafts::default() };
     let mut redirected = job.clone();
-    let Some((tool, at)) = Tool::of(&job.words) else { return (redirected, drafts) };
+    let Some((tool, at)) = tool_of(&job.words) else { return (redirected, drafts) };
     let derives = |word: &String| DERIVING.iter().any(|option| word.starts_with(option));
-    if tool == Tool::Host && job.words.iter().any(derives) {
+    if tool == Kind::Host && job.words.iter().any(derives) {
         return (redirected, drafts);
     }
     for (word, begin) in places(&job.words[at..], tool).into_iter().map(|(word, begin)| (at + word, begin)) {
@@ -186,10 +161,7 @@ impl Drafts {
     }
 
     /// Makes the folders. Without one of them there are no drafts.
-    ///
-    /// # Errors
-    ///
-    /// If one can't be made.
+    /// An error if one can't be made.
     pub fn prepare(&self) -> io::Result<()> {
         self.folders.iter().try_for_each(fs::create_dir).inspect_err(|_| self.remove())
     }
@@ -207,10 +179,7 @@ impl Drafts {
     }
 
     /// Gives the files the products' names. cicc writes the name of its stub file into that file.
-    ///
-    /// # Errors
-    ///
-    /// If one can't be renamed.
+    /// An error if one can't be renamed.
     pub fn publish(&self) -> io::Result<()> {
         for Draft { made, product } in self.files.iter().filter(|draft| draft.made.exists()) {
             if made.to_string_lossy().ends_with(".stub.c") {
@@ -240,6 +209,7 @@ impl Drafts {
 #[cfg(test)]
 mod tests {
     use super::*;
+    use crate::test_folder::TestFolder;
 
     fn job(line: &str, folder: &str) -> Job {
         Job { words: line.split(' ').map(String::from).collect(), folder: folder.into(), ..Job::default() }
@@ -294,16 +264,9 @@ mod tests {
     }
 
     /// A folder for a test, which goes with it.
-    struct Scratch(PathBuf);
+    struct Scratch(TestFolder);
 
     impl Scratch {
-        fn new(name: &str) -> Scratch {
-            let folder = std::env::temp_dir().join(format!("drafts-{name}-{}", std::process::id()));
-            let _ = fs::remove_dir_all(&folder);
-            fs::create_dir(&folder).unwrap();
-            Scratch(folder)
-        }
-
         fn drafts(&self, line: &str) -> Drafts {
             let (_, drafts) = redirect(&job(line, self.0.to_str().unwrap()), ".draft");
             drafts.prepare().unwrap();
@@ -315,15 +278,9 @@ mod tests {
         }
     }
 
-    impl Drop for Scratch {
-        fn drop(&mut self) {
-            let _ = fs::remove_dir_all(&self.0);
-        }
-    }
-
     #[test]
     fn what_is_published_has_the_products_names() {
-        let scratch = Scratch::new("published");
+        let scratch = Scratch(TestFolder::new());
         fs::write(scratch.0.join("k.ptx"), "old").unwrap();
         let drafts = scratch.drafts("cicc -o k.ptx --stub_file_name k.stub.c --gen_c_file_name k.c");
         fs::write(&drafts.files[0].made, "new").unwrap();
@@ -337,7 +294,7 @@ mod tests {
 
     #[test]
     fn nothing_that_is_written_later_is_seen() {
-        let scratch = Scratch::new("later");
+        let scratch = Scratch(TestFolder::new());
         let drafts = scratch.drafts("ptxas -o k.cubin");
         let mut late = fs::File::create(&drafts.files[0].made).unwrap();
         drafts.remove();
@@ -348,7 +305,7 @@ mod tests {
 
     #[test]
     fn files_count_in_the_sizes_that_the_worker_sees() {
-        let scratch = Scratch::new("sizes");
+        let scratch = Scratch(TestFolder::new());
         let drafts = scratch.drafts("fatbinary --create=a --embedded-fatbin=b");
         fs::write(&drafts.files[0].made, "123").unwrap();
         let cases = [
@@ -376,7 +333,7 @@ mod tests {
 
     #[test]
     fn a_folder_that_cannot_be_made_leaves_no_other() {
-        let scratch = Scratch::new("made");
+        let scratch = Scratch(TestFolder::new());
         let (_, drafts) = redirect(&job("cicc -o k.ptx --gen_c_file_name missing/k.c", scratch.0.to_str().unwrap()), ".draft");
         assert!(drafts.prepare().is_err());
         assert_eq!(fs::read_dir(&scratch.0).unwrap().count(), 0);

@@ -42,11 +42,6 @@ pub struct Wanted {
 }
 
 impl Wanted {
-    /// Whether a worker that lacks tools gets them, as all other files.
-    fn sends_tools(&self) -> bool {
-        self.shared.is_none()
-    }
-
     /// Why a worker doesn't get work that lacks the tool at this place, or has another.
     fn lack(&self, place: usize, found: Option<[u8; 32]>) -> String {
         let path = self.tools[place].0.display();
@@ -61,10 +56,7 @@ pub struct Times {
 }
 
 /// Whether a worker that gets work has the tools. If not, it gets them first.
-///
-/// # Errors
-///
-/// Why it doesn't.
+/// Errors: why it doesn't.
 pub fn judge(evidence: &Evidence, wanted: &Wanted, times: &Times) -> Result<bool, String> {
     let shared = wanted.directory.display();
     match (&evidence.shared, &wanted.shared) {
@@ -77,7 +69,8 @@ pub fn judge(evidence: &Evidence, wanted: &Wanted, times: &Times) -> Result<bool
         return Err("it says nothing of some tools".into());
     }
     let lacks = (0..wanted.tools.len()).find(|&place| evidence.tools[place] != Some(wanted.tools[place].1));
-    if let Some(place) = lacks.filter(|_| !wanted.sends_tools()) {
+    // Without a shared disk a worker gets the tools that it lacks, as all other files.
+    if let Some(place) = lacks.filter(|_| wanted.shared.is_some()) {
         return Err(wanted.lack(place, evidence.tools[place]));
     }
     if !evidence.lack_of_room.is_empty() {
@@ -95,6 +88,7 @@ pub fn judge(evidence: &Evidence, wanted: &Wanted, times: &Times) -> Result<bool
 #[cfg(test)]
 mod tests {
     use super::*;
+    use crate::test_folder::TestFolder;
 
     const SECOND: u64 = 1_000_000_000;
 
@@ -145,8 +139,7 @@ mod tests {
 
     #[test]
     fn a_machine_shows_its_own() {
-        let folder = std::env::temp_dir().join(format!("evidence-{}", std::process::id()));
-        std::fs::create_dir_all(&folder).unwrap();
+        let folder = TestFolder::new();
         std::fs::write(folder.join("tool"), "tool").unwrap();
         let tools: Vec<PathBuf> = ["tool", "missing"].map(|name| folder.join(name)).into();
         let mut terms = Terms { shared: Some(folder.join("tool")), tools, ..Terms::default() };
@@ -160,6 +153,5 @@ mod tests {
         terms.shared = None;
         let evidence = gathered(&terms, &folder);
         assert_eq!((evidence.shared, evidence.lack_of_room.as_str()), (None, ""));
-        std::fs::remove_dir_all(&folder).unwrap();
     }
 }

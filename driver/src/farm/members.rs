@@ -111,10 +111,7 @@ impl Member {
     }
 
     /// Sends it the tools, before the files of commands.
-    ///
-    /// # Errors
-    ///
-    /// If one isn't there.
+    /// An error if one isn't there.
     pub fn equip(&mut self, tools: &[(PathBuf, [u8; 32])]) -> io::Result<()> {
         self.gets_tools = true;
         tools.iter().enumerate().try_for_each(|(place, (path, _))| self.departures.add(TOOLKIT, place, path))

@@ -269,10 +269,7 @@ impl Message {
     }
 
     /// The message that the bytes begin with, and how many bytes it takes. `Ok(None)` if not all of it is there yet.
-    ///
-    /// # Errors
-    ///
-    /// If no message begins so, or one of more than `longest` bytes.
+    /// An error if no message begins so, or one of more than `longest` bytes.
     pub fn of_bytes(bytes: &[u8], longest: usize) -> Result<Option<(Message, usize)>, Unreadable> {
         let Some((size, rest)) = bytes.split_first_chunk() else { return Ok(None) };
         let size = u32::from_le_bytes(*size) as usize;

@@ -38,7 +38,7 @@ use crate::settings::Settings;
 use crate::streams::complain;
 use crate::system::{self, Status, TERM};
 use attempts::{Attempt, LATE, MOST_LOST, MOST_MACHINES, may_be_the_machines};
-use drafts::{Drafts, Seen, Tool, redirect};
+use drafts::{Drafts, Seen, redirect, tool_of};
 use evidence::Wanted;
 use fields::Bytes;
 use here::Here;
@@ -192,7 +192,7 @@ fn own_machine(settings: &Settings, environment: Environment, folder: &Rc<CallFo
 
 /// The tool that a job runs, where this machine finds it.
 fn program_of(job: &Job) -> Option<PathBuf> {
-    let at = match Tool::of(&job.words) {
+    let at = match tool_of(&job.words) {
         Some((_, at)) => at,
         None if programs::is_nvcc(job.words.first()?.as_bytes()) => 0,
         None => return None,
@@ -211,10 +211,7 @@ fn with_text(text: &str) -> io::Result<(OwnedFd, OwnedFd)> {
 
 impl Farm {
     /// Starts workers for a batch whose own directory is this one, and whose commands get `environment`.
-    ///
-    /// # Errors
-    ///
-    /// What it lacks.
+    /// Errors: what it lacks.
     pub fn new(conditions: Conditions, settings: &Settings, environment: Environment, folder: &Rc<CallFolder>) -> Result<Farm, String> {
         let secret = Secret::new().map_err(lacks("secret"))?;
         let listener = listen().map_err(lacks("port"))?;

@@ -43,7 +43,8 @@ fn pack(part: &[u8]) -> Option<Vec<u8>> {
         let sought = &part[at..at + SHORTEST];
         match seen[hash(sought)].replace(at).filter(|&earlier| part[earlier..].starts_with(sought)) {
             Some(earlier) => {
-                let size = same(&part[earlier..], &part[at..part.len() - LAST_BYTES]);
+                let pairs = part[earlier..].iter().zip(&part[at..part.len() - LAST_BYTES]);
+                let size = pairs.take_while(|(one, other)| one == other).count();
                 put_plain(&mut block, &part[packed..at], size - SHORTEST);
                 block.extend(u16::try_from(at - earlier).ok()?.to_le_bytes());
                 put_rest(&mut block, size - SHORTEST);
@@ -62,11 +63,6 @@ fn pack(part: &[u8]) -> Option<Vec<u8>> {
 fn hash(bytes: &[u8]) -> usize {
     let number = bytes.iter().fold(0, |number: u32, &byte| (number << 8) | u32::from(byte));
     (number.wrapping_mul(2_654_435_761) >> (u32::BITS - HASH_BITS)) as usize
-}
-
-/// How many bytes two texts begin with that are the same.
-fn same(one: &[u8], other: &[u8]) -> usize {
-    one.iter().zip(other).take_while(|(one, other)| one == other).count()
 }
 
 /// Bytes as they are, and in front of them their number and that of the bytes that a repetition behind them has beyond the least.

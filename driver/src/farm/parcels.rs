@@ -2,7 +2,8 @@
 //!
 //! The record of a command of a plan has all files that it touches, so another machine can run it in a folder of its own, where its words name
 //! these files. Only device commands go: preprocessors read headers, which no record has, and the others are short.
-use super::drafts::{Drafts, Tool};
+use super::drafts::{Drafts, tool_of};
+use crate::cache::tool::Kind;
 use crate::machine::{Job, Record};
 use std::path::{Path, PathBuf};
 
@@ -17,13 +18,6 @@ pub struct Parcel {
     /// The files that it makes, by their paths in its folder.
     pub products: Vec<PathBuf>,
     pub drafts: Drafts,
-}
-
-/// Whether words have cicc write its working directory into what it makes, or read sources that it finds by the names in its input.
-fn shows_folder(words: &[String]) -> bool {
-    let shows =
-        |word: &String| word == "-g" || ["debug", "line-info", "lineinfo", "src-in-ptx", "source-in-ptx"].iter().any(|part| word.contains(part));
-    words.iter().any(shows)
 }
 
 /// The file that a word names, of those of a command that runs in this folder, and where in the word its name begins.
@@ -68,8 +62,11 @@ impl Packing<'_> {
 /// of its record, or if what it makes depends on where it runs.
 pub fn parcel(job: &Job, name: &str) -> Option<Parcel> {
     let Record { reads, writes } = job.record.as_ref()?;
-    let (tool, at) = Tool::of(&job.words)?;
-    if at > 0 || !matches!(tool, Tool::Cicc | Tool::Ptxas) || (tool == Tool::Cicc && shows_folder(&job.words)) {
+    let (tool, at) = tool_of(&job.words)?;
+    // By these words cicc writes its working directory into what it makes, or reads sources that it finds by the names in its input.
+    let shows_folder =
+        |word: &String| word == "-g" || ["debug", "line-info", "lineinfo", "src-in-ptx", "source-in-ptx"].iter().any(|part| word.contains(part));
+    if at > 0 || !matches!(tool, Kind::Cicc | Kind::Ptxas) || (tool == Kind::Cicc && job.words.iter().any(shows_folder)) {
         return None;
     }
     let files = [&reads[..], writes].concat();

@@ -21,10 +21,7 @@ impl Received {
     }
 
     /// Takes a part of the tool at this place.
-    ///
-    /// # Errors
-    ///
-    /// If it can't be written, or there is no such tool.
+    /// An error if it can't be written, or there is no such tool.
     pub fn take(&mut self, place: u32, part: &[u8]) -> io::Result<()> {
         let folder = self.paths.get(place as usize).and_then(|path| path.parent()).ok_or(io::ErrorKind::InvalidData)?;
         DirBuilder::new().recursive(true).mode(0o700).create(folder)?;
@@ -32,10 +29,7 @@ impl Received {
     }
 
     /// Takes the digest of a tool of which all has come: it can be run then.
-    ///
-    /// # Errors
-    ///
-    /// If what has come has another, or there is no such tool.
+    /// An error if what has come has another, or there is no such tool.
     pub fn end(&mut self, place: u32, digest: &[u8; 32]) -> io::Result<()> {
         self.arrivals.end(place, digest)?;
         fs::set_permissions(&self.paths[place as usize], Permissions::from_mode(0o700))
@@ -51,12 +45,12 @@ impl Received {
 mod tests {
     use super::*;
     use crate::cache::digest::Digest;
+    use crate::test_folder::TestFolder;
     use std::process::Command;
 
     #[test]
     fn a_tool_that_came_can_be_run() {
-        let folder = std::env::temp_dir().join(format!("received-{}", std::process::id()));
-        let _ = fs::remove_dir_all(&folder);
+        let folder = TestFolder::new();
         let tools = ["/cuda/bin/ptxas", "/cuda/bin/../nvvm/bin/cicc"].map(PathBuf::from);
         let mut received = Received::new(&tools, &folder);
         let script = "#!/bin/sh\necho here\n";
@@ -71,6 +65,5 @@ mod tests {
         received.take(0, b"cut").unwrap();
         assert!(received.end(0, &Digest::of(b"cut short").0).is_err() && received.path(0).is_none());
         assert!(received.take(2, b"x").is_err() && received.end(2, &Digest::of(b"x").0).is_err(), "there is no such tool");
-        fs::remove_dir_all(&folder).unwrap();
     }
 }

@@ -380,6 +380,7 @@ mod tests {
     use crate::cache::digest::Digest;
     use crate::farm::packed::Part;
     use crate::forked::in_own_process;
+    use crate::test_folder::TestFolder;
     use std::net::{TcpListener, TcpStream};
     use std::os::unix::fs::PermissionsExt;
 
@@ -387,21 +388,11 @@ mod tests {
     const LONG: u64 = 100_000;
 
     /// A folder of a test, which goes with it.
-    struct Room(CallFolder);
+    struct Room(TestFolder);
 
     impl Room {
-        fn new() -> Room {
-            Room(CallFolder::take(&env::temp_dir(), "session-of-a-test").unwrap())
-        }
-
         fn path(&self, name: &str) -> PathBuf {
-            self.0.path().join(name)
-        }
-    }
-
-    impl Drop for Room {
-        fn drop(&mut self) {
-            self.0.remove();
+            self.0.join(name)
         }
     }
 
@@ -413,7 +404,7 @@ mod tests {
         batch.trust();
         worker.trust();
         let environment = vec![Bytes(b"PATH=/usr/bin:/bin".to_vec()), Bytes(b"NAME=value".to_vec())];
-        let temporary = room.0.path().to_owned();
+        let temporary = room.0.to_owned();
         let terms = Terms { environment, temporary, has_own_temporary: true, patience, mask: 0o22, ..Terms::default() };
         let mut session = Session::new(worker, terms, slots).unwrap();
         assert!(matches!(next(&mut batch), Message::Evidence(_)));
@@ -453,7 +444,7 @@ mod tests {
     /// What this says to a worker as its batch, and how the worker's time ends. Both are in a process of their own.
     fn work(patience: u64, slots: u32, wanted: &End, batch: impl FnOnce(&mut Connection, &Room) + Send) {
         in_own_process(|| {
-            let room = Room::new();
+            let room = Room(TestFolder::new());
             let (mut session, mut connection) = begun(&room, patience, slots);
             let own = session.folder.path().to_owned();
             let end = thread::scope(|scope| {
@@ -481,7 +472,7 @@ mod tests {
     #[test]
     fn a_command_runs_and_says_how_it_ended() {
         work(LONG, 2, &End::Bye, |batch, room| {
-            let (folder, made) = (room.0.path().to_string_lossy().into_owned(), room.path("made"));
+            let (folder, made) = (room.0.to_string_lossy().into_owned(), room.path("made"));
             let script = "pwd; echo $NAME$A >&2; umask; echo text > made; exit 3";
             let products = vec![made, room.path("missing")];
             batch.send(&Message::Start(
@@ -516,7 +507,7 @@ mod tests {
             let said = String::from_utf8(said.0).unwrap();
             let [folder, temporary, of_shell] = said.lines().collect::<Vec<_>>()[..] else { panic!("{said}") };
             assert!(folder.ends_with("/9") && Path::new(folder).starts_with(temporary) && of_shell == folder, "{said}");
-            assert!(Path::new(temporary).starts_with(room.0.path()), "{said}");
+            assert!(Path::new(temporary).starts_with(&room.0), "{said}");
             assert_eq!(next(batch), Message::Part(9, 0, Part(b"text".to_vec())));
             assert_eq!(next(batch), Message::Whole(9, 0, Digest::of(b"text").0));
             assert!(matches!(next(batch), Message::Ended(9, Answer { code: 0, products, fault, .. }) if products == [Some(4)] && fault.is_empty()));
@@ -613,7 +604,7 @@ mod tests {
     #[test]
     fn a_machine_has_to_be_as_an_order_needs_it() {
         in_own_process(|| {
-            let room = Room::new();
+            let room = Room(TestFolder::new());
             let (mut session, _batch) = begun(&room, LONG, 1);
             let (file, missing) = (room.path("file"), room.path("missing"));
             fs::write(&file, "text").unwrap();
@@ -628,7 +619,7 @@ mod tests {
             let contents = |path: &PathBuf| format!("its {} has other contents", path.display());
             let cases = [
                 (Order::default(), String::new()),
-                (of_folder(room.0.path()), String::new()),
+                (of_folder(&room.0), String::new()),
                 (of_folder(&missing), has_no.clone()),
                 (of_folder(&file), format!("it has no {}", file.display())),
                 (of_folders(None), has_no.clone()),
@@ -651,9 +642,9 @@ mod tests {
     #[test]
     fn a_command_has_its_temporary_files_where_its_worker_has_them() {
         in_own_process(|| {
-            let room = Room::new();
+            let room = Room(TestFolder::new());
             let (mut session, _batch) = begun(&room, LONG, 1);
-            let [of_batch, of_worker] = [room.0.path(), session.folder.path()].map(|path| path.to_string_lossy().into_owned());
+            let [of_batch, of_worker] = [&*room.0, session.folder.path()].map(|path| path.to_string_lossy().into_owned());
             let value = |session: &Session, name: &str, value: &str, own: Option<&str>| session.value(name, Some(&value.into()), own.map(Path::new));
             let cases = [
                 ("TMPDIR", of_batch.as_str(), None, of_worker.as_str()),
@@ -711,7 +702,7 @@ mod tests {
     #[test]
     fn it_sleeps_while_nothing_comes() {
         in_own_process(|| {
-            let room = Room::new();
+            let room = Room(TestFolder::new());
             let (mut session, mut batch) = begun(&room, LONG, 1);
             let slept = |session: &Session| {
                 let begun = Instant::now();
@@ -729,7 +720,7 @@ mod tests {
 
     #[test]
     fn a_worker_without_the_batchs_folder_has_one_of_its_own() {
-        let room = Room::new();
+        let room = Room(TestFolder::new());
         let shared = room.path("shared");
         fs::create_dir(&shared).unwrap();
         fs::set_permissions(&shared, PermissionsExt::from_mode(0o700)).unwrap();
@@ -737,7 +728,7 @@ mod tests {
         assert!(own.path().starts_with(&shared));
         own.remove();
         let own = own_folder(&room.path("missing")).unwrap();
-        assert!(own.path().starts_with(env::temp_dir()) && !own.path().starts_with(room.0.path()));
+        assert!(own.path().starts_with(env::temp_dir()) && !own.path().starts_with(&room.0));
         own.remove();
     }
 }

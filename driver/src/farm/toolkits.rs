@@ -143,6 +143,7 @@ mod tests {
     use super::*;
     use crate::cache::digest::Digest;
     use crate::forked::in_own_process;
+    use crate::test_folder::TestFolder;
     use std::os::unix::fs::PermissionsExt;
 
     #[test]
@@ -181,7 +182,7 @@ mod tests {
     fn tools_are_the_files_of_the_nvcc_that_is_found() {
         // In a process of its own no other test keeps a program open that this one writes.
         in_own_process(|| {
-            let here = env::temp_dir().join(format!("tools-{}", std::process::id()));
+            let here = TestFolder::new();
             make_toolkit(&here);
             let found = tools(&Settings { nvcc: here.join("nvcc").into(), ..Settings::default() });
             let libraries = ["lib/a.bc", "lib/b.bc", "lib/c.bc", "lib/d.bc", "lib/e.bc"];
@@ -190,14 +191,12 @@ mod tests {
             assert_eq!(found, wanted);
             assert_eq!(found.iter().filter(|(path, _)| is_of_devices(path)).count(), 7);
             assert_eq!(tools(&Settings { nvcc: here.join("missing").into(), ..Settings::default() }), []);
-            fs::remove_dir_all(&here).unwrap();
         });
     }
 
     #[test]
     fn digests_keep_the_order_of_files() {
-        let folder = env::temp_dir().join(format!("toolkits-{}", std::process::id()));
-        fs::create_dir_all(&folder).unwrap();
+        let folder = TestFolder::new();
         let mut files: Vec<PathBuf> = (0..20).map(|number| folder.join(number.to_string())).collect();
         for file in &files {
             fs::write(file, file.to_str().unwrap()).unwrap();
@@ -206,6 +205,5 @@ mod tests {
         let wanted: Vec<Option<[u8; 32]>> = files.iter().map(|file| Some(Digest::of(&fs::read(file).ok()?).0)).collect();
         assert_eq!(digests_of(&files), wanted);
         assert!(wanted[7].is_none() && digests_of(&[]).is_empty());
-        fs::remove_dir_all(&folder).unwrap();
     }
 }

@@ -51,10 +51,7 @@ impl Waiting {
     }
 
     /// The next message, and whether it is the last one.
-    ///
-    /// # Errors
-    ///
-    /// If the file isn't what it was.
+    /// An error if the file isn't what it was.
     fn next(&mut self) -> io::Result<(Message, bool)> {
         match self {
             Waiting::Message(_, message) => Ok((message.clone(), true)),
@@ -69,10 +66,7 @@ impl Waiting {
 
 impl Departures {
     /// Sends a file of a command, as it is now.
-    ///
-    /// # Errors
-    ///
-    /// If it isn't there.
+    /// An error if it isn't there.
     pub fn add(&mut self, number: u64, place: usize, path: &Path) -> io::Result<()> {
         let state = state_of(&fs::metadata(path)?);
         let place = u32::try_from(place).map_err(|_| io::ErrorKind::InvalidInput)?;
@@ -122,10 +116,7 @@ impl Departures {
 
 impl Outgoing {
     /// The next message: a part of the file, or that this was all.
-    ///
-    /// # Errors
-    ///
-    /// If the file isn't what it was.
+    /// An error if the file isn't what it was.
     fn next(&mut self) -> io::Result<Message> {
         let (file, hasher) = match &mut self.begun {
             Some(begun) => begun,
@@ -172,10 +163,7 @@ impl Arrivals {
     }
 
     /// Takes a part of a file.
-    ///
-    /// # Errors
-    ///
-    /// If it can't be written, or there is no such file.
+    /// An error if it can't be written, or there is no such file.
     pub fn take(&mut self, place: u32, part: &[u8]) -> io::Result<()> {
         let arrival = self.files.get_mut(place as usize).ok_or(io::ErrorKind::InvalidData)?;
         let (file, sum) = arrival.begin()?;
@@ -186,10 +174,7 @@ impl Arrivals {
     }
 
     /// Takes the digest of a file of which all has come.
-    ///
-    /// # Errors
-    ///
-    /// If what has come has another, if it can't be written, or if there is no such file.
+    /// An error if what has come has another, if it can't be written, or if there is no such file.
     pub fn end(&mut self, place: u32, digest: &[u8; 32]) -> io::Result<()> {
         let arrival = self.files.get_mut(place as usize).ok_or(io::ErrorKind::InvalidData)?;
         let (_, Sum { hasher, size }) = arrival.begin()?;
@@ -233,6 +218,7 @@ impl Arrival {
 mod tests {
     use super::*;
     use crate::cache::digest::Digest;
+    use crate::test_folder::TestFolder;
     use std::net::{TcpListener, TcpStream};
     use std::thread;
     use std::time::Duration;
@@ -241,25 +227,12 @@ mod tests {
     type Change = fn(&Path);
 
     /// A folder for a test, which goes with it.
-    struct Scratch(PathBuf);
+    struct Scratch(TestFolder);
 
     impl Scratch {
-        fn new(name: &str) -> Scratch {
-            let folder = std::env::temp_dir().join(format!("transfers-{name}-{}", std::process::id()));
-            let _ = fs::remove_dir_all(&folder);
-            fs::create_dir(&folder).unwrap();
-            Scratch(folder)
-        }
-
         fn file(&self, name: &str, content: &[u8]) -> PathBuf {
             fs::write(self.0.join(name), content).unwrap();
             self.0.join(name)
-        }
-    }
-
-    impl Drop for Scratch {
-        fn drop(&mut self) {
-            let _ = fs::remove_dir_all(&self.0);
         }
     }
 
@@ -294,7 +267,7 @@ mod tests {
 
     #[test]
     fn files_come_as_they_went() {
-        let scratch = Scratch::new("come");
+        let scratch = Scratch(TestFolder::new());
         let contents = [vec![], b"short".to_vec(), (0..3 * LONGEST_PART + 7).map(|at| at.to_le_bytes()[0] ^ at.to_le_bytes()[1]).collect()];
         let mut departures = Departures::default();
         for (place, content) in contents.iter().enumerate() {
@@ -313,7 +286,7 @@ mod tests {
 
     #[test]
     fn a_file_that_changes_meanwhile_is_not_sent_to_its_end() {
-        let scratch = Scratch::new("changes");
+        let scratch = Scratch(TestFolder::new());
         let changes: [Change; 4] = [
             |path| fs::write(path, vec![2; 3 * LONGEST_PART]).unwrap(),
             |path| fs::write(path, vec![1; 2 * LONGEST_PART]).unwrap(),
@@ -345,7 +318,7 @@ mod tests {
 
     #[test]
     fn no_more_is_read_than_the_other_side_takes() {
-        let scratch = Scratch::new("ahead");
+        let scratch = Scratch(TestFolder::new());
         let part: Vec<u8> = (0..LONGEST_PART / 32).flat_map(|at| Digest::of(&at.to_le_bytes()).0).collect();
         let path = scratch.file("long", &part.repeat(40 * AHEAD / LONGEST_PART));
         let [mut one, _other] = pair();
@@ -359,7 +332,7 @@ mod tests {
 
     #[test]
     fn one_side_does_not_take_all_the_time() {
-        let scratch = Scratch::new("at-once");
+        let scratch = Scratch(TestFolder::new());
         let path = scratch.file("long", &vec![0; AT_ONCE * LONGEST_PART]);
         let [mut one, _other] = pair();
         let mut departures = Departures::default();
@@ -373,7 +346,7 @@ mod tests {
 
     #[test]
     fn what_does_not_come_whole_is_not_there() {
-        let scratch = Scratch::new("cut");
+        let scratch = Scratch(TestFolder::new());
         let paths = ["one", "two"].map(|name| scratch.0.join(name));
         let mut arrivals = Arrivals::new(paths.iter());
         let digest_of = |text: &[u8]| Digest::of(text).0;

@@ -49,10 +49,7 @@ pub enum End {
 }
 
 /// Waits for a message.
-///
-/// # Errors
-///
-/// If none comes.
+/// An error if none comes.
 fn await_message(connection: &mut Connection, longest: Duration) -> Result<Message, End> {
     let begun = Instant::now();
     let mut is_gone = false;

@@ -109,10 +109,7 @@ struct Asked {
 }
 
 /// Parses the words of a call. `Ok(None)` asks for help.
-///
-/// # Errors
-///
-/// What is wrong with the words.
+/// Errors: what is wrong with the words.
 fn asked(words: &[OsString]) -> Result<Option<Asked>, String> {
     let mut asked = Asked::default();
     let mut words = words.iter();
@@ -139,10 +136,7 @@ fn plain(error: &io::Error) -> String {
 }
 
 /// Makes what is asked for.
-///
-/// # Errors
-///
-/// Which file can't be read or written, and why.
+/// Errors: which file can't be read or written, and why.
 fn report(asked: &Asked) -> Result<(), String> {
     let mut log = Log::default();
     for path in &asked.logs {

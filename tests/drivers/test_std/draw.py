@@ -108,7 +108,7 @@ class Draw:
             ["null", "bool=true", "bool=false", "size=G", "u64=G", "u32=G", "text=T", "text=T", "array=N", "object=L", "empty"])
 
     def texts(self) -> str:
-        name = self.lot.choice(["text", "ends", "splits", "chars", "parts", "replace", "utf8"])
+        name = self.lot.choice(["text", "ends", "splits", "chars", "part", "replace", "utf8"])
         if name == "text":
             form = self.lot.choice(["plain", "right", "left", "middle", "cut", "filled", "debug", "string", "chars"])
             return f"text : {form} {self.word()}"
@@ -122,8 +122,8 @@ class Draw:
             return f"splits : {escaped(text)} {escaped(self.lot.choice(text or 'a'))}"
         if name == "chars":
             return f"chars : {self.word(12)}"
-        if name == "parts":
-            return f"parts : {self.word(6)} {self.lot.randint(0, 9)} {self.lot.randint(0, 14)}"
+        if name == "part":
+            return f"part : {self.word(6)} {self.lot.randint(0, 9)} {self.lot.randint(0, 14)}"
         if name == "replace":
             part = self.lot.choice(["a", "ab", "aa", "aba", "é", "", "abc"])
             text = "".join(self.lot.choice(["a", "b", "é", "ab"]) for _ in range(self.lot.randint(0, 12)))
@@ -131,10 +131,10 @@ class Draw:
         return f"utf8 : {self.hex(8, BYTES) or '%e'}"
 
     def formats(self) -> str:
-        name = self.lot.choice(["number", "debug", "parts", "parse", "sums"])
+        name = self.lot.choice(["number", "debug", "pieces", "parse", "sums"])
         if name == "number":
             return f"number : {self.lot.choice(['number', 'signed', 'hex', 'wide', 'owned', 'option'])} {self.number()}"
-        if name in ("debug", "parts"):
+        if name in ("debug", "pieces"):
             return f"{name} : {self.lot.randint(0, 40)} {self.word()}"
         if name == "parse":
             text = self.lot.choice(["", "+", "-"]) + self.lot.choice(["", "0", "00"]) + str(self.number(300)) + self.lot.choice(["", "", "a", "0"])

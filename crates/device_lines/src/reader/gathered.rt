@@ -1,18 +1,17 @@
 //! What the reader of device tools' lines gathers, item by item.
 
-ghost use Rattle.std.specs.Prelude.{◌≡◌, true, false, IfOk, OnOk, fold};
-ghost use Rattle.option_items.specs.Items.{items};
-ghost use Rattle.option_items.specs.Views.{item_seen, item_viewed};
-ghost use Rattle.compilers.specs.Arguments.{plain_arguments};
+ghost use Rattle.std.specs.Prelude.{◌≡◌, IfOk, OnOk, fold};
+ghost use Rattle.compilers.specs.Items.{items};
+ghost use Rattle.compilers.specs.Views.{item_viewed};
 ghost use Rattle.compilers.specs.Compiler.{accepted, reading_of};
 ghost use Rattle.device_lines.specs.Reading as spec;
 
 use super::named_files::NamedFiles;
 use crate::options::ArgData;
 use compilers::arguments::{CompilerArguments, ParsedArguments};
-use option_items::items::{ArgParseError, Line};
-use option_items::table::SearchableArgInfo;
-use option_items::views::{ArgumentView, view_item};
+use compilers::items::{ArgParseError, Line};
+use compilers::table::SearchableArgInfo;
+use compilers::views::{ArgumentView, view_item};
 use std::alloc::{AllocError, Global};
 use texts::language::Language;
 use texts::text::Text;
@@ -29,7 +28,7 @@ pub struct Gathered<'a> {
 }
 
 impl<'a> Gathered<'a> {
-    ghost use Rattle.device_lines.specs.Gathered.{nothing_gathered, with_item, is_option, all_outputs, reading_of_gathered};
+    ghost use Rattle.device_lines.specs.Gathered.{nothing_gathered, with_item, all_outputs, reading_of_gathered};
 
     /// Nothing yet, with room for `count` common words.
     pub fn with_capacity(alloc: Global, count: usize) -> Result<Gathered<'a>, AllocError>
@@ -73,78 +72,26 @@ impl<'a> Gathered<'a> {
     {
         let after_unknown = self.after_unknown;
         self.after_unknown = false;
-        match item {
-            Err(_) => Ok(()),
-            Ok(ArgumentView::Raw(word)) => {
-                if after_unknown {
-                    self.common.push_str(alloc, word)
-                } else {
-                    Ok(())
-                }
-            }
-            Ok(ArgumentView::UnknownFlag(word)) => {
+        let Ok(item) = item else {
+            return Ok(());
+        };
+        self.files.take(alloc, cwd, item)?;
+        let kind = match item {
+            ArgumentView::Raw(word) if after_unknown => return self.common.push_str(alloc, word),
+            ArgumentView::Raw(_) => return Ok(()),
+            ArgumentView::UnknownFlag(word) => {
                 self.after_unknown = true;
-                self.common.push_str(alloc, word)
+                return self.common.push_str(alloc, word);
             }
-            Ok(option) => self.take_option(alloc, cwd, option),
-        }
-    }
-
-    // Takes an option of the table, which is no unknown flag.
-    fn take_option(
-        &mut self,
-        alloc: Global,
-        cwd: &str,
-        option: ArgumentView<'a, ArgData>,
-    ) -> Result<(), AllocError>
-        requires option { is_option (item_seen option) ≡ true }
-        requires goes_on { self.old.after_unknown ≡ false }
-        ensures { OnOk result (self.new ≡ with_item cwd.now self.old (item_seen option.entry)) }
-    {
-        self.files.take(alloc, cwd, option)?;
-        let kind = match option {
-            ArgumentView::Raw(_) | ArgumentView::UnknownFlag(_) => return Ok(()),
             ArgumentView::Flag(_, kind) | ArgumentView::WithValue(_, kind, _, _) => kind,
         };
         match kind {
             ArgData::Output => Ok(()),
             ArgData::PassThrough | ArgData::GenModuleIdFileFlag | ArgData::ModuleIdFileName => {
-                option.write(alloc, &mut self.common)
+                item.write(alloc, &mut self.common)
             }
             ArgData::UnhashedFlag | ArgData::UnhashedPassThrough | ArgData::UnhashedOutput => {
-                option.write(alloc, &mut self.unhashed)
-            }
-        }
-    }
-
-    // The module id file, if the tool reads it, in two lists.
-    fn module_id_files(&self, alloc: Global, cwd: &str) -> Result<(Words, Words), AllocError>
-        ensures first { IfOk result (λ w. w.0 ≡ spec.module_id_file cwd.now self.now.files.makes_module_id self.now.files.module_id) }
-        ensures second { IfOk result (λ w. w.1 ≡ spec.module_id_file cwd.now self.now.files.makes_module_id self.now.files.module_id) }
-    {
-        let first = self.files.module_id_file(alloc, cwd)?;
-        let second = first.try_clone(alloc)?;
-        Ok((first, second))
-    }
-
-    // A copy of the input, and the module id file, if the tool reads it, in two lists.
-    fn input_and_files(
-        &self,
-        alloc: Global,
-        cwd: &str,
-        input: &str,
-    ) -> Result<(Text, (Words, Words)), AllocError>
-        ensures input { IfOk result (λ r. r.0 ≡ input.now) }
-        ensures first { IfOk result (λ r. r.1.0 ≡ spec.module_id_file cwd.now self.now.files.makes_module_id self.now.files.module_id) }
-        ensures second { IfOk result (λ r. r.1.1 ≡ spec.module_id_file cwd.now self.now.files.makes_module_id self.now.files.module_id) }
-    {
-        let files = self.module_id_files(alloc, cwd)?;
-        match Text::copy_of(alloc, input) {
-            Ok(input) => Ok((input, files)),
-            Err(error) => {
-                // Dropped by a call: see "Explicit drops" in docs/ARCHITECTURE.md.
-                drop(files);
-                Err(error)
+                item.write(alloc, &mut self.unhashed)
             }
         }
     }
@@ -156,37 +103,15 @@ impl<'a> Gathered<'a> {
         alloc: Global,
         cwd: &str,
         input: &str,
-    ) -> Result<(Text, (Words, Words)), AllocError>
+    ) -> Result<(Text, Words, Words), AllocError>
         ensures now { OnOk result (self.new ≡ record self.old { files = record self.old.files { outputs = all_outputs cwd.now self.old.files } }) }
-        ensures input { IfOk result (λ r. r.0 ≡ input.now) }
-        ensures first { IfOk result (λ r. r.1.0 ≡ spec.module_id_file cwd.now self.old.files.makes_module_id self.old.files.module_id) }
-        ensures second { IfOk result (λ r. r.1.1 ≡ spec.module_id_file cwd.now self.old.files.makes_module_id self.old.files.module_id) }
+        ensures answer { IfOk result (λ r. let file = spec.module_id_file cwd.now self.old.files.makes_module_id self.old.files.module_id in r ≡ (input.now, file, file)) }
     {
         self.files.record_module_id(alloc, cwd)?;
-        self.input_and_files(alloc, cwd, input)
-    }
-
-    // The arguments from what was gathered, with the module id file in two lists.
-    fn into_arguments(
-        self,
-        alloc: Global,
-        language: Language,
-        input: Text,
-        files: (Words, Words),
-    ) -> ParsedArguments
-        ensures { result ≡ record (plain_arguments input language self.entry.files.outputs) {
-          common_args = self.entry.common;
-          unhashed_args = self.entry.unhashed;
-          extra_dist_files = files.0;
-          extra_hash_files = files.1;
-        } }
-    {
-        let mut arguments = ParsedArguments::of(alloc, input, language, self.files.outputs);
-        arguments.common_args = self.common;
-        arguments.unhashed_args = self.unhashed;
-        arguments.extra_dist_files = files.0;
-        arguments.extra_hash_files = files.1;
-        arguments
+        let input = Text::copy_of(alloc, input)?;
+        let first = self.files.module_id_file(alloc, cwd)?;
+        let second = first.try_clone(alloc)?;
+        Ok((input, first, second))
     }
 
     /// The answer of a reader that has taken all items, with this input.
@@ -201,8 +126,13 @@ impl<'a> Gathered<'a> {
     {
         let mut gathered = self;
         match gathered.finish(alloc, cwd, input) {
-            Ok((input, files)) => {
-                let arguments = gathered.into_arguments(alloc, language, input, files);
+            Ok((input, first, second)) => {
+                let outputs = gathered.files.outputs;
+                let mut arguments = ParsedArguments::of(alloc, input, language, outputs);
+                arguments.common_args = gathered.common;
+                arguments.unhashed_args = gathered.unhashed;
+                arguments.extra_dist_files = first;
+                arguments.extra_hash_files = second;
                 Ok(CompilerArguments::Ok(arguments))
             }
             Err(error) => {

@@ -1,17 +1,17 @@
 //! The files that the items of a device tool's line name.
 
-ghost use Rattle.std.specs.Prelude.{◌≡◌, ◌∷◌, [], true, false, None, IfOk, OnOk, string_bytes, fold};
-ghost use Rattle.option_items.specs.Items.{items};
-ghost use Rattle.option_items.specs.Views.{item_seen, item_viewed};
+ghost use Rattle.std.specs.Prelude.{◌≡◌, IfOk, OnOk, fold};
+ghost use Rattle.compilers.specs.Items.{items};
+ghost use Rattle.compilers.specs.Views.{item_seen};
 ghost use Rattle.compilers.specs.Outputs.{with_entry};
 ghost use Rattle.texts.specs.Path.{joined};
 ghost use Rattle.device_lines.specs.Reading as spec;
 
 use crate::options::ArgData;
+use compilers::items::Line;
 use compilers::outputs::{ArtifactDescriptor, OBJ, Outputs};
-use option_items::items::{ArgParseError, Line};
-use option_items::table::SearchableArgInfo;
-use option_items::views::{ArgumentView, view_item};
+use compilers::table::SearchableArgInfo;
+use compilers::views::{ArgumentView, view_item};
 use std::alloc::{AllocError, Global};
 use std::marker::Model;
 use texts::text::{Text, join};
@@ -29,15 +29,6 @@ impl<'a> Model for GivenPath<'a> {
     ghost Value = { List ℕ };
 
     ghost view = { λ p. p.text.now };
-}
-
-// A list of one word.
-fn one_word(alloc: Global, word: String) -> Result<Words, AllocError>
-    ensures { IfOk result (λ w. w ≡ string_bytes word ∷ []) }
-{
-    let mut words = Words::with_capacity(alloc, 1)?;
-    words.push(word)?;
-    Ok(words)
 }
 
 /// The files of the items so far.
@@ -111,21 +102,6 @@ impl<'a> NamedFiles<'a> {
         }
     }
 
-    // Takes the next item. One that can't be read names no file.
-    fn take_read(
-        &mut self,
-        alloc: Global,
-        cwd: &str,
-        item: Result<ArgumentView<'a, ArgData>, ArgParseError>,
-    ) -> Result<(), AllocError>
-        ensures { OnOk result (self.new ≡ with_files_of cwd.now self.old (item_viewed item.entry)) }
-    {
-        match item {
-            Err(_) => Ok(()),
-            Ok(item) => self.take(alloc, cwd, item),
-        }
-    }
-
     /// Takes all items of a line. On an error some of them may be there.
     pub fn take_line<S: SearchableArgInfo<ArgData>>(
         &mut self,
@@ -139,8 +115,10 @@ impl<'a> NamedFiles<'a> {
         let mut line = line;
         while let Some(word) = line.next_word() {
             let row = table.search(word);
-            let item = view_item(row, word, &mut line);
-            self.take_read(alloc, cwd, item)?;
+            // An item that can't be read names no file.
+            if let Ok(item) = view_item(row, word, &mut line) {
+                self.take(alloc, cwd, item)?;
+            }
         }
         Ok(())
     }
@@ -167,8 +145,9 @@ impl<'a> NamedFiles<'a> {
     {
         match &self.module_id {
             Some(path) if !self.makes_module_id => {
-                let path = join(alloc, cwd, path.text)?;
-                one_word(alloc, path)
+                let mut files = Words::with_capacity(alloc, 1)?;
+                files.push(join(alloc, cwd, path.text)?)?;
+                Ok(files)
             }
             _ => Ok(Words::new(alloc)),
         }

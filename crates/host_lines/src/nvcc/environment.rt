@@ -4,8 +4,8 @@ ghost use Rattle.std.specs.Prelude.{◌≡◌, ◌++◌, map, IfOk, string_bytes
 ghost use Rattle.texts.specs.Variables.{pair_of};
 ghost use Rattle.host_lines.specs.NvccEnvironment as spec;
 
-use shell_words::split;
 use std::alloc::{AllocError, Global};
+use texts::shell::split;
 use texts::variables::{Variables, first_value};
 use texts::words::Words;
 
@@ -36,17 +36,7 @@ pub fn without_flags(alloc: Global, env_vars: &[(String, String)]) -> Result<Var
     Ok(left)
 }
 
-// The shell words of a variable's value; none if the shell can't split it.
-fn words_of_value(alloc: Global, text: &str) -> Result<Words, AllocError>
-    ensures { IfOk result (λ w. w ≡ spec.words_of_value text.now) }
-{
-    match split(alloc, text)? {
-        Some(words) => Ok(Words::from_vec(words)),
-        None => Ok(Words::new(alloc)),
-    }
-}
-
-// The words that the first variable of a name adds.
+// The shell words that the first variable of a name adds; none if the shell can't split its value.
 fn added_words(
     alloc: Global,
     env_vars: &[(String, String)],
@@ -54,10 +44,11 @@ fn added_words(
 ) -> Result<Words, AllocError>
     ensures { IfOk result (λ w. w ≡ spec.added_words name.now (map pair_of env_vars.now)) }
 {
-    match first_value(env_vars, name) {
-        Some(text) => words_of_value(alloc, text),
-        None => Ok(Words::new(alloc)),
-    }
+    let words = match first_value(env_vars, name) {
+        Some(text) => split(alloc, text)?,
+        None => None,
+    };
+    Ok(Words::from_vec(words.unwrap_or(Vec::new(alloc))))
 }
 
 /// Adds the words of the environment to a line: those of the first `NVCC_PREPEND_FLAGS` before it, and those of the

@@ -1,13 +1,13 @@
 //! nvcc's own options.
 
 ghost use Rattle.std.specs.Prelude.{◌≡◌, true, map};
-ghost use Rattle.option_items.specs.Table.{entry_of};
-ghost use Rattle.gcc_lines.specs.GccOptions.{differ};
+ghost use Rattle.compilers.specs.Table.{entry_of};
+ghost use Rattle.host_lines.specs.GccOptions.{differ};
 ghost use Rattle.host_lines.specs.NvccOptions.{nvcc_options};
 
-use gcc_lines::gcc::ArgData;
-use option_items::entries;
-use option_items::table::{ArgInfo, EITHER_WAY, EITHER_WAY_OR_EQUALS, JOINED, SEPARATED, Table};
+use crate::gcc::ArgData;
+use compilers::entries;
+use compilers::table::{ArgInfo, EITHER_WAY, EITHER_WAY_OR_EQUALS, JOINED, SEPARATED, Table};
 
 /// nvcc's own options, beside those of the gcc profile, as in sccache 0.19.0's table. No two have the same text.
 /// The text of `--archive-options options` contains a space, so a word must contain it too to be that option.

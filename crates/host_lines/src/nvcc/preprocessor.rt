@@ -6,57 +6,60 @@ ghost use Rattle.texts.specs.Lists.{with_name};
 ghost use Rattle.texts.specs.Variables.{pair_of};
 ghost use Rattle.host_lines.specs.Preprocess as spec;
 
-use super::environment::without_flags;
+use crate::gcc::language_to_gcc_arg;
+use crate::nvcc::compiler::Nvcc;
+use crate::nvcc::environment::without_flags;
 use crate::preprocess::{commands, common_command, refused};
 use compilers::arguments::ParsedArguments;
 use compilers::command::SingleCompileCommand;
 use compilers::compiler::NvccHostCompiler;
-use gcc_lines::gcc::language_to_gcc_arg;
 use indexmap::IndexSet;
 use std::alloc::{AllocError, Global};
 use texts::fault::Fault;
 use texts::words::Words;
 
-/// The one or two commands that preprocess the input of an nvcc line, as in sccache 0.19.0. The last one prints
-/// the preprocessed code. If the line has dependency words, the first one writes the dependency file. Run them in
-/// order, up to the first that fails.
-///
-/// Both begin with the preprocessor's words, the common words, `-x`, the language's name and the input. The command
-/// for the dependency file adds the dependency words, with `-M` for `-MD` and
-/// `--generate-dependencies-with-compile`, and `-MM` for `-MMD` and
-/// `--generate-nonsystem-dependencies-with-compile`: the words replaced want the file beside a compilation, and this
-/// is none. Two of these words may have become the same, so a repeated word is left out, even if it is an option's
-/// value.
-///
-/// The command for the code adds `-E`, which nvcc accepts only after the other words, and a word that turns off the
-/// host compiler's line numbers: `-Xcompiler=-P` (gcc), `-Xcompiler=-EP` (MSVC), or the empty word for nvhpc, which
-/// has no such option. Both get `env_vars` without `NVCC_PREPEND_FLAGS` and `NVCC_APPEND_FLAGS`.
-///
-/// The code isn't enough for a cache's key of the whole call: `nvcc -E` always defines `__CUDA_ARCH__`, so a change in
-/// host code under `#ifndef __CUDA_ARCH__` doesn't show. Plan the call, and cache its commands.
-///
-/// Refuses a language that nvcc can't preprocess: `NoPreprocess`.
-pub fn preprocess(
-    alloc: Global,
-    host_compiler: NvccHostCompiler,
-    executable: &str,
-    parsed_args: &ParsedArguments,
-    cwd: &str,
-    env_vars: &[(String, String)],
-) -> Result<Vec<SingleCompileCommand>, Fault>
-    ensures { UnlessMemory (spec.commands_seen result)
-        (spec.nvcc_preprocess host_compiler executable.now parsed_args.now cwd.now (map pair_of env_vars.now)) }
-{
-    let Some(name) = language_to_gcc_arg(parsed_args.language) else {
-        return refused(alloc, "PCH not supported by nvcc");
-    };
-    let env_vars = without_flags(alloc, env_vars)?;
-    let common = common_command(alloc, executable, parsed_args, name, cwd, env_vars)?;
-    let dependency = parsed_args.dependency_args.as_slice();
-    let commands = nvcc_commands(alloc, host_compiler, &common, dependency);
-    // Dropped by a call: see "Explicit drops" in docs/ARCHITECTURE.md.
-    drop(common);
-    Ok(commands?)
+impl Nvcc {
+    /// The one or two commands that preprocess the input of an nvcc line, as in sccache 0.19.0. The last one prints
+    /// the preprocessed code. If the line has dependency words, the first one writes the dependency file. Run them in
+    /// order, up to the first that fails.
+    ///
+    /// Both begin with the preprocessor's words, the common words, `-x`, the language's name and the input. The command
+    /// for the dependency file adds the dependency words, with `-M` for `-MD` and
+    /// `--generate-dependencies-with-compile`, and `-MM` for `-MMD` and
+    /// `--generate-nonsystem-dependencies-with-compile`: the words replaced want the file beside a compilation, and this
+    /// is none. Two of these words may have become the same, so a repeated word is left out, even if it is an option's
+    /// value.
+    ///
+    /// The command for the code adds `-E`, which nvcc accepts only after the other words, and a word that turns off the
+    /// host compiler's line numbers: `-Xcompiler=-P` (gcc), `-Xcompiler=-EP` (MSVC), or the empty word for nvhpc, which
+    /// has no such option. Both get `env_vars` without `NVCC_PREPEND_FLAGS` and `NVCC_APPEND_FLAGS`.
+    ///
+    /// The code isn't enough for a cache's key of the whole call: `nvcc -E` always defines `__CUDA_ARCH__`, so a change in
+    /// host code under `#ifndef __CUDA_ARCH__` doesn't show. Plan the call, and cache its commands.
+    ///
+    /// Refuses a language that nvcc can't preprocess: `NoPreprocess`.
+    pub fn preprocess(
+        &self,
+        alloc: Global,
+        executable: &str,
+        parsed_args: &ParsedArguments,
+        cwd: &str,
+        env_vars: &[(String, String)],
+    ) -> Result<Vec<SingleCompileCommand>, Fault>
+        ensures { UnlessMemory (spec.commands_seen result)
+            (spec.nvcc_preprocess self.now.host_compiler executable.now parsed_args.now cwd.now (map pair_of env_vars.now)) }
+    {
+        let Some(name) = language_to_gcc_arg(parsed_args.language) else {
+            return refused(alloc, "PCH not supported by nvcc");
+        };
+        let env_vars = without_flags(alloc, env_vars)?;
+        let common = common_command(alloc, executable, parsed_args, name, cwd, env_vars)?;
+        let dependency = parsed_args.dependency_args.as_slice();
+        let commands = nvcc_commands(alloc, self.host_compiler, &common, dependency);
+        // Dropped by a call: see "Explicit drops" in docs/ARCHITECTURE.md.
+        drop(common);
+        Ok(commands?)
+    }
 }
 
 // The commands, from what both have and the line's dependency words.

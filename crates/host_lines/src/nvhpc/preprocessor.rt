@@ -1,15 +1,15 @@
 //! The commands that preprocess the input of an nvhpc line.
 
-ghost use Rattle.std.specs.Prelude.{◌≡◌, ◌∷◌, [], map, codes, IfOk, string_bytes, option_copied};
+ghost use Rattle.std.specs.Prelude.{◌≡◌, ◌∷◌, [], map, codes, IfOk, string_bytes};
 ghost use Rattle.texts.specs.Variables.{pair_of};
 ghost use Rattle.texts.specs.Fault.{UnlessMemory};
 ghost use Rattle.host_lines.specs.Preprocess as spec;
 
 use super::Nvhpc;
+use crate::gcc::language_to_gcc_arg;
 use crate::preprocess::{commands, common_command, refused};
 use compilers::arguments::ParsedArguments;
 use compilers::command::SingleCompileCommand;
-use gcc_lines::gcc::language_to_gcc_arg;
 use std::alloc::{AllocError, Global};
 use texts::fault::Fault;
 use texts::language::Language;
@@ -18,7 +18,7 @@ use texts::words::Words;
 
 impl Nvhpc {
     /// The one or two commands that preprocess a line's input, as in sccache 0.19.0: like those of
-    /// [`nvcc::preprocess`](crate::nvcc::preprocess), except for the words that they end in.
+    /// [`Nvcc::preprocess`](crate::nvcc::Nvcc::preprocess), except for the words that they end in.
     ///
     /// The command for the dependency file adds the dependency words, with `-M` for `-MD` and `-MM` for `-MMD`. The
     /// command for the code adds `-E`. Both get all of `env_vars`.
@@ -35,8 +35,11 @@ impl Nvhpc {
         ensures { UnlessMemory (spec.commands_seen result)
             (spec.nvhpc_preprocess executable.now parsed_args.now cwd.now (map pair_of env_vars.now)) }
     {
-        let Some(name) = nvhpc_language_name(parsed_args.language) else {
-            return refused(alloc, nvhpc_refusal(parsed_args.language));
+        if parsed_args.language == Language::Cuda {
+            return refused(alloc, "CUDA compilation not supported by nvhpc");
+        }
+        let Some(name) = language_to_gcc_arg(parsed_args.language) else {
+            return refused(alloc, "PCH not supported by nvhpc");
         };
         let env_vars = Variables::copy_of(alloc, env_vars)?;
         let common = common_command(alloc, executable, parsed_args, name, cwd, env_vars)?;
@@ -56,10 +59,13 @@ fn nvhpc_commands(
     ensures { IfOk result (λ c. c.items
         ≡ spec.preprocess_commands common.now (map spec.nvhpc_dependency_word (map string_bytes dependency.now)) (codes "-E" ∷ [])) }
 {
-    let dependency = nvhpc_dependency_words(alloc, dependency)?;
+    let mut replaced = Words::new(alloc);
+    for word in dependency {
+        replaced.push_str(alloc, nvhpc_dependency_word(word.as_str()))?;
+    }
     let mut code = Words::new(alloc);
     code.push_str(alloc, "-E")?;
-    commands(alloc, common, &dependency, &code)
+    commands(alloc, common, &replaced, &code)
 }
 
 // nvhpc's word for the dependency file without a compilation.
@@ -70,36 +76,5 @@ fn nvhpc_dependency_word<'a>(word: &'a str) -> &'a str
         "-MD" => "-M",
         "-MMD" => "-MM",
         _ => word,
-    }
-}
-
-// The words for nvhpc's dependency file.
-fn nvhpc_dependency_words(alloc: Global, words: &[String]) -> Result<Words, AllocError>
-    ensures { IfOk result (λ w. w ≡ map spec.nvhpc_dependency_word (map string_bytes words.now)) }
-{
-    let mut replaced = Words::new(alloc);
-    for word in words {
-        replaced.push_str(alloc, nvhpc_dependency_word(word.as_str()))?;
-    }
-    Ok(replaced)
-}
-
-// nvhpc's name for a language: gcc's, and none for CUDA.
-fn nvhpc_language_name(language: Language) -> Option<&'static str>
-    ensures { option_copied result ≡ spec.name_for_nvhpc language }
-{
-    match language {
-        Language::Cuda => None,
-        _ => language_to_gcc_arg(language),
-    }
-}
-
-// The text of the refusal of a language.
-fn nvhpc_refusal(language: Language) -> &'static str
-    ensures { result.now ≡ spec.nvhpc_refusal language }
-{
-    match language {
-        Language::Cuda => "CUDA compilation not supported by nvhpc",
-        _ => "PCH not supported by nvhpc",
     }
 }

@@ -1,5 +1,5 @@
 use Rattle.std.proofs.Common.{◌≡◌, drop, flat_map}
-use Rattle.program_lookups.specs.Asked.{asked_by}
+use Rattle.dry_runs.specs.Asked.{asked_by}
 use Rattle.c_plans.specs.Asking.{texts_of}
 use Rattle.c_texts.specs.Outcomes.{of_texts, with_texts}
 use Rattle.c_plans.proofs.asking.lookups_by.Given as goal

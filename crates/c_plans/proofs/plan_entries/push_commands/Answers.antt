@@ -13,8 +13,7 @@ loop-id-preserved c =
     let item = c.index-commands-id.result in
     let before = c.loop-id.recorded in
     let rest : List Entry = numbered described (id + 1) (drop (id + 1) commands) in
-    let entry = c.command_entry.ensures c.args.origins.now id c.origin_of.ensures in
-    ap (λ r. with_entries r rest) (c.in_ok-push.ensures ∙ ap (with_entry before) entry)
+    ap (λ r. with_entries r rest) (c.in_ok-push.ensures ∙ ap (with_entry before) c.command_entry.ensures)
     ∙ entry-then before (described id item) rest
     ∙ ap (λ cs. with_entries before (numbered described id cs)) (sym (next-left commands id item c.loop-id-test.true c.index-commands-id.is))
     ∙ c.loop-id.invariant

@@ -1,5 +1,5 @@
 use Rattle.std.proofs.Common.{◌≡◌, ◌+◌, ◌∷◌, ◌∙◌, drop, length, map, vec_items, ap, sym, arith}
-use Rattle.plans.specs.Listed.{listed_from}
+use Rattle.compilers.specs.Listed.{listed_from}
 use Rattle.texts.proofs.PushedLemmas.{next-left}
 use Rattle.c_plans.specs.Records.{groups_at, with_groups}
 use Rattle.c_plans.proofs.RecordLemmas.{groups-then, listed-length}

@@ -1,5 +1,5 @@
 use Rattle.std.proofs.Common.{◌≡◌, ◌+◌, drop, length, map, vec_items}
-use Rattle.plans.specs.Listed.{listed_from, listed}
+use Rattle.compilers.specs.Listed.{listed_from, listed}
 use Rattle.c_plans.specs.Records.{groups_at, with_groups}
 use Rattle.c_plans.proofs.plan_entries.push_groups.Given as goal
 

@@ -3,7 +3,7 @@ use Rattle.std.specs.List.{list_all}
 use Rattle.std.proofs.lemmas.List.Folds.{list_all-map}
 use Rattle.std.proofs.lemmas.Iterator.{YieldsList-from_slice}
 use Rattle.std.proofs.lemmas.Iterator.Search.{all_from_yields_List}
-use Rattle.command_lines.specs.CommandLines.{line_seen, words_of_command}
+use Rattle.compilers.specs.CommandLines.{line_seen, words_of_command}
 use Rattle.canonical_names.specs.Alike.{is_clean_word}
 use Rattle.canonical_names.specs.Renaming.{names_of_run}
 use Rattle.canonical_names.proofs.clean.are_clean.Goals as goal

@@ -1,6 +1,6 @@
 use Rattle.std.proofs.Common.{◌≡◌, map, drop}
 use Rattle.std.specs.List.{list_any}
-use Rattle.command_lines.specs.CommandLines.{line_seen}
+use Rattle.compilers.specs.CommandLines.{line_seen}
 use Rattle.canonical_names.specs.Alike.{holds}
 use Rattle.canonical_names.specs.Appearances.{appearances}
 use Rattle.canonical_names.proofs.clean.holds_name.Given as goal

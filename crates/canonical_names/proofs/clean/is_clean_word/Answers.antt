@@ -1,6 +1,6 @@
 use Rattle.std.proofs.Common.{map, sym, ◌∙◌, arith}
 use Rattle.std.proofs.lemmas.Grind.{common_steps}
-use Rattle.command_lines.specs.CommandLines.{line_seen}
+use Rattle.compilers.specs.CommandLines.{line_seen}
 use Rattle.canonical_names.proofs.AppearanceLemmas.{clean-without_suffix, names-tested}
 use Rattle.canonical_names.proofs.clean.is_clean_word.Goals as goal
 

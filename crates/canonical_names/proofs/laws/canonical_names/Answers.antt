@@ -1,6 +1,5 @@
-use Rattle.canonical_names.proofs.CanonicalLemmas.{standard-are_suffixes, folder_and_class-stay}
+use Rattle.canonical_names.proofs.CanonicalLemmas.{standard-are_suffixes, folder_and_class-stay, rank-counts_names}
 use Rattle.canonical_names.proofs.CleanLemmas.{clean-run_is_a_map}
-use Rattle.canonical_names.proofs.RankLemmas.{rank-counts_names}
 use Rattle.canonical_names.proofs.RewriteLemmas.{other-words_stay}
 use Rattle.canonical_names.proofs.laws.canonical_names.Goals as goal
 

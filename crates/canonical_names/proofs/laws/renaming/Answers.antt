@@ -1,5 +1,4 @@
-use Rattle.canonical_names.proofs.AgreeLemmas.{one-canonical_run}
-use Rattle.canonical_names.proofs.AlikeLemmas.{alike-runs_agree}
+use Rattle.canonical_names.proofs.AlikeLemmas.{one-canonical_run, alike-runs_agree}
 use Rattle.canonical_names.proofs.CanonicalLemmas.{different-names}
 use Rattle.canonical_names.proofs.OnceLemmas.{renamed-once}
 use Rattle.canonical_names.proofs.laws.renaming.Goals as goal

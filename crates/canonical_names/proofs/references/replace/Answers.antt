@@ -2,7 +2,7 @@ use Rattle.std.proofs.Common.{◌≡◌, ℕ, List, String, string_bytes, refl, 
 use Rattle.std.specs.Str.Pattern.{FindsText}
 use Rattle.std.specs.Str.Replace.{ReplacesMatches}
 use Rattle.std.proofs.lemmas.Result.{IfOk-weaker}
-use Rattle.command_lines.specs.Replacing.{replaced}
+use Rattle.compilers.specs.Replacing.{replaced}
 use Rattle.canonical_names.proofs.ReplaceLemmas.{all-replaced}
 use Rattle.canonical_names.proofs.references.replace.Goals as goal
 

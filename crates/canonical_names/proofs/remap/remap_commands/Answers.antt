@@ -1,6 +1,6 @@
 use Rattle.std.proofs.Common.{◌≡◌, ℕ, List, [], ◌∷◌, ◌++◌, ◌∙◌, ap, sym, subst, map, append-nil}
 use Rattle.std.proofs.lemmas.List.{nil_from_length}
-use Rattle.command_lines.specs.CommandLines.{line_seen, words_of_command}
+use Rattle.compilers.specs.CommandLines.{line_seen, words_of_command}
 use Rattle.canonical_names.specs.Renaming.{seen_after, renamed, renamed_after, renamed_words, with_words}
 use Rattle.canonical_names.proofs.RemapLemmas.{commands-step}
 use Rattle.canonical_names.proofs.remap.remap_commands.Goals as goal

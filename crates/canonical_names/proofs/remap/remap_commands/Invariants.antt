@@ -1,5 +1,5 @@
 use Rattle.std.proofs.Common.{◌≡◌, ◌++◌, map}
-use Rattle.command_lines.specs.CommandLines.{line_seen}
+use Rattle.compilers.specs.CommandLines.{line_seen}
 use Rattle.canonical_names.specs.Renaming.{renamed, renamed_after}
 use Rattle.canonical_names.proofs.remap.remap_commands.Given as goal
 

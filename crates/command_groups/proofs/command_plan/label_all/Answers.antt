@@ -1,10 +1,8 @@
 use Rattle.std.proofs.Common.{◌≡◌, List, [], map, fold, ap, sym, ◌∙◌}
 use Rattle.std.proofs.lemmas.List.{nil_from_length}
 use Rattle.command_groups.specs.declared.merged_commands.SelectedCommand.{SelectedCommand}
-use Rattle.command_groups.specs.SettingView.{setting_seen}
-use Rattle.command_groups.specs.Labels.{with_command}
-use Rattle.command_groups.specs.LabelsView.{grouping_seen}
-use Rattle.command_groups.specs.MergedView.{command_seen}
+use Rattle.command_groups.specs.Views.{setting_seen, grouping_seen, command_seen}
+use Rattle.command_groups.specs.Groups.{with_command}
 use Rattle.command_groups.specs.Stage.{staged}
 use Rattle.command_groups.proofs.command_plan.label_all.Goals as goal
 

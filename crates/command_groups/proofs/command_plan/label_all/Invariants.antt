@@ -1,9 +1,7 @@
 use Rattle.std.proofs.Common.{◌≡◌, map, fold}
 use Rattle.std.specs.Vec.Iter.{into_iter_items}
-use Rattle.command_groups.specs.SettingView.{setting_seen}
-use Rattle.command_groups.specs.Labels.{with_command, grouped}
-use Rattle.command_groups.specs.LabelsView.{grouping_seen}
-use Rattle.command_groups.specs.MergedView.{command_seen}
+use Rattle.command_groups.specs.Views.{setting_seen, grouping_seen, command_seen}
+use Rattle.command_groups.specs.Groups.{with_command, grouped}
 use Rattle.command_groups.specs.Stage.{staged}
 use Rattle.command_groups.proofs.command_plan.label_all.Given as goal
 

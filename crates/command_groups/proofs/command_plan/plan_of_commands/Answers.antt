@@ -1,9 +1,8 @@
 use Rattle.std.proofs.Common.{List, map, ap, ◌∙◌}
 use Rattle.std.specs.Vec.Iter.{into_iter_items}
-use Rattle.plans.specs.declared.origins.PlanWithOrigins.{PlanWithOrigins}
+use Rattle.compilers.specs.declared.plans.origins.PlanWithOrigins.{PlanWithOrigins}
 use Rattle.command_groups.specs.Groups.{plan_by_labels}
-use Rattle.command_groups.specs.SettingView.{setting_seen}
-use Rattle.command_groups.specs.MergedView.{command_seen}
+use Rattle.command_groups.specs.Views.{setting_seen, command_seen}
 use Rattle.command_groups.specs.Stage.{StagedCommand, staged}
 use Rattle.command_groups.proofs.GroupLemmas.{cut_is_plan}
 use Rattle.command_groups.proofs.command_plan.plan_of_commands.Goals as goal

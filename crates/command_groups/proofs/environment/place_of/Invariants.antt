@@ -1,6 +1,6 @@
 use Rattle.std.proofs.Common.{◌≡◌, ◌+◌, map, drop, option_map}
 use Rattle.texts.specs.Variables.{pair_of}
-use Rattle.command_groups.specs.EnvironmentPlace.{variable_place}
+use Rattle.command_groups.specs.Views.{variable_place}
 use Rattle.command_groups.proofs.environment.place_of.Given as goal
 
 -- the place is that of the first such variable of those that are left, behind those that were met

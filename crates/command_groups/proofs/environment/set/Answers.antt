@@ -4,7 +4,7 @@ use Rattle.std.proofs.lemmas.Option.{none-some}
 use Rattle.std.proofs.lemmas.List.{map-append}
 use Rattle.texts.specs.Variables.{pair_of}
 use Rattle.dry_runs.specs.Environment.{Variable, with_variable}
-use Rattle.command_groups.specs.EnvironmentPlace.{variable_place}
+use Rattle.command_groups.specs.Views.{variable_place}
 use Rattle.command_groups.proofs.environment.set.Goals as goal
 
 unknown-step : (b : Bool) (e : Variable) (es : List Variable) (v : Variable) (p : Option ℕ) → (p ≡ None → with_variable es v ≡ es ++ v ∷ []) → (if b then Some 0 else option_map suc p) ≡ None →

@@ -1,8 +1,6 @@
 use Rattle.std.proofs.Common.{◌≡◌, ◌+◌, map, fold, length}
 use Rattle.command_groups.specs.Groups.{with_labelled, nothing_cut}
-use Rattle.command_groups.specs.GroupsView.{cut_seen}
-use Rattle.command_groups.specs.SettingView.{setting_seen}
-use Rattle.command_groups.specs.LabelsView.{labelled_seen}
+use Rattle.command_groups.specs.Views.{cut_seen, setting_seen, labelled_seen}
 use Rattle.command_groups.proofs.groups.cut_of.Given as goal
 
 -- what is cut so far and the commands that are left make up what is cut of all

@@ -1,5 +1,4 @@
-use Rattle.command_groups.proofs.PlanLemmas.{readable_runs_are_planned, planned_runs_are_readable, first_run_is_refused, second_run_is_refused, planned_commands_have_one_fate}
-use Rattle.command_groups.proofs.PlanningLemmas.{parsed_runs_are_planned}
+use Rattle.command_groups.proofs.PlanLemmas.{readable_runs_are_planned, planned_runs_are_readable, first_run_is_refused, second_run_is_refused, planned_commands_have_one_fate, parsed_runs_are_planned}
 use Rattle.command_groups.proofs.laws.planning.Goals as goal
 
 pub returns : goal.returns

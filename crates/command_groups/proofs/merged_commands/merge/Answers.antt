@@ -1,12 +1,12 @@
 use Rattle.std.proofs.Common.{◌≡◌, ◌∷◌, [], ◌++◌, List, suc, map, refl, ap, subst, ◌∙◌, arith, add-one, IsPermutation, IsSorted, Result, IfOk}
 use Rattle.std.specs.Vec.Iter.{into_iter_items}
-use Rattle.command_lines.specs.CommandLines.{CommandLine, line_of}
+use Rattle.compilers.specs.CommandLines.{CommandLine, line_of}
 use Rattle.std.proofs.lemmas.List.Sorted.{IsPermutation-map}
 use Rattle.command_groups.specs.declared.merged_commands.SelectedCommand.{SelectedCommand}
 use Rattle.command_groups.specs.contracts.merged_commands.SelectedCommandOrd.TheImpl as compared
 use Rattle.command_groups.specs.Merge as spec
 use Rattle.command_groups.specs.MergeLaws.{Rises, RisesInOrder}
-use Rattle.command_groups.specs.MergedView.{command_seen}
+use Rattle.command_groups.specs.Views.{command_seen}
 use Rattle.command_groups.proofs.MergeLemmas.{Adjacent, not_greater, ordered_by_neighbours, merged_once}
 use Rattle.command_groups.proofs.merged_commands.merge.Goals as goal
 

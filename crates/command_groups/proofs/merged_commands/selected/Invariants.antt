@@ -1,7 +1,7 @@
 use Rattle.std.proofs.Common.{◌≡◌, ◌++◌, map}
-use Rattle.command_lines.specs.CommandLines.{line_seen}
+use Rattle.compilers.specs.CommandLines.{line_seen}
 use Rattle.command_groups.specs.Merge as spec
-use Rattle.command_groups.specs.MergedView.{command_seen, takes_stem}
+use Rattle.command_groups.specs.Views.{command_seen, takes_stem}
 use Rattle.command_groups.proofs.merged_commands.selected.Given as goal
 
 -- the commands taken so far, and those that are taken of the rest, are all that are taken

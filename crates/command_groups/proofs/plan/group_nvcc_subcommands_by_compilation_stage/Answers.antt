@@ -1,4 +1,4 @@
-use Rattle.command_groups.proofs.PlanningLemmas.{planned_alone}
+use Rattle.command_groups.proofs.PlanLemmas.{planned_alone}
 use Rattle.command_groups.proofs.plan.group_nvcc_subcommands_by_compilation_stage.Goals as goal
 
 pub returns : goal.returns

@@ -1,7 +1,7 @@
 use Rattle.std.proofs.Common.{List, map, sym, subst, option_copied}
-use Rattle.command_lines.specs.CommandLines.{CommandLine, line_of}
+use Rattle.compilers.specs.CommandLines.{CommandLine, line_of}
 use Rattle.command_groups.specs.MergeLaws.{Rises}
-use Rattle.command_groups.proofs.RisingLemmas.{named_rises}
+use Rattle.command_groups.proofs.PlanLemmas.{named_rises}
 use Rattle.command_groups.proofs.plan.plan_of_runs.Goals as goal
 
 pub merge-requires-clause-first_rises : goal.merge-requires-clause-first_rises

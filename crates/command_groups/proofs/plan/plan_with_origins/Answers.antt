@@ -1,6 +1,6 @@
 use Rattle.std.specs.Option.{option_copied}
-use Rattle.command_groups.specs.SettingView.{call_seen}
-use Rattle.command_groups.proofs.PlanningLemmas.{parsed_is_planned}
+use Rattle.command_groups.specs.Views.{call_seen}
+use Rattle.command_groups.proofs.PlanLemmas.{parsed_is_planned}
 use Rattle.command_groups.proofs.plan.plan_with_origins.Goals as goal
 
 pub returns : goal.returns

@@ -1,14 +1,14 @@
 use Rattle.std.proofs.Common.{ℕ, List, [], map, Result, Ok, Err, IfOk}
-use Rattle.command_lines.specs.declared.commands.DryRun.{DryRun}
+use Rattle.compilers.specs.declared.dry_run.DryRun.{DryRun}
 use Rattle.dry_runs.specs.declared.limit.LimitedFault.{LimitedFault}
-use Rattle.command_lines.specs.CommandLines.{line_of}
+use Rattle.compilers.specs.CommandLines.{line_of}
 use Rattle.dry_runs.specs.DryRun.{LookUp, dry_run_of}
 use Rattle.dry_runs.specs.DryRunLines.{numbered_lines}
 use Rattle.dry_runs.specs.Limit.{UnlessMemoryWithin, first_too_long, dry_run_within}
 use Rattle.dry_runs.specs.Reading.{run_seen, dry_run_seen_within}
-use Rattle.dry_runs.proofs.WithinLemmas.{unlimited}
+use Rattle.dry_runs.proofs.ParsedLemmas.{unlimited}
 use Rattle.command_groups.specs.MergeLaws.{Rises}
-use Rattle.command_groups.proofs.RisingLemmas.{dry_run_rises}
+use Rattle.command_groups.proofs.PlanLemmas.{dry_run_rises}
 use Rattle.command_groups.proofs.plan.read_run.Goals as goal
 
 read_rises : (limit run : ℕ) (bytes cwd : List ℕ) (which : LookUp) (read : Result DryRun LimitedFault) → UnlessMemoryWithin (dry_run_seen_within read) (dry_run_within limit run bytes cwd which) → IfOk read (λ said. Rises (map line_of said.commands))

@@ -1,4 +1,4 @@
-use Rattle.command_groups.proofs.PlanningLemmas.{resolved_rises}
+use Rattle.command_groups.proofs.PlanLemmas.{resolved_rises}
 use Rattle.command_groups.proofs.plan.resolve.Goals as goal
 
 pub returns-clause-rises : goal.returns-clause-rises

@@ -1,5 +1,5 @@
 use Rattle.std.proofs.Common.{◌≡◌, ◌+◌, map, string_bytes, drop, option_map}
-use Rattle.command_groups.specs.WordPlace.{word_place}
+use Rattle.command_groups.specs.Views.{word_place}
 use Rattle.command_groups.proofs.stage.place_of_word.Given as goal
 
 -- the place is that of the first such word of those that are left, behind those that were met

@@ -1,5 +1,5 @@
 use Rattle.std.proofs.Common.{◌≡◌, ◌++◌, ℕ, List, Bool, map}
-use Rattle.command_lines.specs.CommandLines.{line_seen}
+use Rattle.compilers.specs.CommandLines.{line_seen}
 use Rattle.command_groups.specs.Merge.{selected}
 use Rattle.cuda_plans.specs.Selection.{AnswersAs}
 use Rattle.cuda_plans.proofs.selection.taken.Given as goal

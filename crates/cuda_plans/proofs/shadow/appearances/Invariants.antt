@@ -1,5 +1,5 @@
 use Rattle.std.proofs.Common.{◌≡◌, ◌++◌, map, drop}
-use Rattle.command_lines.specs.CommandLines.{line_seen}
+use Rattle.compilers.specs.CommandLines.{line_seen}
 use Rattle.canonical_names.specs.Appearances.{appearances}
 use Rattle.canonical_names.specs.Shown.{name_shown}
 use Rattle.cuda_plans.proofs.shadow.appearances.Given as goal

@@ -4,7 +4,7 @@ use Rattle.std.proofs.lemmas.List.Folds.{list_all-map}
 use Rattle.std.proofs.lemmas.Iterator.{YieldsList-from_slice}
 use Rattle.std.proofs.lemmas.Iterator.Search.{all_from_yields_List}
 use Rattle.texts.specs.Lists.{word_after}
-use Rattle.command_lines.specs.CommandLines.{line_seen, words_of_command}
+use Rattle.compilers.specs.CommandLines.{line_seen, words_of_command}
 use Rattle.cuda_plans.specs.Shadow.{is_plain_output}
 use Rattle.cuda_plans.proofs.shadow.are_plain.Goals as goal
 

@@ -1,6 +1,6 @@
 use Rattle.std.proofs.Common.{◌≡◌, [], ◌∙◌, ap, subst, map, string_bytes, slice_index_or, fold, remove, IfOk}
 use Rattle.compilers.specs.Compiler.{accepted, reading_of}
-use Rattle.option_items.specs.Items.{items}
+use Rattle.compilers.specs.Items.{items}
 use Rattle.device_lines.proofs.ReadingLemmas.{reading-gathered}
 use Rattle.device_lines.specs.Gathered.{nothing_gathered, with_item, reading_of_gathered}
 use Rattle.device_lines.proofs.reader.read_around.Goals as goal

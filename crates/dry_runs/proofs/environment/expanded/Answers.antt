@@ -1,6 +1,6 @@
 use Rattle.std.proofs.Common.{arith}
 use Rattle.std.proofs.lemmas.Grind.{common_steps}
-use Rattle.dry_runs.proofs.FittingLemmas.{fitting-none, first-some}
+use Rattle.dry_runs.proofs.ExpansionLemmas.{fitting-none, first-some}
 use Rattle.dry_runs.proofs.environment.expanded.Goals as goal
 
 pub returns-in_default : goal.returns-in_default

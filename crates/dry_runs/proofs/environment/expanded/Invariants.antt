@@ -1,6 +1,6 @@
 use Rattle.std.proofs.Common.{◌≡◌, ◌∷◌, ◌-◌, Some, fold, drop, length, string_bytes}
 use Rattle.dry_runs.specs.Limit.{expanded_fitting, made}
-use Rattle.command_lines.specs.Replacing.{replaced}
+use Rattle.compilers.specs.Replacing.{replaced}
 use Rattle.dry_runs.proofs.environment.expanded.Given as goal
 
 abbrev pub invariant-loop-next : goal.invariant-loop-next

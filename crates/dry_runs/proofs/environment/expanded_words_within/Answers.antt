@@ -1,6 +1,6 @@
 use Rattle.std.proofs.Common.{◌≡◌, IfOk, subst, nat_le, length, true, arith, option_map}
 use Rattle.dry_runs.specs.Limit.{words_seen}
-use Rattle.dry_runs.proofs.FittingLemmas.{words-too_long, words-from, first-none}
+use Rattle.dry_runs.proofs.ExpansionLemmas.{words-too_long, words-from, first-none}
 use Rattle.dry_runs.proofs.environment.expanded_words_within.Goals as goal
 
 pub returns-then-text-left : goal.returns-then-text-left

@@ -1,8 +1,7 @@
 use Rattle.std.proofs.Common.{◌∷◌, ◌++◌, ◌∙◌, ap, sym, string_bytes, append_assoc, arith}
 use Rattle.std.proofs.lemmas.Grind.{common_steps}
-use Rattle.command_lines.specs.Replacing as replacing
-use Rattle.dry_runs.proofs.ExpansionLemmas.{replaced-cut, replaced-nothing}
-use Rattle.dry_runs.proofs.FittingLemmas.{fits, exceeds, exceeds-from}
+use Rattle.compilers.specs.Replacing as replacing
+use Rattle.dry_runs.proofs.ExpansionLemmas.{replaced-cut, replaced-nothing, fits, exceeds, exceeds-from}
 use Rattle.dry_runs.proofs.environment.replaced.Goals as goal
 
 pub returns-then-not-branch : goal.returns-then-not-branch

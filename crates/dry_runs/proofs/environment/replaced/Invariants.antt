@@ -1,7 +1,7 @@
 use Rattle.std.proofs.Common.{◌≡◌, ◌∷◌, ◌++◌, length, string_bytes}
 use denote.Text.{Utf8}
 use denote.Shadow.{shadow}
-use Rattle.command_lines.specs.Replacing as replacing
+use Rattle.compilers.specs.Replacing as replacing
 use Rattle.dry_runs.proofs.environment.replaced.Given as goal
 
 abbrev pub invariant-loop-front : goal.invariant-loop-front

@@ -1,5 +1,5 @@
 use Rattle.std.proofs.Common.{◌≡◌, map, drop}
-use Rattle.command_lines.specs.CommandLines.{line_seen}
+use Rattle.compilers.specs.CommandLines.{line_seen}
 use Rattle.dry_runs.specs.Parsed.{first_missing}
 use Rattle.dry_runs.proofs.parsed.first_missing.Given as goal
 

@@ -1,5 +1,5 @@
 use Rattle.std.proofs.Common.{◌≡◌, map}
-use Rattle.command_lines.specs.CommandLines.{line_seen}
+use Rattle.compilers.specs.CommandLines.{line_seen}
 use Rattle.dry_runs.specs.Parsed.{found_commands}
 use Rattle.dry_runs.proofs.ParsedLemmas.{found_behind}
 use Rattle.dry_runs.proofs.parsed.found_commands.Given as goal

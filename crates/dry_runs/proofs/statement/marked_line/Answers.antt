@@ -1,6 +1,6 @@
 use Rattle.std.proofs.Common.{◌≡◌, IfOk, subst}
 use Rattle.dry_runs.specs.Environment.{assignment}
-use Rattle.dry_runs.proofs.WithinLemmas.{marked-command}
+use Rattle.dry_runs.proofs.ParsedLemmas.{marked-command}
 use Rattle.dry_runs.proofs.statement.marked_line.Goals as goal
 
 pub returns-in-None : goal.returns-in-None

@@ -1,6 +1,6 @@
 use Rattle.std.proofs.Common.{◌≡◌, ◌++◌, map, drop, length, flat_map}
 use Rattle.serde_json.specs.View.{view}
-use Rattle.plans.specs.Listed.{listed}
+use Rattle.compilers.specs.Listed.{listed}
 use Rattle.plan_json.specs.Compdb.{records_of}
 use Rattle.plan_json.proofs.compdb.database_value.Given as goal
 

@@ -4,6 +4,7 @@ use Rattle.serde_json.proofs.Views.{view-Array}
 use Rattle.serde_json.specs.View.{view}
 use Rattle.command_files.specs.Numbered.{numbered}
 use Rattle.texts.proofs.PushedLemmas.{pushed-items, next-left}
+use Rattle.plan_json.proofs.ValueLemmas.{pushed-data}
 use Rattle.plan_json.specs.Json.{command_at}
 use Rattle.plan_json.proofs.json.commands_value.Goals as goal
 
@@ -15,7 +16,8 @@ loop-id-preserved c =
     let item = c.index-commands-id.result in
     let before = map view c.loop-id.list.items in
     let rest = numbered described (id + 1) (drop (id + 1) commands) in
-    pushed-items before (described id item ∷ []) (map view c.push_command.new.list.items) rest c.in_ok-push_command.ensures
+    pushed-items before (described id item ∷ []) (map view c.push.new.list.items) rest
+    (pushed-data view c.loop-id.list.items c.push.new.list.items _ _ c.in_ok-value.ensures c.in_ok-push.ensures.ok)
     ∙ ap (λ cs. before ++ numbered described id cs) (sym (next-left commands id item c.loop-id-test.true c.index-commands-id.is))
     ∙ c.loop-id.invariant
 

@@ -1,6 +1,6 @@
 use Rattle.std.proofs.Common.{◌≡◌, ◌++◌, map, drop}
 use Rattle.serde_json.specs.View.{view}
-use Rattle.json_values.specs.Values.{count_data}
+use Rattle.plan_json.specs.Values.{count_data}
 use Rattle.plan_json.proofs.json.counts_value.Given as goal
 
 abbrev pub invariant-loop-count : goal.invariant-loop-count

@@ -1,6 +1,6 @@
 use Rattle.std.proofs.Common.{◌≡◌, [], ◌∷◌, ◌++◌, OnOk, map, string_bytes, subst, ap, ◌∙◌, codes}
 use Rattle.texts.specs.Numeral.{numeral}
-use Rattle.plans.specs.Reasons.{reason_name}
+use Rattle.compilers.specs.Reasons.{reason_name}
 use Rattle.plan_texts.specs.ShownPlan.{show_words}
 use Rattle.texts.proofs.PushedLemmas.{pushed}
 use Rattle.plan_texts.proofs.plan.push_dropped.Goals as goal

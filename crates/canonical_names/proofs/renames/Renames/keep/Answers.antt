@@ -8,7 +8,7 @@ use Rattle.canonical_names.specs.Alike.{holds}
 use Rattle.canonical_names.specs.Counted.{has_class, old_names}
 use Rattle.canonical_names.specs.Generated.{core_of, class_of, class_of_name, is_file_mark}
 use Rattle.canonical_names.specs.Renaming.{renamed_word, seen_after_word}
-use Rattle.canonical_names.proofs.RankLemmas.{eqb-turned}
+use Rattle.canonical_names.proofs.CanonicalLemmas.{eqb-turned}
 use Rattle.canonical_names.proofs.ReferenceLemmas.{name-needs_suffix, rewritten-none}
 use Rattle.canonical_names.proofs.ReplaceLemmas.{holds-within}
 use Rattle.canonical_names.proofs.renames.Renames.keep.Goals as goal

@@ -1,6 +1,6 @@
 use Rattle.std.proofs.Common.{◌≡◌, arith}
 use Rattle.std.proofs.lemmas.Map.Text.{text_keys}
-use Rattle.command_groups.specs.MadeView.{made_seen}
+use Rattle.command_groups.specs.Views.{made_seen}
 use Rattle.command_groups.specs.Openings.{with_file}
 use Rattle.command_groups.proofs.openings.MadeFiles.add.Goals as goal
 

@@ -1,6 +1,6 @@
 use Rattle.std.proofs.Common.{arith}
 use Rattle.std.proofs.lemmas.Grind.{common_steps}
-use Rattle.command_groups.proofs.EntryLemmas.{insert_seen, number_seen}
+use Rattle.command_groups.proofs.LabelLemmas.{insert_seen, number_seen}
 use Rattle.command_groups.proofs.openings.OpenedNames.open.Goals as goal
 
 pub returns-clause-opened : goal.returns-clause-opened

@@ -1,6 +1,6 @@
 use Rattle.std.proofs.Common.{arith}
 use Rattle.std.proofs.lemmas.Grind.{common_steps}
-use Rattle.command_groups.proofs.EntryLemmas.{numbered, opening_seen}
+use Rattle.command_groups.proofs.LabelLemmas.{numbered, opening_seen}
 use Rattle.command_groups.proofs.openings.OpenedNames.opening.Goals as goal
 
 pub returns-in-None : goal.returns-in-None

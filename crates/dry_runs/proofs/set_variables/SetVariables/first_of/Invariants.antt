@@ -1,5 +1,5 @@
 use Rattle.std.proofs.Common.{◌≡◌, drop}
-use Rattle.dry_runs.specs.FirstReferred.{first_below, follows_from}
+use Rattle.dry_runs.specs.Places.{first_below, follows_from}
 use Rattle.dry_runs.proofs.set_variables.SetVariables.first_of.Given as goal
 
 -- the first place of those that are left is the first of all

@@ -2,7 +2,7 @@ use Rattle.std.proofs.Common.{◌∷◌, ◌∙◌, Some, ap, sym, fold, drop, m
 use Rattle.std.proofs.lemmas.Option.{slice_get-get_or}
 use Rattle.texts.specs.Variables.{pair_of}
 use Rattle.dry_runs.specs.Limit.{expanded_fitting, made}
-use Rattle.command_lines.specs.Replacing.{replaced}
+use Rattle.compilers.specs.Replacing.{replaced}
 use Rattle.dry_runs.proofs.PlaceLemmas.{first-none-there, first-there, no-pair, pair-there}
 use Rattle.dry_runs.proofs.set_variables.SetVariables.first_reference.Goals as goal
 

@@ -1,10 +1,10 @@
 use Rattle.std.proofs.Common.{◌≡◌, List, map, string_bytes, subst, IfOk}
 use Rattle.compilers.specs.declared.compiler.CCompilerKind.TheVariants.{Nvhpc}
-use Rattle.gcc_lines.specs.declared.gcc.options.ArgData.{ArgData}
+use Rattle.host_lines.specs.declared.gcc.options.ArgData.{ArgData}
 use Rattle.compilers.specs.Compiler.{reading_of}
-use Rattle.gcc_lines.specs.Gcc.{profile_reading}
-use Rattle.gcc_lines.specs.GccOptions.{gcc_entries}
-use Rattle.option_items.specs.Table.{Entry, entry_of, longest_match, longer_choice}
+use Rattle.host_lines.specs.Gcc.{profile_reading}
+use Rattle.host_lines.specs.GccOptions.{gcc_entries}
+use Rattle.compilers.specs.Table.{Entry, entry_of, longest_match, longer_choice}
 use Rattle.host_lines.proofs.nvhpc.NvhpcCCompilerImpl.parse_arguments.Goals as goal
 
 pub returns : goal.returns

@@ -2,7 +2,7 @@ use Rattle.std.proofs.Common.{◌≡◌, ◌-◌, List, ℕ, None, length, map, 
 use Rattle.std.proofs.lemmas.List.{with_items_is}
 use Rattle.schedules.specs.Scheduled.{Scheduled, end_refusal, with_state}
 use Rattle.schedules.specs.Kept.{IsCounted, scheduled}
-use Rattle.schedules.proofs.KeptLemmas.{CanEnd, can_end, failed_by}
+use Rattle.schedules.proofs.KeptLemmas.{CanEnd, can_end, failed}
 use Rattle.schedules.proofs.StateLemmas.{limit-le}
 use Rattle.schedules.proofs.schedule.Schedule.fail.Goals as goal
 
@@ -18,5 +18,5 @@ invariant_of-self c =
     let dependents : List (List ℕ) = map vec_items c.self.inside.dependents.items in
     subst (λ t. IsCounted (with_state s c.args.command c.args.state) dependents c.self.inside.waiting.items t (c.self.inside.running - 1) c.lowered-limit.result)
     (sym (with_items_is c.self.inside.tree c.hold_back.new.tree (c.hold_back.auto.tree ∙ c.deref_mut.ensures.len)))
-    (failed_by s dependents c.self.inside.waiting.items c.self.inside.tree.items c.deref_mut.result.now c.hold_back.new.tree c.deref.result.now c.self.inside.running c.self.inside.limit c.lowered-limit.result
+    (failed s dependents c.self.inside.waiting.items c.self.inside.tree.items c.deref_mut.result.now c.hold_back.new.tree c.deref.result.now c.self.inside.running c.self.inside.limit c.lowered-limit.result
     c.args.command c.args.state c.self.invariant can c.requires.bad c.deref.ensures.value c.deref_mut.ensures.value c.lowered-limit.ensures c.hold_back.auto.tree c.hold_back.ensures.played c.hold_back.ensures.entrants)

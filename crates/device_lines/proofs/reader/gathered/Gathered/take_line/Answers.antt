@@ -1,5 +1,5 @@
 use Rattle.std.proofs.Common.{arith}
-use Rattle.option_items.proofs.ItemLemmas.{items-completed}
+use Rattle.compilers.proofs.ItemLemmas.{items-completed}
 use Rattle.device_lines.proofs.reader.gathered.Gathered.take_line.Goals as goal
 
 pub loop-word-preserved : goal.loop-word-preserved

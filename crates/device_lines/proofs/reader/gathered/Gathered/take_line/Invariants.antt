@@ -1,5 +1,5 @@
 use Rattle.std.proofs.Common.{◌≡◌, length, fold}
-use Rattle.option_items.specs.Items.{items}
+use Rattle.compilers.specs.Items.{items}
 use Rattle.device_lines.specs.Gathered.{with_item}
 use Rattle.device_lines.proofs.reader.gathered.Gathered.take_line.Given as goal
 

@@ -1,7 +1,0 @@
-use Rattle.std.proofs.Common.{◌≡◌, ◌++◌, map, filter, drop}
-use Rattle.texts.specs.DeviceFiles.{is_cicc_word}
-use Rattle.canonical_names.specs.Shown.{name_shown}
-use Rattle.cuda_plans.proofs.shadow.of_steps.Given as goal
-
-abbrev pub invariant-loop-name : goal.invariant-loop-name
-invariant-loop-name l = map name_shown l.kept.items ++ filter is_cicc_word (map name_shown (drop l.name-index l.names)) ≡ filter is_cicc_word (map name_shown l.names)

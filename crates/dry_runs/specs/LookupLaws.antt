@@ -1,0 +1,41 @@
+-- What is claimed of asked look-ups and of snapshots, for all texts and look-ups.
+use Rattle.std.specs.Prelude.{◌≡◌, ℕ, List, [], ◌∷◌, ◌||◌, not, true, false}
+use Rattle.std.specs.Bool.{⊤}
+use Rattle.std.specs.List.{AllByRecursion, list_any}
+use Rattle.texts.specs.Lists.{first_word}
+use Rattle.texts.specs.Path.{is_absolute_path, is_bare}
+use Rattle.dry_runs.specs.DryRun.{LookUp, dry_run_of}
+use Rattle.dry_runs.specs.FirstDir.{first_dir, first_folder_of}
+use Rattle.dry_runs.specs.declared.lookup.Lookup.{Lookup}
+use Rattle.dry_runs.specs.Lookup.{same_lookup}
+use Rattle.dry_runs.specs.Asked.{asked_of, asked_of_both}
+use Rattle.dry_runs.specs.Candidates.{candidates_of}
+use Rattle.dry_runs.specs.Snapshot.{answer_in, taken}
+
+-- two functions answer each of some look-ups alike
+abbrev pub Agree : LookUp → LookUp → List Lookup → Type 0
+Agree f g lookups = AllByRecursion (λ l. f l.program l.path l.folder ≡ g l.program l.path l.folder) lookups
+
+-- look-ups that answer alike what a dry run asks for read it alike
+abbrev pub ReadsAlike : Type 0
+ReadsAlike = (run : ℕ) (bytes folder : List ℕ) (f g : LookUp) → Agree f g (asked_of bytes folder) → dry_run_of run bytes folder f ≡ dry_run_of run bytes folder g
+
+-- the entries that a look-up gives for what two dry runs ask for read both as the look-up itself does
+abbrev pub SnapshotReads : Type 0
+SnapshotReads = (first second folder : List ℕ) (which : LookUp) (run : ℕ) →
+    let answer : LookUp = answer_in (taken which (asked_of_both first second folder)) in
+    (dry_run_of run first folder answer ≡ dry_run_of run first folder which) × (dry_run_of run second folder answer ≡ dry_run_of run second folder which)
+
+-- no look-up of a list stands in it again
+abbrev pub AreOnce : List Lookup → Type 0
+AreOnce [] = ⊤
+AreOnce (l ∷ ls) = (list_any (same_lookup l) ls ≡ false) × AreOnce ls
+
+abbrev pub AskedOnce : Type 0
+AskedOnce = (first second folder : List ℕ) → AreOnce (asked_of_both first second folder)
+
+-- where the first folder of `PATH` is an absolute path, the look-up that looks at no file answers the first candidate; so
+-- it does of a name with a `/`
+abbrev pub FirstFolderIsFirst : Type 0
+FirstFolderIsFirst =
+    (program path folder : List ℕ) → (is_absolute_path (first_folder_of path) || not (is_bare program)) ≡ true → first_dir program path folder ≡ first_word (candidates_of program path folder)

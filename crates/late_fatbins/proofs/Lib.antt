@@ -1,4 +1,0 @@
-pub mod LateNeedLemmas
-pub mod LateOrderLemmas
-pub mod SplitLemmas
-pub mod TextLemmas

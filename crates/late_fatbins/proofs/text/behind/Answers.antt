@@ -1,5 +1,0 @@
-use Rattle.late_fatbins.proofs.TextLemmas.{stripped}
-use Rattle.late_fatbins.proofs.text.behind.Goals as goal
-
-pub returns : goal.returns
-returns c = stripped c.args.beginning.now c.args.text.now c.strip_prefix.result c.strip_prefix.ensures.cases

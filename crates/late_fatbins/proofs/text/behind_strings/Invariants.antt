@@ -1,9 +1,0 @@
-use Rattle.std.proofs.Common.{◌≡◌, length}
-use Rattle.late_fatbins.specs.LateTexts.{behind_strings, between}
-use Rattle.late_fatbins.proofs.text.behind_strings.Given as goal
-
-abbrev pub invariant-loop-byte : goal.invariant-loop-byte
-invariant-loop-byte l = behind_strings l.state l.rest ≡ behind_strings between l.text
-
-abbrev pub decreases-loop-byte : goal.decreases-loop-byte
-decreases-loop-byte l = length l.rest

@@ -1,4 +1,0 @@
-pub mod LatePlans
-pub mod LateTexts
-pub mod LateWords
-pub mod Splits

@@ -1,0 +1,23 @@
+use Rattle.std.proofs.Common.{◌∙◌, ap, sym, subst, arith, length, fold, map, Option, option_map, option_copied}
+use Rattle.compilers.specs.Table.{Entry, entry_of, longest_match}
+use Rattle.compilers.specs.Items.{Completes, said_of}
+use Rattle.compilers.specs.Views.{item_viewed}
+use Rattle.compilers.proofs.ItemLemmas.{items-completed, words-completed}
+use Rattle.texts.specs.Variables.{pair_of}
+use Rattle.nvcc_calls.specs.declared.options.Purpose.{Purpose}
+use Rattle.nvcc_calls.specs.Asked.{with_line_item, nvcc_entry, line_asked_after}
+use Rattle.nvcc_calls.proofs.asked.Asked.take_line.Goals as goal
+
+pub loop-word-smaller : goal.loop-word-smaller
+loop-word-smaller c =
+    omega (arith, words-completed (said_of c.in-Some.word.now (option_map entry_of (option_copied c.search-row.result))) c.next_word.new.self (item_viewed c.view_item-read.result) c.view_item-read.new.line c.view_item-read.ensures.item, ap length c.in-Some.ensures)
+
+pub loop-word-preserved : goal.loop-word-preserved
+loop-word-preserved c =
+    let found = c.search-row.ensures ∙ ap (λ es. longest_match es c.in-Some.word.now) c.table-options.ensures in
+    let read = subst (λ (e : Option (Entry Purpose)). Completes (said_of c.in-Some.word.now e) c.next_word.new.self (item_viewed c.view_item-read.result) c.view_item-read.new.line) found c.view_item-read.ensures.item in
+    let files = map pair_of c.args.files.now in
+    c.loop-word.invariant
+    ∙ ap (line_asked_after files c.loop-word.self) c.in-Some.ensures
+    ∙ ap (fold (with_line_item files) c.loop-word.self) (items-completed nvcc_entry c.in-Some.word.now c.next_word.new.self (item_viewed c.view_item-read.result) c.view_item-read.new.line read)
+    ∙ ap (λ a. line_asked_after files a c.view_item-read.new.line) (sym c.in_ok-take_line_item.ensures)

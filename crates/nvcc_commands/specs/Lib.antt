@@ -1,3 +1,0 @@
-pub mod Nvcc
-pub mod NvccCommand
-pub mod NvccExamples

@@ -1,4 +1,0 @@
-pub mod Options
-pub mod Reasons
-pub mod Tables
-pub mod Words

@@ -1,5 +1,0 @@
-use Rattle.nvcc_words.proofs.LawLemmas.{split-lines, normal-forms}
-use Rattle.nvcc_words.proofs.laws.split_lines.Goals as goal
-
-pub returns : goal.returns
-returns c = record { reading = split-lines; normal = normal-forms }

@@ -1,6 +1,0 @@
-pub mod ArgsIter
-pub mod Items
-pub mod LongestMatch
-pub mod Table
-pub mod Views
-pub mod WordsLaw

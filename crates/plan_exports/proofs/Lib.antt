@@ -1,3 +1,0 @@
-pub mod EscapedLemmas
-pub mod ReadGraphLemmas
-pub mod ValueLemmas

@@ -1,8 +1,0 @@
-use Rattle.std.proofs.Common.{arith}
-use Rattle.std.proofs.lemmas.Grind.{common_steps}
-use Rattle.plan_scripts.proofs.ReadBackLemmas.{text_then, touch_reads}
-use Rattle.plan_exports.proofs.ReadGraphLemmas.{utf8-path}
-use Rattle.plan_exports.proofs.laws.edges_read_back.Goals as goal
-
-pub returns : goal.returns
-returns c = grind (arith, common_steps, text_then, touch_reads, utf8-path)

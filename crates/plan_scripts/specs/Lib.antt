@@ -1,8 +1,0 @@
-pub mod Answers
-pub mod CommandText
-pub mod Formats
-pub mod Judging
-pub mod Message
-pub mod ReadBack
-pub mod Script
-pub mod ScriptExamples

@@ -1,0 +1,14 @@
+use Rattle.std.proofs.Common.{◌++◌, ◌∙◌, ap, sym, string_bytes, encode_utf8_all, map-id, flat_map}
+use Rattle.std.proofs.lemmas.Iterator.{YieldsList-from_chars}
+use Rattle.std.proofs.lemmas.Iterator.Consumers.{YieldsList-end}
+use Rattle.plan_texts.specs.Graph.{escaped_char}
+use Rattle.plan_texts.proofs.EscapedLemmas.{escaped_push}
+use Rattle.plan_texts.proofs.ninja.push_value.Goals as goal
+
+pub loop-c-preserved : goal.loop-c-preserved
+loop-c-preserved c = escaped_push escaped_char _ _ _ c.loop-c.yielded c.in-Some.c c.loop-c.invariant c.in_ok-push_value_char.ensures
+
+pub returns : goal.returns
+returns c =
+    let done = YieldsList-end (YieldsList-from_chars c.args.value.now c.utf8.value cc) c.loop-c.yielded _ c.loop-c.yielded_by _ _ c.in-None.is c.next.ensures.steps in
+    c.loop-c.invariant ∙ ap (λ cs. string_bytes c.args.text.now ++ encode_utf8_all (flat_map escaped_char cs)) (sym (map-id c.loop-c.yielded) ∙ done.0)

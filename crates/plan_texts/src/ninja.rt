@@ -1,0 +1,330 @@
+//! A plan as a Ninja file.
+
+ghost use Rattle.std.specs.Prelude.{◌≡◌, ◌++◌, IfOk, OnOk, codes, encode_utf8_all, map, string_bytes, vec_items};
+ghost use Rattle.std.specs.List.{flat_map, list_all};
+ghost use Rattle.command_files.specs.Order.{needs_at};
+ghost use Rattle.plan_texts.specs.Answers.{Answers};
+ghost use Rattle.plan_texts.specs.Graph as spec;
+
+use crate::{Format, Refusal, holds_text, holds_words, judge_commands, push_command};
+use command_files::needs;
+use compilers::command::Cacheable;
+use compilers::plans::{Dropped, ListedCommand, NvccGeneratedSubcommand, Plan};
+use std::alloc::{AllocError, Global};
+use texts::decimal::push_number;
+use texts::shell::push_quoted;
+
+fn push_value_char(text: &mut String, c: char) -> Result<(), AllocError>
+    ensures { OnOk result (string_bytes text.new ≡ string_bytes text.old ++ encode_utf8_all (spec.escaped_char c)) }
+{
+    if c == '$' {
+        text.push_str("$$")
+    } else {
+        text.push(c)
+    }
+}
+
+// Adds a text as a variable's value, in which `$` is doubled.
+fn push_value(text: &mut String, value: &str) -> Result<(), AllocError>
+    ensures { OnOk result (string_bytes text.new ≡ string_bytes text.old ++ spec.escaped value.now) }
+{
+    for c in value.chars() {
+        push_value_char(text, c)?;
+    }
+    Ok(())
+}
+
+// Adds the name of the stamp of the command at a place: the number of its group, and its place there.
+fn push_stamp(alloc: Global, text: &mut String, at: (usize, usize)) -> Result<(), AllocError>
+    ensures { OnOk result (string_bytes text.new ≡ string_bytes text.old ++ spec.stamp at.0 at.1) }
+{
+    text.push_str("zigrunk.")?;
+    push_number(alloc, text, at.0)?;
+    text.push_str(".")?;
+    push_number(alloc, text, at.1)
+}
+
+// Adds a space and the path of a stamp in the temporary directory.
+fn push_stamp_below(alloc: Global, text: &mut String, at: (usize, usize)) -> Result<(), AllocError>
+    ensures { OnOk result (string_bytes text.new ≡ string_bytes text.old ++ spec.stamp_below at.0 at.1) }
+{
+    text.push_str(" ${tmp}/")?;
+    push_stamp(alloc, text, at)
+}
+
+// The path of a stamp.
+fn stamp_path(alloc: Global, tmp: &str, at: (usize, usize)) -> Result<String, AllocError>
+    ensures { IfOk result (λ path. string_bytes path ≡ spec.stamp_path tmp.now at.0 at.1) }
+{
+    let mut path = String::from_str(alloc, tmp)?;
+    path.push_str("/")?;
+    push_stamp(alloc, &mut path, at)?;
+    Ok(path)
+}
+
+// What runs a program: a runner, and a launcher if a cache may serve the program's outputs.
+fn runner(cacheable: Cacheable) -> &'static str
+    ensures { result.now ≡ spec.runner cacheable }
+{
+    match cacheable {
+        Cacheable::Yes => "${ZIGRUNK_RUNNER-} ${ZIGRUNK_LAUNCHER-} ",
+        Cacheable::No => "${ZIGRUNK_RUNNER-} ",
+    }
+}
+
+// What an edge runs.
+fn edge_command(
+    alloc: Global,
+    tmp: &str,
+    at: (usize, usize),
+    command: &NvccGeneratedSubcommand,
+) -> Result<String, AllocError>
+    ensures { IfOk result (λ text. string_bytes text ≡ spec.edge_command tmp.now at.0 at.1 command.now) }
+{
+    let stamp = stamp_path(alloc, tmp, at)?;
+    let mut text = String::new(alloc);
+    push_command(alloc, &mut text, runner(command.cacheable), command)?;
+    text.push_str(" && touch ")?;
+    push_quoted(&mut text, stamp.as_str(), &[])?;
+    Ok(text)
+}
+
+// Adds the line that says what an edge runs.
+fn push_edge_line(text: &mut String, command: &str) -> Result<(), AllocError>
+    ensures { OnOk result (string_bytes text.new ≡ string_bytes text.old ++ spec.edge_line command.now) }
+{
+    text.push_str("\n  line = ")?;
+    push_value(text, command)?;
+    text.push_str("\n")
+}
+
+// Adds an edge that runs a text.
+fn push_edge_text(
+    alloc: Global,
+    text: &mut String,
+    at: (usize, usize),
+    needs: &str,
+    line: &str,
+) -> Result<(), AllocError>
+    ensures { OnOk result (string_bytes text.new ≡ string_bytes text.old
+        ++ (codes "build" ++ (spec.stamp_below at.0 at.1 ++ (codes ": run" ++ (needs.now ++ spec.edge_line line.now))))) }
+{
+    text.push_str("build")?;
+    push_stamp_below(alloc, text, at)?;
+    text.push_str(": run")?;
+    text.push_str(needs)?;
+    push_edge_line(text, line)
+}
+
+// Adds the edge of a command, given the text of what it needs.
+fn push_edge(
+    alloc: Global,
+    text: &mut String,
+    tmp: &str,
+    needs: &str,
+    listed: &ListedCommand<'_>,
+) -> Result<(), AllocError>
+    ensures { OnOk result (string_bytes text.new ≡ string_bytes text.old ++ spec.edge tmp.now needs.now listed.now) }
+{
+    let at = (listed.group, listed.place);
+    let line = edge_command(alloc, tmp, at, listed.command)?;
+    push_edge_text(alloc, text, at, needs, line.as_str())
+}
+
+// Where each of these commands is.
+fn places_of(
+    alloc: Global,
+    commands: &[ListedCommand<'_>],
+) -> Result<Vec<(usize, usize)>, AllocError>
+    ensures { IfOk result (λ places. places.items ≡ spec.places_of commands.now) }
+{
+    commands
+        .iter()
+        .map(|listed| (listed.group, listed.place))
+        .collect(alloc)
+}
+
+// Where the command with a number is. Each command has a place.
+fn place_at(places: &[(usize, usize)], number: usize) -> (usize, usize)
+    ensures { result ≡ spec.place_at places.now number }
+{
+    match places.get(number) {
+        Some(at) => *at,
+        None => (0, 0),
+    }
+}
+
+// Adds a space and the path of the stamp of the command with a number.
+fn push_stamp_at(
+    alloc: Global,
+    text: &mut String,
+    places: &[(usize, usize)],
+    number: usize,
+) -> Result<(), AllocError>
+    ensures { OnOk result (string_bytes text.new ≡ string_bytes text.old ++ spec.stamp_at places.now number) }
+{
+    let at = place_at(places, number);
+    push_stamp_below(alloc, text, at)
+}
+
+// The stamps of the commands with these numbers.
+fn stamps_at(
+    alloc: Global,
+    places: &[(usize, usize)],
+    numbers: &[usize],
+) -> Result<String, AllocError>
+    ensures { IfOk result (λ text. string_bytes text ≡ spec.stamps_at places.now numbers.now) }
+{
+    let mut text = String::new(alloc);
+    for number in numbers {
+        push_stamp_at(alloc, &mut text, places, *number)?;
+    }
+    Ok(text)
+}
+
+// What the command with a number needs. Each command has its needs.
+fn needs_at(needs: &[Vec<usize>], number: usize) -> &[usize]
+    ensures { result.now ≡ needs_at (map vec_items needs.now) number }
+{
+    match needs.get(number) {
+        Some(numbers) => numbers.as_slice(),
+        None => &[],
+    }
+}
+
+// Adds the edges of commands, given what they need.
+fn push_edges(
+    alloc: Global,
+    text: &mut String,
+    tmp: &str,
+    places: &[(usize, usize)],
+    needs: &[Vec<usize>],
+    commands: &[ListedCommand<'_>],
+) -> Result<(), AllocError>
+    ensures { OnOk result (string_bytes text.new ≡ string_bytes text.old
+        ++ spec.edges_from tmp.now places.now (map vec_items needs.now) 0 commands.now) }
+{
+    for (number, listed) in commands.iter().enumerate() {
+        let numbers = needs_at(needs, number);
+        let stamps = stamps_at(alloc, places, numbers)?;
+        push_edge(alloc, text, tmp, stamps.as_str(), listed)?;
+    }
+    Ok(())
+}
+
+// Adds the edges of a plan's commands.
+fn push_plan(alloc: Global, text: &mut String, tmp: &str, plan: &Plan) -> Result<(), AllocError>
+    ensures { OnOk result (string_bytes text.new ≡ string_bytes text.old ++ spec.plan_edges tmp.now plan.now) }
+{
+    let commands = plan.groups.listed(alloc)?;
+    let places = places_of(alloc, commands.as_slice())?;
+    let needs = needs(alloc, plan)?;
+    push_edges(
+        alloc,
+        text,
+        tmp,
+        places.as_slice(),
+        needs.as_slice(),
+        commands.as_slice(),
+    )
+}
+
+// Adds the reason and the words of a dropped command.
+fn push_comment_words(alloc: Global, text: &mut String, dropped: &Dropped) -> Result<(), AllocError>
+    ensures { OnOk result (string_bytes text.new ≡ string_bytes text.old ++ spec.comment_words dropped.now) }
+{
+    text.push_str(" ")?;
+    text.push_str(dropped.reason.name())?;
+    text.push_str(" ")?;
+    push_quoted(text, dropped.exe.as_str(), dropped.args.as_slice())?;
+    text.push_str("\n")
+}
+
+// Adds a dropped command, as a comment.
+fn push_comment(alloc: Global, text: &mut String, dropped: &Dropped) -> Result<(), AllocError>
+    ensures { OnOk result (string_bytes text.new ≡ string_bytes text.old ++ spec.comment dropped.now) }
+{
+    text.push_str("# dropped line ")?;
+    push_number(alloc, text, dropped.line)?;
+    text.push_str(" run ")?;
+    push_number(alloc, text, dropped.run)?;
+    push_comment_words(alloc, text, dropped)
+}
+
+// Adds the dropped commands, as comments.
+fn push_comments(alloc: Global, text: &mut String, dropped: &[Dropped]) -> Result<(), AllocError>
+    ensures { OnOk result (string_bytes text.new ≡ string_bytes text.old ++ flat_map spec.comment dropped.now) }
+{
+    for command in dropped {
+        push_comment(alloc, text, command)?;
+    }
+    Ok(())
+}
+
+// The lines after the one that names the temporary directory.
+fn rule() -> &'static str
+    ensures { result.now ≡ spec.rule }
+{
+    "\nbuilddir = ${tmp}\nrule run\n  command = ${line} || { code=$$?; echo $$code > ${out}.status; exit $$code; }\n"
+}
+
+// The Ninja file of a plan.
+fn graph(alloc: Global, tmp: &str, plan: &Plan) -> Result<String, AllocError>
+    ensures { IfOk result (λ text. string_bytes text ≡ spec.graph tmp.now plan.now) }
+{
+    let mut text = String::from_str(alloc, "tmp = ")?;
+    push_value(&mut text, tmp)?;
+    text.push_str(rule())?;
+    push_plan(alloc, &mut text, tmp, plan)?;
+    push_comments(alloc, &mut text, plan.dropped.as_slice())?;
+    Ok(text)
+}
+
+// Whether a comment can represent a dropped command.
+fn holds_dropped(dropped: &Dropped) -> bool
+    ensures { result ≡ spec.holds_dropped dropped.now }
+{
+    holds_text(Format::Ninja, dropped.exe.as_bytes())
+        && holds_words(Format::Ninja, dropped.args.as_slice())
+}
+
+// Whether comments can represent all dropped commands.
+fn hold_all_dropped(dropped: &[Dropped]) -> bool
+    ensures { result ≡ list_all spec.holds_dropped dropped.now }
+{
+    for command in dropped {
+        if !holds_dropped(command) {
+            return false;
+        }
+    }
+    true
+}
+
+// Why a file can't represent the temporary directory or the dropped commands, if it can't.
+fn judge_rest(tmp: &str, dropped: &[Dropped]) -> Result<(), Refusal>
+    ensures { result ≡ spec.judged_rest tmp.now dropped.now }
+{
+    if holds_text(Format::Ninja, tmp.as_bytes()) && hold_all_dropped(dropped) {
+        Ok(())
+    } else {
+        Err(Refusal::Unheld)
+    }
+}
+
+/// A plan as a Ninja file. Each command has an edge that runs it and then touches its stamp, the file `zigrunk.GROUP.PLACE`
+/// in the temporary directory `tmp`. If the command fails, its exit status goes to the file `zigrunk.GROUP.PLACE.status` in
+/// decimal. An edge needs the stamps of the commands that its command needs, and no others (`command_files::needs`). The
+/// program that the variable `ZIGRUNK_RUNNER` names runs each command, and the one that `ZIGRUNK_LAUNCHER` names runs, below
+/// it, each command whose outputs a cache may serve; both variables may be unset. Dropped commands follow the edges as comments. `tmp` has to be an absolute path. Ninja's own files go there too.
+///
+/// Fails if a text has a NUL, a newline or a carriage return, which no line of a Ninja file can represent
+/// (`Refusal::Unheld`): first `tmp` and the dropped commands, then each command. Fails also if
+/// [`shell_script`](crate::shell_script) does.
+pub fn ninja_file(alloc: Global, tmp: &str, plan: &Plan) -> Result<String, Refusal>
+    ensures { Answers result (spec.ninja_answer tmp.now plan.now) }
+{
+    judge_rest(tmp, plan.dropped.as_slice())?;
+    let commands = plan.groups.listed(alloc)?;
+    judge_commands(Format::Ninja, commands.as_slice())?;
+    Ok(graph(alloc, tmp, plan)?)
+}

@@ -1,5 +1,0 @@
-use Rattle.plans.proofs.GroupLemmas.{groups_compared}
-use Rattle.plans.proofs.plan.GroupsPartialEq.eq.Goals as goal
-
-pub returns : goal.returns
-returns c = simp (groups_compared, c.as_slice.ensures, c.as_slice-2.ensures, c.eq.ensures)

@@ -1,4 +1,0 @@
-mod FirstLemmas
-mod KnownLemmas
-mod ReadingLemmas
-mod SnapshotLemmas

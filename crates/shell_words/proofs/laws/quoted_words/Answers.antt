@@ -1,8 +1,0 @@
-use Rattle.shell_words.proofs.ShellQuotingLemmas.{quoted_text, quoted_reads}
-use Rattle.shell_words.proofs.laws.quoted_words.Goals as goal
-
-pub returns-clause-grammar : goal.returns-clause-grammar
-returns-clause-grammar c = quoted_text
-
-pub returns-clause-computed : goal.returns-clause-computed
-returns-clause-computed c = quoted_reads

@@ -1,8 +1,0 @@
-use Rattle.std.proofs.Common.{string_bytes, ◌≡◌, ◌++◌, map, drop, encode_utf8_all, chars}
-use Rattle.shell_words.specs.Shell.Quoting.{further}
-use Rattle.shell_words.proofs.quoting.push_further.Given as goal
-
-abbrev pub invariant-loop-word : goal.invariant-loop-word
-invariant-loop-word l =
-    string_bytes l.text ++ encode_utf8_all (further (map chars (map string_bytes (drop l.word-index l.words))))
-    ≡ string_bytes l.fn.text ++ encode_utf8_all (further (map chars (map string_bytes l.words)))

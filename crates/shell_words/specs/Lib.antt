@@ -1,3 +1,0 @@
-pub mod Posix
-pub mod PosixExamples
-pub mod Shell

@@ -1,0 +1,5 @@
+use Rattle.texts.proofs.ShellLawLemmas.{one_list_lem}
+use Rattle.texts.proofs.shell_laws.one_list.Goals as goal
+
+pub returns : goal.returns
+returns c = one_list_lem
