@@ -14,6 +14,7 @@ import os
 import re
 import sys
 from collections.abc import Callable, Iterator
+from pathlib import Path
 from typing import Any
 
 import zigrunk
@@ -190,7 +191,7 @@ def dry_run(words: list[str]) -> bytes:
 def dry_runs(case: Case, others: dict[str, list[str]]) -> list[bytes]:
     """The dry runs of a case: of files beside the cases, or of its words."""
     if others["file"]:
-        return [open(os.path.join(case.folder, name), "rb").read() for name in others["file"]]
+        return [Path(case.folder, name).read_bytes() for name in others["file"]]
     return [dry_run(part) for part in parts_of(case.words)]
 
 
@@ -472,8 +473,8 @@ def plan_text(case: Case) -> list[Result]:
     if case.facts[0][0] == "fault":
         return [("plan_text", fault(case.facts[0][1:]), (status, text))]
     if others["text"] and status == Status.OK:
-        with open(os.path.join(case.folder, others["text"][-1]), "rb") as file:
-            return [("plan_text", case.facts, [["yes" if file.read() == text.encode() else "no"]])]
+        same = Path(case.folder, others["text"][-1]).read_bytes() == text.encode()
+        return [("plan_text", case.facts, [["yes" if same else "no"]])]
     lines = text.removesuffix("\n").split("\n") if text else []
     got = [["text", *line.removesuffix("\r").split(" ")] for line in lines] if status == Status.OK else text
     return [("plan_text", (Status.OK, case.facts), (status, got))]
@@ -623,11 +624,8 @@ def main() -> int:
     report = Report()
     for program in "test_lines", "test_plans":
         crate = os.path.join(ROOT, "tests", "drivers", program)
-        with open(os.path.join(crate, "stdout"), encoding="utf-8") as text:
-            counts = dict(re.findall(r"^(\S+\.txt): (\d+) cases$", text.read(), re.MULTILINE))
-        with open(os.path.join(crate, "args"), encoding="utf-8") as names:
-            files = names.read().split()
-        for file in files:
+        counts = dict(re.findall(r"^(\S+\.txt): (\d+) cases$", Path(crate, "stdout").read_text(encoding="utf-8"), re.MULTILINE))
+        for file in Path(crate, "args").read_text(encoding="utf-8").split():
             cases = cases_of(os.path.join(crate, "data"), file)
             differs = str(len(cases)) != counts.get(file)
             report.counts.case(file, [f"{len(cases)} cases, but {program} has {counts.get(file)}"] * differs)

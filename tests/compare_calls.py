@@ -295,7 +295,7 @@ def run(tool: str, kind: str, call: Call, base: Path, keep: Path | None) -> Ran:
         "gone": [name for name in before if name not in after],
         "left": sorted(normal(str(path.relative_to(tmp)), base) for path in tmp.rglob("*")) if tmp.exists() else [],
         "launched": " ".join(f"{name}:{launched.count(name)}" for name in sorted(set(launched))),
-        "reason": reason.group(1) if reason else None,
+        "reason": reason[1] if reason else None,
         "seconds": seconds,
         "after": said_after,
     }
@@ -470,6 +470,20 @@ def compare(call: Call, args: argparse.Namespace) -> Compared:
         shutil.rmtree(base, ignore_errors=True)
 
 
+def compare_all(calls: list[Call], args: argparse.Namespace) -> Iterator[Compared]:
+    """The same for each of many calls, several at once."""
+    with concurrent.futures.ThreadPoolExecutor(args.jobs) as pool:
+        yield from pool.map(lambda one: compare(one, args), calls)
+
+
+def record_of(compared: Compared, **more: object) -> dict[str, object]:
+    """What is kept of a call, and more."""
+    call, want, got, found, noise = compared
+    return {"number": call.number, "line": call.line, "compiles": makes(want), "reason": got["reason"], "launched": got["launched"],
+            "status": [want["status"], got["status"]], "differences": found, "noise": noise, "said": (want["out"] + want["err"])[-400:],
+            "seconds": [want["seconds"], got["seconds"]], **more}
+
+
 def show(verdict: str, compared: Compared) -> None:
     call, want, got, found, noise = compared
     how = f"nvcc: {got['reason'][:90]}" if got["reason"] else f"split {got['launched']}".rstrip()
@@ -488,16 +502,22 @@ def path_of(name: str) -> str:
     raise argparse.ArgumentTypeError(f"there is no program {name}")
 
 
-def options() -> argparse.Namespace:
-    parser = argparse.ArgumentParser(usage=__doc__)
-    parser.add_argument("files", nargs="+")
+def common_options(usage: str | None) -> argparse.ArgumentParser:
+    """The options that random calls have too."""
+    parser = argparse.ArgumentParser(usage=usage)
     parser.add_argument("--nvcc", type=path_of, default="nvcc")
     parser.add_argument("--ours", type=path_of, default=str(TOOLS / "zigrunk-nvcc"))
-    parser.add_argument("--only", default="")
-    parser.add_argument("--keep")
     parser.add_argument("--scratch", type=lambda name: os.path.abspath(name))
     parser.add_argument("--jobs", type=int, default=1)
     parser.add_argument("--json")
+    return parser
+
+
+def options() -> argparse.Namespace:
+    parser = common_options(__doc__)
+    parser.add_argument("files", nargs="+")
+    parser.add_argument("--only", default="")
+    parser.add_argument("--keep")
     parser.add_argument("--reasons", action="store_true")
     parser.add_argument("--least-split", type=int, default=0)
     parser.add_argument("--all", action="store_true")
@@ -592,19 +612,16 @@ def main() -> int:
     args.version = version_of(args.nvcc)
     calls = longest_first(read_calls(args))
     counts, records, totals = Counts(), [], Totals()
-    with concurrent.futures.ThreadPoolExecutor(args.jobs) as pool:
-        for compared in pool.map(lambda one: compare(one, args), calls):
-            call, want, got, found, noise = compared
-            kinds = loud(found)
-            verdict = "same" if not kinds else "documented" if kinds <= explained(call, args.version) else "DIFFERS"
-            counts.passed += verdict != "DIFFERS"
-            counts.failed += verdict == "DIFFERS"
-            totals.add(call, want, got)
-            if args.all or verdict == "DIFFERS":
-                show(verdict, compared)
-            records.append({"number": call.number, "line": call.line, "verdict": verdict, "compiles": makes(want), "reason": got["reason"],
-                            "launched": got["launched"], "status": [want["status"], got["status"]], "differences": found, "noise": noise,
-                            "said": (want["out"] + want["err"])[-400:], "seconds": [want["seconds"], got["seconds"]]})
+    for compared in compare_all(calls, args):
+        call, want, got, found, _ = compared
+        kinds = loud(found)
+        verdict = "same" if not kinds else "documented" if kinds <= explained(call, args.version) else "DIFFERS"
+        counts.passed += verdict != "DIFFERS"
+        counts.failed += verdict == "DIFFERS"
+        totals.add(call, want, got)
+        if args.all or verdict == "DIFFERS":
+            show(verdict, compared)
+        records.append(record_of(compared, verdict=verdict))
     if args.json:
         Path(args.json).write_text(json.dumps(records, indent=1))
     totals.say(args.reasons)

@@ -15,6 +15,7 @@ import re
 import subprocess
 import sys
 from collections.abc import Iterable, Iterator
+from pathlib import Path
 
 from runner import Counts
 
@@ -31,16 +32,12 @@ WITHOUT_CLAUSE = {"unread_of"}
 
 
 def text_of(path: str) -> str:
-    with open(f"{TOP}/{path}", encoding="utf-8") as file:
-        return file.read()
+    return Path(f"{TOP}/{path}").read_text(encoding="utf-8")
 
 
 def files_below(folder: str, suffix: str) -> list[str]:
     """Returns the files below a folder with a suffix, as paths below it without the suffix."""
-    found: list[str] = []
-    for place, _, names in os.walk(f"{TOP}/{folder}"):
-        found += [os.path.relpath(f"{place}/{name}", f"{TOP}/{folder}").removesuffix(suffix) for name in names if name.endswith(suffix)]
-    return sorted(found)
+    return sorted(str(path.relative_to(f"{TOP}/{folder}")).removesuffix(suffix) for path in Path(TOP, folder).rglob(f"*{suffix}"))
 
 
 def words_in_code(text: str) -> list[str]:

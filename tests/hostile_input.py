@@ -8,12 +8,15 @@ seconds of the processor and 300 MB: we saw at most 0.2 s (docs/HOSTILE_INPUT.md
 1 if one failed."""
 
 import itertools
-import os
 import resource
+import string
 import subprocess
 import sys
 import tempfile
+from pathlib import Path
 from typing import Callable, Dict, Iterable, Iterator, List
+
+from runner import Counts
 
 SIZE = 500_000
 SECONDS = 3
@@ -34,11 +37,11 @@ def names(letters: str) -> Iterator[str]:
 
 
 def variables() -> Iterator[str]:
-    return names("ABCDEFGHIJKLMNOPQRSTUVWXYZ")
+    return names(string.ascii_uppercase)
 
 
 def files() -> Iterator[str]:
-    return names("abcdefghijklmnopqrstuvwxyz")
+    return names(string.ascii_lowercase)
 
 
 def filled(pieces: Iterable[str], size: int) -> str:
@@ -61,8 +64,7 @@ def assigned(names: Iterable[str]) -> Iterator[str]:
 
 
 def doubling() -> str:
-    letters = "ABCDEFGHIJKLMNOPQRSTUVWXYZ"
-    return "".join(f"#$ {a}=${b}.${b}.\n" for a, b in zip(letters, letters[1:])) + "#$ gcc $A.\n"
+    return "".join(f"#$ {a}=${b}.${b}.\n" for a, b in itertools.pairwise(string.ascii_uppercase)) + "#$ gcc $A.\n"
 
 
 def referring(pieces: Iterable[str], count: int) -> str:
@@ -139,28 +141,21 @@ def main(words: List[str]) -> int:
     if not words or words[1:] not in ([], ["--figures"]):
         print(__doc__, file=sys.stderr)
         return 2
-    passed = failed = 0
+    counts = Counts()
     with tempfile.TemporaryDirectory() as room:
         for tool in TOOLS:
-            with open(f"{room}/{tool}", "w", encoding="ascii") as file:
-                os.fchmod(file.fileno(), 0o755)
+            Path(room, tool).touch(0o755)
         for name, kind in KINDS.items():
             text = kind(f"#$ PATH={room}\n")
             second = SECOND.get(name, lambda path: "another first line\n" + text)(f"#$ PATH={room}\n")
             for run, said in ("first", text), ("second", second):
-                with open(f"{room}/{run}.run", "w", encoding="ascii") as file:
-                    file.write(said)
+                Path(room, f"{run}.run").write_text(said, encoding="ascii")
             for form in "json", "ninja", "plan":
                 status, took = seconds_of([words[0], form, "/w", "/t", "-c", f"{room}/first.run", f"{room}/second.run"])
                 if words[1:]:
                     print(f"{took:.2f} s  status {status}  {form:5}  {name}")
-                if status in (0, 1):
-                    passed += 1
-                else:
-                    failed += 1
-                    print(f"{name}, {form}: status {status} after {took:.2f} s of the processor")
-    print(f"{passed} passed, {failed} failed")
-    return 1 if failed else 0
+                counts.case(f"{name}, {form}", [f"status {status} after {took:.2f} s of the processor"] * (status not in (0, 1)))
+    return counts.summary()
 
 
 if __name__ == "__main__":

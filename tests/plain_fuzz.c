@@ -8,8 +8,6 @@
 #define _GNU_SOURCE
 #include "checks.h"
 
-#include <time.h>
-
 #define TWO(name) extern __typeof__(name) proved_##name, plain_##name
 TWO(zigrunk_abi_version);
 TWO(zigrunk_candidates);
@@ -652,12 +650,6 @@ static void read_first(zigrunk_text file) {
     }
 }
 
-static double now(void) {
-    struct timespec it;
-    clock_gettime(CLOCK_MONOTONIC, &it);
-    return (double)it.tv_sec + (double)it.tv_nsec / 1e9;
-}
-
 static int try_one(uint64_t lot, uint64_t number) {
     size_t which;
     shows = 1;
@@ -672,7 +664,7 @@ int main(int count, char **words) {
         return 2;
     }
     uint64_t lot = strtoull(words[1], NULL, 0), most = strtoull(words[2] + (words[2][0] == '='), NULL, 10), number = 0, differences = 0;
-    double end = now() + atof(words[3]);
+    double end = seconds_of(CLOCK_MONOTONIC) + atof(words[3]);
     read_dictionary(file_at(words[4]));
     for (int i = 5; i < count && firsts_count < MOST_SEEDS; i++) {
         read_first(file_at(words[i]));
@@ -680,7 +672,7 @@ int main(int count, char **words) {
     if (words[2][0] == '=') {
         return try_one(lot, most);
     }
-    for (size_t which; number < most && differences < 20 && (number % 256 || now() < end); number++) {
+    for (size_t which; number < most && differences < 20 && (number % 256 || seconds_of(CLOCK_MONOTONIC) < end); number++) {
         const char *differs = try_input(lot, number, &which);
         if (differs) {
             differences++;

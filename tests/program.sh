@@ -118,8 +118,6 @@ good_plans() {
         'yes cd /t && /b/cicc --gen_device_file_name k.cudafe1.gpu x_0.cpp1.ii -o k.ptx' 'group 2' -- plan /w /t -c "$scratch/steps" "$scratch/steps"
     gives 'a further suffix' 'group 0' 'group 1' 'no cd /w && /b/gcc -D__NVCC__ -E k.cu -o x_0.cpp1.ii' \
         'yes cd /t && /b/cicc --gen_device_file_name x_0.cudafe1.gpu x_0.cpp1.ii -o k.ptx' 'group 2' -- plan /w /t -c "$scratch/steps" "$scratch/steps" .cudafe1.gpu
-    lines_of foreign '#$ PATH=/b' '#$ "" x'
-    gives 'a dropped command' 'group 0' 'group 1' 'dropped 1 run 2 NotCuda /b/ x' -- plan /w /t -c "$scratch/foreign" "$scratch/foreign"
 }
 
 # plans NAME OUT.. -- LINE..: plans these lines behind one that sets PATH, as both runs, which prints the lines OUT.
@@ -353,13 +351,17 @@ short_streams() {
     judge 'a pipe whose reader ends' 1 '' "$CANNOT_WRITE"
 }
 
+# to_full NAME STATUS ERR WORD..: a call whose standard output is on a full disk.
+to_full() {
+    : > "$scratch/out"
+    noted "$program" "${@:4}" > /dev/full 2> "$scratch/err"
+    judge "$1" "$2" '' "$3"
+}
+
 # streams that take nothing: a full disk, a pipe that nobody reads, and streams that are closed
 closed_streams() {
     local call=(line cicc /w k.cpp1.ii -o k.ptx)
-    : > "$scratch/out"
-    noted "$program" "${call[@]}" > /dev/full 2> "$scratch/err"
-    judge 'a full disk' 1 '' "$CANNOT_WRITE"
-
+    to_full 'a full disk' 1 "$CANNOT_WRITE" "${call[@]}"
     mkfifo "$scratch/pipe"
     exec 4<> "$scratch/pipe"
     exec 5> "$scratch/pipe"
@@ -371,9 +373,6 @@ closed_streams() {
     noted "$program" "${call[@]}" >&- 2> "$scratch/err"
     judge 'a closed standard output' 1 '' "$CANNOT_WRITE"
 
-    noted "$program" plan /w /t -c "$data/one_target.dry1" "$data/one_target.dry2" > /dev/full 2> "$scratch/err"
-    judge 'a plan to a full disk' 1 '' "$CANNOT_WRITE"
-
     noted "$program" "${call[@]}" > /dev/full 2> /dev/full
     : > "$scratch/err"
     judge 'two full disks' 1 '' ''
@@ -381,13 +380,10 @@ closed_streams() {
     noted "$program" > "$scratch/out" 2> /dev/full
     judge 'usage to a full disk' 2 '' ''
 
-    noted "$program" line cicc /w > /dev/full 2> "$scratch/err"
-    : > "$scratch/out"
-    judge 'a refusal writes nothing to a full disk' 1 '' "$NO_COMPILATION"
-
-    noted "$program" plan /w /t -c "$data/one_kernel.dry1" "$data/bad_last_line.dry1" > /dev/full 2> "$scratch/err"
-    judge 'a refused plan writes nothing to a full disk' 1 '' $'cudaplan: run 2 line 8: not UTF-8\n'
-
+    to_full 'a plan to a full disk' 1 "$CANNOT_WRITE" plan /w /t -c "$data/one_target.dry1" "$data/one_target.dry2"
+    to_full 'a refusal writes nothing to a full disk' 1 "$NO_COMPILATION" line cicc /w
+    to_full 'a refused plan writes nothing to a full disk' 1 $'cudaplan: run 2 line 8: not UTF-8\n' \
+        plan /w /t -c "$data/one_kernel.dry1" "$data/bad_last_line.dry1"
     noted "$program" plan /w /t -c "$data/bad_last_line.dry1" "$data/one_kernel.dry1" >&- 2> "$scratch/err"
     judge 'a refused plan needs no standard output' 1 '' $'cudaplan: run 1 line 8: not UTF-8\n'
 }
@@ -873,7 +869,7 @@ found() {
 
 # what is a program on the disk: a plain file that its owner, its group or others may execute, also behind links
 programs_on_disk() {
-    local folder=$scratch/on_disk mode
+    local folder=$scratch/on_disk mode program_at
     mkdir -p "$folder"/{plain,folder,dangling,loop,to_plain,to_folder,to_program,file}
     : > "$folder/plain/gcc"
     mkdir "$folder/folder/gcc"
@@ -892,13 +888,10 @@ programs_on_disk() {
     found 'a link to a folder' "$scratch/bin/gcc" on_disk/to_folder
     found 'a link to a program' "$folder/to_program/gcc" on_disk/to_program
     found 'a folder of PATH that is a file' "$scratch/bin/gcc" on_disk/plain/gcc
-    for mode in 0 600 444 666; do
+    for mode in 0 600 444 666 100 010 001 755; do
         chmod "$mode" "$folder/file/gcc"
-        found "a file of mode $mode" "$scratch/bin/gcc" on_disk/file
-    done
-    for mode in 100 010 001 755; do
-        chmod "$mode" "$folder/file/gcc"
-        found "a file of mode $mode" "$folder/file/gcc" on_disk/file
+        [[ $mode == *[15]* ]] && program_at=$folder/file/gcc || program_at=$scratch/bin/gcc
+        found "a file of mode $mode" "$program_at" on_disk/file
     done
     mkdir "$folder/pipe"
     mkfifo -m 755 "$folder/pipe/gcc"
@@ -914,12 +907,14 @@ as_nobody() {
     fi
 }
 
+# in_folder FOLDER COMMAND..: runs a command in a folder, for `judge`.
+in_folder() {
+    (cd "$1" && noted "${@:2}") > "$scratch/out" 2> "$scratch/err" < /dev/null
+}
+
 # denied NAME DRY1 DRY2: a call by another user than root, in a folder with a file that this user may not read.
 denied() {
-    (
-        cd "$scratch/unread" || exit
-        noted as_nobody ./zigrunk json /w /t -c "$2" "$3" > "$scratch/out" 2> "$scratch/err"
-    )
+    in_folder "$scratch/unread" as_nobody ./zigrunk json /w /t -c "$2" "$3"
     judge "$1" 1 '' $'zigrunk: cannot read secret: Permission denied\n'
 }
 
@@ -934,10 +929,7 @@ unread_files() {
     cp "$scratch/kernel" "$folder/-x"
     cp "$scratch/kernel.2" "$folder/--"
     "$program" json /w /t -c "$scratch/kernel" "$scratch/kernel.2" > "$scratch/want"
-    (
-        cd "$folder" || exit
-        noted "$program" json /w /t -c -x -- > "$scratch/out" 2> "$scratch/err" < /dev/null
-    )
+    in_folder "$folder" "$program" json /w /t -c -x --
     judge 'files whose names begin with a dash' 0 "$(cat "$scratch/want")"$'\n' ''
     if ! as_nobody true 2> /dev/null; then
         skip 'a file without permission' 'setpriv cannot become another user'
@@ -962,12 +954,9 @@ closed_folder() {
     chmod 0 "$1/closed"
     lines_of unread/run "#\$ PATH=$1/closed:$1/beside" "${KERNEL[0]}"
     cp "$1/run" "$1/run.2"
-    (
-        cd "$1" || exit
-        noted as_nobody ./zigrunk json /w /t -c run run.2 > "$scratch/plan" 2> "$scratch/err"
-    )
+    in_folder "$1" as_nobody ./zigrunk json /w /t -c run run.2
     chmod 700 "$1/closed"
-    grep -o '"exe":"[^"]*"' "$scratch/plan" > "$scratch/out"
+    sed -i 's/.*\("exe":"[^"]*"\).*/\1/' "$scratch/out"
     judge 'a folder of PATH that may not be searched' 0 "\"exe\":\"$1/beside/gcc\""$'\n' ''
 }
 
@@ -1006,16 +995,16 @@ long_values() {
 
 # a command of over 500 bytes that refers to sixty variables, and one that names sixty generated files
 many_names() {
-    local lines=() references='' values='' files='' renamed='' name number=0 format
+    local assigned=() references='' values='' files='' renamed='' name number=0 format
     for name in {A,B,C}{A,E,I,O}{A,E,I,O,U}; do
-        lines+=("#\$ $name=$name-$number")
+        assigned+=("#\$ $name=$name-$number")
         references+=" -D\$$name"
         values+=" -D$name-$number"
         files+=" $name.cpp1.ii"
         renamed+=" x_$number.cpp1.ii"
         number=$((number + 1))
     done
-    run_of names "${lines[@]}" "#\$ gcc -D__NVCC__$references -E k.cu -o k" "#\$ gcc -D__NVCC__$files"
+    run_of names "${assigned[@]}" "#\$ gcc -D__NVCC__$references -E k.cu -o k" "#\$ gcc -D__NVCC__$files"
     check 'sixty names' 0 "group 0
 no cd /w && $scratch/none/gcc -D__NVCC__$values -E k.cu -o k
 group 1
@@ -1027,56 +1016,18 @@ yes cd /w && $scratch/none/gcc -D__NVCC__$renamed
     counts 'sixty generated files as json' 60 '"x_[0-9]*.cpp1.ii"' json /w /t -c "$scratch/names" "$scratch/names.2"
 }
 
-# starves NAME STATUS OUT ERR WORD..: a call of which one allocation fails, the first, then the second and so on, until none does. Each
-# run has to end as it does with memory, or with status 1, nothing on standard output, and one line that says why on standard error. The
-# call's standard input is $from, if that is set.
-starves() {
-    local name=$1 status=$2 out=$3 err=$4 number=0 ended said told=0 problem='' met=refused
-    shift 4
-    if [ "$(head -c 2 "$program")" = '#!' ]; then
-        skip "$name, out of memory" 'a script starts the program, and its shell would be refused the memory'
-        return
-    fi
-    while [ "$met" = refused ] && [ -z "$problem" ]; do
-        number=$((number + 1))
-        REFUSED=$number LD_PRELOAD=$scratch/refuse_nth.so "$program" "$@" < "${from-/dev/null}" > "$scratch/out" 2> "$scratch/err" 9> "$scratch/met"
-        ended=$? met=''
-        read -r met _ < "$scratch/met"
-        said="$(< "$scratch/out")|$(< "$scratch/err")"
-        case $ended,$said in
-        "$status,$out|$err") ;;
-        "1,|${program##*/}: out of memory" | '1,|zigrunk: cannot read '*': out of memory') told=$((told + 1)) ;;
-        *) problem="allocation $number: status $ended, $said" ;;
-        esac
-    done
-    [ "$met$problem" = whole ] || problem=${problem:-"allocation $number: it doesn't say how many there were"}
-    [ "$told" -gt 0 ] || problem=${problem:-no run says that it is out of memory}
-    count "$name, out of memory" "$problem"
-}
-
 # calls whose allocations fail: as the program starts, and where it reads files, looks up programs and writes
 no_memory() {
-    local lines script
-    if ! cc -shared -fPIC -O1 -o "$scratch/refuse_nth.so" tests/refuse_nth.c -ldl 2> "$scratch/said"; then
+    is_wanted 'calls without memory' || return 0
+    if [[ $(head -qc 2 "$cudaplan" "$program") == *'#!'* ]]; then
+        skip 'calls without memory' 'a script starts a program, and its shell would be refused the memory'
+    elif ! cc -shared -fPIC -o "$scratch/refuse_nth.so" tests/refuse_nth.c -ldl 2> "$scratch/said"; then
         skip 'calls without memory' "cc can't compile tests/refuse_nth.c"
-        return
+    else
+        tests/refused_memory.sh --few "$cudaplan" "$program" > "$scratch/said" 2>&1
+        add "$?" "$scratch/said" || echo 'calls without memory: the last line has no counts that fit'
+        head -n -3 "$scratch/said"
     fi
-    lines_of starved "#\$ PATH=$scratch/bin" '#$ gcc -D__NVCC__ -c x.cpp'
-    cp "$scratch/starved" "$scratch/starved.2"
-    starves 'a version' 0 'zigrunk 0.1.0' '' --version
-    starves 'a call that goes to nvcc' 3 '' 'zigrunk: goes to nvcc: it links' calls /w /t nvcc k.cu
-    lines=$("$program" calls /w /t nvcc -c k.cu -optf "$scratch/lines/g.rsp")
-    starves 'a call with an options file' 0 "$lines" '' calls /w /t nvcc -c k.cu -optf "$scratch/lines/g.rsp"
-    lines=$(NVCC_APPEND_FLAGS=-g ZIGRUNK_JOBS=3 "$program" calls /w /t nvcc -c k.cu)
-    NVCC_APPEND_FLAGS=-g ZIGRUNK_JOBS=3 starves 'a call with variables' 0 "$lines" '' calls /w /t nvcc -c k.cu
-    script=$("$program" shell /w /t -c "$scratch/starved" "$scratch/starved.2")
-    starves 'a plan' 0 "$script" '' shell /w /t -c "$scratch/starved" "$scratch/starved.2"
-    lines=$("$program" makeflow /w /t -c "$scratch/starved" "$scratch/starved.2")
-    starves 'a plan as a Makeflow file' 0 "$lines" '' makeflow /w /t -c "$scratch/starved" "$scratch/starved.2"
-    from=$scratch/starved starves 'a plan from standard input' 0 "$script" '' shell /w /t -c - "$scratch/starved.2"
-    program=$cudaplan starves 'a line of cudaplan' 0 $'k.cpp1.ii\n-o\n/w/k.ptx' '' line cicc /w k.cpp1.ii -o k.ptx
-    program=$cudaplan starves 'a plan by cudaplan' 0 "$(printf 'group 0\ngroup 1\nyes cd /w && %s/gcc -D__NVCC__ -c x.cpp' "$scratch/bin")" '' \
-        plan /w /t -c "$scratch/starved" "$scratch/starved.2"
 }
 
 # files that aren't the dry runs of a call, and plans without commands, in every format
@@ -1128,7 +1079,7 @@ suffixes() {
 messages() {
     local nowhere="in PATH ($scratch/none:$scratch/bin)" long folder=$scratch rule='must begin with ".", end in a letter or digit and contain no "/"'
     lines_of pathless '#$ gcc'
-    check 'no PATH in the second run' 1 '' "zigrunk: $scratch/pathless:1: no line before this one sets PATH"$'\n    #$ gcc\n' \
+    fails 'no PATH in the second run' "$scratch/pathless:1: no line before this one sets PATH"$'\n    #$ gcc' \
         json /w /t -c "$scratch/kernel" "$scratch/pathless"
     fails 'a folder in place of a file' "cannot read $folder: Is a directory" json /w /t -c "$scratch/kernel" "$folder"
     fails 'a file in place of a folder' "cannot read $scratch/kernel/x: Not a directory" json /w /t -c "$scratch/kernel/x" x
@@ -1147,7 +1098,7 @@ messages() {
     check 'a program by its path' 1 '' "zigrunk: $scratch/bad:2: cannot find ./nowhere/gcc: no such program"$'\n    #$ ./nowhere/gcc -c\n' \
         json /w /t -c "$scratch/bad" "$scratch/kernel"
     lines_of bad '#$ PATH=' '#$ gcc'
-    check 'a program with an empty PATH, as text' 1 '' "zigrunk: $scratch/bad:2: cannot find gcc in PATH ()"$'\n    #$ gcc\n' \
+    fails 'a program with an empty PATH, as text' "$scratch/bad:2: cannot find gcc in PATH ()"$'\n    #$ gcc' \
         plan /w /t -c "$scratch/bad" "$scratch/kernel"
     long=$(printf 'é%.0s' {1..116})
     bad 'a line of 120 characters' "#\$ '$long" 'the command has an open quote or ends in a backslash'
@@ -1251,10 +1202,7 @@ standard_input() {
     fails 'a second run without a name' 'cannot read : No such file or directory' json /w /t -c "$scratch/kernel" '' < "$scratch/kernel.2"
     mkdir -p "$scratch/dashes"
     cp "$scratch/kernel" "$scratch/dashes/-"
-    (
-        cd "$scratch/dashes" || exit
-        noted "$program" json /w /t -c ./- ../kernel.2 > "$scratch/out" 2> "$scratch/err" < /dev/null
-    )
+    in_folder "$scratch/dashes" "$program" json /w /t -c ./- ../kernel.2
     judge 'a file that has the name of standard input' 0 "${plan%.}" ''
 }
 
@@ -1268,7 +1216,7 @@ refused_exports() {
     fails 'a bad suffix' 'suffix ".ii" is a suffix of ".cpp1.ii"' json /w /t -c "$scratch/kernel" "$scratch/kernel.2" .ii
     lines_of pathless '#$ gcc'
     check 'no first file, and its name twice' 1 '' "$unread" json /w /t -c "$scratch/missing" "$scratch/missing"
-    check 'no PATH' 1 '' "zigrunk: $scratch/pathless:1: no line before this one sets PATH"$'\n    #$ gcc\n' json /w /t -c "$scratch/pathless" "$scratch/kernel"
+    fails 'no PATH' "$scratch/pathless:1: no line before this one sets PATH"$'\n    #$ gcc' json /w /t -c "$scratch/pathless" "$scratch/kernel"
     run_of lost '#$ nowhere'
     check 'a program that is not on disk' 1 '' "zigrunk: $scratch/lost:2: cannot find nowhere in PATH ($scratch/none:$scratch/bin)"$'\n    #$ nowhere\n' \
         json /w /t -c "$scratch/lost" "$scratch/kernel"
@@ -1279,11 +1227,8 @@ refused_exports() {
     run_of equals '#$ ./gcc -D__NVCC__ x.cpp'
     fails 'a program whose path has an equals sign' 'a program of the plan has a path that env takes for something else' \
         shell "$scratch/h=re" /t -c "$scratch/equals" "$scratch/equals.2"
-    : > "$scratch/out"
-    noted "$program" --version > /dev/full 2> "$scratch/err"
-    judge 'a version to a full disk' 1 '' $'zigrunk: cannot write\n'
-    noted "$program" json /w /t -c "$scratch/kernel" "$scratch/kernel.2" > /dev/full 2> "$scratch/err"
-    judge 'a plan as JSON to a full disk' 1 '' $'zigrunk: cannot write\n'
+    to_full 'a version to a full disk' 1 $'zigrunk: cannot write\n' --version
+    to_full 'a plan as JSON to a full disk' 1 $'zigrunk: cannot write\n' json /w /t -c "$scratch/kernel" "$scratch/kernel.2"
 }
 
 # doubling N: a dry run of N variables, each of which is twice the next, and a command that refers to the first.
@@ -1426,16 +1371,19 @@ wrong_usage() {
 
 # orders of options that mean the same, before a format and behind it: of two limits the last counts. With --whole, a plan may drop nothing
 orders_of_options() {
-    local front after kept dropped small
+    local front after kept what small
     run_of whole "${KERNEL[@]:0:7}"
     kept=$("$program" shell --keep /w /t -c "$scratch/whole" "$scratch/whole.2"; printf .)
     small="zigrunk: $scratch/kernel:1: with this line, the dry run makes over 7 bytes: --limit allows more"$'\n    '$(head -n 1 "$scratch/kernel")$'\n'
-    while IFS='|' read -r front after dropped; do
-        # shellcheck disable=SC2086 # words
+    # shellcheck disable=SC2086 # words
+    while IFS='|' read -r front after what; do
+        if [ "$what" = small ]; then
+            check "$front FORMAT $after, of which the last limit counts" 1 '' "$small" \
+                $front json $after /w /t -c "$scratch/kernel" "$scratch/kernel.2"
+            continue
+        fi
         check "$front FORMAT $after" 0 "${kept%.}" '' $front shell $after /w /t -c "$scratch/whole" "$scratch/whole.2"
-        [ -n "$dropped" ] || continue
-        # shellcheck disable=SC2086 # words
-        fails "$front FORMAT $after, and a dropped command" 'the plan dropped a command' \
+        [ "$what" != dropped ] || fails "$front FORMAT $after, and a dropped command" 'the plan dropped a command' \
             $front shell $after /w /t -c "$scratch/kernel" "$scratch/kernel.2"
     done << 'ORDERS'
 --keep||
@@ -1451,16 +1399,11 @@ orders_of_options() {
 |--whole --keep --limit 90000|dropped
 |--limit 0 --limit 90000 --keep --keep --whole --keep|dropped
 |--limit 0 --limit 1 --limit 2 --limit 3 --limit 90000 --keep|
-ORDERS
-    while IFS='|' read -r front after; do
-        # shellcheck disable=SC2086 # words
-        check "$front FORMAT $after, of which the last limit counts" 1 '' "$small" $front json $after /w /t -c "$scratch/kernel" "$scratch/kernel.2"
-    done << 'ORDERS'
---limit 90000 --limit 7|
---limit 90000|--limit 7
---limit 7|--keep --whole
---keep --limit 8 --limit +07|
---limit 90000|--limit 8 --keep --limit 7
+--limit 90000 --limit 7||small
+--limit 90000|--limit 7|small
+--limit 7|--keep --whole|small
+--keep --limit 8 --limit +07||small
+--limit 90000|--limit 8 --keep --limit 7|small
 ORDERS
 }
 

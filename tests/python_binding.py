@@ -15,7 +15,8 @@ import sys
 import tempfile
 import unittest
 from collections.abc import Callable
-from typing import Any, Optional
+from pathlib import Path
+from typing import Any, Optional, TypeVar
 
 import runner
 import zigrunk
@@ -23,6 +24,7 @@ import zigrunk
 FOLDER, NAMES = sys.argv[1], sys.argv[2:]
 MODULE = os.path.dirname(os.path.abspath(zigrunk.__file__))
 INCLUDE = os.path.join(MODULE, "..", "..", "c")
+Error = TypeVar("Error", bound=Exception)
 
 
 def first(lookup: zigrunk.Lookup, folder: str) -> str:
@@ -36,15 +38,24 @@ def heaviest(commands: tuple[zigrunk.Command, ...], at: int) -> int:
 
 
 def read(name: str, end: str) -> bytes:
-    with open(f"{FOLDER}/{name}{end}", "rb") as file:
-        return file.read()
+    return Path(FOLDER, name + end).read_bytes()
 
 
-class Calls(unittest.TestCase):
-    def rejects(self, status: zigrunk.Status, message: str, call: Callable[..., object], *arguments: object, **more: object) -> None:
-        with self.assertRaises(zigrunk.ZigrunkError) as caught:
+def real_call(name: str, **more: Any) -> zigrunk.PlanCall:
+    return zigrunk.PlanCall(read(name, ".dry1"), read(name, ".dry2"), "/w", "/t", read(name, ".flag").decode().strip(), **more)
+
+
+class Cases(unittest.TestCase):
+    def error_of(self, kind: type[Error], call: Callable[..., object], *arguments: object, **more: object) -> Error:
+        with self.assertRaises(kind) as caught:
             call(*arguments, **more)
-        self.assertEqual((caught.exception.number, str(caught.exception)), (status, message))
+        return caught.exception
+
+
+class Calls(Cases):
+    def rejects(self, status: zigrunk.Status, message: str, call: Callable[..., object], *arguments: object, **more: object) -> None:
+        error = self.error_of(zigrunk.ZigrunkError, call, *arguments, **more)
+        self.assertEqual((error.number, str(error)), (status, message))
 
     def test_words(self) -> None:
         lists: list[list[str]] = [[], [""], ["a b", "it's", "-DX=\"1\"", "é", "a\0b", "\n"], ["w" * 9000] * 3, ["x"] * 500]
@@ -57,8 +68,7 @@ class Calls(unittest.TestCase):
         self.assertTrue(NAMES)
         for name in NAMES:
             with self.subTest(name):
-                call = zigrunk.PlanCall(read(name, ".dry1"), read(name, ".dry2"), "/w", "/t", read(name, ".flag").decode().strip())
-                self.assertEqual(zigrunk.plan(call, zigrunk.Form.TEXT, first), read(name, ".plan").decode())
+                self.assertEqual(zigrunk.plan(real_call(name), zigrunk.Form.TEXT, first), read(name, ".plan").decode())
 
     def test_settings(self) -> None:
         run = b"#$ PATH=/b\n#$ gcc -D__NVCC__ -E k.cu -o k.cpp1.ii\n#$ cicc --x k.gpu k.cpp1.ii -o k.ptx\n"
@@ -77,8 +87,7 @@ class Calls(unittest.TestCase):
     def test_records_of_real_calls(self) -> None:
         for name in NAMES:
             with self.subTest(name):
-                call = zigrunk.PlanCall(read(name, ".dry1"), read(name, ".dry2"), "/w", "/t", read(name, ".flag").decode().strip(),
-                                        environment=[("A", "1"), ("B", "é\n"), ("A", "")])
+                call = real_call(name, environment=[("A", "1"), ("B", "é\n"), ("A", "")])
                 records, said = zigrunk.plan_records(call, first), json.loads(zigrunk.plan(call, which=first))
                 commands = [{"program": it["exe"], "arguments": tuple(it["args"]), "variables": tuple(map(tuple, it["env"])),
                              "cwd": it["cwd"], "group": it["group"], "reason": None, "cacheable": it["cacheable"], "run": it["run"],
@@ -132,9 +141,7 @@ class Calls(unittest.TestCase):
 
     def rejects_at(self, field: zigrunk.Field, line: Optional[int], status: zigrunk.Status, message: str, call: zigrunk.PlanCall,
                    which: Callable[[zigrunk.Lookup, str], Optional[str]]) -> None:
-        with self.assertRaises(zigrunk.ZigrunkError) as caught:
-            zigrunk.plan_records(call, which)
-        error = caught.exception
+        error = self.error_of(zigrunk.ZigrunkError, zigrunk.plan_records, call, which)
         self.assertEqual((error.place, error.number, str(error)), (zigrunk.Place(field, line), status, message))
 
     def test_errors_of_records(self) -> None:
@@ -170,19 +177,16 @@ class Calls(unittest.TestCase):
             calls.append((count, size))
             return zigrunk._ListAnswer(0, count, size + 1)
 
-        with self.assertRaises(RuntimeError):
-            zigrunk._ask_list(growing)
+        self.assertRaises(RuntimeError, zigrunk._ask_list, growing)
         self.assertEqual(calls, [(64, 4096 + it) for it in range(4)])
-        with self.assertRaises(RuntimeError):
-            zigrunk._ask_text(lambda out, size: zigrunk._TextAnswer(0, size + 1))
+        self.assertRaises(RuntimeError, zigrunk._ask_text, lambda out, size: zigrunk._TextAnswer(0, size + 1))
 
     def test_a_reason_of_a_later_library(self) -> None:
         self.assertEqual([zigrunk._reason(it) for it in (0, 4, 5)], [None, zigrunk.Reason.SUPERSEDED, 5])
         self.assertEqual([zigrunk._known(zigrunk.Stage, it) for it in (2, 3)], [zigrunk.Stage.FINAL, 3])
         self.assertEqual([zigrunk._known(zigrunk.CommandTool, it) for it in (8, 9)], [zigrunk.CommandTool.HOST, 9])
-        with self.assertRaises(zigrunk.ZigrunkError) as caught:
-            zigrunk._checked(99, b"new")
-        self.assertEqual((caught.exception.number, str(caught.exception)), (99, "new"))
+        error = self.error_of(zigrunk.ZigrunkError, zigrunk._checked, 99, b"new")
+        self.assertEqual((error.number, str(error)), (99, "new"))
 
     def test_where_the_library_is_looked_for(self) -> None:
         library = os.path.realpath(os.environ["ZIGRUNK_LIBRARY"])
@@ -203,8 +207,7 @@ class Calls(unittest.TestCase):
                 os.makedirs(place, exist_ok=True)
                 shutil.copy(library, os.path.join(place, "libzigrunk.so.1"))
                 self.assertEqual(run().stdout.strip(), os.path.join(place, "libzigrunk.so.1"))
-            with open(os.path.join(module, "libzigrunk.so.1"), "wb") as file:
-                file.write(b"no library")
+            Path(module, "libzigrunk.so.1").write_bytes(b"no library")
             self.assertEqual(run().stdout.strip(), os.path.join(prefix, "lib", "libzigrunk.so.1"))
 
     def test_look_ups(self) -> None:
@@ -282,9 +285,7 @@ class Calls(unittest.TestCase):
         self.rejects(zigrunk.Status.BAD_NUMBER, "a number has no meaning", zigrunk.command_key, tool, [], {}, ["/t"] * 27)
 
     def refuses(self, reason: zigrunk.Refused, command: int, call: Callable[..., object], *arguments: object) -> None:
-        with self.assertRaises(zigrunk.ScheduleError) as caught:
-            call(*arguments)
-        error = caught.exception
+        error = self.error_of(zigrunk.ScheduleError, call, *arguments)
         self.assertEqual((error.number, error.reason, error.command), (zigrunk.Status.BAD_NUMBER, reason, command))
         self.assertEqual(str(error), reason.name.lower().replace("_", " "))
 
@@ -334,8 +335,7 @@ class Calls(unittest.TestCase):
 
     def test_weights(self) -> None:
         for name in NAMES:
-            flag = read(name, ".flag").decode().strip()
-            plan = zigrunk.plan_records(zigrunk.PlanCall(read(name, ".dry1"), read(name, ".dry2"), "/w", "/t", flag), first)
+            plan = zigrunk.plan_records(real_call(name), first)
             commands, started = plan.commands, []
             weights = [heaviest(commands, at) for at in range(len(commands))]
             expected = zigrunk.Schedule([command.needs for command in commands], 1, priorities=weights)
@@ -364,7 +364,7 @@ END
 """
 
 
-class WholeCalls(unittest.TestCase):
+class WholeCalls(Cases):
     """Calls of an nvcc that is a stand-in. tests/callers.sh has misuses."""
 
     def setUp(self) -> None:
@@ -372,9 +372,8 @@ class WholeCalls(unittest.TestCase):
         self.addCleanup(room.cleanup)
         self.folder = os.path.realpath(room.name)
         for program, text in (("nvcc", NVCC), ("gcc", ""), ("cicc", "")):
-            with open(f"{self.folder}/{program}", "w", encoding="utf-8") as file:
-                file.write(text)
-            os.chmod(file.name, 0o755)
+            Path(self.folder, program).write_text(text, encoding="utf-8")
+            os.chmod(f"{self.folder}/{program}", 0o755)
         os.mkdir(f"{self.folder}/t")
 
     def call(self, words: list[str], **environment: str) -> zigrunk.Call:
@@ -384,8 +383,8 @@ class WholeCalls(unittest.TestCase):
         call = self.call(["-MD", "-c", "k.cu", "-t", "3"], NVCC_APPEND_FLAGS="-DX=1", ODD="\udcff")
         self.assertEqual((call.flag, call.jobs, call.keep_dir, call.input, call.outputs), ("-c", 3, None, "k.cu", ("k.o", "k.d")))
         plan = call.plan()
-        with open(f"{self.folder}/words", encoding="utf-8") as file:
-            self.assertEqual(sorted(" -DX=1 " in line for line in file), [True, True])
+        lines = Path(self.folder, "words").read_text(encoding="utf-8").splitlines()
+        self.assertEqual([" -DX=1 " in line for line in lines], [True, True])
         self.assertEqual([it.needs for it in plan.commands], [(), (0,), (0, 1)])
         self.assertEqual([it.targets for it in plan.commands], [("compute_75",), ("compute_75",), ()])
         self.assertEqual([it.preprocesses for it in plan.commands], [True, False, False])
@@ -393,15 +392,11 @@ class WholeCalls(unittest.TestCase):
         self.assertEqual(call.dependencies and call.dependencies.words[-4:], ("-MT", "k.o", "-MF", "k.d"))
 
     def test_calls_for_nvcc(self) -> None:
-        with self.assertRaises(zigrunk.ZigrunkError) as passed:
-            self.call(["-E", "k.cu"])
-        self.assertEqual(passed.exception.number, zigrunk.Status.TO_NVCC)
-        with self.assertRaises(zigrunk.NvccError) as refused:
-            self.call(["-c", "k.cu", "-Dbad"]).plan()
-        self.assertEqual((refused.exception.status, str(refused.exception)), (3, "nvcc fatal   : bad"))
-        with self.assertRaises(zigrunk.ZigrunkError) as odd:
-            zigrunk.Call("nvcc", ["-c", "k.cu"], {}, "/w", "/t$x")
-        self.assertEqual(odd.exception.place, zigrunk.Place(zigrunk.Field.TMP))
+        self.assertEqual(self.error_of(zigrunk.ZigrunkError, self.call, ["-E", "k.cu"]).number, zigrunk.Status.TO_NVCC)
+        refused = self.error_of(zigrunk.NvccError, self.call(["-c", "k.cu", "-Dbad"]).plan)
+        self.assertEqual((refused.status, str(refused)), (3, "nvcc fatal   : bad"))
+        odd = self.error_of(zigrunk.ZigrunkError, zigrunk.Call, "nvcc", ["-c", "k.cu"], {}, "/w", "/t$x")
+        self.assertEqual(odd.place, zigrunk.Place(zigrunk.Field.TMP))
 
     def test_headers(self) -> None:
         text = b'# 1 "k.cu"\n# 1 "<built-in>"\n#line 3 "a\\\\b\\"c.h"\nint a; # 1 "no"\n# 2 "k.cu" 2\n'
@@ -418,8 +413,7 @@ class Layout(unittest.TestCase):
         return {names[it]: getattr(zigrunk, it) for it in names if isinstance(getattr(zigrunk, it), type(ctypes.Structure))}
 
     def test_fields(self) -> None:
-        with open(os.path.join(INCLUDE, "zigrunk.h"), encoding="utf-8") as file:
-            code = re.sub(r"/\*.*?\*/", "", file.read(), flags=re.DOTALL)
+        code = re.sub(r"/\*.*?\*/", "", Path(INCLUDE, "zigrunk.h").read_text(encoding="utf-8"), flags=re.DOTALL)
         structs = re.findall(r"typedef struct \w+ \{(.*?)\} (\w+);", code, re.DOTALL)
         header = {name: re.findall(r"(\w+);", fields) for fields, name in structs}
         self.assertGreaterEqual(len(header), 14)
@@ -436,8 +430,8 @@ class Layout(unittest.TestCase):
                 lines.append(f'printf("{field} %zu %zu\\n", offsetof({name}, {field}), sizeof((({name} *)0)->{field}));')
         with tempfile.TemporaryDirectory() as folder:
             source, program = os.path.join(folder, "layout.c"), os.path.join(folder, "layout")
-            with open(source, "w", encoding="utf-8") as file:
-                file.write('#include <zigrunk.h>\n#include <stdio.h>\nint main(void) {\n' + "\n".join(lines) + "\nreturn 0;\n}\n")
+            text = '#include <zigrunk.h>\n#include <stdio.h>\nint main(void) {\n' + "\n".join(lines) + "\nreturn 0;\n}\n"
+            Path(source).write_text(text, encoding="utf-8")
             subprocess.run(["cc", "-std=c11", f"-I{INCLUDE}", source, "-o", program], check=True)
             printed = subprocess.run([program], check=True, stdout=subprocess.PIPE, text=True).stdout
         self.assertEqual(printed.splitlines(), expected)

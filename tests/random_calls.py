@@ -17,7 +17,6 @@ The last line is 'N passed, M failed'. It is a failure too if most calls fail by
 """
 import argparse
 import collections
-import concurrent.futures
 import json
 import random
 import re
@@ -26,8 +25,8 @@ import sys
 from collections.abc import Callable, Iterator
 from pathlib import Path
 
-from compare_calls import Call, Compared, Difference, Ran, compare, loud, path_of, shows_nothing, version_of
-from runner import TOOLS, Counts
+from compare_calls import Call, Compared, Difference, Ran, common_options, compare_all, loud, makes, record_of, shows_nothing, version_of
+from runner import Counts
 
 TABLE = Path(__file__).resolve().parent.parent / "crates/nvcc_calls/src/options.rt"
 Draw = random.Random
@@ -250,7 +249,7 @@ class Totals:
         """Counts a call, and prints it if it differs in a way that no rule explains. Returns what differs so."""
         call, want, got, found, _ = compared
         self.failing += want["status"] != 0 and got["status"] != 0
-        self.compiling += want["status"] == 0 and bool(want["made"])
+        self.compiling += makes(want)
         self.split += not got["reason"]
         unknown = []
         for difference in found:
@@ -270,19 +269,13 @@ class Totals:
 
 
 def arguments() -> argparse.Namespace:
-    parser = argparse.ArgumentParser(usage=__doc__)
+    parser = common_options(__doc__)
+    parser.set_defaults(keep=None)
     parser.add_argument("--seed", type=int, default=1)
     parser.add_argument("--count", type=int, default=100)
     parser.add_argument("--first", type=int, default=1)
-    parser.add_argument("--jobs", type=int, default=1)
-    parser.add_argument("--scratch")
-    parser.add_argument("--json")
     parser.add_argument("--list", action="store_true")
-    parser.add_argument("--nvcc", type=path_of, default="nvcc")
-    parser.add_argument("--ours", type=path_of, default=str(TOOLS / "zigrunk-nvcc"))
-    args = parser.parse_args()
-    args.keep = None
-    return args
+    return parser.parse_args()
 
 
 def main() -> int:
@@ -296,12 +289,8 @@ def main() -> int:
     args.version = version_of(args.nvcc)
     totals, records = Totals(), []
     calls = [Call(line, number) for number, line in enumerate(lines, args.first)]
-    with concurrent.futures.ThreadPoolExecutor(args.jobs) as pool:
-        for compared in pool.map(lambda call: compare(call, args), calls):
-            unknown = totals.add(compared)
-            call, want, got, found, _ = compared
-            records.append({"line": call.line, "status": [want["status"], got["status"]], "reason": got["reason"], "found": found,
-                            "unknown": unknown, "said": (want["out"] + want["err"])[-400:], "seconds": [want["seconds"], got["seconds"]]})
+    for compared in compare_all(calls, args):
+        records.append(record_of(compared, unknown=totals.add(compared)))
     if args.json:
         Path(args.json).write_text(json.dumps(records, indent=1))
     print(f"seed {args.seed}, calls {args.first} to {args.first + len(calls) - 1}: {totals.split} were split, {totals.compiling} make something by "

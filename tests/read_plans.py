@@ -19,6 +19,7 @@ import re
 import shlex
 import sys
 from collections.abc import Iterable, Iterator
+from pathlib import Path
 
 from runner import Counts
 
@@ -62,9 +63,7 @@ def read(path: str, run: int) -> list[Command]:
     """The commands of a dry run."""
     variables: dict[str, str] = {}
     commands = []
-    with open(path, encoding="utf-8") as file:
-        lines = file.read().splitlines()
-    for number, line in enumerate(lines):
+    for number, line in enumerate(Path(path).read_text(encoding="utf-8").splitlines()):
         if not line.startswith("#$ "):
             continue
         text = line[3:]
@@ -154,8 +153,7 @@ def place(commands: list[Command]) -> list[str]:
 
 def plan_of(name: str, kept: bool = False) -> tuple[str, list[list[Command]], list[Command]]:
     """The flag of a pair, the groups of its plan, and its dropped commands. If files are kept, they have nvcc's names."""
-    with open(f"{RUNS}/{name}.flag", encoding="utf-8") as file:
-        flag = file.read().strip()
+    flag = Path(f"{RUNS}/{name}.flag").read_text(encoding="utf-8").strip()
     first, second = read(f"{RUNS}/{name}.dry1", 1), read(f"{RUNS}/{name}.dry2", 2)
     if not kept:
         rename(first)
@@ -239,10 +237,7 @@ def keeps_orders(groups: list[list[Command]]) -> bool:
 
 def pairs() -> list[str]:
     """The names of all pairs: those with a flag."""
-    found: list[str] = []
-    for folder, _, names in os.walk(RUNS):
-        found += [os.path.relpath(f"{folder}/{name}", RUNS).removesuffix(".flag") for name in names if name.endswith(".flag")]
-    return sorted(found)
+    return sorted(str(path.relative_to(RUNS)).removesuffix(".flag") for path in Path(RUNS).rglob("*.flag"))
 
 
 def kept_case(name: str, flag: str) -> str:
@@ -277,9 +272,8 @@ def findings(name: str, cases: str) -> Iterable[str]:
     """What is wrong with a pair."""
     flag, groups, dropped = plan_of(name)
     steps, touched, needs = needs_of(groups)
-    with open(f"{RUNS}/{name}.plan", encoding="utf-8") as file:
-        if file.read() != text_of(groups, dropped):
-            yield "its plan differs"
+    if Path(f"{RUNS}/{name}.plan").read_text(encoding="utf-8") != text_of(groups, dropped):
+        yield "its plan differs"
     if cases_of(name, flag, groups) not in cases:
         yield "nvcc_versions.txt lacks its cases, or they differ"
     yield from unlawful(name)
@@ -300,9 +294,8 @@ def write() -> None:
     """Writes the plans that aren't there, and prints the cases of all versions."""
     for name in pairs():
         flag, groups, dropped = plan_of(name)
-        if not os.path.exists(f"{RUNS}/{name}.plan"):
-            with open(f"{RUNS}/{name}.plan", "w", encoding="utf-8") as file:
-                file.write(text_of(groups, dropped))
+        if not (plan := Path(f"{RUNS}/{name}.plan")).exists():
+            plan.write_text(text_of(groups, dropped), encoding="utf-8")
         print(cases_of(name, flag, groups), end="\n" if "/" in name else "")
 
 
@@ -310,8 +303,7 @@ def main() -> int:
     if sys.argv[1:] == ["--write"]:
         write()
         return 0
-    with open(f"{DATA}/nvcc_versions.txt", encoding="utf-8") as file:
-        cases = file.read()
+    cases = Path(f"{DATA}/nvcc_versions.txt").read_text(encoding="utf-8")
     counts = Counts()
     for name in pairs():
         counts.case(name, findings(name, cases))

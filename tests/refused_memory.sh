@@ -8,6 +8,7 @@
 # Usage: tests/refused_memory.sh [FILE..]     files of tests/drivers/test_lines/data or tests/drivers/test_plans/data; all files, and the
 #                                             calls of the programs, unless named
 #        tests/refused_memory.sh --calls      the calls of the programs alone
+#        tests/refused_memory.sh --few CUDAPLAN ZIGRUNK    few calls of other programs, each allocation failing alone (tests/program.sh)
 #
 # The last line is 'N passed, M failed': each failed allocation is a case.
 #
@@ -21,8 +22,9 @@ test_lines=$root/tests/drivers/test_lines/out/test_lines
 test_plans=$root/tests/drivers/test_plans/out/test_plans
 cudaplan=$root/crates/cudaplan/out/cudaplan
 zigrunk=$root/crates/zigrunk/out/zigrunk
+[ "${1-}" != --few ] || { cudaplan=$2 zigrunk=$3; }
 needed=("$cudaplan" "$zigrunk")
-[ "${1-}" = --calls ] || needed+=("$test_lines" "$test_plans")
+[[ ${1-} == --* ]] || needed+=("$test_lines" "$test_plans")
 for built in "${needed[@]}"; do
     if [ ! -x "$built" ]; then
         echo "not built: $built"
@@ -112,7 +114,7 @@ judge_call() {
 # count_up JUDGE NAME STATUS CMD..: runs a command with memory, which has to end with this status, and then with each
 # allocation failing in turn, until none fails.
 count_up() {
-    local judge=$1 name=$2 number=1
+    local judge=$1 name=$2 number=1 before=$answered
     expected_status=$3
     shift 3
     run_refused 1000000000 "$@"
@@ -132,13 +134,16 @@ count_up() {
     done
     if [ "$met" != whole ]; then
         wrong "$name, allocation $number: status $status: it didn't end"
+    elif [ "$judge" = judge_call ] && [ "$answered" = "$before" ]; then
+        wrong "$name: no run says that it is out of memory"
     fi
 }
 
-# call NAME STATUS CMD..: a call of a program: each allocation fails in turn, first alone, then with all after it.
+# call NAME STATUS CMD..: a call of a program: each allocation fails in turn, first alone, then with all after it, unless $few is set.
 call() {
     local name=$1 number=1
     count_up judge_call "$@"
+    [ -z "$few" ] || return 0
     shift 2
     while run_refused "$number-" "$@"; [ "$met" = refused ]; do
         judged judge_call "$name" "$number and all after it"
@@ -165,6 +170,25 @@ run_file() {
 # full_disk CMD..: runs a command with its standard output on a full disk.
 full_disk() {
     "$@" > /dev/full
+}
+
+# from_file FILE CMD..: runs a command whose standard input is a file.
+from_file() {
+    "${@:2}" < "$1"
+}
+
+# calls where each program starts, reads files and variables, looks up programs and writes
+few_calls() {
+    call 'a version' 0 "$zigrunk" --version
+    call 'a call that links' 3 "$zigrunk" calls /w /t nvcc k.cu
+    printf -- '-g' > g.rsp
+    call 'an options file' 0 "$zigrunk" calls /w /t nvcc -c k.cu -optf "$work/g.rsp"
+    NVCC_APPEND_FLAGS=-g ZIGRUNK_JOBS=3 call 'variables' 0 "$zigrunk" calls /w /t nvcc -c k.cu
+    call 'a short script' 0 "$zigrunk" shell /w /t -c short short2
+    call 'a script from standard input' 0 from_file short "$zigrunk" shell /w /t -c - short2
+    call 'a short Makeflow file' 0 "$zigrunk" makeflow /w /t -c short short2
+    call 'a short cicc line' 0 "$cudaplan" line cicc /w k.cpp1.ii -o k.ptx
+    call 'a short plan' 0 "$cudaplan" plan /w /t -c short short2
 }
 
 # calls of cudaplan that succeed
@@ -232,21 +256,28 @@ program_calls() {
     chmod +x bin/gcc bin/cicc
     printf '%s\n' "#\$ PATH=$work/bin" '#$ gcc -D__NVCC__ -E k.cu -o k.cpp1.ii' '#$ cicc k.cpp1.ii -o k.ptx' > found
     cp found found2
+    printf '%s\n' "#\$ PATH=$work/bin" '#$ gcc -D__NVCC__ -c x.cpp' > short
+    cp short short2
     printf '%s\n' '#$ PATH=' '#$ gcc -D__NVCC__ -E k.cu -o k.cpp1.ii' > lost
     cp lost lost2
     printf '%s\n' '#$ gcc' > pathless
     printf '%s\n' '#$ gcc "a' > quoted
     printf '%s\n' '#$ # note' > empty
-    good_cudaplan_calls
-    bad_cudaplan_calls
-    good_zigrunk_calls
-    bad_zigrunk_calls
+    few_calls
+    if [ -z "$few" ]; then
+        good_cudaplan_calls
+        bad_cudaplan_calls
+        good_zigrunk_calls
+        bad_zigrunk_calls
+    fi
     echo "calls of the programs: failed allocations $((refused - before)), after $SECONDS s"
 }
 
-if [ "${1-}" = --calls ]; then
+few=''
+if [[ ${1-} == --* ]]; then
+    [ "$1" = --calls ] || few=yes
     program_calls
-    shift
+    set --
 elif [ $# -eq 0 ]; then
     program_calls
     for file in *.txt; do

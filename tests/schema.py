@@ -10,14 +10,16 @@ Prints a line for each finding, and last 'N passed, M failed'; the status is 1 i
     tests/schema.py [ZIGRUNK]       the program is the one that `make build` and the gate leave, unless given
 """
 
-import concurrent.futures
 import json
 import os
 import subprocess
 import sys
 import tempfile
+from pathlib import Path
 from typing import Any
 
+from isolated import Json, in_threads
+from read_plans import pairs
 from runner import Counts, skip_all
 
 try:
@@ -27,14 +29,6 @@ except ImportError:
 
 TOP = os.path.realpath(f"{os.path.dirname(os.path.realpath(__file__))}/..")
 DATA = f"{TOP}/tests/drivers/test_plans/data/dry_runs"
-# A value of JSON, by its members.
-Json = dict[str, Any]
-
-
-def pairs() -> list[str]:
-    """Returns the names of the real pairs: those with a flag."""
-    flags = [os.path.relpath(f"{folder}/{name}", DATA) for folder, _, names in os.walk(DATA) for name in names if name.endswith(".flag")]
-    return sorted(name.removesuffix(".flag") for name in flags)
 
 
 def program_words(lines: list[str]) -> set[str]:
@@ -49,17 +43,13 @@ def with_programs(name: str, room: str) -> list[str]:
     os.makedirs(folder, exist_ok=True)
     copies = []
     for run in ("dry1", "dry2"):
-        with open(f"{DATA}/{name}.{run}", encoding="utf-8") as file:
-            lines = file.read().splitlines()
+        lines = Path(f"{DATA}/{name}.{run}").read_text(encoding="utf-8").splitlines()
         for word in program_words(lines):
-            path = f"{folder}/{os.path.basename(word)}"
-            open(path, "w", encoding="utf-8").close()
-            os.chmod(path, 0o755)
+            Path(folder, os.path.basename(word)).touch(0o755)
         lines = [f"#$ PATH={folder}" if line.startswith("#$ PATH=") else line for line in lines]
         lines = [on_disk(line, folder) for line in lines]
         copies.append(f"{room}/{name.replace('/', '.')}.{run}")
-        with open(copies[-1], "w", encoding="utf-8") as file:
-            file.write("\n".join(lines) + "\n")
+        Path(copies[-1]).write_text("\n".join(lines) + "\n", encoding="utf-8")
     return copies
 
 
@@ -106,24 +96,14 @@ def unlike(plan: Json, rules: list[Json]) -> list[str]:
 def ran_in_threads(plan: Json) -> list[int]:
     """Runs a stand-in for each command, as the example in man zigrunk does. Returns the ids in the order in which they ended."""
     ended: list[int] = []
-    jobs: list[concurrent.futures.Future[None]] = []
-
-    def run(command: Json) -> None:
-        for need in command["needs"]:
-            jobs[need].result()
-        ended.append(command["id"])
-
-    with concurrent.futures.ThreadPoolExecutor(4) as pool:
-        for command in plan["commands"]:
-            jobs.append(pool.submit(run, command))
+    in_threads(plan, lambda command: ended.append(command["id"]))
     return ended
 
 
 def check(name: str, zigrunk: str, validator: Any, room: str) -> list[str]:
     """Returns what is wrong with the JSON of a pair."""
     dry1, dry2 = with_programs(name, room)
-    with open(f"{DATA}/{name}.flag", encoding="utf-8") as file:
-        flag = file.read().strip()
+    flag = Path(f"{DATA}/{name}.flag").read_text(encoding="utf-8").strip()
     ran, rules = (subprocess.run([zigrunk, form, "/w", "/t", flag, dry1, dry2], capture_output=True, text=True, check=False)
                   for form in ("json", "makeflow"))
     if ran.returncode != 0 or rules.returncode != 0:
@@ -132,10 +112,7 @@ def check(name: str, zigrunk: str, validator: Any, room: str) -> list[str]:
     found = [error.message for error in validator.iter_errors(plan)]
     if json.dumps(plan, separators=(",", ":"), sort_keys=True, ensure_ascii=False) + "\n" != ran.stdout:
         found.append("the members aren't in order, or there are spaces")
-    runs = []
-    for path in (dry1, dry2):
-        with open(path, encoding="utf-8") as file:
-            runs.append(file.read().splitlines())
+    runs = [Path(path).read_text(encoding="utf-8").splitlines() for path in (dry1, dry2)]
     found += findings(plan, runs) + unlike(plan, json.loads(rules.stdout)["rules"])
     if sorted(ran_in_threads(plan)) != list(range(len(plan["commands"]))):
         found.append("not every command ran")
@@ -163,8 +140,7 @@ def refused(validator: Any) -> list[str]:
 
 def main() -> int:
     zigrunk = os.path.realpath(sys.argv[1] if len(sys.argv) > 1 else f"{TOP}/crates/zigrunk/out/zigrunk")
-    with open(f"{TOP}/docs/plan.schema.json", encoding="utf-8") as file:
-        schema = json.load(file)
+    schema = json.loads(Path(f"{TOP}/docs/plan.schema.json").read_text(encoding="utf-8"))
     jsonschema.Draft202012Validator.check_schema(schema)
     validator = jsonschema.Draft202012Validator(schema)
     counts = Counts()

@@ -99,10 +99,7 @@ static void check_random_texts(int rounds) {
         answer a = split(text);
         CHECK(a.status == ZIGRUNK_OK || a.status == ZIGRUNK_NOT_UTF8 || a.status == ZIGRUNK_OPEN_QUOTE);
         if (a.status == ZIGRUNK_OK) {
-            zigrunk_text *list = room(a.count, sizeof *list);
-            for (size_t k = 0; k < a.count; k++) {
-                list[k] = text_at(&a, k);
-            }
+            zigrunk_text *list = texts_in(&a);
             answer quoted = quote(list, a.count);
             CHECK(quoted.status == ZIGRUNK_OK);
             zigrunk_text again = {quoted.out, quoted.length};

@@ -7,6 +7,7 @@
 #include <stdio.h>
 #include <stdlib.h>
 #include <string.h>
+#include <time.h>
 
 static int passed, failed;
 
@@ -53,9 +54,20 @@ static inline int is_unwritten(const void *at, size_t bytes) {
     return 1;
 }
 
+/* Gives a call a list of so many, as its variables. */
+#define GIVE(call, list, items, number) ((call)->list = (items), (call)->list##_count = (number))
+
 static inline zigrunk_text text_of(const char *text) {
-    zigrunk_text made = {(const uint8_t *)text, strlen(text)};
-    return made;
+    return (zigrunk_text){(const uint8_t *)text, strlen(text)};
+}
+
+/* The texts of a list are one behind the other, and nothing is behind the last. */
+static inline void check_ranges(const zigrunk_range *ranges, size_t count, size_t length) {
+    size_t at = 0;
+    for (size_t i = 0; i < count; at += ranges[i++].length) {
+        CHECK(ranges[i].offset == at && ranges[i].length <= length - at);
+    }
+    CHECK(count == 0 || at == length);
 }
 
 /* An answer, in memory of its own. */
@@ -83,8 +95,16 @@ static inline int is_text(const answer *a, const char *text) {
 }
 
 static inline zigrunk_text text_at(const answer *a, size_t index) {
-    zigrunk_text text = {a->out + a->ranges[index].offset, a->ranges[index].length};
-    return text;
+    return (zigrunk_text){a->out + a->ranges[index].offset, a->ranges[index].length};
+}
+
+/* The texts of a list. The array is the caller's. */
+static inline zigrunk_text *texts_in(const answer *a) {
+    zigrunk_text *texts = room(a->count, sizeof *texts);
+    for (size_t i = 0; i < a->count; i++) {
+        texts[i] = text_at(a, i);
+    }
+    return texts;
 }
 
 static inline int is_same(zigrunk_text a, zigrunk_text b) {
@@ -224,11 +244,7 @@ static inline answer ask_texts(text_call *text, list_call *list, const void *mor
     const listed what = {text, list, more};
     asked all = ask_all(asks_texts, sizes, &what);
     answer a = {all.status, all.counts[0], all.counts[1], all.parts[0], all.parts[1]};
-    size_t at = 0;
-    for (size_t i = 0; i < a.count; at += a.ranges[i++].length) {
-        CHECK(a.ranges[i].offset == at);
-    }
-    CHECK(a.count == 0 || at == a.length);
+    check_ranges(a.ranges, a.count, a.length);
     for (int i = 2; i < PARTS; i++) {
         free(all.parts[i]);
     }
@@ -251,8 +267,14 @@ static inline zigrunk_text repeated(const char *first, const char *text, size_t 
     for (size_t i = 0; i < count; i++) {
         memcpy(bytes + head + i * each, text, each);
     }
-    zigrunk_text made = {bytes, head + count * each};
-    return made;
+    return (zigrunk_text){bytes, head + count * each};
+}
+
+/* What a clock says, in seconds. */
+static inline double seconds_of(clockid_t clock) {
+    struct timespec it;
+    clock_gettime(clock, &it);
+    return (double)it.tv_sec + (double)it.tv_nsec / 1e9;
 }
 
 /* A sequence of numbers that looks random and is always the same. */

@@ -138,8 +138,7 @@ static void try_by_lot(const tried *it, long more) {
 }
 
 static zigrunk_list_answer as_list(zigrunk_text_answer a) {
-    zigrunk_list_answer list = {a.status, 0, a.length};
-    return list;
+    return (zigrunk_list_answer){a.status, 0, a.length};
 }
 
 static zigrunk_list_answer try_split(const tried *it, buffers *into) {
@@ -168,8 +167,7 @@ static zigrunk_list_answer steps_of(const zigrunk_plan_call *call, buffers *into
         into->ranges, 4096, into->out, sizeof into->out);
     CHECK(a.status == ZIGRUNK_OK ? a.groups > 2 && a.groups <= 64 && a.steps > 1 && a.commands <= 256 && a.numbers > 0 && a.numbers <= 1 << 11
         : a.groups == 0 && a.commands == 0 && a.steps == 0 && a.numbers == 0);
-    zigrunk_list_answer list = {a.status, a.ranges, a.length};
-    return list;
+    return (zigrunk_list_answer){a.status, a.ranges, a.length};
 }
 
 /* The form that stands for such a plan here, for which the two dry runs have to differ. */
@@ -181,12 +179,9 @@ static zigrunk_list_answer try_plan(const tried *it, buffers *into) {
     zigrunk_text suffix = text_of(".cudafe1.gpu");
     zigrunk_plan_call call = call_of(text_of(run), text_of(run), "-c");
     call.tmp = text_of(it->text);
-    call.variables = &variable;
-    call.variables_count = 1;
-    call.suffixes = &suffix;
-    call.suffixes_count = 1;
-    call.programs = rows;
-    call.programs_count = it->programs;
+    GIVE(&call, variables, &variable, 1);
+    GIVE(&call, suffixes, &suffix, 1);
+    GIVE(&call, programs, rows, it->programs);
     call.limit = it->limit;
     if (it->form == STEPS) {
         call.dry2 = text_of(other_run);
@@ -219,8 +214,7 @@ static zigrunk_list_answer try_records(const tried *it, buffers *into) {
     zigrunk_line_call call = line_call_of(it->form, &words);
     zigrunk_line_answer a = zigrunk_line_records(&call, outputs, 4, into->ranges, 4096, into->out, sizeof into->out);
     CHECK(a.status == ZIGRUNK_OK ? a.outputs == 1 && a.line.compilation_flag == 1 : a.outputs == 0 && a.line.compilation_flag == 0);
-    zigrunk_list_answer list = {a.status, a.ranges, a.length};
-    return list;
+    return (zigrunk_list_answer){a.status, a.ranges, a.length};
 }
 
 static zigrunk_list_answer try_nvcc_line(const tried *it, buffers *into) {

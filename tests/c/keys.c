@@ -6,14 +6,7 @@ static const zigrunk_text no_text;
 static const zigrunk_variable no_variable;
 
 static zigrunk_key_call key_call_of(uint32_t tool, const zigrunk_text *words, size_t count) {
-    zigrunk_key_call call;
-    memset(&call, 0, sizeof call);
-    call.words = words;
-    call.words_count = count;
-    call.variables = &no_variable;
-    call.roots = &no_text;
-    call.tool = tool;
-    return call;
+    return (zigrunk_key_call){.words = words, .words_count = count, .variables = &no_variable, .roots = &no_text, .tool = tool};
 }
 
 static int is_key(const zigrunk_key_call *call, const char *bytes, size_t length) {
@@ -26,8 +19,7 @@ static int is_key(const zigrunk_key_call *call, const char *bytes, size_t length
 #define HAS_KEY(call, key) CHECK(is_key(&call, key, sizeof key - 1))
 
 static zigrunk_variable variable_of(const char *name, const char *value) {
-    zigrunk_variable made = {text_of(name), text_of(value)};
-    return made;
+    return (zigrunk_variable){text_of(name), text_of(value)};
 }
 
 static void check_words(void) {
@@ -143,23 +135,17 @@ static size_t made(command *one, command *other, char *key) {
         size_t first_start = first, second_start = second;
         for (uint64_t left = random_below(7); left > 0; left--) {
             size_t number = random_below(ROOTS + sizeof pieces / sizeof *pieces);
-            if (number < ROOTS) {
-                first += put(one->bytes + first, here[number]);
-                second += put(other->bytes + second, there[number]);
+            int is_root = number < ROOTS;
+            const char *piece = is_root ? "" : pieces[number - ROOTS];
+            /* Before the end of a word nothing has to follow. "/t" and then "/u" would be another root, and "/" and then "t" one too. */
+            const char *end = is_root ? (left == 1 ? "" : "/.") : strcmp(piece, "/") == 0 ? "-" : "";
+            first += put(one->bytes + first, is_root ? here[number] : piece), second += put(other->bytes + second, is_root ? there[number] : piece);
+            if (is_root) {
                 key[length++] = '\0', key[length++] = (char)('A' + number);
-                /* Before the end of a word nothing has to follow. "/t" and then "/u" would be another root. */
-                const char *end = left == 1 ? "" : "/.";
-                first += put(one->bytes + first, end), second += put(other->bytes + second, end);
-                length += put(key + length, end);
-            } else {
-                const char *piece = pieces[number - ROOTS];
-                /* "/" and then "t" would be a root. */
-                const char *end = strcmp(piece, "/") == 0 ? "-" : "";
-                first += put(one->bytes + first, piece), second += put(other->bytes + second, piece);
-                length += put(key + length, piece);
-                first += put(one->bytes + first, end), second += put(other->bytes + second, end);
-                length += put(key + length, end);
             }
+            length += put(key + length, piece);
+            first += put(one->bytes + first, end), second += put(other->bytes + second, end);
+            length += put(key + length, end);
         }
         key[length++] = '\0', key[length++] = '0';
         one->words[i].bytes = (const uint8_t *)one->bytes + first_start, one->words[i].length = first - first_start;

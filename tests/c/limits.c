@@ -3,7 +3,6 @@
 #include "steps.h"
 
 #include <sys/resource.h>
-#include <time.h>
 
 /* `PATH` and its value count eight bytes. The path of the program, its options and its word count 22 more in a plan. Look-ups
  * count 21: the value of `PATH` and the name of the program stand for the path. Each of the two lines counts 4,096 more. */
@@ -16,8 +15,7 @@ static zigrunk_found_program gcc;
 static zigrunk_plan_call limited_call(const char *run1, const char *run2, size_t limit) {
     gcc = row("gcc", "/b", "/b/gcc");
     zigrunk_plan_call call = call_of(text_of(run1), text_of(run2), "-c");
-    call.programs = &gcc;
-    call.programs_count = 1;
+    GIVE(&call, programs, &gcc, 1);
     call.limit = limit;
     return call;
 }
@@ -62,8 +60,7 @@ static void check_plans(void) {
     call = limited_call(fits, "#$ gcc x\n", PLAN_ROOM - 1);
     ends(&call, ZIGRUNK_OVER_LIMIT, "run 1 line 1: over the limit of 8221 bytes");
     zigrunk_text suffix = text_of("y");
-    call.suffixes = &suffix;
-    call.suffixes_count = 1;
+    GIVE(&call, suffixes, &suffix, 1);
     ends(&call, ZIGRUNK_BAD_SUFFIXES, "bad generated suffixes");
 }
 
@@ -87,12 +84,6 @@ static const char *doubling(void) {
     return strcat(text, "#$ $A.\n");
 }
 
-static double seconds(void) {
-    struct timespec now;
-    clock_gettime(CLOCK_PROCESS_CPUTIME_ID, &now);
-    return (double)now.tv_sec + (double)now.tv_nsec / 1e9;
-}
-
 /* The most memory that the program has had so far, in KiB. */
 static long most_memory(void) {
     struct rusage usage;
@@ -104,17 +95,13 @@ static zigrunk_text_answer plan_answer(const zigrunk_plan_call *call, uint8_t *o
 }
 
 static zigrunk_text_answer steps_answer(const zigrunk_plan_call *call, uint8_t *out, size_t size) {
-    zigrunk_group group;
-    zigrunk_command command;
-    zigrunk_step step;
-    size_t number;
     zigrunk_range range;
-    zigrunk_steps_answer s = zigrunk_plan_steps(call, &group, 0, &command, 0, &step, 0, &number, 0, &range, 0, out, size);
+    zigrunk_steps_answer s = sizes_of(call, &range, 0, out, size);
     return (zigrunk_text_answer){s.status, s.length};
 }
 
 static zigrunk_text_answer lookups_answer(const zigrunk_plan_call *call, uint8_t *out, size_t size) {
-    limited_runs more = {{{call->dry1, call->dry2, call->cwd}}, call->limit};
+    limited_runs more = runs_of(call, call->limit);
     zigrunk_range no_range;
     zigrunk_list_answer l = call_lookups_within(&more, &no_range, 0, out, size);
     return (zigrunk_text_answer){l.status, l.length};
@@ -132,9 +119,9 @@ static void check_explosion(int is_timed) {
         double least = 1e9;
         for (int times = 0; times < (is_timed ? 3 : 1); times++) {
             char out[128];
-            double start = seconds();
+            double start = seconds_of(CLOCK_PROCESS_CPUTIME_ID);
             zigrunk_text_answer a = calls[i](&call, (uint8_t *)out, sizeof out);
-            double took = seconds() - start;
+            double took = seconds_of(CLOCK_PROCESS_CPUTIME_ID) - start;
             least = took < least ? took : least;
             CHECK(a.status == ZIGRUNK_OVER_LIMIT && a.length == strlen(message) && memcmp(out, message, a.length) == 0);
         }

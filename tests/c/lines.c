@@ -2,18 +2,17 @@
  * random words. */
 #include "lines.h"
 
-/* An answer with records, in memory of its own: so many outputs, ranges and bytes. */
+/* An answer with records, and the same in words: so many outputs, ranges and bytes. */
 typedef struct line_records {
+    asked all;
     zigrunk_line_answer told;
-    zigrunk_output *outputs;
-    zigrunk_range *ranges;
-    uint8_t *out;
+    const zigrunk_output *outputs;
+    const zigrunk_range *ranges;
+    const uint8_t *out;
 } line_records;
 
 static void release_line_records(line_records r) {
-    free(r.outputs);
-    free(r.ranges);
-    free(r.out);
+    release_asked(r.all);
 }
 
 static void asks_records(const void *call, asked *into, const size_t room_for[PARTS]) {
@@ -25,24 +24,15 @@ static void asks_records(const void *call, asked *into, const size_t room_for[PA
 static line_records ask_line_records(const zigrunk_line_call *call) {
     static const size_t sizes[PARTS] = {sizeof(zigrunk_output), sizeof(zigrunk_range), 1};
     asked a = ask_all(asks_records, sizes, call);
-    line_records r;
-    r.told.status = a.status, r.told.line = a.more.line, r.told.outputs = a.counts[0], r.told.ranges = a.counts[1], r.told.length = a.counts[2];
-    r.outputs = a.parts[0], r.ranges = a.parts[1], r.out = a.parts[2];
-    for (int i = 3; i < PARTS; i++) {
-        free(a.parts[i]);
-    }
-    return r;
+    return (line_records){
+        .all = a, .told = {.status = a.status, .line = a.more.line, .outputs = a.counts[0], .ranges = a.counts[1], .length = a.counts[2]},
+        .outputs = a.parts[0], .ranges = a.parts[1], .out = a.parts[2]};
 }
 
 /* The text with a number. */
 static zigrunk_text line_text(const line_records *r, size_t number) {
-    zigrunk_text text = {(const uint8_t *)"", 0};
     CHECK(number < r->told.ranges);
-    if (number < r->told.ranges) {
-        text.bytes = r->out + r->ranges[number].offset;
-        text.length = r->ranges[number].length;
-    }
-    return text;
+    return number < r->told.ranges ? (zigrunk_text){r->out + r->ranges[number].offset, r->ranges[number].length} : text_of("");
 }
 
 static const uint32_t tools[] = {ZIGRUNK_TOOL_CICC, ZIGRUNK_TOOL_PTXAS, ZIGRUNK_TOOL_CUDAFE, ZIGRUNK_TOOL_NVCC,
@@ -56,7 +46,7 @@ static void check_texts(const line_records *r) {
     const zigrunk_range lists[] = {line->depfile, line->dependency_args, line->preprocessor_args, line->common_args,
         line->arch_args, line->unhashed_args, line->extra_dist_files, line->extra_hash_files,
         line->too_hard_for_preprocessor_cache_mode};
-    size_t next = 2, at = 0;
+    size_t next = 2;
     CHECK(line->input == 0 && line->compilation_flag == 1);
     for (size_t i = 0; i < sizeof lists / sizeof *lists; i++) {
         CHECK(lists[i].offset == next);
@@ -66,11 +56,7 @@ static void check_texts(const line_records *r) {
         CHECK(r->outputs[i].key == next && r->outputs[i].path == next + 1);
     }
     CHECK(next == r->told.ranges);
-    for (size_t i = 0; i < r->told.ranges; i++) {
-        CHECK(r->ranges[i].offset == at);
-        at += r->ranges[i].length;
-    }
-    CHECK(at == r->told.length);
+    check_ranges(r->ranges, r->told.ranges, r->told.length);
 }
 
 /* Without a list, and all numbers of the record are 0. */
@@ -177,8 +163,7 @@ static void check_environment(void) {
     zigrunk_variable variables[] = {{text_of("NVCC_PREPEND_FLAGS"), text_of("-DA -DB")}, {text_of("NVCC_APPEND_FLAGS"), text_of("-o j.o")}};
     line_words words = words_of("-c k.cu");
     zigrunk_line_call call = line_call_of(ZIGRUNK_TOOL_NVCC, &words);
-    call.variables = variables;
-    call.variables_count = 2;
+    GIVE(&call, variables, variables, 2);
     line_records r = ask_line_records(&call);
     CHECK(r.told.status == ZIGRUNK_OK && has(&r, "-DA") && has(&r, "-DB") && r.told.outputs == 1 && has(&r, "j.o"));
     release_line_records(r);
@@ -219,8 +204,7 @@ static void check_bad_calls(void) {
     zigrunk_variable variable = {text_of("A"), text_of("B")};
     zigrunk_line_call call = line_call_of(ZIGRUNK_TOOL_CICC, &words);
     zigrunk_text *texts[] = {&call.cwd, &words.words[0], &words.words[words.count - 1], &variable.name, &variable.value};
-    call.variables = &variable;
-    call.variables_count = 1;
+    GIVE(&call, variables, &variable, 1);
     for (size_t i = 0; i < sizeof texts / sizeof *texts; i++) {
         zigrunk_text good = *texts[i];
         *texts[i] = text_of("a\xFF");
@@ -247,8 +231,7 @@ static void check_nvcc_lines(void) {
     zigrunk_variable variables[] = {{text_of("ZIGRUNK_JOBS"), text_of("3")}, {text_of("NVCC_APPEND_FLAGS"), text_of("--keep-dir /k --keep")}};
     words = words_of("-c k.cu");
     call = nvcc_call_of(&words);
-    call.variables = variables;
-    call.variables_count = 2;
+    GIVE(&call, variables, variables, 2);
     answer a = ask_list(call_nvcc_line, &call);
     CHECK(a.status == ZIGRUNK_OK && a.count == 6 && is_word(&a, 0, "") && is_word(&a, 4, "3") && is_word(&a, 5, "/k"));
     release(a);
@@ -266,8 +249,7 @@ static void check_bad_nvcc_calls(void) {
     zigrunk_variable variable = {text_of("A"), text_of("B")};
     zigrunk_nvcc_call call = nvcc_call_of(&words);
     zigrunk_text *texts[] = {&call.cwd, &call.tmp, &call.nvcc, &words.words[1], &variable.name, &variable.value};
-    call.variables = &variable;
-    call.variables_count = 1;
+    GIVE(&call, variables, &variable, 1);
     for (size_t i = 0; i < sizeof texts / sizeof *texts; i++) {
         zigrunk_text good = *texts[i];
         *texts[i] = text_of("a\xFF");
@@ -310,10 +292,8 @@ static void check_long_lines(void) {
     words[count - 1] = text_of("k.ptx");
     line_words none = words_of("");
     zigrunk_line_call call = line_call_of(ZIGRUNK_TOOL_CICC, &none);
-    call.words = words;
-    call.words_count = count;
-    call.variables = variables;
-    call.variables_count = count;
+    GIVE(&call, words, words, count);
+    GIVE(&call, variables, variables, count);
     answer a = ask_list(call_line_words, &call);
     CHECK(a.status == ZIGRUNK_OK && a.count == count && is_word(&a, 0, "-DA") && is_word(&a, count - 1, "/w/k.ptx"));
     release(a);
@@ -330,10 +310,8 @@ static void check_long_lines(void) {
     words[count - 1] = text_of("k.o");
     words[0] = text_of("-c");
     zigrunk_nvcc_call nvcc = nvcc_call_of(&none);
-    nvcc.words = words;
-    nvcc.words_count = count;
-    nvcc.variables = variables;
-    nvcc.variables_count = count;
+    GIVE(&nvcc, words, words, count);
+    GIVE(&nvcc, variables, variables, count);
     a = ask_list(call_nvcc_line, &nvcc);
     CHECK(a.status == ZIGRUNK_OK && a.count == 6 && a.length > 2 * (count - 4) * strlen("-DA "));
     release(a);

@@ -13,12 +13,10 @@ typedef struct line_words {
 } line_words;
 
 static inline line_words words_of(const char *line) {
-    line_words made;
-    made.count = 0;
+    line_words made = {.count = 0};
     while (*line && made.count < MOST_WORDS) {
         size_t length = strcspn(line, " ");
-        made.words[made.count].bytes = (const uint8_t *)line;
-        made.words[made.count++].length = length;
+        made.words[made.count++] = (zigrunk_text){(const uint8_t *)line, length};
         line += length + (line[length] == ' ');
     }
     return made;
@@ -28,27 +26,14 @@ static const zigrunk_variable no_line_variables[1];
 
 /* A line of a tool at /w, without an environment. */
 static inline zigrunk_line_call line_call_of(uint32_t tool, const line_words *line) {
-    zigrunk_line_call call;
-    memset(&call, 0, sizeof call);
-    call.cwd = text_of("/w");
-    call.words = line->words;
-    call.words_count = line->count;
-    call.variables = no_line_variables;
-    call.tool = tool;
-    return call;
+    return (zigrunk_line_call){
+        .cwd = text_of("/w"), .words = line->words, .words_count = line->count, .variables = no_line_variables, .tool = tool};
 }
 
 /* A line of nvcc at /w with /t, without an environment. */
 static inline zigrunk_nvcc_call nvcc_call_of(const line_words *line) {
-    zigrunk_nvcc_call call;
-    memset(&call, 0, sizeof call);
-    call.cwd = text_of("/w");
-    call.tmp = text_of("/t");
-    call.nvcc = text_of("nvcc");
-    call.words = line->words;
-    call.words_count = line->count;
-    call.variables = no_line_variables;
-    return call;
+    return (zigrunk_nvcc_call){.cwd = text_of("/w"), .tmp = text_of("/t"), .nvcc = text_of("nvcc"), .words = line->words,
+        .words_count = line->count, .variables = no_line_variables};
 }
 
 /* What zigrunk_remap takes besides its buffers. */

@@ -11,8 +11,7 @@ static zigrunk_plan_call small_call(void) {
     rows[0] = row("gcc", "/b:/c", "/b/gcc");
     rows[1] = row("cicc", "/b:/c", "/c/cicc");
     zigrunk_plan_call call = call_of(text_of(run1), text_of(run2), "-c");
-    call.programs = rows;
-    call.programs_count = 2;
+    GIVE(&call, programs, rows, 2);
     return call;
 }
 
@@ -41,8 +40,7 @@ static void check_small_plans(void) {
     /* the first row of a look-up counts, and no row of another PATH or program */
     zigrunk_found_program more[] = {row("gcc", "/b", "/1/gcc"), row("cicc", "/b:/c", "/2/cicc"), row("gcc", "/b:/c", "/3/gcc"),
         row("gcc", "/b:/c", "/4/gcc"), row("cicc", "/b:/c", NULL)};
-    call.programs = more;
-    call.programs_count = 5;
+    GIVE(&call, programs, more, 5);
     plans(&call, "group 0\ngroup 1\nno cd /w && /3/gcc -D__NVCC__ -E k.cu -o /t/x_0.cpp1.ii\n"
                  "yes cd /t && /2/cicc x_0.cpp1.ii -o k.ptx\ngroup 2\n");
     call = small_call();
@@ -67,8 +65,7 @@ static int has(const answer *a, const char *part) {
 static void check_forms(void) {
     zigrunk_plan_call call = small_call();
     zigrunk_variable variables[] = {{text_of("A B"), text_of("it's")}, {text_of("PATH"), text_of("/old")}};
-    call.variables = variables;
-    call.variables_count = 2;
+    GIVE(&call, variables, variables, 2);
     answer a = plan(&call, ZIGRUNK_JSON);
     CHECK(a.status == ZIGRUNK_OK && a.out[0] == '{' && a.out[a.length - 1] == '}');
     CHECK(has(&a, "\"env\":[[\"A B\",\"it's\"],[\"PATH\",\"/b:/c\"]]"));
@@ -91,8 +88,7 @@ static void check_forms(void) {
     /* the host compiler says which words preprocess */
     call = call_of(text_of("#$ PATH=/b\n#$ cl -D__NVCC__ -P k.cu\n"), text_of("#$ PATH=/b\n#$ cl -D__NVCC__ -P k.cu\n"), "-c");
     zigrunk_found_program cl = row("cl", "/b", "/b/cl");
-    call.programs = &cl;
-    call.programs_count = 1;
+    GIVE(&call, programs, &cl, 1);
     plans(&call, "group 0\ngroup 1\nyes cd /w && /b/cl -D__NVCC__ -P k.cu\n");
     call.host_compiler = ZIGRUNK_MSVC;
     plans(&call, "group 0\nno cd /w && /b/cl -D__NVCC__ -P k.cu\ngroup 1\n");
@@ -120,8 +116,7 @@ static void check_faults(void) {
     call.dry1 = text_of("#$ PATH=/b\n#$ 'x\n");
     refuses(&call, ZIGRUNK_BAD_DRY_RUN, "Could not parse shell line");
     zigrunk_text suffixes[] = {text_of(".x"), text_of("y")};
-    call.suffixes = suffixes;
-    call.suffixes_count = 2;
+    GIVE(&call, suffixes, suffixes, 2);
     refuses(&call, ZIGRUNK_BAD_SUFFIXES, "bad generated suffixes");
 }
 
@@ -137,14 +132,12 @@ static void check_long_calls(void) {
         variables[i].value = text_of("VALUE");
     }
     zigrunk_plan_call call = call_of(dry, text_of(""), "-c");
-    call.programs = rows_of_many;
-    call.programs_count = 10000;
+    GIVE(&call, programs, rows_of_many, 10000);
     zigrunk_text_answer sizes = zigrunk_plan(&call, ZIGRUNK_TEXT, (uint8_t *)"", 0);
     size_t line = strlen("no cd /t && /b/nvlink a b -o c\n");
     CHECK(sizes.status == ZIGRUNK_OK && sizes.length == strlen("group 0\ngroup 1\n") + 4000 * line);
     call.dry1 = text_of("#$ PATH=/b\n#$ nvlink a b -o c\n");
-    call.variables = variables;
-    call.variables_count = 10000;
+    GIVE(&call, variables, variables, 10000);
     answer a = plan(&call, ZIGRUNK_SHELL);
     CHECK(a.status == ZIGRUNK_OK && a.length > 10000 * strlen(" NAME=VALUE"));
     release(a);

@@ -30,6 +30,11 @@ static inline zigrunk_list_answer call_candidates(const void *more, zigrunk_rang
         out, out_size);
 }
 
+/* The look-ups of a call that plans, within a limit. */
+static inline limited_runs runs_of(const zigrunk_plan_call *call, size_t limit) {
+    return (limited_runs){{{call->dry1, call->dry2, call->cwd}}, limit};
+}
+
 /* What zigrunk_plan takes besides its buffer. */
 typedef struct wanted {
     const zigrunk_plan_call *call;
@@ -72,29 +77,13 @@ static inline zigrunk_plan_call call_of(zigrunk_text dry1, zigrunk_text dry2, co
     static const zigrunk_variable no_variables[1];
     static const zigrunk_text no_suffixes[1];
     static const zigrunk_found_program no_programs[1];
-    zigrunk_plan_call call;
-    memset(&call, 0, sizeof call);
-    call.dry1 = dry1;
-    call.dry2 = dry2;
-    call.cwd = text_of("/w");
-    call.tmp = text_of("/t");
-    call.flag = text_of(flag);
-    call.keep_dir = text_of("");
-    call.variables = no_variables;
-    call.suffixes = no_suffixes;
-    call.programs = no_programs;
-    return call;
+    return (zigrunk_plan_call){.dry1 = dry1, .dry2 = dry2, .cwd = text_of("/w"), .tmp = text_of("/t"), .flag = text_of(flag),
+        .keep_dir = text_of(""), .variables = no_variables, .suffixes = no_suffixes, .programs = no_programs};
 }
 
 /* A row: the program is at this path, or nowhere if that is NULL. */
 static inline zigrunk_found_program row(const char *program, const char *path, const char *found) {
-    zigrunk_found_program made;
-    memset(&made, 0, sizeof made);
-    made.program = text_of(program);
-    made.path = text_of(path);
-    made.found = text_of(found ? found : "");
-    made.is_found = found != NULL;
-    return made;
+    return (zigrunk_found_program){text_of(program), text_of(path), text_of(found ? found : ""), found != NULL, 0};
 }
 
 /* A file of a folder. */
@@ -108,8 +97,7 @@ static inline zigrunk_text file(const char *folder, const char *name, const char
     if (opened) {
         fclose(opened);
     }
-    zigrunk_text text = {bytes, length};
-    return text;
+    return (zigrunk_text){bytes, length};
 }
 
 static inline zigrunk_text without_newline(zigrunk_text text) {
@@ -132,27 +120,20 @@ typedef struct planned_files {
  * it to be. */
 static inline planned_files files_of(const char *folder, const char *name) {
     zigrunk_text dry1 = file(folder, name, ".dry1"), dry2 = file(folder, name, ".dry2"), flag = file(folder, name, ".flag");
-    planned_files f = {call_of(dry1, dry2, ""), NULL, {0, 0, 0, NULL, NULL}, NULL, {NULL, NULL, NULL}};
-    f.texts[0] = (void *)dry1.bytes;
-    f.texts[1] = (void *)dry2.bytes;
-    f.texts[2] = (void *)flag.bytes;
+    planned_files f = {.call = call_of(dry1, dry2, ""), .texts = {(void *)dry1.bytes, (void *)dry2.bytes, (void *)flag.bytes}};
     f.call.flag = without_newline(flag);
     f.asked = lookups(dry1, dry2, f.call.cwd);
     CHECK(f.asked.status == ZIGRUNK_OK && f.asked.count > 0 && f.asked.count % 2 == 0);
     size_t count = f.asked.count / 2;
     f.found = room(count, sizeof *f.found);
     f.paths = room(count, sizeof *f.paths);
-    memset(f.found, 0, count * sizeof *f.found);
     for (size_t i = 0; i < count; i++) {
-        f.found[i].program = text_at(&f.asked, 2 * i);
-        f.found[i].path = text_at(&f.asked, 2 * i + 1);
-        f.paths[i] = candidates(f.found[i].program, f.found[i].path, f.call.cwd);
+        zigrunk_text program = text_at(&f.asked, 2 * i), path = text_at(&f.asked, 2 * i + 1);
+        f.paths[i] = candidates(program, path, f.call.cwd);
         CHECK(f.paths[i].status == ZIGRUNK_OK && f.paths[i].count > 0);
-        f.found[i].found = text_at(&f.paths[i], 0);
-        f.found[i].is_found = 1;
+        f.found[i] = (zigrunk_found_program){program, path, text_at(&f.paths[i], 0), 1, 0};
     }
-    f.call.programs = f.found;
-    f.call.programs_count = count;
+    GIVE(&f.call, programs, f.found, count);
     return f;
 }
 

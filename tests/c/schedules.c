@@ -7,15 +7,11 @@ enum { MOST = 12, NEEDS = 3 };
 static const size_t none[] = {0};
 
 static zigrunk_scheduled_command command_of(const size_t *needs, size_t count) {
-    zigrunk_scheduled_command made = {needs, count, 0, 0};
-    return made;
+    return (zigrunk_scheduled_command){needs, count, 0, 0};
 }
 
 static zigrunk_schedule schedule_of(const zigrunk_scheduled_command *commands, size_t count, size_t slots, uint32_t after_failure) {
-    zigrunk_schedule made;
-    memset(&made, 0, sizeof made);
-    made.commands = commands, made.commands_count = count, made.slots = slots, made.after_failure = after_failure;
-    return made;
+    return (zigrunk_schedule){commands, count, slots, after_failure, 0};
 }
 
 /* A schedule and its states, in memory of exactly their size. */

@@ -1,57 +1,12 @@
 /* Plans for programs that run them: small ones, refusals with their places, and the plans of dry runs in files: `steps FOLDER NAME..`
  * compares all that a plan says with its JSON form. */
-#include "steps.h"
+#include "json.h"
 
 static const char run1[] = "#$ PATH=/b:/c\n#$ gcc -D__NVCC__ -E k.cu -o k.cpp1.ii\n#$ rm k.o\n"
                            "#$ cicc --gen_module_id_file --module_id_file_name m k.cpp1.ii -o k.ptx\n#$ ptxas k.ptx -o k.cubin\n"
                            "#$ nvlink -o j.o\n";
 static const char run2[] = "#$ PATH=/b:/c\n#$ gcc -D__NVCC__ -E k.cu -o /t/k.cpp1.ii\n#$ rm \"k\\\\\\\"\" ''\n"
                            "#$ cicc\n#$ ptxas\n#$ ar j.a\n";
-
-/* The rest of a JSON text that is compared from its start to its end. */
-typedef struct cursor {
-    const char *at;
-    size_t left;
-} cursor;
-
-/* Compares with what comes next, and moves behind it. */
-static void next_is(cursor *c, const void *bytes, size_t length) {
-    int is = length <= c->left && memcmp(c->at, bytes, length) == 0;
-    CHECK(is);
-    c->at += is ? length : 0;
-    c->left -= is ? length : 0;
-}
-
-static void next_text(cursor *c, const char *text) {
-    next_is(c, text, strlen(text));
-}
-
-/* A text without other control characters than these. */
-static void next_string(cursor *c, zigrunk_text text) {
-    next_text(c, "\"");
-    for (size_t i = 0; i < text.length; i++) {
-        switch (text.bytes[i]) {
-        case '"':
-            next_text(c, "\\\"");
-            break;
-        case '\\':
-            next_text(c, "\\\\");
-            break;
-        case '\n':
-            next_text(c, "\\n");
-            break;
-        default:
-            next_is(c, text.bytes + i, 1);
-        }
-    }
-    next_text(c, "\"");
-}
-
-static void next_number(cursor *c, size_t number) {
-    char digits[32];
-    snprintf(digits, sizeof digits, "%zu", number);
-    next_text(c, digits);
-}
 
 static zigrunk_found_program rows[6];
 
@@ -63,116 +18,8 @@ static zigrunk_plan_call small_call(void) {
         rows[i] = row(names[i], "/b:/c", found[i]);
     }
     zigrunk_plan_call call = call_of(text_of(run1), text_of(run2), "-c");
-    call.programs = rows;
-    call.programs_count = 6;
+    GIVE(&call, programs, rows, 6);
     return call;
-}
-
-/* The texts of a range, as an array of strings. */
-static void next_strings(cursor *c, const stepped *s, zigrunk_range texts) {
-    next_text(c, "[");
-    for (size_t i = 0; i < texts.length; i++) {
-        next_text(c, i > 0 ? "," : "");
-        next_string(c, step_text(s, texts.offset + i));
-    }
-    next_text(c, "]");
-}
-
-static void next_variables(cursor *c, const stepped *s, zigrunk_range texts) {
-    CHECK(texts.length % 2 == 0);
-    next_text(c, "[");
-    for (size_t i = 0; i < texts.length; i += 2) {
-        zigrunk_range pair = {texts.offset + i, 2};
-        next_text(c, i > 0 ? "," : "");
-        next_strings(c, s, pair);
-    }
-    next_text(c, "]");
-}
-
-static void next_needs(cursor *c, const stepped *s, zigrunk_range needs) {
-    next_text(c, "[");
-    for (size_t i = 0; i < needs.length; i++) {
-        next_text(c, i > 0 ? "," : "");
-        next_number(c, number_of(s, needs.offset + i));
-    }
-    next_text(c, "]");
-}
-
-static void next_member_number(cursor *c, const char *name, size_t number) {
-    next_text(c, name);
-    next_number(c, number);
-}
-
-/* A command of a group: its whole object. */
-static void next_command(cursor *c, const stepped *s, size_t id) {
-    const zigrunk_command *command = command_of(s, id);
-    const zigrunk_step *step = step_of(s, id);
-    next_text(c, id > 0 ? ",{\"args\":" : "{\"args\":");
-    next_strings(c, s, command->arguments);
-    next_text(c, command->cacheable ? ",\"cacheable\":true,\"complete\":" : ",\"cacheable\":false,\"complete\":");
-    next_text(c, step->missing == ZIGRUNK_NONE_MISSING ? "true,\"cwd\":" : "false,\"cwd\":");
-    next_string(c, step_text(s, command->cwd));
-    next_text(c, ",\"env\":");
-    next_variables(c, s, command->variables);
-    next_text(c, ",\"exe\":");
-    next_string(c, step_text(s, command->program));
-    next_member_number(c, ",\"group\":", command->group);
-    next_member_number(c, ",\"id\":", id);
-    next_member_number(c, ",\"line\":", command->line + 1);
-    next_text(c, ",\"may_write\":");
-    next_strings(c, s, step->may_write);
-    next_text(c, ",\"needs\":");
-    next_needs(c, s, step->needs);
-    next_text(c, ",\"reads\":");
-    next_strings(c, s, step->reads);
-    next_member_number(c, ",\"run\":", command->run);
-    next_text(c, ",\"writes\":");
-    next_strings(c, s, step->writes);
-    next_text(c, "}");
-}
-
-/* A command that the plan dropped. */
-static void next_dropped(cursor *c, const stepped *s, size_t id) {
-    static const char *const reasons[] = {"", "NotCuda", "NoCiccGroup", "NoPtxasGroup", "Superseded"};
-    const zigrunk_command *command = command_of(s, id);
-    CHECK(command->reason >= ZIGRUNK_NOT_CUDA && command->reason <= ZIGRUNK_SUPERSEDED);
-    CHECK(command->group == s->sizes.groups && command->cacheable == 0 && command->variables.length == 0);
-    CHECK(step_text(s, command->cwd).length == 0);
-    next_text(c, id > s->sizes.steps ? ",{\"args\":" : "{\"args\":");
-    next_strings(c, s, command->arguments);
-    next_text(c, ",\"exe\":");
-    next_string(c, step_text(s, command->program));
-    next_member_number(c, ",\"line\":", command->line + 1);
-    next_text(c, ",\"reason\":\"");
-    next_text(c, reasons[command->reason <= ZIGRUNK_SUPERSEDED ? command->reason : 0]);
-    next_text(c, "\"");
-    next_member_number(c, ",\"run\":", command->run);
-    next_text(c, "}");
-}
-
-/* The groups have their stages, and their commands are one behind the other: all that have steps. */
-static void check_groups(const stepped *s) {
-    size_t next = 0;
-    for (size_t i = 0; i < s->sizes.groups; i++) {
-        const zigrunk_group *group = group_of(s, i);
-        uint32_t stage = i == 0 ? ZIGRUNK_FRONT : i + 1 == s->sizes.groups ? ZIGRUNK_FINAL : ZIGRUNK_DEVICE;
-        CHECK(group->stage == stage && group->reserved == 0 && group->commands.offset == next);
-        for (size_t j = 0; j < group->commands.length && next < s->sizes.commands; j++, next++) {
-            CHECK(command_of(s, next)->group == i && command_of(s, next)->reason == ZIGRUNK_IN_GROUP);
-        }
-    }
-    CHECK(next == s->sizes.steps);
-}
-
-/* The texts are one behind the other. */
-static void check_ranges(const stepped *s) {
-    size_t at = 0;
-    for (size_t i = 0; i < s->sizes.ranges; i++) {
-        const zigrunk_range *range = (const zigrunk_range *)s->parts[4] + i;
-        CHECK(range->offset == at);
-        at += range->length;
-    }
-    CHECK(at == s->sizes.length);
 }
 
 /* A command's tool is that of its program's name, and it may have a reason for more files only if the tool can have it. */
@@ -187,33 +34,18 @@ static void check_tool(const stepped *s, size_t id) {
     CHECK((tool == ZIGRUNK_TOOL_FATBINARY) <= (missing == ZIGRUNK_NONE_MISSING));
 }
 
-/* Compares a plan with its JSON form, from the first byte to the last. */
+/* Compares a plan with its JSON form. */
 static void check_against_json(const zigrunk_plan_call *call) {
     stepped s = plan_steps(call);
     answer json = plan(call, ZIGRUNK_JSON);
     CHECK(s.sizes.status == ZIGRUNK_OK && json.status == ZIGRUNK_OK);
     CHECK(s.sizes.place.run == 0 && s.sizes.place.line == 0 && s.sizes.place.field == ZIGRUNK_NO_FIELD);
-    cursor c = {(const char *)json.out, json.length};
-    next_text(&c, "{\"commands\":[");
+    check_json(&s, call, (zigrunk_text){json.out, json.length});
     for (size_t i = 0; i < s.sizes.steps; i++) {
-        next_command(&c, &s, i);
         check_tool(&s, i);
     }
-    next_text(&c, "],\"cwd\":");
-    next_string(&c, call->cwd);
-    next_text(&c, ",\"dropped\":[");
-    for (size_t i = s.sizes.steps; i < s.sizes.commands; i++) {
-        next_dropped(&c, &s, i);
-    }
-    next_text(&c, "],\"flag\":");
-    next_string(&c, call->flag);
-    next_member_number(&c, ",\"groups\":", s.sizes.groups);
-    next_text(&c, ",\"tmp\":");
-    next_string(&c, call->tmp);
-    next_text(&c, ",\"version\":1}");
-    CHECK(c.left == 0);
     check_groups(&s);
-    check_ranges(&s);
+    check_ranges(s.parts[4], s.sizes.ranges, s.sizes.length);
     release(json);
     release_steps(s);
 }
@@ -226,26 +58,21 @@ static int step_text_is(const stepped *s, zigrunk_range texts, size_t index, con
     return index < texts.length && text_is(s, texts.offset + index, text);
 }
 
-static void check_small_commands(void) {
-    zigrunk_plan_call call = small_call();
-    zigrunk_variable variables[] = {{text_of("A B"), text_of("it's\n")}, {text_of("PATH"), text_of("/old")}};
-    call.variables = variables;
-    call.variables_count = 2;
-    stepped s = plan_steps(&call);
-    CHECK(s.sizes.status == ZIGRUNK_OK && s.sizes.groups == 3 && s.sizes.commands == 6);
-    const zigrunk_command *gcc = command_of(&s, 0), *cicc = command_of(&s, 1), *rm = command_of(&s, 4);
-    CHECK(group_of(&s, 0)->commands.length == 0 && group_of(&s, 1)->commands.length == 3 && group_of(&s, 2)->commands.length == 1);
-    CHECK(text_is(&s, gcc->program, "/b/gcc") && text_is(&s, gcc->cwd, "/w") && gcc->arguments.length == 5);
-    CHECK(text_is(&s, gcc->arguments.offset + 4, "/t/x_0.cpp1.ii") && gcc->run == 2 && gcc->line == 1 && gcc->cacheable == 0);
-    CHECK(gcc->variables.length == 4 && text_is(&s, gcc->variables.offset + 1, "it's\n"));
-    CHECK(text_is(&s, cicc->program, "/b/cicc") && text_is(&s, cicc->cwd, "/t") && cicc->run == 1 && cicc->line == 3 && cicc->cacheable == 1);
-    CHECK(rm->reason == ZIGRUNK_NOT_CUDA && rm->group == 3 && text_is(&s, rm->program, "/b/rm"));
-    release_steps(s);
-    check_against_json(&call);
+/* What the small call's commands are. */
+static void check_commands(const stepped *s) {
+    const zigrunk_command *gcc = command_of(s, 0), *cicc = command_of(s, 1), *rm = command_of(s, 4);
+    CHECK(group_of(s, 0)->commands.length == 0 && group_of(s, 1)->commands.length == 3 && group_of(s, 2)->commands.length == 1);
+    CHECK(text_is(s, gcc->program, "/b/gcc") && text_is(s, gcc->cwd, "/w") && gcc->arguments.length == 5);
+    CHECK(text_is(s, gcc->arguments.offset + 4, "/t/x_0.cpp1.ii") && gcc->run == 2 && gcc->line == 1 && gcc->cacheable == 0);
+    CHECK(gcc->variables.length == 4 && text_is(s, gcc->variables.offset + 1, "it's\n"));
+    CHECK(text_is(s, cicc->program, "/b/cicc") && text_is(s, cicc->cwd, "/t") && cicc->run == 1 && cicc->line == 3 && cicc->cacheable == 1);
+    CHECK(rm->reason == ZIGRUNK_NOT_CUDA && rm->group == 3 && text_is(s, rm->program, "/b/rm"));
 }
 
 static void check_small_plan(void) {
     zigrunk_plan_call call = small_call();
+    zigrunk_variable variables[] = {{text_of("A B"), text_of("it's\n")}, {text_of("PATH"), text_of("/old")}};
+    GIVE(&call, variables, variables, 2);
     stepped s = plan_steps(&call);
     CHECK(s.sizes.status == ZIGRUNK_OK && s.sizes.groups == 3 && s.sizes.commands == 6 && s.sizes.steps == 4);
     const zigrunk_step *gcc = step_of(&s, 0), *cicc = step_of(&s, 1), *ptxas = step_of(&s, 2), *nvlink = step_of(&s, 3);
@@ -257,6 +84,7 @@ static void check_small_plan(void) {
     CHECK(step_text_is(&s, cicc->writes, 0, "/t/k.ptx") && cicc->may_write.length == 0);
     CHECK(ptxas->tool == ZIGRUNK_TOOL_PTXAS && ptxas->needs.length == 1 && number_of(&s, ptxas->needs.offset) == 1);
     CHECK(nvlink->tool == ZIGRUNK_TOOL_NVLINK && nvlink->missing == ZIGRUNK_INPUTS_MISSING && nvlink->needs.length == 3);
+    check_commands(&s);
     release_steps(s);
     check_against_json(&call);
     /* without -c, cicc keeps the word that makes it write the module id */
@@ -380,8 +208,7 @@ static void check_bad_runs(void) {
     refuses(&call, ZIGRUNK_BAD_DRY_RUN, ZIGRUNK_FIELD_DRY2, 2, "dry run 2, line 2: the command has no words");
     call.dry1 = text_of("#$ gcc x\n");
     refuses(&call, ZIGRUNK_BAD_DRY_RUN, ZIGRUNK_FIELD_DRY1, 1, "dry run 1, line 1: no line before this one sets PATH");
-    call.suffixes = suffixes;
-    call.suffixes_count = 2;
+    GIVE(&call, suffixes, suffixes, 2);
     refuses(&call, ZIGRUNK_BAD_SUFFIXES, ZIGRUNK_FIELD_SUFFIXES, 0, "bad generated suffixes");
 }
 
@@ -448,8 +275,7 @@ static void check_long_plan(const char *lines, size_t times) {
     zigrunk_text dry = repeated("#$ PATH=/b\n#$ nvlink a -o c\n", lines, times);
     zigrunk_found_program found[] = {row("cicc", "/b", "/b/cicc"), row("nvlink", "/b", "/b/nvlink"), row("rm", "/b", "/b/rm")};
     zigrunk_plan_call call = call_of(dry, text_of("#$ PATH=/b\n"), "-c");
-    call.programs = found;
-    call.programs_count = 3;
+    GIVE(&call, programs, found, 3);
     check_against_json(&call);
     free((void *)dry.bytes);
 }
@@ -463,7 +289,6 @@ static void check_files(const char *folder, const char *name) {
 
 int main(int count, char **arguments) {
     size_t rounds = count > 1 ? (size_t)atoi(arguments[1]) : 1000;
-    check_small_commands();
     check_small_plan();
     check_bad_fields();
     check_odd_directories();

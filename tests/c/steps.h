@@ -36,8 +36,24 @@ static inline size_t number_of(const stepped *s, size_t i) {
 static inline zigrunk_text step_text(const stepped *s, size_t i) {
     const zigrunk_range *range = (const zigrunk_range *)s->parts[4] + i;
     CHECK(i < s->counts[4]);
-    zigrunk_text text = {(const uint8_t *)s->parts[5] + range->offset, range->length};
-    return text;
+    return (zigrunk_text){(const uint8_t *)s->parts[5] + range->offset, range->length};
+}
+
+/* The groups have their stages, and their commands are one behind the other: all that have steps. The others are dropped. */
+static inline void check_groups(const stepped *s) {
+    size_t next = 0;
+    for (size_t i = 0; i < s->sizes.groups; i++) {
+        const zigrunk_group *group = group_of(s, i);
+        uint32_t stage = i == 0 ? ZIGRUNK_FRONT : i + 1 == s->sizes.groups ? ZIGRUNK_FINAL : ZIGRUNK_DEVICE;
+        CHECK(group->stage == stage && group->reserved == 0 && group->commands.offset == next);
+        for (size_t j = 0; j < group->commands.length && next < s->sizes.commands; j++, next++) {
+            CHECK(command_of(s, next)->group == i && command_of(s, next)->reason == ZIGRUNK_IN_GROUP);
+        }
+    }
+    CHECK(next == s->sizes.steps);
+    for (; next < s->sizes.commands; next++) {
+        CHECK(command_of(s, next)->group == s->sizes.groups && command_of(s, next)->reason != ZIGRUNK_IN_GROUP);
+    }
 }
 
 static inline void asks_parts(const void *call, asked *into, const size_t room_for[PARTS]) {
@@ -47,6 +63,15 @@ static inline void asks_parts(const void *call, asked *into, const size_t room_f
     const size_t counts[PARTS] = {a.groups, a.commands, a.steps, a.numbers, a.ranges, a.length};
     into->status = a.status, into->more.place = a.place;
     memcpy(into->counts, counts, sizeof counts);
+}
+
+/* The sizes of a plan as records, of which only the text is written. */
+static inline zigrunk_steps_answer sizes_of(const zigrunk_plan_call *call, zigrunk_range *ranges, size_t ranges_size, uint8_t *out, size_t size) {
+    zigrunk_group group;
+    zigrunk_command command;
+    zigrunk_step step;
+    size_t number;
+    return zigrunk_plan_steps(call, &group, 0, &command, 0, &step, 0, &number, 0, ranges, ranges_size, out, size);
 }
 
 static inline stepped stepped_of(asked a) {

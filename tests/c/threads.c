@@ -64,8 +64,7 @@ int main(int count, char **arguments) {
     static work works[THREADS];
     zigrunk_found_program rows[] = {row("gcc", "/b", "/b/gcc"), row("cicc", "/b", "/b/cicc")};
     zigrunk_plan_call call = call_of(text_of(dry_run), text_of(other_run), "-c");
-    call.programs = rows;
-    call.programs_count = 2;
+    GIVE(&call, programs, rows, 2);
     for (int i = 0; i < THREADS; i++) {
         works[i].number = i;
         works[i].call = &call;

@@ -7,10 +7,8 @@
  * The library gets its memory from here, so a case can't take more than BUDGET bytes: the allocation fails, and the call has
  * to answer ZIGRUNK_OUT_OF_MEMORY. After each call, all that it allocated has to be free. */
 #define _GNU_SOURCE
+#include "json.h"
 #include "lines.h"
-#include "steps.h"
-
-#include <time.h>
 
 #define BUDGET ((size_t)16 << 20)
 #define SLOW 2.0 /* seconds */
@@ -104,9 +102,7 @@ static const uint8_t *input;
 static size_t input_size;
 
 static double now(void) {
-    struct timespec it;
-    clock_gettime(CLOCK_THREAD_CPUTIME_ID, &it);
-    return (double)it.tv_sec + (double)it.tv_nsec / 1e9;
+    return seconds_of(CLOCK_THREAD_CPUTIME_ID);
 }
 
 static void holds(int fact, const char *what) {
@@ -191,12 +187,7 @@ static answer ask(list_call *asks, const void *what, unsigned long failing) {
     zigrunk_list_answer again = asks(what, it.ranges, it.count, it.out, it.length);
     end(again.status);
     holds(again.status == it.status && again.count == it.count && again.length == it.length, "the same sizes, with buffers that fit");
-    size_t at = 0;
-    for (size_t i = 0; i < it.count; i++) {
-        holds(it.ranges[i].offset == at && it.ranges[i].length <= it.length - at, "ranges are one behind the other");
-        at += it.ranges[i].length;
-    }
-    holds(it.status != ZIGRUNK_OK || it.count == 0 || at == it.length, "the ranges are the whole text");
+    check_ranges(it.ranges, it.count, it.length);
     return it;
 }
 
@@ -221,10 +212,6 @@ static int are_same(const answer *a, const answer *b) {
 AS_LIST(asks_quote, call_quote)
 AS_LIST(asks_key, call_key)
 AS_LIST(asks_plan, call_plan)
-
-static limited_runs runs_of(const zigrunk_plan_call *call, size_t limit) {
-    return (limited_runs){{{call->dry1, call->dry2, call->cwd}}, limit};
-}
 
 /* The record of the line that was asked for last, and those of its outputs: no line has more. */
 static struct {
@@ -251,47 +238,6 @@ static answer ask_plan(const planned *it, unsigned long failing) {
 static answer ask_lookups(const planned *it, size_t limit) {
     const limited_runs runs = runs_of(&it->call, limit);
     return ask(call_lookups_within, &runs, 0);
-}
-
-/* Where the JSON value that begins at `at` ends, or NULL. */
-static const uint8_t *json_value(const uint8_t *at, const uint8_t *stop) {
-    const uint8_t *from = at, first = at < stop ? *at : 0, last = first == '{' ? '}' : ']';
-    if (first == '"') {
-        for (at++; at < stop && *at != '"'; at++) {
-            if (*at < 0x20 || (*at == '\\' && (++at == stop || !memchr("\"\\/bfnrtu", *at, 9)))) {
-                return NULL;
-            }
-        }
-        return at < stop ? at + 1 : NULL;
-    }
-    if (first != '{' && first != '[') {
-        while (at < stop && ((*at >= '0' && *at <= '9') || (*at >= 'a' && *at <= 'z'))) {
-            at++;
-        }
-        return at == from ? NULL : at;
-    }
-    if (++at < stop && *at == last) {
-        return at + 1;
-    }
-    for (;;) {
-        if (first == '{') {
-            at = at < stop && *at == '"' ? json_value(at, stop) : NULL;
-            if (!at || at == stop || *at++ != ':') {
-                return NULL;
-            }
-        }
-        at = json_value(at, stop);
-        if (!at || at == stop || (*at != last && *at != ',')) {
-            return NULL;
-        }
-        if (*at++ == last) {
-            return at;
-        }
-    }
-}
-
-static int is_json(const uint8_t *at, size_t size) {
-    return size > 0 && *at == '{' && json_value(at, at + size) == at + size;
 }
 
 /* The texts of an input */
@@ -331,13 +277,9 @@ static zigrunk_text part(const list *it, size_t i, const char *otherwise) {
     return i < it->count ? it->at[i] : text_of(otherwise);
 }
 
-/* The texts of a list. The array is the caller's. */
-static zigrunk_text *texts_in(const answer *it) {
-    zigrunk_text *at = calloc(it->count + 1, sizeof *at);
-    for (size_t i = 0; i < it->count; i++) {
-        at[i] = text_at(it, i);
-    }
-    return at;
+/* The parts of a text of the input, none if it is missing or empty. */
+static list parts_of(const list *all, size_t i) {
+    return i < all->count && all->at[i].length ? cut(all->at[i].bytes, all->at[i].length, 0x1F) : (list){.count = 0};
 }
 
 /* Quotes words and splits them again. */
@@ -530,8 +472,7 @@ static void try_line(zigrunk_line_call *it) {
     if (said.out && words.out && words.status == ZIGRUNK_OK && rereads(it)) {
         zigrunk_text *at = texts_in(&words);
         zigrunk_line_call written = *it;
-        written.words = at;
-        written.words_count = words.count;
+        GIVE(&written, words, at, words.count);
         answer said_again = ask(asks_line, &written, 0), words_again = ask(call_line_words, &written, 0);
         holds(!said_again.out || are_same(&said_again, &said), "a line that was written back has the same texts");
         holds(!said_again.out || memcmp(&told, &read_line.told, sizeof told) == 0, "a line that was written back has the same record");
@@ -601,21 +542,6 @@ static stepped ask_steps(const zigrunk_plan_call *call) {
     return stepped_of(it);
 }
 
-/* The groups have the first commands, each once; the others are dropped. Returns how many commands are in groups. */
-static size_t count_grouped(const stepped *it) {
-    size_t next = 0;
-    for (size_t i = 0; i < it->sizes.groups; i++) {
-        holds(group_of(it, i)->commands.offset == next, "groups are one behind the other");
-        for (size_t j = 0; j < group_of(it, i)->commands.length; j++, next++) {
-            holds(next < it->sizes.commands && command_of(it, next)->group == i && command_of(it, next)->reason == ZIGRUNK_IN_GROUP, "a command of a group says so");
-        }
-    }
-    for (size_t i = next; i < it->sizes.commands; i++) {
-        holds(command_of(it, i)->group == it->sizes.groups && command_of(it, i)->reason != ZIGRUNK_IN_GROUP, "any other command is dropped");
-    }
-    return next;
-}
-
 /* Whether the next of the words is a text. */
 static int next_is(const answer *words, size_t *at, zigrunk_text text) {
     return *at < words->count && is_same(text_at(words, (*at)++), text);
@@ -670,25 +596,6 @@ static size_t lines_with(zigrunk_text text, const char *start) {
     return count;
 }
 
-/* In JSON, each command needs only commands before it. Returns how many commands say what they need. */
-static size_t count_needs(zigrunk_text json) {
-    static const char key[] = "\"needs\":[";
-    size_t count = 0;
-    const uint8_t *stop = json.bytes + json.length, *at = json.bytes;
-    while ((at = memmem(at, (size_t)(stop - at), key, sizeof key - 1))) {
-        for (at += sizeof key - 1; at < stop && *at != ']';) {
-            size_t need = 0;
-            for (; at < stop && *at >= '0' && *at <= '9'; at++) {
-                need = need * 10 + (size_t)(*at - '0');
-            }
-            holds(need < count, "a command needs commands before it");
-            at += at < stop && *at == ',';
-        }
-        count++;
-    }
-    return count;
-}
-
 /* Each step's texts and needs are there, one behind the other, and a command needs commands before it. */
 static void check_steps(const stepped *it) {
     size_t need = 0, text = it->sizes.steps > 0 ? step_of(it, 0)->reads.offset : 0;
@@ -722,7 +629,8 @@ static void try_steps(const planned *it, const answer *plan) {
         all.sizes.status == ZIGRUNK_NO_DRY_RUN, "steps refuse what other forms refuse");
     check_place(&all.sizes);
     if (all.sizes.status == ZIGRUNK_OK) {
-        holds(all.sizes.steps > 0 && all.sizes.steps == count_grouped(&all), "a step for each command of a group");
+        holds(all.sizes.steps > 0, "a plan has a command");
+        check_groups(&all);
         check_steps(&all);
     }
     if (all.sizes.status == ZIGRUNK_OK && plan->status == ZIGRUNK_OK) {
@@ -733,7 +641,7 @@ static void try_steps(const planned *it, const answer *plan) {
             holds(lines_with(text, "build ") == grouped, "a Ninja file has an edge for each command");
             holds(lines_with(text, "# dropped ") == all.sizes.commands - grouped, "a Ninja file has a note for each dropped command");
         } else if (it->form == ZIGRUNK_JSON) {
-            holds(count_needs(text) == grouped, "each command in JSON says what it needs");
+            check_json(&all, &it->call, text);
         }
     }
     release_steps(all);
@@ -751,11 +659,7 @@ static void try_limit(planned *it, const answer *lookups, const answer *plan, si
 }
 
 static zigrunk_list_answer asks_steps(const void *what, zigrunk_range *ranges, size_t ranges_size, uint8_t *out, size_t out_size) {
-    zigrunk_group no_group;
-    zigrunk_command no_command;
-    zigrunk_step no_step;
-    size_t no_number;
-    zigrunk_steps_answer sizes = zigrunk_plan_steps(what, &no_group, 0, &no_command, 0, &no_step, 0, &no_number, 0, ranges, ranges_size, out, out_size);
+    zigrunk_steps_answer sizes = sizes_of(what, ranges, ranges_size, out, out_size);
     return (zigrunk_list_answer){sizes.status, sizes.ranges, sizes.length};
 }
 
@@ -822,10 +726,7 @@ static void try_plan(planned *it, int misses, unsigned long failing, size_t limi
     zigrunk_found_program *rows = calloc(count + 1, sizeof *rows);
     list paths = {.count = 0};
     for (size_t i = 0; i < count; i++) {
-        rows[i].program = text_at(&lookups, 2 * i);
-        rows[i].path = text_at(&lookups, 2 * i + 1);
-        rows[i].is_found = !(misses && i % 3 == 2);
-        rows[i].found = text_of("");
+        rows[i] = (zigrunk_found_program){text_at(&lookups, 2 * i), text_at(&lookups, 2 * i + 1), text_of(""), !(misses && i % 3 == 2), 0};
         for (size_t j = 0; j < i && j < 50; j++) {
             holds(!(is_same(rows[i].program, rows[j].program) && is_same(rows[i].path, rows[j].path)), "no look-up twice");
         }
@@ -837,13 +738,9 @@ static void try_plan(planned *it, int misses, unsigned long failing, size_t limi
             rows[i].found = paths.at[paths.count++] = (zigrunk_text){copy, (size_t)length};
         }
     }
-    it->call.programs = rows;
-    it->call.programs_count = count;
+    GIVE(&it->call, programs, rows, count);
     answer plan = ask_plan(it, failing);
     holds(misses || !lookups.out || plan.status != ZIGRUNK_NOT_FOUND, "a plan needs no other look-up than those listed");
-    if (plan.out && plan.status == ZIGRUNK_OK && it->form == ZIGRUNK_JSON) {
-        holds(is_json(plan.out, plan.length), "a plan as JSON is a JSON object");
-    }
     if (plan.out && lookups.out) {
         try_steps(it, &plan);
         try_limit(it, &lookups, &plan, limit);
@@ -918,30 +815,17 @@ int LLVMFuzzerTestOneInput(const uint8_t *data, size_t size) {
     input_size = size;
     told.inputs++;
     list all = cut(data + 2, size - 2, 0x1E);
-    list names = {.count = 0}, suffixes = {.count = 0};
-    if (all.count > 6 && all.at[6].length) {
-        names = cut(all.at[6].bytes, all.at[6].length, 0x1F);
-    }
-    if (all.count > 7 && all.at[7].length) {
-        suffixes = cut(all.at[7].bytes, all.at[7].length, 0x1F);
-    }
+    list names = parts_of(&all, 6), suffixes = parts_of(&all, 7);
     zigrunk_variable variables[MOST / 2];
     for (size_t i = 0; i + 1 < names.count; i += 2) {
         variables[i / 2] = (zigrunk_variable){names.at[i], names.at[i + 1]};
     }
-    planned it = {.form = data[0] & 7};
-    it.call.dry1 = part(&all, 0, "");
-    it.call.dry2 = part(&all, all.count > 1 ? 1 : 0, "");
-    it.call.cwd = part(&all, 2, "/w");
-    it.call.tmp = part(&all, 3, "/t");
-    it.call.flag = part(&all, 4, "-c");
-    it.call.keep_dir = part(&all, 5, "");
-    it.call.variables = variables;
-    it.call.variables_count = names.count / 2;
-    it.call.suffixes = suffixes.at;
-    it.call.suffixes_count = suffixes.count;
-    it.call.keeps = (data[0] >> 3) & 1;
-    it.call.host_compiler = (data[0] >> 4) & 3;
+    planned it = {
+        .form = data[0] & 7,
+        .call = {.dry1 = part(&all, 0, ""), .dry2 = part(&all, all.count > 1 ? 1 : 0, ""), .cwd = part(&all, 2, "/w"), .tmp = part(&all, 3, "/t"),
+            .flag = part(&all, 4, "-c"), .keep_dir = part(&all, 5, ""), .keeps = (data[0] >> 3) & 1, .host_compiler = (data[0] >> 4) & 3}};
+    GIVE(&it.call, variables, variables, names.count / 2);
+    GIVE(&it.call, suffixes, suffixes.at, suffixes.count);
     it.form = it.form > 4 ? it.form - 4 : it.form;
     try_plan(&it, (data[0] >> 6) & 1, data[0] & 0x80 ? (unsigned long)data[1] * 7 + 1 : 0, 1 + (size_t)data[1] * 40, data[1] % 16 == 1);
     if (data[1] % 4 == 0) {

@@ -1,3 +1,2 @@
-pub mod LineAllOrNothing
 pub mod LineReading
 pub mod RecordedLineLemmas

@@ -1,12 +1,11 @@
 -- The arguments of a line are read back from its records.
-use Rattle.std.proofs.Common.{◌≡◌, ◌++◌, ◌+◌, ◌∷◌, [], ℕ, List, Bool, Option, map, length, take, drop, get_or, refl, sym, ap, ◌∙◌, arith, flat_map, drop-drop, get_or-drop}
+use Rattle.std.proofs.Common.{◌≡◌, ◌++◌, ◌+◌, ◌∷◌, [], ℕ, List, Bool, map, length, take, drop, get_or, refl, sym, ap, ◌∙◌, arith, flat_map, drop-drop, get_or-drop}
 use Rattle.std.proofs.Math.Seq.{drop-append_seam, take-append_seam}
 use Rattle.compilers.specs.declared.arguments.ParsedArguments.{ParsedArguments}
 use Rattle.compilers.specs.declared.outputs.ArtifactDescriptor.{ArtifactDescriptor}
 use Rattle.c_texts.proofs.RangeLemmas.{cut_behind}
-use Rattle.c_lines.specs.LineRecords.{choice_number, optional_texts, output_texts, texts_of, behind, line_at, outputs_at}
-use Rattle.c_lines.specs.LineRecordLaws.{RecordsReadBack, RecordsAreOneToOne}
-use Rattle.c_lines.specs.LineRecordsRead.{choice_of, optional_of, output_of, arguments_of, arguments_in}
+use Rattle.c_lines.specs.LineRecords.{choice_number, output_texts, texts_of, behind, line_at, outputs_at}
+use Rattle.c_lines.specs.LineRecordLaws.{RecordsReadBack, RecordsAreOneToOne, choice_of, output_of, arguments_of, arguments_in}
 
 -- ---- numbers
 
@@ -14,9 +13,6 @@ choice-is : (is : Bool) → choice_of (choice_number is) ≡ is
 choice-is is = grind arith
 
 -- ---- texts
-
-optional-is : (text : Option (List ℕ)) → optional_of (optional_texts text) ≡ text
-optional-is text = grind arith
 
 module _ (all : List (List ℕ)) where
   -- words at a number, and what is behind them

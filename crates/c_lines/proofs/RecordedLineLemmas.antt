@@ -2,8 +2,7 @@
 use Rattle.std.proofs.Common.{◌≡◌, ◌++◌, ◌+◌, ℕ, List, length, ap, ◌∙◌}
 use Rattle.c_texts.proofs.TextLemmas.{texts-then, count-then}
 use Rattle.c_texts.specs.declared.memory.Range.{Range}
-use Rattle.c_texts.specs.Outcomes.{Outcome, with_texts}
-use Rattle.c_lines.specs.LineRecords.{list_at}
+use Rattle.c_texts.specs.Outcomes.{Outcome, list_at, with_texts}
 
 -- what was added comes before the rest
 pub added : (t t' : Outcome) (xs rest : List (List ℕ)) → t' ≡ with_texts t xs → with_texts t' rest ≡ with_texts t (xs ++ rest)

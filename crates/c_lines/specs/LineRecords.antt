@@ -1,5 +1,5 @@
 -- What a line says as records, and texts one behind the other.
-use Rattle.std.specs.Prelude.{◌≡◌, ◌⊎◌, ℕ, ◌+◌, List, [], ◌∷◌, ◌++◌, ◌&&◌, Bool, true, false, length, Option, Some, None, Result, Ok, Err, flat_map}
+use Rattle.std.specs.Prelude.{◌≡◌, ◌⊎◌, ℕ, ◌+◌, List, [], ◌∷◌, ◌++◌, ◌&&◌, Bool, if◌then◌else◌, length, Option, Some, None, Result, Ok, Err, flat_map}
 use Rattle.compilers.specs.declared.arguments.ColorMode.{ColorMode}
 use Rattle.compilers.specs.declared.arguments.ColorMode.TheVariants.{Off, On, Auto}
 use Rattle.compilers.specs.declared.arguments.ParsedArguments.{ParsedArguments}
@@ -10,11 +10,14 @@ use Rattle.c_texts.specs.declared.memory.Range.{Range}
 use Rattle.c_texts.specs.declared.refusal.Refused.{Refused}
 use Rattle.c_texts.specs.declared.status.Status.TheVariants.{Memory}
 use Rattle.c_texts.specs.Memory.{fits, filled}
-use Rattle.c_texts.specs.Outcomes.{Outcome, of_texts, refused, with_texts}
+use Rattle.c_texts.specs.Outcomes.{Outcome, list_at, of_texts, refused, with_texts}
 use Rattle.c_texts.specs.Refusals.{refusal}
-use Rattle.c_lines.specs.declared.line_record.LineAnswer.{LineAnswer}
-use Rattle.c_lines.specs.declared.line_record.LineRecord.{LineRecord}
-use Rattle.c_lines.specs.declared.line_record.OutputRecord.{OutputRecord}
+use Rattle.c_lines.specs.declared.recorded_line.LineAnswer.{LineAnswer}
+use Rattle.c_lines.specs.declared.recorded_line.LineRecord.{LineRecord}
+use Rattle.c_lines.specs.declared.recorded_line.OutputRecord.{OutputRecord}
+use Rattle.texts.specs.Results.{and_then}
+use Rattle.c_lines.specs.declared.lines.LineCall.{LineCall}
+use Rattle.c_lines.specs.Lines.{parsed_in}
 
 -- ---- numbers
 
@@ -37,8 +40,7 @@ color_number Auto = 2
 
 -- 1 for yes
 abbrev pub choice_number : Bool → ℕ
-choice_number false = 0
-choice_number true = 1
+choice_number is = if is then 1 else 0
 
 -- ---- texts
 
@@ -72,32 +74,24 @@ texts_of p = texts_before p (flat_map output_texts p.outputs)
 
 -- ---- records
 
--- which texts a list is, if its first one has this number
-abbrev pub list_at : ℕ → List (List ℕ) → Range
-list_at first texts = record { offset = first; length = length texts }
-
 -- the number of the first text behind a list
 abbrev pub behind : Range → ℕ
 behind range = range.offset + range.length
-
--- no texts
-abbrev pub no_texts : Range
-no_texts = record { offset = 0; length = 0 }
 
 -- the record that comes with a refusal
 abbrev pub no_line : LineRecord
 no_line = record {
   input = 0;
   compilation_flag = 0;
-  depfile = no_texts;
-  dependency_args = no_texts;
-  preprocessor_args = no_texts;
-  common_args = no_texts;
-  arch_args = no_texts;
-  unhashed_args = no_texts;
-  extra_dist_files = no_texts;
-  extra_hash_files = no_texts;
-  too_hard_for_preprocessor_cache_mode = no_texts;
+  depfile = list_at 0 [];
+  dependency_args = list_at 0 [];
+  preprocessor_args = list_at 0 [];
+  common_args = list_at 0 [];
+  arch_args = list_at 0 [];
+  unhashed_args = list_at 0 [];
+  extra_dist_files = list_at 0 [];
+  extra_hash_files = list_at 0 [];
+  too_hard_for_preprocessor_cache_mode = list_at 0 [];
   language = 0;
   color_mode = 0;
   double_dash_input = 0;
@@ -215,3 +209,10 @@ TellsLine recorded answer before after = (answer ≡ answer_of recorded) × (aft
 -- It tells what is expected, or that an allocation failed.
 abbrev pub GivesLine : RecordedLine → LineAnswer → Buffers → Buffers → Type 0
 GivesLine expected answer before after = TellsLine expected answer before after ⊎ TellsLine (without_records (refused Memory)) answer before after
+
+-- the records of a call's line
+abbrev pub call_records : LineCall → Result RecordedLine Refused
+call_records call = and_then (parsed_in call) (λ p. Ok (records_of p))
+
+abbrev pub line_records : LineCall → RecordedLine
+line_records call = ended (call_records call)

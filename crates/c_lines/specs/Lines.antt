@@ -1,5 +1,15 @@
--- The calls on lines of tools.
-use Rattle.std.specs.Prelude.{ℕ, List, [], ◌++◌, true, false, Option, Some, None, Result, Ok, Err, codes}
+-- What a caller passes for a line of a tool, or of nvcc, and the calls on such lines.
+use Rattle.std.specs.Prelude.{ℕ, List, ◌∷◌, slice_get, ◌==◌, if◌then◌else◌, map, Option, Some, None, Result, Ok, [], ◌++◌, true, false, Err, codes, ◌∷◌}
+use Rattle.texts.specs.Results.{and_then}
+use Rattle.c_lines.specs.declared.lines.Line.{Line as HeldLine}
+use Rattle.c_lines.specs.declared.lines.LineCall.{LineCall}
+use Rattle.c_lines.specs.declared.lines.LineTool.{LineTool}
+use Rattle.c_texts.specs.declared.memory.InputText.{InputText}
+use Rattle.c_texts.specs.declared.refusal.Refused.{Refused}
+use Rattle.c_texts.specs.declared.status.Status.TheVariants.{BadNumber, NotUtf8, BadLine, ToNvcc}
+use Rattle.c_texts.specs.declared.memory.Variable.{Variable}
+use Rattle.c_texts.specs.Memory.{bytes_of, text_of, variables_of, words_of}
+use Rattle.c_texts.specs.Refusals.{or_plain, or_refused, ended}
 use Rattle.compilers.specs.declared.arguments.ParsedArguments.{ParsedArguments}
 use Rattle.compilers.specs.declared.command.Cacheable.{Cacheable}
 use Rattle.compilers.specs.declared.compiler.NvccHostCompiler.TheVariants.{Gcc}
@@ -17,17 +27,41 @@ use Rattle.device_lines.specs.Reading.{tool_reading}
 use Rattle.host_lines.specs.Nvhpc.{nvhpc_reading}
 use Rattle.texts.specs.declared.fault.Fault.{Fault}
 use Rattle.texts.specs.declared.language.Language.TheVariants.{Ptx, Cubin, CudaFE}
-use Rattle.c_lines.specs.declared.line_call.LineCall.{LineCall}
-use Rattle.c_lines.specs.declared.line_call.LineTool.{LineTool}
-use Rattle.c_lines.specs.declared.line_call.LineTool.TheVariants as tools
-use Rattle.texts.specs.Results.{and_then}
-use Rattle.c_texts.specs.declared.refusal.Refused.{Refused}
-use Rattle.c_texts.specs.declared.refusal.Refused.TheVariants.{Told}
-use Rattle.c_texts.specs.declared.status.Status.TheVariants.{BadLine}
-use Rattle.c_texts.specs.Failures.{or_refused}
+use Rattle.c_lines.specs.declared.lines.LineTool.TheVariants as tools
+use Rattle.c_texts.specs.declared.refusal.Refused.TheVariants.{Told, Plain}
 use Rattle.c_texts.specs.Outcomes.{Outcome, of_texts}
-use Rattle.c_texts.specs.Refusals.{ended}
-use Rattle.c_lines.specs.LineCalls.{Line, line_in}
+use Rattle.nvcc_calls.specs.declared.answer.Answer.{Answer}
+use Rattle.nvcc_calls.specs.declared.answer.Answer.TheVariants.{Split, Pass}
+use Rattle.nvcc_calls.specs.declared.outline_texts.OutlineTexts.{OutlineTexts}
+use Rattle.nvcc_calls.specs.Answer.{nvcc_answer}
+use Rattle.nvcc_calls.specs.OutlineTexts.{texts_of}
+use Rattle.c_lines.specs.declared.nvcc_outline.NvccLineCall.{NvccLineCall}
+
+-- the tool with this number
+abbrev pub tool_of : ℕ → Option LineTool
+tool_of n = slice_get (tools.Cicc ∷ tools.Ptxas ∷ tools.CudaFe ∷ tools.Nvcc ∷ tools.Nvc ∷ tools.Nvcxx ∷ []) n
+
+-- words at a working directory, with an environment
+pub record Line : Type 0 where
+  pub cwd : List ℕ
+  pub words : List (List ℕ)
+  pub variables : List (List ℕ × List ℕ)
+
+-- such a line, as the code holds it
+abbrev pub line_seen : HeldLine → Line
+line_seen line = record { cwd = line.cwd.now; words = line.words; variables = line.variables }
+
+-- the texts of a line, or the refusal of one that isn't UTF-8
+abbrev pub line_of : InputText → List InputText → List Variable → Result Line Refused
+line_of cwd words variables =
+    and_then (or_plain NotUtf8 (text_of (bytes_of cwd))) (λ cwd. and_then (or_plain NotUtf8 (words_of (map bytes_of words))) (λ words.
+    and_then (or_plain NotUtf8 (variables_of variables)) (λ variables. Ok (record { cwd = cwd; words = words; variables = variables }))))
+
+-- a call's tool and line, or why there is none. A number without a meaning comes first, then a text that isn't UTF-8
+abbrev pub line_in : LineCall → Result (LineTool × Line) Refused
+line_in call =
+    and_then (or_plain BadNumber (if call.reserved == 0 then tool_of call.tool else None)) (λ tool.
+    and_then (line_of call.cwd call.words.now call.variables.now) (λ line. Ok (tool, line)))
 
 -- what a tool reads a line as
 abbrev pub read_by : LineTool → Line → Reading
@@ -38,20 +72,13 @@ read_by tools.Nvcc line = nvcc_reading line.words line.cwd line.variables
 read_by tools.Nvc line = nvhpc_reading false line.cwd line.words
 read_by tools.Nvcxx line = nvhpc_reading true line.cwd line.words
 
--- the refusal of a line, with its message
-abbrev pub bad_line : List ℕ → Refused
-bad_line message = Told BadLine message
-
--- why no cache can serve a line: an option, or what is wrong, and the word that says it
-abbrev pub not_cached : List ℕ → Option (List ℕ) → List ℕ
-not_cached text None = codes "cannot cache: " ++ text
-not_cached text (Some word) = codes "cannot cache: " ++ (text ++ (codes ": " ++ word))
-
--- the arguments that a line was read as, or why it has none
+-- The arguments that a line was read as, or why it has none. If no cache can serve it, that is an option, or what is wrong, and the word
+-- that says it.
 abbrev pub arguments_of : Reading → Result ParsedArguments Refused
 arguments_of (accepted p) = Ok p
-arguments_of (cannot_cache text word) = Err (bad_line (not_cached text word))
-arguments_of not_compilation = Err (bad_line (codes "not a compilation"))
+arguments_of (cannot_cache text None) = Err (Told BadLine (codes "cannot cache: " ++ text))
+arguments_of (cannot_cache text (Some word)) = Err (Told BadLine (codes "cannot cache: " ++ (text ++ (codes ": " ++ word))))
+arguments_of not_compilation = Err (Told BadLine (codes "not a compilation"))
 
 -- the same of a tool's line
 abbrev pub parsed_by : LineTool → Line → Result ParsedArguments Refused
@@ -92,3 +119,31 @@ call_words call = and_then (line_in call) (λ at. rewritten_by at.0 at.1)
 
 abbrev pub words_outcome : LineCall → Outcome
 words_outcome call = ended (call_words call)
+
+-- the six texts, as a list
+abbrev pub list_of : OutlineTexts → List (List ℕ)
+list_of t = t.dependencies ∷ t.first ∷ t.second ∷ t.flag ∷ t.jobs ∷ t.keep_dir ∷ []
+
+-- the texts of an answer, or the refusal of a line that goes to nvcc
+abbrev pub texts_in : Answer → Result Outcome Refused
+texts_in (Split outline) = Ok (of_texts (list_of (texts_of outline)))
+texts_in (Pass why) = Err (Told ToNvcc (codes "goes to nvcc: " ++ why))
+
+-- the answer to a line of nvcc, or the refusal of its fault, by the temporary directory and the program of the call
+abbrev pub answer_at : List ℕ → List ℕ → Line → Result Answer Refused
+answer_at tmp nvcc line = or_refused (nvcc_answer (record { cwd = line.cwd; tmp = tmp; nvcc = nvcc; words = line.words }) line.variables [])
+
+-- what a line of nvcc says
+abbrev pub outline_at : List ℕ → List ℕ → Line → Result Outcome Refused
+outline_at tmp nvcc line = and_then (answer_at tmp nvcc line) texts_in
+
+-- a call. A number without a meaning comes first, then a text that isn't UTF-8
+abbrev pub call_outline : NvccLineCall → Result Outcome Refused
+call_outline call =
+    if call.reserved == 0 then
+    and_then (or_plain NotUtf8 (text_of (bytes_of call.tmp))) (λ tmp. and_then (or_plain NotUtf8 (text_of (bytes_of call.nvcc))) (λ nvcc.
+    and_then (line_of call.cwd call.words.now call.variables.now) (outline_at tmp nvcc)))
+    else Err (Plain BadNumber)
+
+abbrev pub nvcc_outcome : NvccLineCall → Outcome
+nvcc_outcome call = ended (call_outline call)

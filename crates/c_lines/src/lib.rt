@@ -5,14 +5,12 @@
 #![tactic(auto)]
 
 pub mod laws;
-mod line_call;
-mod line_record;
 mod lines;
 mod nvcc_outline;
 mod recorded_line;
 
-pub use line_call::LineCall;
-pub use line_record::{LineAnswer, LineRecord, OutputRecord};
-pub use lines::{call_words, line_words};
+pub use lines::{LineCall, call_words, line_words};
 pub use nvcc_outline::{NvccLineCall, call_outline, nvcc_line};
-pub use recorded_line::{RecordedLine, call_records, line_records};
+pub use recorded_line::{
+    LineAnswer, LineRecord, OutputRecord, RecordedLine, call_records, line_records,
+};

@@ -1,16 +1,19 @@
 //! Lines of tools: their arguments, and the words that they are written back as.
+//!
+//! Owners are dropped by a call: see "Explicit drops" in docs/ARCHITECTURE.md.
 
-ghost use Rattle.std.specs.Prelude.{◌≡◌, [], IfOk, string_bytes};
+ghost use Rattle.std.specs.Prelude.{◌≡◌, [], IfOk};
+ghost use Rattle.std.specs.Result.{result_map_both};
 ghost use Rattle.texts.specs.Fault.{UnlessMemory};
 ghost use Rattle.compilers.specs.Compiler.{reading_of};
-ghost use Rattle.c_lines.specs.LineCalls.{line_seen};
-ghost use Rattle.c_texts.specs.Failures.{or_refused};
+ghost use Rattle.c_texts.specs.Refusals.{or_refused, Answers};
 ghost use Rattle.c_texts.specs.Outcomes.{GivesList};
-ghost use Rattle.c_texts.specs.Refusals.{Answers};
 ghost use Rattle.c_lines.specs.Lines as spec;
 
-use crate::line_call::{Line, LineCall, LineTool, line_in};
-use c_texts::{ListAnswer, Outcome, Range, Refused, Status, or_refused, write_list};
+use c_texts::{
+    InputText, ListAnswer, Outcome, Range, Refused, Status, Variable, or_refused, text_of,
+    variables_of, write_list,
+};
 use compilers::arguments::{CompilerArguments, ParsedArguments};
 use compilers::command::CompileCommandImpl;
 use compilers::compiler::{CCompilerImpl, Places};
@@ -22,6 +25,92 @@ use host_lines::nvhpc::Nvhpc;
 use std::alloc::{AllocError, Global};
 use texts::fault::Fault;
 use texts::text::Text;
+use texts::variables::Variables;
+use texts::words::Words;
+
+/// A call that reads a line of a tool.
+#[repr(C)]
+#[derive(Clone, Copy, Debug)]
+pub struct LineCall<'a> {
+    /// The working directory.
+    pub cwd: InputText<'a>,
+    /// The words, without the tool's name.
+    pub words: &'a [InputText<'a>],
+    /// The call's environment.
+    pub variables: &'a [Variable<'a>],
+    /// The number of the tool.
+    pub tool: u32,
+    /// 0.
+    pub reserved: u32,
+}
+
+// A tool, by whose rules a line is read. That isn't `compilers::plans::Program`, what a command of a plan runs: no command runs nvcc or nvhpc, and
+// lines of fatbinary and nvlink aren't read.
+#[derive(Clone, Copy, Debug)]
+enum LineTool {
+    Cicc,
+    Ptxas,
+    CudaFe,
+    Nvcc,
+    // nvc of nvhpc.
+    Nvc,
+    // nvc++ of nvhpc.
+    Nvcxx,
+}
+
+// The tool with a number.
+fn tool_of(number: u32) -> Option<LineTool>
+    ensures { result ≡ spec.tool_of number }
+{
+    match number {
+        0 => Some(LineTool::Cicc),
+        1 => Some(LineTool::Ptxas),
+        2 => Some(LineTool::CudaFe),
+        3 => Some(LineTool::Nvcc),
+        4 => Some(LineTool::Nvc),
+        5 => Some(LineTool::Nvcxx),
+        _ => None,
+    }
+}
+
+/// Words at a working directory, with an environment: copies of texts of the caller.
+#[derive(Drop)]
+pub(crate) struct Line<'a> {
+    pub(crate) cwd: &'a str,
+    pub(crate) words: Words,
+    pub(crate) variables: Variables,
+}
+
+/// The texts of a line, or the refusal of one that isn't UTF-8.
+pub(crate) fn line_of<'a>(
+    alloc: Global,
+    cwd: &InputText<'a>,
+    words: &[InputText<'_>],
+    variables: &[Variable<'_>],
+) -> Result<Line<'a>, Refused>
+    ensures { Answers (result_map_both spec.line_seen (λ e. e) result) (spec.line_of cwd.now words.now variables.now) }
+{
+    let cwd = text_of(cwd.bytes).ok_or(Refused::Plain(Status::NotUtf8))?;
+    let words = c_texts::words_of(alloc, words)?.ok_or(Refused::Plain(Status::NotUtf8))?;
+    let variables = variables_of(alloc, variables)?.ok_or(Refused::Plain(Status::NotUtf8))?;
+    Ok(Line {
+        cwd,
+        words,
+        variables,
+    })
+}
+
+// The tool and the line of a call, or why it has none.
+fn line_in<'a>(alloc: Global, call: &LineCall<'a>) -> Result<(LineTool, Line<'a>), Refused>
+    ensures { Answers (result_map_both (λ at. (at.0, spec.line_seen at.1)) (λ e. e) result) (spec.line_in call.now) }
+{
+    if call.reserved != 0 {
+        return Err(Refused::Plain(Status::BadNumber));
+    }
+    let tool = tool_of(call.tool).ok_or(Refused::Plain(Status::BadNumber))?;
+    let line = line_of(alloc, &call.cwd, call.words, call.variables)?;
+    Ok((tool, line))
+}
 
 // nvhpc's compiler of C, or that of C++.
 fn nvhpc(nvcplusplus: bool) -> Nvhpc
@@ -39,7 +128,7 @@ fn read_by(
     tool: LineTool,
     line: &Line<'_>,
 ) -> Result<CompilerArguments<ParsedArguments>, AllocError>
-    ensures { IfOk result (λ r. reading_of r ≡ spec.read_by tool (line_seen line.now)) }
+    ensures { IfOk result (λ r. reading_of r ≡ spec.read_by tool (spec.line_seen line.now)) }
 {
     let (cwd, words, variables) = (line.cwd, line.words.as_slice(), line.variables.as_slice());
     match tool {
@@ -52,50 +141,35 @@ fn read_by(
     }
 }
 
-// The refusal of a line, with its message.
-fn bad_line(message: String) -> Refused
-    ensures { result ≡ spec.bad_line (string_bytes message) }
+// The arguments of a tool's line, or why it has none.
+fn parsed_by(alloc: Global, tool: LineTool, line: &Line<'_>) -> Result<ParsedArguments, Refused>
+    ensures { Answers result (spec.parsed_by tool (spec.line_seen line.now)) }
 {
-    Refused::Told(Status::BadLine, Text::new(message))
-}
-
-// The arguments that a line was read as, or why it has none.
-fn arguments_of(
-    alloc: Global,
-    reading: CompilerArguments<ParsedArguments>,
-) -> Result<ParsedArguments, Refused>
-    ensures { Answers result (spec.arguments_of (reading_of reading)) }
-{
-    match reading {
+    match read_by(alloc, tool, line)? {
         CompilerArguments::Ok(parsed) => Ok(parsed),
         CompilerArguments::CannotCache(text, None) => {
-            Err(bad_line(format!(in alloc; "cannot cache: {text}")?))
+            let why = format!(in alloc; "cannot cache: {text}")?;
+            Err(Refused::Told(Status::BadLine, Text::new(why)))
         }
         CompilerArguments::CannotCache(text, Some(word)) => {
             let word = word.as_str();
-            Err(bad_line(format!(in alloc; "cannot cache: {text}: {word}")?))
+            let why = format!(in alloc; "cannot cache: {text}: {word}")?;
+            Err(Refused::Told(Status::BadLine, Text::new(why)))
         }
         CompilerArguments::NotCompilation => {
-            Err(bad_line(String::from_str(alloc, "not a compilation")?))
+            let why = String::from_str(alloc, "not a compilation")?;
+            Err(Refused::Told(Status::BadLine, Text::new(why)))
         }
     }
-}
-
-// The arguments of a tool's line, or why it has none.
-fn parsed_by(alloc: Global, tool: LineTool, line: &Line<'_>) -> Result<ParsedArguments, Refused>
-    ensures { Answers result (spec.parsed_by tool (line_seen line.now)) }
-{
-    arguments_of(alloc, read_by(alloc, tool, line)?)
 }
 
 /// The arguments of a call's line, or why it has none.
 pub(crate) fn parsed_in(alloc: Global, call: &LineCall<'_>) -> Result<ParsedArguments, Refused>
     ensures { Answers result (spec.parsed_in call.now) }
 {
-    let found = line_in(alloc, call)?;
-    let parsed = parsed_by(alloc, found.tool, &found.line);
-    // Dropped by a call: see "Explicit drops" in docs/ARCHITECTURE.md.
-    drop(found);
+    let (tool, line) = line_in(alloc, call)?;
+    let parsed = parsed_by(alloc, tool, &line);
+    drop(line);
     parsed
 }
 
@@ -120,7 +194,6 @@ where
     let written = compiler.generate_compile_commands(
         alloc, "", parsed, line.cwd, variables, &places,
     );
-    // Dropped by a call: see "Explicit drops" in docs/ARCHITECTURE.md.
     drop(places);
     let written = written?;
     let words = Outcome::of_texts(alloc, written.0.get_arguments());
@@ -135,7 +208,7 @@ fn words_by(
     line: &Line<'_>,
     parsed: &ParsedArguments,
 ) -> Result<Outcome, Fault>
-    ensures { UnlessMemory result (spec.words_by tool (line_seen line.now) parsed.now) }
+    ensures { UnlessMemory result (spec.words_by tool (spec.line_seen line.now) parsed.now) }
 {
     match tool {
         LineTool::Cicc => words_of(alloc, &Cicc { version: None }, line, parsed),
@@ -149,11 +222,10 @@ fn words_by(
 
 // The words that a line is written back as.
 fn rewritten_by(alloc: Global, tool: LineTool, line: &Line<'_>) -> Result<Outcome, Refused>
-    ensures { Answers result (spec.rewritten_by tool (line_seen line.now)) }
+    ensures { Answers result (spec.rewritten_by tool (spec.line_seen line.now)) }
 {
     let parsed = parsed_by(alloc, tool, line)?;
     let words = or_refused(alloc, words_by(alloc, tool, line, &parsed));
-    // Dropped by a call: see "Explicit drops" in docs/ARCHITECTURE.md.
     drop(parsed);
     words
 }
@@ -162,10 +234,9 @@ fn rewritten_by(alloc: Global, tool: LineTool, line: &Line<'_>) -> Result<Outcom
 pub fn call_words(alloc: Global, call: &LineCall<'_>) -> Result<Outcome, Refused>
     ensures { Answers result (spec.call_words call.now) }
 {
-    let found = line_in(alloc, call)?;
-    let words = rewritten_by(alloc, found.tool, &found.line);
-    // Dropped by a call: see "Explicit drops" in docs/ARCHITECTURE.md.
-    drop(found);
+    let (tool, line) = line_in(alloc, call)?;
+    let words = rewritten_by(alloc, tool, &line);
+    drop(line);
     words
 }
 

@@ -2,12 +2,11 @@
 
 ghost use Rattle.std.specs.Prelude.{◌≡◌, IfOk, OnOk};
 ghost use Rattle.nvcc_calls.specs.OutlineTexts.{texts_of};
-ghost use Rattle.c_lines.specs.LineCalls.{line_seen};
 ghost use Rattle.c_texts.specs.Outcomes.{GivesList, of_texts, with_texts};
 ghost use Rattle.c_texts.specs.Refusals.{Answers};
-ghost use Rattle.c_lines.specs.NvccOutline as spec;
+ghost use Rattle.c_lines.specs.Lines as spec;
 
-use crate::line_call::{Line, line_of};
+use crate::lines::{Line, line_of};
 use c_texts::{
     InputText, ListAnswer, Outcome, Range, Refused, Status, Variable, or_refused, text_of,
     write_list,
@@ -33,13 +32,6 @@ pub struct NvccLineCall<'a> {
     pub variables: &'a [Variable<'a>],
     /// 0.
     pub reserved: u64,
-}
-
-// The directory and the program of a call.
-#[derive(Clone, Copy)]
-struct Tools<'a> {
-    tmp: &'a str,
-    nvcc: &'a str,
 }
 
 // Adds the texts of what an nvcc line says.
@@ -79,13 +71,13 @@ fn texts_in(alloc: Global, answer: &Answer) -> Result<Outcome, Refused>
 }
 
 // The answer to a line of nvcc, or why there is none.
-fn answer_at(alloc: Global, tools: Tools<'_>, line: &Line<'_>) -> Result<Answer, Refused>
-    ensures { Answers result (spec.answer_at (spec.tools_seen tools.entry) (line_seen line.now)) }
+fn answer_at(alloc: Global, tmp: &str, nvcc: &str, line: &Line<'_>) -> Result<Answer, Refused>
+    ensures { Answers result (spec.answer_at tmp.now nvcc.now (spec.line_seen line.now)) }
 {
     let call = NvccCall {
         cwd: line.cwd,
-        tmp: tools.tmp,
-        nvcc: tools.nvcc,
+        tmp,
+        nvcc,
         words: line.words.as_slice(),
     };
     or_refused(
@@ -95,10 +87,10 @@ fn answer_at(alloc: Global, tools: Tools<'_>, line: &Line<'_>) -> Result<Answer,
 }
 
 // What a line of nvcc says.
-fn outline_at(alloc: Global, tools: Tools<'_>, line: &Line<'_>) -> Result<Outcome, Refused>
-    ensures { Answers result (spec.outline_at (spec.tools_seen tools.entry) (line_seen line.now)) }
+fn outline_at(alloc: Global, tmp: &str, nvcc: &str, line: &Line<'_>) -> Result<Outcome, Refused>
+    ensures { Answers result (spec.outline_at tmp.now nvcc.now (spec.line_seen line.now)) }
 {
-    let answer = answer_at(alloc, tools, line)?;
+    let answer = answer_at(alloc, tmp, nvcc, line)?;
     let texts = texts_in(alloc, &answer);
     // Dropped by a call: see "Explicit drops" in docs/ARCHITECTURE.md.
     drop(answer);
@@ -112,13 +104,10 @@ pub fn call_outline(alloc: Global, call: &NvccLineCall<'_>) -> Result<Outcome, R
     if call.reserved != 0 {
         return Err(Refused::Plain(Status::BadNumber));
     }
-    let tools = Tools {
-        tmp: text_of(call.tmp.bytes).ok_or(Refused::Plain(Status::NotUtf8))?,
-        nvcc: text_of(call.nvcc.bytes).ok_or(Refused::Plain(Status::NotUtf8))?,
-    };
+    let tmp = text_of(call.tmp.bytes).ok_or(Refused::Plain(Status::NotUtf8))?;
+    let nvcc = text_of(call.nvcc.bytes).ok_or(Refused::Plain(Status::NotUtf8))?;
     let line = line_of(alloc, &call.cwd, call.words, call.variables)?;
-    let line = line.ok_or(Refused::Plain(Status::NotUtf8))?;
-    let outline = outline_at(alloc, tools, &line);
+    let outline = outline_at(alloc, tmp, nvcc, &line);
     // Dropped by a call: see "Explicit drops" in docs/ARCHITECTURE.md.
     drop(line);
     outline

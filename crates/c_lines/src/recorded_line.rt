@@ -1,17 +1,13 @@
 //! What a line says as records, and writing them into the caller's memory.
 
-ghost use Rattle.std.specs.Prelude.{◌≡◌, ◌∷◌, [], List, ℕ, IfOk, OnOk, Result, length};
+ghost use Rattle.std.specs.Prelude.{◌≡◌, ◌∷◌, [], List, ℕ, IfOk, OnOk, length};
 ghost use Rattle.c_texts.specs.declared.memory.Range.{Range};
-ghost use Rattle.c_texts.specs.declared.refusal.Refused.{Refused};
-ghost use Rattle.c_texts.specs.Outcomes.{with_texts};
+ghost use Rattle.c_texts.specs.Outcomes.{list_at, with_texts};
 ghost use Rattle.c_texts.specs.Refusals.{Answers, refusal};
-ghost use Rattle.c_lines.specs.declared.line_record.OutputRecord.{OutputRecord};
-ghost use Rattle.c_lines.specs.LineRecordCalls as calls;
+ghost use Rattle.c_lines.specs.declared.recorded_line.OutputRecord.{OutputRecord};
 ghost use Rattle.c_lines.specs.LineRecords as spec;
 
-use crate::line_call::LineCall;
-use crate::line_record::{LineAnswer, LineRecord, OutputRecord};
-use crate::lines::parsed_in;
+use crate::lines::{LineCall, parsed_in};
 use c_texts::{Outcome, Range, Refused};
 use compilers::arguments::{ColorMode, ParsedArguments};
 use compilers::outputs::{ArtifactDescriptor, Outputs};
@@ -20,6 +16,80 @@ use std::marker::Model;
 use texts::language::Language;
 use texts::text::Text;
 use texts::words::Words;
+
+/// What a line says. Its texts are elements of the list of ranges.
+#[repr(C)]
+#[derive(Clone, Copy, Debug, Default)]
+pub struct LineRecord {
+    /// Which text is the input's path.
+    pub input: usize,
+    /// Which text is the option that asks for a compilation.
+    pub compilation_flag: usize,
+    /// Which text is the dependency file's path: one, or none.
+    pub depfile: Range,
+    /// Which texts are the words that ask for dependencies.
+    pub dependency_args: Range,
+    /// Which texts are the words for the preprocessor.
+    pub preprocessor_args: Range,
+    /// Which texts are the words that are part of a cache key.
+    pub common_args: Range,
+    /// Which texts are the words that name architectures.
+    pub arch_args: Range,
+    /// Which texts are the words that are no part of a cache key.
+    pub unhashed_args: Range,
+    /// Which texts are paths of files that a distributed compilation also needs.
+    pub extra_dist_files: Range,
+    /// Which texts are paths of files whose contents are part of a cache key.
+    pub extra_hash_files: Range,
+    /// Which text is the option that keeps a cache from looking at the preprocessor's input: one, or none.
+    pub too_hard_for_preprocessor_cache_mode: Range,
+    /// The number of the input's language, or of what the tool makes of it.
+    pub language: u32,
+    /// 0 if messages have no colours, 1 if they have, 2 if the compiler decides.
+    pub color_mode: u32,
+    /// 1 if the input comes after `--`, else 0.
+    pub double_dash_input: u32,
+    /// 0: a field of sccache's that no reader of these tools sets.
+    pub msvc_explicit_language: u32,
+    /// 0: a field of sccache's that no reader of these tools sets.
+    pub msvc_show_includes: u32,
+    /// 0: a field of sccache's that no reader of these tools sets.
+    pub profile_generate: u32,
+    /// 0: a field of sccache's that no reader of these tools sets.
+    pub suppress_rewrite_includes_only: u32,
+    /// 0: a field of sccache's that no reader of these tools sets.
+    pub uses_external_assembler: u32,
+}
+
+/// An output of a line. Its texts are elements of the list of ranges.
+#[repr(C)]
+#[derive(Clone, Copy, Debug)]
+pub struct OutputRecord {
+    /// Which text is the key: `obj` for the file that the line is for, `d` for the dependency file, else the option that names it.
+    pub key: usize,
+    /// Which text is the path.
+    pub path: usize,
+    /// 1 if the command may leave the file out, else 0.
+    pub optional: u32,
+    /// 0.
+    pub reserved: u32,
+}
+
+/// The answer of a call that writes what a line says as records.
+#[repr(C)]
+#[derive(Clone, Copy, Debug, Default)]
+pub struct LineAnswer {
+    /// 0, or the number of a refusal.
+    pub status: i32,
+    /// How many outputs there are, written or not.
+    pub outputs: usize,
+    /// How many texts there are.
+    pub ranges: usize,
+    /// The bytes of all of them, or of the refusal's text.
+    pub length: usize,
+    /// What the line says. All numbers are 0 after a refusal.
+    pub line: LineRecord,
+}
 
 /// Texts, and the records that say what they are.
 #[derive(Drop)]
@@ -44,40 +114,20 @@ impl Model for RecordedLine {
 fn language_number(language: Language) -> u32
     ensures { result ≡ spec.language_number language }
 {
-    match language {
-        Language::C => 0,
-        Language::Cxx => 1,
-        Language::ObjectiveC => 2,
-        Language::ObjectiveCxx => 3,
-        Language::Cuda => 4,
-        Language::CudaFE => 5,
-        Language::Ptx => 6,
-        Language::Cubin => 7,
-    }
+    language as u32
 }
 
 // The number of a choice of colours.
 fn color_number(mode: ColorMode) -> u32
     ensures { result ≡ spec.color_number mode }
 {
-    match mode {
-        ColorMode::Off => 0,
-        ColorMode::On => 1,
-        ColorMode::Auto => 2,
-    }
-}
-
-// 1 for yes.
-fn choice_number(is: bool) -> u32
-    ensures { result ≡ spec.choice_number is }
-{
-    if is { 1 } else { 0 }
+    mode as u32
 }
 
 // Adds a text that may be missing, and says which it is.
 fn push_optional(texts: &mut Outcome, text: &Option<Text>) -> Result<Range, AllocError>
     ensures texts { OnOk result (texts.new ≡ with_texts texts.old (spec.optional_texts text.now)) }
-    ensures range { IfOk result (λ range. range ≡ spec.list_at (length texts.old.1.0) (spec.optional_texts text.now)) }
+    ensures range { IfOk result (λ range. range ≡ list_at (length texts.old.1.0) (spec.optional_texts text.now)) }
 {
     let offset = texts.count();
     match text {
@@ -89,13 +139,6 @@ fn push_optional(texts: &mut Outcome, text: &Option<Text>) -> Result<Range, Allo
     }
 }
 
-// The record that comes with a refusal.
-fn no_line() -> LineRecord
-    ensures { result ≡ spec.no_line }
-{
-    LineRecord::default()
-}
-
 // What a line's record says besides its texts.
 fn numbers_of(parsed: &ParsedArguments) -> LineRecord
     ensures { result ≡ spec.numbers_of parsed.now }
@@ -103,20 +146,20 @@ fn numbers_of(parsed: &ParsedArguments) -> LineRecord
     LineRecord {
         language: language_number(parsed.language),
         color_mode: color_number(parsed.color_mode),
-        double_dash_input: choice_number(parsed.double_dash_input),
-        msvc_explicit_language: choice_number(parsed.msvc_explicit_language),
-        msvc_show_includes: choice_number(parsed.msvc_show_includes),
-        profile_generate: choice_number(parsed.profile_generate),
-        suppress_rewrite_includes_only: choice_number(parsed.suppress_rewrite_includes_only),
-        uses_external_assembler: choice_number(parsed.uses_external_assembler),
-        ..no_line()
+        double_dash_input: u32::from(parsed.double_dash_input),
+        msvc_explicit_language: u32::from(parsed.msvc_explicit_language),
+        msvc_show_includes: u32::from(parsed.msvc_show_includes),
+        profile_generate: u32::from(parsed.profile_generate),
+        suppress_rewrite_includes_only: u32::from(parsed.suppress_rewrite_includes_only),
+        uses_external_assembler: u32::from(parsed.uses_external_assembler),
+        ..LineRecord::default()
     }
 }
 
 // Adds words, and says which texts they are.
 fn push_words(texts: &mut Outcome, words: &Words) -> Result<Range, AllocError>
     ensures texts { OnOk result (texts.new ≡ with_texts texts.old words.now) }
-    ensures range { IfOk result (λ range. range ≡ spec.list_at (length texts.old.1.0) words.now) }
+    ensures range { IfOk result (λ range. range ≡ list_at (length texts.old.1.0) words.now) }
 {
     texts.push_list(words.as_slice())
 }
@@ -169,7 +212,7 @@ impl RecordedLine {
         self.outputs.push(OutputRecord {
             key: first,
             path,
-            optional: choice_number(output.optional),
+            optional: u32::from(output.optional),
             reserved: 0,
         })?;
         Ok(())
@@ -242,34 +285,14 @@ fn tell_refusal(refused: &Refused, out: &mut [u8]) -> LineAnswer
     let told = refused.tell_text(out);
     LineAnswer {
         status: told.status,
-        outputs: 0,
-        ranges: 0,
         length: told.length,
-        line: no_line(),
-    }
-}
-
-/// Tells the caller what a line says, or why there is no record.
-pub(crate) fn write_line(
-    answer: Result<RecordedLine, Refused>,
-    outputs: &mut [OutputRecord],
-    ranges: &mut [Range],
-    out: &mut [u8],
-) -> LineAnswer
-    ensures { (expected : Result spec.RecordedLine Refused) → Answers answer expected
-        → spec.GivesLine (spec.ended expected) result
-        (record { outputs = outputs.old; ranges = ranges.old; bytes = out.old })
-        (record { outputs = outputs.new; ranges = ranges.new; bytes = out.new }) }
-{
-    match answer {
-        Ok(recorded) => tell_line(&recorded, outputs, ranges, out),
-        Err(refused) => tell_refusal(&refused, out),
+        ..LineAnswer::default()
     }
 }
 
 /// What [`line_records`] tells: the records of a call's line.
 pub fn call_records(alloc: Global, call: &LineCall<'_>) -> Result<RecordedLine, Refused>
-    ensures { Answers result (calls.call_records call.now) }
+    ensures { Answers result (spec.call_records call.now) }
 {
     let parsed = parsed_in(alloc, call)?;
     let records = records_of(alloc, &parsed);
@@ -290,9 +313,12 @@ pub fn line_records(
     ranges: &mut [Range],
     out: &mut [u8],
 ) -> LineAnswer
-    ensures { spec.GivesLine (calls.line_records call.now) result
+    ensures { spec.GivesLine (spec.line_records call.now) result
         (record { outputs = outputs.old; ranges = ranges.old; bytes = out.old })
         (record { outputs = outputs.new; ranges = ranges.new; bytes = out.new }) }
 {
-    write_line(call_records(alloc, call), outputs, ranges, out)
+    match call_records(alloc, call) {
+        Ok(recorded) => tell_line(&recorded, outputs, ranges, out),
+        Err(refused) => tell_refusal(&refused, out),
+    }
 }

@@ -1,5 +1,3 @@
-pub mod LimitLemmas
-pub mod PlaceLemmas
 pub mod RecordLemmas
 pub mod RecordReading
 pub mod StepLemmas

@@ -1,5 +1,6 @@
 -- Texts and records behind others.
 use Rattle.std.proofs.Common.{◌≡◌, ◌++◌, ◌+◌, ◌-◌, ◌∷◌, [], ℕ, suc, List, map, length, refl, sym, ap, ◌∙◌, arith, length-append, append_assoc, flat_map}
+use Rattle.std.proofs.lemmas.Grind.{flat_map-append}
 use Rattle.compilers.specs.declared.plans.origins.Origin.{Origin}
 use Rattle.compilers.specs.declared.plans.origins.PlanWithOrigins.{PlanWithOrigins}
 use Rattle.compilers.specs.declared.plans.plan.Dropped.{Dropped}
@@ -28,10 +29,6 @@ records-append first (x ∷ xs) ys =
     let same : first + length (texts_of x) + length (flat_map texts_of xs) ≡ first + length (texts_of x ++ flat_map texts_of xs) = omega (arith, joined) in
     ap (λ t. record_at first x ∷ t) (records-append (first + length (texts_of x)) xs ys ∙ ap (λ n. records_at (first + length (texts_of x)) xs ++ records_at n ys) same)
 
-texts-append : (xs ys : List Entry) → flat_map texts_of (xs ++ ys) ≡ flat_map texts_of xs ++ flat_map texts_of ys
-texts-append [] ys = refl
-texts-append (x ∷ xs) ys = ap (λ t. texts_of x ++ t) (texts-append xs ys) ∙ sym (append_assoc (texts_of x) (flat_map texts_of xs) (flat_map texts_of ys))
-
 -- commands behind commands
 pub entries-then : (recorded : Recorded) (xs ys : List Entry) → with_entries (with_entries recorded xs) ys ≡ with_entries recorded (xs ++ ys)
 entries-then recorded xs ys =
@@ -41,7 +38,7 @@ entries-then recorded xs ys =
     let here : List CommandRecord = records_at first xs in
     let next = length (with_texts outcome (flat_map texts_of xs)).1.0 in
     let texts : with_texts (with_texts outcome (flat_map texts_of xs)) (flat_map texts_of ys) ≡ with_texts outcome (flat_map texts_of (xs ++ ys)) =
-    texts-then outcome (flat_map texts_of xs) (flat_map texts_of ys) ∙ ap (with_texts outcome) (sym (texts-append xs ys)) in
+    texts-then outcome (flat_map texts_of xs) (flat_map texts_of ys) ∙ ap (with_texts outcome) (sym (flat_map-append texts_of xs ys)) in
     let records : (commands ++ here) ++ records_at next ys ≡ commands ++ records_at first (xs ++ ys) =
     append_assoc commands here (records_at next ys)
     ∙ ap (λ n. commands ++ (here ++ records_at n ys)) (count-then outcome (flat_map texts_of xs))

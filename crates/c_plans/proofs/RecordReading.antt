@@ -14,8 +14,9 @@ use Rattle.compilers.specs.Listed.{Listed, listed_group, listed_from, listed}
 use Rattle.command_files.specs.Numbered.{numbered}
 use Rattle.plan_json.specs.Json.{origin_at}
 use Rattle.c_texts.specs.declared.memory.Range.{Range}
+use Rattle.c_texts.specs.Memory.{cut}
 use Rattle.c_plans.specs.Records.{Entry, Shared, Variables, are_same, shared_by, shared_first, shared_of, variables_at, reason_number, cacheable_number, command_entry, dropped_entry, entries_of, variable_texts, texts_of, record_at, records_at, groups_at, records_of}
-use Rattle.c_plans.specs.RecordsRead.{part, pairs_of, entry_in, cacheable_of, reason_of, command_of, dropped_of, origin_of, plan_of, plan_in, HasOrigins}
+use Rattle.c_plans.specs.RecordsRead.{pairs_of, entry_in, cacheable_of, reason_of, command_of, dropped_of, origin_of, plan_of, plan_in, HasOrigins}
 use Rattle.c_texts.proofs.RangeLemmas.{cut_behind}
 
 -- ---- a command by its texts
@@ -47,7 +48,7 @@ AreSharing variables (e ∷ entries) = IsSharing variables e × AreSharing varia
 abbrev variables_read : List (List ℕ) → ℕ → ℕ → Entry → Variables × Option Range
 variables_read all first words e =
     let range = variables_at (first + 2 + words) e.shared e.variables in
-    (pairs_of (part all range), if nat_le range.offset first then Some range else None)
+    (pairs_of (cut all range), if nat_le range.offset first then Some range else None)
 
 -- the same command with other shared texts
 abbrev with_shared : Entry → Option Range → Entry
@@ -71,7 +72,7 @@ own-read before rest e none =
     ap (λ t. pairs_of (take (length pairs) t)) there ∙ ap pairs_of (take-append_seam pairs rest) ∙ pairs-are e.variables in
     let behind : nat_le (n + 2 + length words) n ≡ false = lt-leb (n + 2 + length words) n (omega arith) in
     let range : Range = record { offset = n + 2 + length words; length = length pairs } in
-    let read : (pairs_of (part all range), if nat_le range.offset n then Some range else None) ≡ (e.variables, None) =
+    let read : (pairs_of (cut all range), if nat_le range.offset n then Some range else None) ≡ (e.variables, None) =
     λ i. (variables i, if behind i then Some range else None) in
     subst
     (λ o. variables_read (before ++ (texts_of (with_shared e o) ++ rest)) n (length words) (with_shared e o) ≡ (e.variables, o))
@@ -162,7 +163,7 @@ module _ (origins : List Origin) (shared : Shared) where
   group-then id group place (c ∷ commands) rest = grind (arith, (group-then (id + 1) group (place + 1) commands rest))
 
   groups-are : (last : ℕ) (before : List Entry) (group : ℕ) (groups : List (List NvccGeneratedSubcommand)) (behind : List Entry) →
-      map (λ g. map command_of (part (before ++ (numbered (command_entry origins shared) (length before) (listed_from group groups) ++ behind)) g.commands)) (groups_at last group (length before) groups) ≡ groups
+      map (λ g. map command_of (cut (before ++ (numbered (command_entry origins shared) (length before) (listed_from group groups) ++ behind)) g.commands)) (groups_at last group (length before) groups) ≡ groups
   groups-are last before group [] behind = refl
   groups-are last before group (commands ∷ groups) behind =
       let here : List Entry = numbered (command_entry origins shared) (length before) (listed_group group 0 commands) in

@@ -1,5 +1,6 @@
 -- What the records of a plan's commands say.
 use Rattle.std.proofs.Common.{◌≡◌, ◌++◌, ◌+◌, ◌∷◌, [], ℕ, List, Bool, ◌==◌, map, length, take, drop, refl, sym, ap, subst, ◌∙◌, arith, length-append, append_assoc, flat_map}
+use Rattle.command_files.specs.declared.files.CommandFiles.{CommandFiles}
 use Rattle.command_files.specs.PlanNeeds.{preprocesses}
 use Rattle.compilers.specs.Listed.{Listed}
 use Rattle.command_files.specs.Numbered.{numbered}
@@ -10,8 +11,8 @@ use Rattle.c_texts.proofs.TextLemmas.{ranges-length, texts-then}
 use Rattle.c_texts.specs.Memory.{cut}
 use Rattle.c_texts.specs.Outcomes.{Outcome, of_texts, with_texts}
 use Rattle.c_plans.proofs.RecordReading.{all-read, part-behind, plan-is}
-use Rattle.c_plans.specs.Steps.{Extra, Known, extra_of, file_texts, missing_of, step_at, steps_at}
-use Rattle.c_plans.specs.StepLaws.{StepsReadBack, PlansReadBack, extra_in}
+use Rattle.c_plans.specs.Steps.{Extra, extra_of, file_texts, missing_of, step_at, steps_at}
+use Rattle.c_plans.specs.RecordsRead.{StepsReadBack, PlansReadBack, extra_in}
 
 -- ---- commands are read back
 
@@ -45,16 +46,16 @@ one-read before rest numbers more e complete =
       missing = e.missing;
     }
 
-module _ (known : Known) where
+module _ (needs : List (List ℕ)) (files : List CommandFiles) where
   extras-read : (before : List (List ℕ)) (numbers : List ℕ) (id : ℕ) (commands : List Listed) →
-      map (extra_in (before ++ flat_map file_texts (numbered (extra_of known) id commands)) (numbers ++ flat_map (λ e. e.needs) (numbered (extra_of known) id commands)))
-      (steps_at (length before) (length numbers) (numbered (extra_of known) id commands)) ≡
-      numbered (extra_of known) id commands
+      map (extra_in (before ++ flat_map file_texts (numbered (extra_of needs files) id commands)) (numbers ++ flat_map (λ e. e.needs) (numbered (extra_of needs files) id commands)))
+      (steps_at (length before) (length numbers) (numbered (extra_of needs files) id commands)) ≡
+      numbered (extra_of needs files) id commands
   extras-read before numbers id [] = refl
   extras-read before numbers id (l ∷ commands) =
       let c = l.command in
-      let e : Extra = extra_of known id l in
-      let left : List Extra = numbered (extra_of known) (id + 1) commands in
+      let e : Extra = extra_of needs files id l in
+      let left : List Extra = numbered (extra_of needs files) (id + 1) commands in
       let texts = flat_map file_texts left in
       let more = flat_map (λ e. e.needs) left in
       let all = before ++ (file_texts e ++ texts) in

@@ -1,16 +1,9 @@
 pub mod Acceptance
 pub mod Asking
-pub mod FaultPlaces
-pub mod Fitness
 pub mod LimitLaws
-pub mod Limits
 pub mod Places
-pub mod PlanCalls
 pub mod PlanSteps
 pub mod Planning
 pub mod Records
 pub mod RecordsRead
-pub mod Renaming
-pub mod StepBuffers
-pub mod StepLaws
 pub mod Steps

@@ -9,11 +9,10 @@ use Rattle.c_texts.specs.Memory.{text_of}
 use Rattle.c_texts.specs.Outcomes.{Outcome}
 use Rattle.c_texts.specs.Refusals.{ended, or_plain, refusal}
 use Rattle.c_plans.specs.declared.plan_call.PlanCall.{PlanCall}
-use Rattle.c_plans.specs.Acceptance.{Accepted}
+use Rattle.c_plans.specs.Acceptance.{Accepted, plain_cwd}
 use Rattle.c_plans.specs.Asking.{limited_lookups_outcome, lookups_by}
-use Rattle.c_plans.specs.Limits.{over_limit, without_limit}
-use Rattle.c_plans.specs.Fitness.{plain_cwd}
-use Rattle.c_plans.specs.Planning.{planned, planned_whole}
+use Rattle.c_plans.specs.Planning.{over_limit, without_limit, planned, planned_whole}
+use Rattle.c_plans.specs.Places.{without_place}
 
 -- a call whose limit is 0 plans as one without a limit
 abbrev pub PlansWithoutLimit : Type 0
@@ -25,7 +24,7 @@ PlansWithoutLimit =
 -- the look-ups of two dry runs without a limit
 abbrev pub lookups_outcome : List ℕ → List ℕ → List ℕ → Outcome
 lookups_outcome dry1 dry2 cwd =
-    ended (and_then (or_plain NotUtf8 (text_of cwd)) (λ cwd. and_then (plain_cwd cwd) (λ _. Ok (lookups_by (both_parsed dry1 dry2) cwd))))
+    ended (and_then (or_plain NotUtf8 (text_of cwd)) (λ cwd. and_then (without_place (plain_cwd cwd)) (λ _. Ok (lookups_by (both_parsed dry1 dry2) cwd))))
 
 -- with a limit of 0, look-ups are listed so
 abbrev pub LookupsWithoutLimit : Type 0

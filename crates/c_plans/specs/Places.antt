@@ -4,7 +4,6 @@ use Rattle.c_texts.specs.declared.refusal.Refused.{Refused}
 use Rattle.c_texts.specs.declared.refusal.Refused.TheVariants as refusals
 use Rattle.c_texts.specs.declared.status.Status.{Status}
 use Rattle.c_plans.specs.declared.record.PlaceRecord.{PlaceRecord}
-use Rattle.c_plans.specs.declared.refused_at.Misfit.{Misfit as HeldMisfit}
 use Rattle.c_plans.specs.declared.refused_at.RefusedAt.{RefusedAt}
 
 -- The fields of a call have numbers: 1 and 2 are the dry runs, 3 the working directory, 4 the temporary directory, 5 the flag, 6 the
@@ -29,24 +28,9 @@ abbrev pub or_plain_at : {T : Type 0} → Status → ℕ → Option T → Result
 or_plain_at status field (Some x) = Ok x
 or_plain_at status field None = Err (plain_at status field)
 
--- a field that doesn't fit, the status of its refusal, and what to say of it
-pub record Misfit : Type 0 where
-  pub status : Status
-  pub field : ℕ
-  pub why : List ℕ
-
--- the same, as the code holds it
-abbrev pub misfit_seen : HeldMisfit → Misfit
-misfit_seen m = record { status = m.status; field = m.field; why = m.why.now }
-
--- its refusal
-abbrev pub misfit_refusal : Misfit → Refused
-misfit_refusal m = refusals.Told m.status m.why
-
--- nothing, or the refusal of a field that doesn't fit
-abbrev pub unless_misfit : Option Misfit → Result (Unit {0}) RefusedAt
-unless_misfit None = Ok tt
-unless_misfit (Some m) = Err (record { place = in_field m.field; why = misfit_refusal m })
+-- the refusal of a field, with what to say of it
+abbrev pub told_at : Status → ℕ → List ℕ → RefusedAt
+told_at status field why = record { place = in_field field; why = refusals.Told status why }
 
 -- a fact that holds for every refusal but that of an allocation, which has no place
 abbrev pub memory_or : PlaceRecord → Refused → Type 0 → Type 0

@@ -1,11 +1,17 @@
--- Planning the two dry runs of a call.
-use Rattle.std.specs.Prelude.{ℕ, ◌==◌, List, if◌then◌else◌, Option, Some, None, Result, Ok, Err}
+-- Planning the two dry runs of a call, within its limit: how many bytes reading a dry run may make. 0 is no limit.
+use Rattle.std.specs.Prelude.{ℕ, ◌++◌, ◌==◌, if◌then◌else◌, Result, Ok, Err, codes, decimal, List, Option, Some, None}
 use Rattle.texts.specs.declared.fault.Fault.{Fault}
+use Rattle.texts.specs.Fault.{line_text}
+use Rattle.dry_runs.specs.declared.limit.LimitedFault.{LimitedFault}
+use Rattle.dry_runs.specs.declared.limit.LimitedFault.TheVariants as limited
+use Rattle.c_texts.specs.declared.refusal.Refused.{Refused}
+use Rattle.c_texts.specs.declared.refusal.Refused.TheVariants.{Told}
+use Rattle.c_texts.specs.declared.status.Status.TheVariants.{OverLimit, BadNumber, Unwritable}
+use Rattle.c_texts.specs.Refusals.{refused_by, ended_text, or_plain}
 use Rattle.compilers.specs.declared.plans.origins.PlanWithOrigins.{PlanWithOrigins}
 use Rattle.command_groups.specs.Origins.{planning_with_origins}
 use Rattle.command_groups.specs.Plan.{PlanSetting}
 use Rattle.command_groups.specs.PlanWithin.{planning_with_origins_within}
-use Rattle.dry_runs.specs.declared.limit.LimitedFault.{LimitedFault}
 use Rattle.dry_runs.specs.Snapshot.{answer_in}
 use Rattle.canonical_names.specs.FurtherSuffixes.{all_suffixes}
 use Rattle.texts.specs.Results.{and_then}
@@ -14,17 +20,30 @@ use Rattle.plan_texts.specs.declared.format.Format.{Format}
 use Rattle.plan_texts.specs.declared.format.Format.TheVariants.{Json, Ninja, Shell, Text}
 use Rattle.plan_texts.specs.declared.refusal.Refusal.{Refusal}
 use Rattle.plan_texts.specs.Message.{message_of}
-use Rattle.c_texts.specs.declared.refusal.Refused.{Refused}
-use Rattle.c_texts.specs.declared.refusal.Refused.TheVariants.{Told}
-use Rattle.c_texts.specs.declared.status.Status.TheVariants.{BadNumber, Unwritable}
 use Rattle.c_texts.specs.Memory.{bytes_of}
 use Rattle.c_texts.specs.Outcomes.{Outcome}
-use Rattle.c_texts.specs.Refusals.{ended_text, or_plain}
 use Rattle.c_plans.specs.declared.plan_call.PlanCall.{PlanCall}
-use Rattle.c_plans.specs.Acceptance.{Accepted, accepted}
-use Rattle.c_plans.specs.Limits.{or_refused_within, within_limit, without_limit}
+use Rattle.c_plans.specs.Acceptance.{Accepted, accepted, Texts, if_flag}
 use Rattle.c_plans.specs.Places.{without_place}
-use Rattle.c_plans.specs.PlanCalls.{Texts, if_flag}
+
+-- what a call without a limit answers, as an answer of one with a limit
+abbrev pub without_limit : {T : Type 0} → Result T Fault → Result T LimitedFault
+without_limit (Ok x) = Ok x
+without_limit (Err fault) = Err (limited.Fault fault)
+
+-- one of two answers: the one without a limit if the limit is 0, else the one within it
+abbrev pub within_limit : {T : Type 0} → ℕ → T → T → T
+within_limit limit unlimited within = if limit == 0 then unlimited else within
+
+-- the refusal of a line that exceeds the limit
+abbrev pub over_limit : ℕ → ℕ → ℕ → Refused
+over_limit limit run line = Told OverLimit (line_text run line (codes ": over the limit of " ++ (decimal limit ++ codes " bytes")))
+
+-- what there is, or the refusal of a fault of reading within the limit
+abbrev pub or_refused_within : {T : Type 0} → ℕ → Result T LimitedFault → Result T Refused
+or_refused_within limit (Ok x) = Ok x
+or_refused_within limit (Err (limited.Fault fault)) = Err (refused_by fault)
+or_refused_within limit (Err (limited.TooLong run line)) = Err (over_limit limit run line)
 
 -- the form with this number
 abbrev pub form_of : ℕ → Option Format

@@ -16,7 +16,7 @@ use Rattle.c_plans.specs.declared.record.CommandRecord.{CommandRecord}
 use Rattle.c_plans.specs.declared.record.GroupRecord.{GroupRecord}
 use Rattle.c_plans.specs.declared.plan_entries.Shared.{Shared as HeldShared}
 use Rattle.c_plans.specs.declared.recorded.Entry.{Entry as HeldEntry}
-use Rattle.c_texts.specs.Outcomes.{Outcome, of_texts, with_texts}
+use Rattle.c_texts.specs.Outcomes.{Outcome, list_at, of_texts, with_texts}
 
 -- what the records say of a command, in a group or dropped, and which texts its variables are if it shares them. Its reason is 0 if it
 -- is in a group
@@ -57,7 +57,7 @@ shared_seen s = record { variables = map pair_of s.variables.now; texts = s.text
 
 -- these variables, whose texts come before all others
 abbrev pub shared_first : Variables → Shared
-shared_first variables = record { variables = variables; texts = record { offset = 0; length = length (variable_texts variables) } }
+shared_first variables = record { variables = variables; texts = list_at 0 (variable_texts variables) }
 
 -- whether variables are the same
 abbrev pub are_same : Variables → Variables → Bool
@@ -134,13 +134,13 @@ texts_of e = e.program ∷ e.cwd ∷ (e.arguments ++ own_texts e.shared e.variab
 
 -- which texts are its variables, if the first of its own would have this number
 abbrev pub variables_at : ℕ → Option Range → Variables → Range
-variables_at first None variables = record { offset = first; length = length (variable_texts variables) }
+variables_at first None variables = list_at first (variable_texts variables)
 variables_at first (Some shared) variables = shared
 
 -- a command's record, if the first of its texts has this number
 abbrev pub record_at : ℕ → Entry → CommandRecord
 record_at first e = record {
-  arguments = record { offset = first + 2; length = length e.arguments };
+  arguments = list_at (first + 2) e.arguments;
   variables = variables_at (first + 2 + length e.arguments) e.shared e.variables;
   program = first;
   cwd = first + 1;

@@ -1,5 +1,5 @@
--- A plan is read back from its records.
-use Rattle.std.specs.Prelude.{◌≡◌, ℕ, List, [], ◌∷◌, ◌==◌, not, nat_le, if◌then◌else◌, length, map, filter, take, drop, get_or, Some, None}
+-- A plan is read back from its records, and so is what there is to know of its commands.
+use Rattle.std.specs.Prelude.{◌≡◌, ℕ, List, [], ◌∷◌, ◌==◌, not, nat_le, if◌then◌else◌, length, map, filter, get_or, Some, None}
 use Rattle.compilers.specs.declared.command.Cacheable.{Cacheable}
 use Rattle.compilers.specs.declared.command.Cacheable.TheVariants.{Yes, No}
 use Rattle.compilers.specs.declared.plans.origins.Origin.{Origin}
@@ -9,15 +9,12 @@ use Rattle.compilers.specs.declared.plans.plan.NvccGeneratedSubcommand.{NvccGene
 use Rattle.compilers.specs.declared.plans.plan.Reason.{Reason}
 use Rattle.compilers.specs.declared.plans.plan.Reason.TheVariants.{NotCuda, NoCiccGroup, NoPtxasGroup, Superseded}
 use Rattle.compilers.specs.Listed.{listed}
-use Rattle.c_texts.specs.declared.memory.Range.{Range}
 use Rattle.c_plans.specs.declared.record.CommandRecord.{CommandRecord}
 use Rattle.c_plans.specs.declared.record.GroupRecord.{GroupRecord}
 use Rattle.c_texts.specs.Memory.{cut}
 use Rattle.c_plans.specs.Records.{Entry, Recorded, records_of}
-
--- the elements that a range names
-abbrev pub part : {X : Type 0} → List X → Range → List X
-part items range = take range.length (drop range.offset items)
+use Rattle.c_plans.specs.declared.record.StepRecord.{StepRecord}
+use Rattle.c_plans.specs.Steps.{Extra, Stepped, extras_of, steps_of}
 
 -- variables from their texts
 abbrev pub pairs_of : List (List ℕ) → List (List ℕ × List ℕ)
@@ -30,8 +27,8 @@ abbrev pub entry_in : List (List ℕ) → CommandRecord → Entry
 entry_in texts r = record {
   program = get_or texts r.program [];
   cwd = get_or texts r.cwd [];
-  arguments = part texts r.arguments;
-  variables = pairs_of (part texts r.variables);
+  arguments = cut texts r.arguments;
+  variables = pairs_of (cut texts r.variables);
   group = r.group;
   run = r.run;
   line = r.line;
@@ -61,7 +58,7 @@ origin_of e = record { line = e.line; run = e.run }
 abbrev pub plan_of : List GroupRecord → List Entry → PlanWithOrigins
 plan_of groups entries = record {
   plan = record {
-    groups = map (λ g. map command_of (part entries g.commands)) groups;
+    groups = map (λ g. map command_of (cut entries g.commands)) groups;
     dropped = map dropped_of (filter (λ e. not (e.reason == 0)) entries);
   };
   origins = map origin_of (filter (λ e. e.reason == 0) entries);
@@ -82,3 +79,24 @@ RecordsReadBack = (planned : PlanWithOrigins) → HasOrigins planned → plan_in
 -- two plans with the same records and texts are the same
 abbrev pub RecordsAreOneToOne : Type 0
 RecordsAreOneToOne = (one other : PlanWithOrigins) → HasOrigins one → HasOrigins other → records_of one ≡ records_of other → one ≡ other
+
+-- what a record says, by the texts and the numbers
+abbrev pub extra_in : List (List ℕ) → List ℕ → StepRecord → Extra
+extra_in texts numbers r = record {
+  needs = cut numbers r.needs;
+  files = record { reads = cut texts r.reads; writes = cut texts r.writes; may_write = cut texts r.may_write; complete = r.missing == 0 };
+  tool = r.tool;
+  missing = r.missing;
+}
+
+-- what all records say
+abbrev pub extras_in : Stepped → List Extra
+extras_in s = map (extra_in (map (cut s.recorded.0.1.1) s.recorded.0.1.0) s.numbers) s.steps
+
+-- the needs, files and tools of a plan's commands are read back from its records
+abbrev pub StepsReadBack : Type 0
+StepsReadBack = (planned : PlanWithOrigins) → extras_in (steps_of planned) ≡ extras_of planned.plan
+
+-- and so is the plan
+abbrev pub PlansReadBack : Type 0
+PlansReadBack = (planned : PlanWithOrigins) → HasOrigins planned → plan_in (steps_of planned).recorded ≡ planned

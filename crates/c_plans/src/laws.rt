@@ -2,7 +2,6 @@
 
 ghost use Rattle.c_plans.specs.LimitLaws as limits;
 ghost use Rattle.c_plans.specs.RecordsRead as read;
-ghost use Rattle.c_plans.specs.StepLaws as steps;
 
 /// A limit of 0 is none: planning and look-ups answer what they do without a limit.
 pub fn no_limit()
@@ -18,6 +17,6 @@ pub fn records_determine()
 
 /// The needs, files and tools of a plan's commands are read back from its records, and so is the plan.
 pub fn steps_read_back()
-    ensures steps { steps.StepsReadBack }
-    ensures plan { steps.PlansReadBack }
+    ensures steps { read.StepsReadBack }
+    ensures plan { read.PlansReadBack }
 {}

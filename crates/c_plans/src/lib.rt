@@ -6,25 +6,19 @@
 #![tactic(auto)]
 
 mod asking;
-mod fitness;
 pub mod laws;
 mod plan_call;
 mod plan_entries;
-mod planned_steps;
 mod planning;
 mod record;
 mod recorded;
 mod refused_at;
-mod renaming;
 mod stepped;
-mod steps;
 
-pub use asking::{asked_lookups, candidates, lookups_within, tried_paths};
+pub use asking::{asked_lookups, candidates, lookups_within, remap, remapped_words, tried_paths};
 pub use plan_call::{FoundProgram, PlanCall};
-pub use planned_steps::{call_steps, plan_steps};
-pub use planning::{plan, plan_text};
+pub use planning::{call_steps, plan, plan_steps, plan_text};
 pub use record::{CommandRecord, GroupRecord, PlaceRecord, StepRecord, StepsAnswer};
 pub use recorded::Recorded;
 pub use refused_at::RefusedAt;
-pub use renaming::{remap, remapped_words};
 pub use stepped::Stepped;

@@ -1,16 +1,18 @@
 //! What a caller passes for a plan, and whether it can be planned.
 
-ghost use Rattle.std.specs.Prelude.{◌≡◌, IfOk, option_copied};
+ghost use Rattle.std.specs.Prelude.{◌≡◌, IfOk, map, option_copied, vec_items};
 ghost use Rattle.std.specs.List.{list_all};
-ghost use Rattle.c_plans.specs.Acceptance as acceptance;
+ghost use Rattle.std.specs.Result.{result_map_both};
 ghost use Rattle.c_plans.specs.Places.{AnswersAt, plain_at};
-ghost use Rattle.c_plans.specs.PlanCalls as spec;
+ghost use Rattle.c_texts.specs.Memory.{bytes_of};
+ghost use Rattle.c_plans.specs.Acceptance as spec;
 
-use crate::fitness::odd_directory;
-use crate::refused_at::{RefusedAt, in_field, refuse_misfit};
+use crate::refused_at::{RefusedAt, in_field, told_at};
 use c_texts::{InputText, Refused, Status, Variable, text_of, variables_of, words_of};
+use canonical_names::is_plain;
 use compilers::compiler::NvccHostCompiler;
-use dry_runs::{Entry, Lookup, Snapshot};
+use compilers::plans::{NvccGeneratedSubcommand, Plan};
+use dry_runs::{Entry, Lookup, Snapshot, is_dry_run};
 use std::alloc::{AllocError, Global};
 use texts::text::Text;
 use texts::variables::Variables;
@@ -162,7 +164,7 @@ fn have_numbers(rows: &[FoundProgram<'_>]) -> bool
 
 // The host compiler of a call, or its first number without a meaning. Its flag and the numbers of its rows have one, too.
 fn host_in(call: &PlanCall<'_>) -> Result<NvccHostCompiler, RefusedAt>
-    ensures { AnswersAt result (acceptance.host_in call.now) }
+    ensures { AnswersAt result (spec.host_in call.now) }
 {
     let host = match call.host_compiler {
         0 => NvccHostCompiler::Gcc,
@@ -181,7 +183,7 @@ fn host_in(call: &PlanCall<'_>) -> Result<NvccHostCompiler, RefusedAt>
 
 // The texts of a call but those of its tables, or the first that isn't UTF-8.
 fn texts_in<'a>(call: &PlanCall<'a>) -> Result<Texts<'a>, RefusedAt>
-    ensures { AnswersAt (acceptance.texts_told result) (acceptance.texts_in call.now) }
+    ensures { AnswersAt (result_map_both spec.texts_seen (λ at. at) result) (spec.texts_in call.now) }
 {
     Ok(Texts {
         cwd: text_of(call.cwd.bytes).ok_or(refused_in(Status::NotUtf8, 3))?,
@@ -193,7 +195,7 @@ fn texts_in<'a>(call: &PlanCall<'a>) -> Result<Texts<'a>, RefusedAt>
 
 // Copies of the tables of a call, or the first that has a text that isn't UTF-8.
 fn tables_in(alloc: Global, cwd: &str, call: &PlanCall<'_>) -> Result<Tables, RefusedAt>
-    ensures { AnswersAt result (acceptance.tables_in cwd.now call.now) }
+    ensures { AnswersAt result (spec.tables_in cwd.now call.now) }
 {
     let suffixes = words_of(alloc, call.suffixes)?.ok_or(refused_in(Status::NotUtf8, 8))?;
     let variables = variables_of(alloc, call.variables)?.ok_or(refused_in(Status::NotUtf8, 7))?;
@@ -205,15 +207,105 @@ fn tables_in(alloc: Global, cwd: &str, call: &PlanCall<'_>) -> Result<Tables, Re
     })
 }
 
+// Whether a flag is one of those that nvcc's calls have.
+fn is_flag(flag: &str) -> bool
+    ensures { result ≡ spec.is_flag flag.now }
+{
+    matches!(
+        flag,
+        "" | "-c"
+            | "--compile"
+            | "-dc"
+            | "--device-c"
+            | "-dw"
+            | "--device-w"
+            | "-ptx"
+            | "--ptx"
+            | "-cubin"
+            | "--cubin"
+            | "-fatbin"
+            | "--fatbin"
+            | "-optix-ir"
+            | "--optix-ir"
+    )
+}
+
+/// Refuses texts that can't be the dry runs of a call, or a flag that is none of its options. One text can be both: nvcc generates no
+/// file for a C or C++ source, so it prints the same twice.
+pub(crate) fn check_texts(alloc: Global, call: &PlanCall<'_>, flag: &str) -> Result<(), RefusedAt>
+    ensures { AnswersAt result (spec.fitting_texts (bytes_of call.now.dry1) (bytes_of call.now.dry2) flag.now) }
+{
+    if !is_dry_run(call.dry1.bytes) {
+        let why = "the first text is no dry run: no line begins with \"#$ \"";
+        Err(told_at(alloc, Status::NoDryRun, 1, why)?)
+    } else if !is_dry_run(call.dry2.bytes) {
+        let why = "the second text is no dry run: no line begins with \"#$ \"";
+        Err(told_at(alloc, Status::NoDryRun, 2, why)?)
+    } else if !is_flag(flag) {
+        let why = "the flag isn't an option that says what nvcc makes";
+        Err(told_at(alloc, Status::NoDryRun, 5, why)?)
+    } else {
+        Ok(())
+    }
+}
+
+fn are_empty(groups: &[Vec<NvccGeneratedSubcommand>]) -> bool
+    ensures { result ≡ spec.are_empty (map vec_items groups.now) }
+{
+    for group in groups {
+        if !group.is_empty() {
+            return false;
+        }
+    }
+    true
+}
+
+/// Refuses a plan that isn't that of a call: it has no command.
+pub(crate) fn check_plan(alloc: Global, plan: &Plan) -> Result<(), RefusedAt>
+    ensures { AnswersAt result (spec.fitting_plan plan.now) }
+{
+    if are_empty(plan.groups.as_slice()) {
+        let why = "the plan has no command";
+        Err(told_at(alloc, Status::NoDryRun, 0, why)?)
+    } else {
+        Ok(())
+    }
+}
+
+/// Refuses a working directory that isn't absolute and plain.
+pub(crate) fn check_cwd(alloc: Global, cwd: &str) -> Result<(), RefusedAt>
+    ensures { AnswersAt result (spec.plain_cwd cwd.now) }
+{
+    if is_plain(cwd) {
+        return Ok(());
+    }
+    let why = "the working directory has to be absolute, without an empty part, . or ..";
+    Err(told_at(alloc, Status::OddDirectory, 3, why)?)
+}
+
+/// Refuses the first directory of a call that isn't absolute and plain. Two commands are taken to use one file if its paths are the same
+/// text, so a plan for a directory that has several texts would lack needs.
+pub(crate) fn check_directories(alloc: Global, cwd: &str, tmp: &str) -> Result<(), RefusedAt>
+    ensures { AnswersAt result (spec.plain_directories cwd.now tmp.now) }
+{
+    check_cwd(alloc, cwd)?;
+    if is_plain(tmp) {
+        return Ok(());
+    }
+    let why =
+        "the directory for temporary files has to be absolute, without an empty part, . or ..";
+    Err(told_at(alloc, Status::OddDirectory, 4, why)?)
+}
+
 /// What a call says, or why it is refused before its dry runs are read. A number without a meaning is the first refusal, then a text that
 /// isn't UTF-8, then a directory that isn't absolute and plain.
 pub fn accept<'a>(alloc: Global, call: &PlanCall<'a>) -> Result<Accepted<'a>, RefusedAt>
-    ensures { AnswersAt (acceptance.answer_seen result) (acceptance.accepted call.now) }
+    ensures { AnswersAt (result_map_both spec.accepted_seen (λ at. at) result) (spec.accepted call.now) }
 {
     let host = host_in(call)?;
     let texts = texts_in(call)?;
     let tables = tables_in(alloc, texts.cwd, call)?;
-    refuse_misfit(alloc, odd_directory(texts))?;
+    check_directories(alloc, texts.cwd, texts.tmp)?;
     Ok(Accepted {
         host,
         texts,

@@ -10,7 +10,7 @@ ghost use Rattle.c_plans.specs.Records as spec;
 
 use crate::record::GroupRecord;
 use crate::recorded::{Entry, Recorded};
-use c_texts::Range;
+use c_texts::{Outcome, Range};
 use compilers::command::Cacheable;
 use compilers::plans::{
     Dropped, ListedCommand, NvccGeneratedSubcommand, Origin, PlanWithOrigins, Reason,
@@ -78,11 +78,7 @@ fn command_entry<'a>(
             Cacheable::Yes => 1,
             Cacheable::No => 0,
         },
-        shared: if are_same(command.env_vars.as_slice(), shared.variables) {
-            Some(shared.texts)
-        } else {
-            None
-        },
+        shared: are_same(command.env_vars.as_slice(), shared.variables).then_some(shared.texts),
     }
 }
 
@@ -200,13 +196,11 @@ fn push_plan(
 pub fn records_of(alloc: Global, planned: &PlanWithOrigins) -> Result<Recorded, AllocError>
     ensures { IfOk result (λ recorded. recorded ≡ spec.records_of planned.now) }
 {
-    let mut recorded = Recorded::new(alloc);
-    match push_plan(alloc, &mut recorded, planned) {
-        Ok(()) => Ok(recorded),
-        Err(fault) => {
-            // Dropped by a call: see "Explicit drops" in docs/ARCHITECTURE.md.
-            drop(recorded);
-            Err(fault)
-        }
-    }
+    let mut recorded = Recorded {
+        outcome: Outcome::new(alloc),
+        groups: Vec::new(alloc),
+        commands: Vec::new(alloc),
+    };
+    push_plan(alloc, &mut recorded, planned)?;
+    Ok(recorded)
 }

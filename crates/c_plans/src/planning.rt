@@ -1,11 +1,14 @@
-//! Planning the two dry runs of a call, within its limit.
+//! Planning the two dry runs of a call, within its limit: as a text, or for a program that runs the commands.
+//!
+//! Owners are dropped by a call: see "Explicit drops" in docs/ARCHITECTURE.md.
 
 ghost use Rattle.std.specs.Prelude.{◌≡◌, List, ℕ, Result};
-ghost use Rattle.c_plans.specs.Acceptance.{accepted_of, accepted_seen};
-ghost use Rattle.c_plans.specs.Limits as limits;
-ghost use Rattle.c_plans.specs.Limits.{within_limit, without_limit};
-ghost use Rattle.c_plans.specs.PlanCalls.{texts_seen};
+ghost use Rattle.c_plans.specs.Acceptance.{accepted_of, accepted_seen, texts_seen};
+ghost use Rattle.c_plans.specs.Planning.{within_limit, without_limit};
+ghost use Rattle.c_plans.specs.Places.{AnswersAt};
+ghost use Rattle.c_plans.specs.PlanSteps as stepping;
 ghost use Rattle.c_plans.specs.Planning as spec;
+ghost use Rattle.c_plans.specs.Steps.{GivesSteps};
 ghost use Rattle.c_texts.specs.Outcomes.{GivesText};
 ghost use Rattle.c_texts.specs.Refusals.{Answers};
 ghost use Rattle.canonical_names.specs.FurtherSuffixes.{all_suffixes};
@@ -14,15 +17,20 @@ ghost use Rattle.dry_runs.specs.declared.limit.LimitedFault.{LimitedFault};
 ghost use Rattle.plan_texts.specs.Answers as scripts;
 ghost use Rattle.plan_texts.specs.declared.refusal.Refusal.{Refusal};
 
-use crate::plan_call::{Accepted, PlanCall, Tables, Texts, accept, if_flag};
-use c_texts::{Refused, Status, TextAnswer, refused_by, write_text};
+use crate::plan_call::{
+    Accepted, PlanCall, Tables, Texts, accept, check_plan, check_texts, if_flag,
+};
+use crate::record::{CommandRecord, GroupRecord, StepRecord, StepsAnswer};
+use crate::refused_at::{RefusedAt, message_at, place_of, status_within};
+use crate::stepped::{Stepped, steps_of, tell_refusal, tell_steps};
+use c_texts::{Range, Refused, Status, TextAnswer, refused_by, write_text};
 use canonical_names::{Suffixes, all_suffixes};
 use command_groups::{CallToPlan, plan_with_origins, plan_with_origins_within};
 use compilers::compiler::NvccHostCompiler;
 use compilers::plans::PlanWithOrigins;
 use dry_runs::LimitedFault;
 use plan_texts::{Format, Refusal};
-use std::alloc::Global;
+use std::alloc::{AllocError, Global};
 use texts::fault::Fault;
 use texts::text::Text;
 
@@ -64,8 +72,7 @@ fn planned_with(
     if call.limit != 0 {
         return plan_with_origins_within(alloc, dry1, dry2, &nvcc_call, which, call.limit);
     }
-    let planned = plan_with_origins(alloc, dry1, dry2, &nvcc_call, which)?;
-    Ok(planned)
+    Ok(plan_with_origins(alloc, dry1, dry2, &nvcc_call, which)?)
 }
 
 /// The plan of a call, or the fault of a plan that there isn't.
@@ -83,7 +90,6 @@ pub fn planned(
         further => all_suffixes(alloc, further)?,
     };
     let planned = planned_with(alloc, call, host, texts, tables, &suffixes);
-    // Dropped by a call: see "Explicit drops" in docs/ARCHITECTURE.md.
     drop(suffixes);
     planned
 }
@@ -113,7 +119,6 @@ fn text_by(
     let plan = or_refused_within(alloc, call.limit, planned(alloc, call, accepted))?;
     let texts = accepted.texts;
     let text = plan_formats::plan_text(alloc, form, texts.cwd, texts.tmp, texts.flag, &plan);
-    // Dropped by a call: see "Explicit drops" in docs/ARCHITECTURE.md.
     drop(plan);
     written(alloc, text)
 }
@@ -125,7 +130,6 @@ pub fn plan_text(alloc: Global, call: &PlanCall<'_>, form: u32) -> Result<Text, 
     let form = form_of(form).ok_or(Refused::Plain(Status::BadNumber))?;
     let accepted = accept(alloc, call)?;
     let text = text_by(alloc, call, form, &accepted);
-    // Dropped by a call: see "Explicit drops" in docs/ARCHITECTURE.md.
     drop(accepted);
     text
 }
@@ -148,7 +152,7 @@ pub(crate) fn or_refused_within<T: Drop>(
     limit: usize,
     answer: Result<T, LimitedFault>,
 ) -> Result<T, Refused>
-    ensures { (expected : Result T LimitedFault) → UnlessMemoryWithin answer expected → Answers result (limits.or_refused_within limit expected) }
+    ensures { (expected : Result T LimitedFault) → UnlessMemoryWithin answer expected → Answers result (spec.or_refused_within limit expected) }
 {
     match answer {
         Ok(found) => Ok(found),
@@ -158,5 +162,78 @@ pub(crate) fn or_refused_within<T: Drop>(
             let why = format!(in alloc; "run {run} line {line}: over the limit of {limit} bytes")?;
             Err(Refused::Told(Status::OverLimit, Text::new(why)))
         }
+    }
+}
+
+// The plan of a call that is accepted, or the refusal of the fault of a plan that there isn't.
+fn plan_at(
+    alloc: Global,
+    call: &PlanCall<'_>,
+    accepted: &Accepted<'_>,
+) -> Result<PlanWithOrigins, RefusedAt>
+    ensures { AnswersAt result (stepping.plan_at call.now (accepted_seen accepted.now)) }
+{
+    match planned(alloc, call, accepted) {
+        Ok(plan) => Ok(plan),
+        Err(LimitedFault::Fault(Fault::Memory)) => Err(RefusedAt::from(AllocError)),
+        Err(fault) => {
+            let place = place_of(alloc, call, accepted, &fault)?;
+            let text = message_at(alloc, call.limit, place, &fault)?;
+            let why = Refused::Told(status_within(&fault), Text::new(text));
+            Err(RefusedAt { place, why })
+        }
+    }
+}
+
+fn steps_by(
+    alloc: Global,
+    call: &PlanCall<'_>,
+    accepted: &Accepted<'_>,
+) -> Result<Stepped, RefusedAt>
+    ensures { AnswersAt result (stepping.steps_by call.now (accepted_seen accepted.now)) }
+{
+    check_texts(alloc, call, accepted.texts.flag)?;
+    let plan = plan_at(alloc, call, accepted)?;
+    check_plan(alloc, &plan.plan)?;
+    let steps = steps_of(alloc, &plan);
+    drop(plan);
+    Ok(steps?)
+}
+
+/// What [`plan_steps`] tells of a call.
+pub fn call_steps(alloc: Global, call: &PlanCall<'_>) -> Result<Stepped, RefusedAt>
+    ensures { AnswersAt result (stepping.call_steps call.now) }
+{
+    let accepted_call = accept(alloc, call)?;
+    let steps = steps_by(alloc, call, &accepted_call);
+    drop(accepted_call);
+    steps
+}
+
+/// Plans two dry runs of one `nvcc` call, as `plan_with_origins`, and writes the plan as records: its groups, its commands (those of the
+/// groups in plan order, then those that it dropped), and their texts. For each command of a group it writes which commands it needs,
+/// which files it reads and writes, and which tool it runs.
+///
+/// A number without a meaning is the first refusal, then a text that isn't UTF-8, then a directory that isn't absolute and plain, then
+/// texts that can't be the dry runs of a call, or a flag that can't be its option. Then come the faults of the suffixes, of the first run
+/// and of the second, and last a plan without a command. A line that exceeds the limit is a fault of its run. The answer says where the
+/// call is refused.
+pub fn plan_steps(
+    alloc: Global,
+    call: &PlanCall<'_>,
+    groups: &mut [GroupRecord],
+    commands: &mut [CommandRecord],
+    steps: &mut [StepRecord],
+    numbers: &mut [usize],
+    ranges: &mut [Range],
+    out: &mut [u8],
+) -> StepsAnswer
+    ensures { GivesSteps (stepping.plan_steps call.now) result
+        (record { groups = groups.old; commands = commands.old; steps = steps.old; numbers = numbers.old; ranges = ranges.old; bytes = out.old })
+        (record { groups = groups.new; commands = commands.new; steps = steps.new; numbers = numbers.new; ranges = ranges.new; bytes = out.new }) }
+{
+    match call_steps(alloc, call) {
+        Ok(stepped) => tell_steps(&stepped, groups, commands, steps, numbers, ranges, out),
+        Err(refused) => tell_refusal(&refused, out),
     }
 }

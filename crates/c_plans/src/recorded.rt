@@ -2,12 +2,12 @@
 
 ghost use Rattle.std.specs.Prelude.{◌≡◌, ◌∷◌, [], ◌++◌, IfOk, OnOk, length, map};
 ghost use Rattle.texts.specs.Variables.{pair_of};
-ghost use Rattle.c_texts.specs.Outcomes.{of_texts, with_texts};
+ghost use Rattle.c_texts.specs.Outcomes.{list_at, with_texts};
 ghost use Rattle.c_plans.specs.Records as spec;
 
 use crate::record::{CommandRecord, GroupRecord};
 use c_texts::{Outcome, Range};
-use std::alloc::{AllocError, Global};
+use std::alloc::AllocError;
 use std::marker::Model;
 
 /// Texts, and the records that say what they are.
@@ -58,8 +58,7 @@ fn push_pairs(texts: &mut Outcome, variables: &[(String, String)]) -> Result<(),
 // The same, and says which they are.
 fn push_variables(texts: &mut Outcome, variables: &[(String, String)]) -> Result<Range, AllocError>
     ensures texts { OnOk result (texts.new ≡ with_texts texts.old (spec.variable_texts (map pair_of variables.now))) }
-    ensures range { IfOk result (λ range. range
-        ≡ record { offset = length texts.old.1.0; length = length (spec.variable_texts (map pair_of variables.now)) }) }
+    ensures range { IfOk result (λ range. range ≡ list_at (length texts.old.1.0) (spec.variable_texts (map pair_of variables.now))) }
 {
     let offset = texts.count();
     push_pairs(texts, variables)?;
@@ -106,22 +105,10 @@ fn push_texts(texts: &mut Outcome, entry: Entry<'_>) -> Result<CommandRecord, Al
 }
 
 impl Recorded {
-    /// Success, so far without records.
-    pub(crate) fn new(alloc: Global) -> Recorded
-        ensures { result ≡ spec.without_records (of_texts []) }
-    {
-        Recorded {
-            outcome: Outcome::new(alloc),
-            groups: Vec::new(alloc),
-            commands: Vec::new(alloc),
-        }
-    }
-
     /// Adds the texts of variables that commands share, and says which they are.
     pub(crate) fn share(&mut self, variables: &[(String, String)]) -> Result<Range, AllocError>
         ensures texts { OnOk result (self.new ≡ (with_texts self.old.0 (spec.variable_texts (map pair_of variables.now)), self.old.1)) }
-        ensures range { IfOk result (λ range. range
-            ≡ record { offset = length self.old.0.1.0; length = length (spec.variable_texts (map pair_of variables.now)) }) }
+        ensures range { IfOk result (λ range. range ≡ list_at (length self.old.0.1.0) (spec.variable_texts (map pair_of variables.now))) }
     {
         push_variables(&mut self.outcome, variables)
     }

@@ -1,8 +1,8 @@
 //! Why a call is refused, and where: a field, or where planning fails.
 
-ghost use Rattle.std.specs.Prelude.{◌≡◌, IfOk, option_map, string_bytes};
+ghost use Rattle.std.specs.Prelude.{◌≡◌, IfOk, string_bytes};
 ghost use Rattle.c_plans.specs.Acceptance.{accepted_seen};
-ghost use Rattle.c_plans.specs.FaultPlaces as fault_places;
+ghost use Rattle.c_plans.specs.PlanSteps as fault_places;
 ghost use Rattle.c_plans.specs.Places as spec;
 
 use crate::plan_call::{Accepted, PlanCall};
@@ -12,13 +12,6 @@ use dry_runs::{LimitedFault, parse_dry_run};
 use std::alloc::{AllocError, Global};
 use texts::fault::Fault;
 use texts::text::Text;
-
-/// No place: the call isn't refused, or not because of one field.
-pub fn nowhere() -> PlaceRecord
-    ensures { result ≡ spec.nowhere }
-{
-    in_field(0)
-}
 
 /// The field of the call with a number.
 pub fn in_field(field: u32) -> PlaceRecord
@@ -47,7 +40,7 @@ impl From<AllocError> for RefusedAt {
 
     fn from(_error: AllocError) -> RefusedAt {
         RefusedAt {
-            place: nowhere(),
+            place: PlaceRecord::default(),
             why: Refused::Memory,
         }
     }
@@ -63,41 +56,18 @@ impl From<RefusedAt> for Refused {
     }
 }
 
-/// A field of a call that a plan can't be made for, the status of its refusal, and what to say of it.
-#[derive(Clone, Copy)]
-pub struct Misfit {
-    /// The status of the refusal.
-    pub status: Status,
-    /// The field's number, as a place has it.
-    pub field: u32,
-    /// What is wrong with it, in words for people.
-    pub why: &'static str,
-}
-
-impl Misfit {
-    /// Its refusal.
-    pub(crate) fn refusal(self, alloc: Global) -> Result<Refused, AllocError>
-        ensures { IfOk result (λ refused. refused ≡ spec.misfit_refusal (spec.misfit_seen self)) }
-    {
-        let why = Text::copy_of(alloc, self.why)?;
-        Ok(Refused::Told(self.status, why))
-    }
-}
-
-/// Refuses a call for a misfit, if there is one.
-pub fn refuse_misfit(alloc: Global, misfit: Option<Misfit>) -> Result<(), RefusedAt>
-    ensures { spec.AnswersAt result (spec.unless_misfit (option_map spec.misfit_seen misfit)) }
+/// The refusal of a field, with what is wrong with it in words for people.
+pub(crate) fn told_at(
+    alloc: Global,
+    status: Status,
+    field: u32,
+    why: &'static str,
+) -> Result<RefusedAt, AllocError>
+    ensures { IfOk result (λ at. at ≡ spec.told_at status field why.now) }
 {
-    match misfit {
-        None => Ok(()),
-        Some(misfit) => {
-            let why = misfit.refusal(alloc)?;
-            Err(RefusedAt {
-                place: in_field(misfit.field),
-                why,
-            })
-        }
-    }
+    let why = Refused::Told(status, Text::copy_of(alloc, why)?);
+    let place = in_field(field);
+    Ok(RefusedAt { place, why })
 }
 
 // The line of a dry run with a number, which counts from 0 here and from 1 in the place.
@@ -141,7 +111,7 @@ fn first_bad_line(
     }
     match bad_line_of(alloc, accepted, 2, call.dry2.bytes)? {
         Some(line) => Ok(in_line(2, line)),
-        None => Ok(nowhere()),
+        None => Ok(PlaceRecord::default()),
     }
 }
 
@@ -162,7 +132,7 @@ pub(crate) fn place_of(
         | LimitedFault::Fault(Fault::NoPath { run, line }) => Ok(in_line(*run, *line)),
         LimitedFault::Fault(Fault::NotFound { .. }) => first_bad_line(alloc, call, accepted),
         LimitedFault::Fault(Fault::BadSuffixes) => Ok(in_field(8)),
-        LimitedFault::Fault(_) => Ok(nowhere()),
+        LimitedFault::Fault(_) => Ok(PlaceRecord::default()),
     }
 }
 
@@ -184,24 +154,20 @@ fn cause_of(alloc: Global, limit: usize, fault: &LimitedFault) -> Result<String,
         LimitedFault::TooLong { .. } => {
             format!(in alloc; "with this line, the dry run makes over {limit} bytes")
         }
-        LimitedFault::Fault(Fault::NotUtf8 { .. }) => {
-            String::from_str(alloc, "the line isn't UTF-8")
-        }
-        LimitedFault::Fault(Fault::BadShell { .. }) => String::from_str(
-            alloc,
-            "the command has an open quote or ends in a backslash",
-        ),
-        LimitedFault::Fault(Fault::EmptyCommand { .. }) => {
-            String::from_str(alloc, "the command has no words")
-        }
-        LimitedFault::Fault(Fault::NoPath { .. }) => {
-            String::from_str(alloc, "no line before this one sets PATH")
-        }
-        LimitedFault::Fault(Fault::NotFound { program }) => {
-            let program = program.as_str();
-            format!(in alloc; "cannot find {program}")
-        }
-        LimitedFault::Fault(fault) => fault.message(alloc),
+        LimitedFault::Fault(fault) => match fault {
+            Fault::NotUtf8 { .. } => String::from_str(alloc, "the line isn't UTF-8"),
+            Fault::BadShell { .. } => String::from_str(
+                alloc,
+                "the command has an open quote or ends in a backslash",
+            ),
+            Fault::EmptyCommand { .. } => String::from_str(alloc, "the command has no words"),
+            Fault::NoPath { .. } => String::from_str(alloc, "no line before this one sets PATH"),
+            Fault::NotFound { program } => {
+                let program = program.as_str();
+                format!(in alloc; "cannot find {program}")
+            }
+            fault => fault.message(alloc),
+        },
     }
 }
 

@@ -17,7 +17,7 @@ use Rattle.c_texts.specs.declared.schedule_call.ScheduleCall.{ScheduleCall}
 use Rattle.c_texts.specs.declared.schedule_number.Reason.{Reason}
 use Rattle.c_texts.specs.declared.schedule_number.Reason.TheVariants as reasons
 use Rattle.c_texts.specs.ScheduleCalls.{needs_of, priority_of, states_of, seen, is_numbered, is_schedule, answered, in_order, if_outcome}
-use Rattle.c_texts.specs.EventLaws.{Begins, Starts, Ends}
+use Rattle.c_texts.specs.Laws.{Begins, Starts, Ends}
 use Rattle.c_texts.specs.ScheduleNumbers.{state_of, is_state, after_failure_of, is_after_failure, outcome_of}
 
 -- Why a call is accepted.

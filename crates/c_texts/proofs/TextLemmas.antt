@@ -1,13 +1,8 @@
 -- Texts behind other texts.
-use Rattle.std.proofs.Common.{◌≡◌, ◌++◌, ◌+◌, ◌∷◌, [], ℕ, suc, List, map, length, refl, sym, ap, ◌∙◌, arith, length-append, append_assoc}
+use Rattle.std.proofs.Common.{◌≡◌, ◌++◌, ◌+◌, ◌∷◌, [], ℕ, suc, List, length, refl, sym, ap, ◌∙◌, arith, length-append, append_assoc}
 use Rattle.std.specs.List.{concat}
 use Rattle.c_texts.specs.Memory.{ranges_at}
 use Rattle.c_texts.specs.Outcomes.{Outcome, with_texts}
-
--- a list is as long as one that was made of it
-pub mapped-length : {X Y : Type 0} (f : X → Y) (xs : List X) → length (map f xs) ≡ length xs
-mapped-length f [] = refl
-mapped-length f (x ∷ xs) = ap suc (mapped-length f xs)
 
 -- there are as many ranges as texts
 pub ranges-length : (first : ℕ) (texts : List (List ℕ)) → length (ranges_at first texts) ≡ length texts

@@ -1,5 +1,3 @@
-pub mod EventLaws
-pub mod Failures
 pub mod KeyCalls
 pub mod Laws
 pub mod Memory
@@ -10,6 +8,3 @@ pub mod ScheduleCalls
 pub mod ScheduleNumbers
 pub mod Shell
 pub mod Statuses
-pub mod Tools
-pub mod Variables
-pub mod Version

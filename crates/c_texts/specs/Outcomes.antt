@@ -6,12 +6,12 @@ use Rattle.c_texts.specs.declared.memory.TextAnswer.{TextAnswer}
 use Rattle.c_texts.specs.declared.memory.ListAnswer.{ListAnswer}
 use Rattle.c_texts.specs.declared.status.Status.{Status}
 use Rattle.c_texts.specs.declared.status.Status.TheVariants.{Memory, BadNumber}
-use Rattle.c_texts.specs.Memory.{Joined, joined, ranges_at, fits, filled}
+use Rattle.c_texts.specs.Memory.{joined, ranges_at, fits, filled}
 use Rattle.c_texts.specs.Statuses as statuses
 
 -- what a call ends with: a status, and texts one behind the other
 abbrev pub Outcome : Type 0
-Outcome = ℤ × Joined
+Outcome = ℤ × (List Range × List ℕ)
 
 -- texts that the caller asked for
 abbrev pub of_texts : List (List ℕ) → Outcome
@@ -21,17 +21,17 @@ of_texts texts = (pos 0, joined texts)
 abbrev pub with_texts : Outcome → List (List ℕ) → Outcome
 with_texts outcome texts = (outcome.0, (outcome.1.0 ++ ranges_at (length outcome.1.1) texts, outcome.1.1 ++ concat texts))
 
+-- which texts a list is, if its first one has this number
+abbrev pub list_at : ℕ → List (List ℕ) → Range
+list_at first texts = record { offset = first; length = length texts }
+
 -- one text that the caller asked for
 abbrev pub of_text : List ℕ → Outcome
 of_text text = (pos 0, ([], text))
 
--- a refusal with a text of its own
-abbrev pub refused_with : Status → List ℕ → Outcome
-refused_with status message = (statuses.number status, ([], message))
-
--- a refusal, with its text
+-- a refusal, with the text of its status
 abbrev pub refused : Status → Outcome
-refused status = refused_with status (statuses.text status)
+refused status = (statuses.number status, ([], statuses.text status))
 
 -- the text of a number
 abbrev pub described : Option Status → Outcome

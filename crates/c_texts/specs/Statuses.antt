@@ -1,5 +1,5 @@
--- The statuses of calls.
-use Rattle.std.specs.Prelude.{ℕ, ℤ, pos, negsuc, ◌==◌, if◌then◌else◌, List, Option, Some, None, codes}
+-- The statuses of calls, and the numbers of the library.
+use Rattle.std.specs.Prelude.{ℕ, ℤ, pos, negsuc, List, [], ◌∷◌, slice_get, Option, None, codes}
 use Rattle.c_texts.specs.declared.status.Status.{Status}
 use Rattle.c_texts.specs.declared.status.Status.TheVariants.{Success, Memory, NotUtf8, BadNumber, OpenQuote, BadDryRun, NotFound, BadSuffixes, Unwritable, BadLine, ToNvcc, OverLimit, NoDryRun, OddDirectory}
 
@@ -20,28 +20,15 @@ number OverLimit = pos 11
 number NoDryRun = pos 12
 number OddDirectory = pos 13
 
--- the status with this number, if it isn't negative
-abbrev pub with_natural : ℕ → Option Status
-with_natural n =
-    if n == 0 then Some Success
-    else if n == 1 then Some Memory
-    else if n == 2 then Some NotUtf8
-    else if n == 3 then Some BadNumber
-    else if n == 4 then Some OpenQuote
-    else if n == 5 then Some BadDryRun
-    else if n == 6 then Some NotFound
-    else if n == 7 then Some BadSuffixes
-    else if n == 8 then Some Unwritable
-    else if n == 9 then Some BadLine
-    else if n == 10 then Some ToNvcc
-    else if n == 11 then Some OverLimit
-    else if n == 12 then Some NoDryRun
-    else if n == 13 then Some OddDirectory
-    else None
+-- all statuses, in the order of their numbers
+abbrev pub statuses : List Status
+statuses =
+    Success ∷ Memory ∷ NotUtf8 ∷ BadNumber ∷ OpenQuote ∷ BadDryRun ∷ NotFound ∷ BadSuffixes ∷ Unwritable ∷ BadLine ∷ ToNvcc ∷ OverLimit
+    ∷ NoDryRun ∷ OddDirectory ∷ []
 
 -- the status with this number
 abbrev pub with_number : ℤ → Option Status
-with_number (pos n) = with_natural n
+with_number (pos n) = slice_get statuses n
 with_number (negsuc n) = None
 
 -- what a status means
@@ -60,3 +47,10 @@ text ToNvcc = codes "the line goes to nvcc"
 text OverLimit = codes "a dry run exceeds the limit"
 text NoDryRun = codes "the texts are not the dry runs of a call"
 text OddDirectory = codes "a directory is not absolute and plain"
+
+abbrev pub abi_version : ℕ
+abi_version = 1
+
+-- the text of the file VERSION
+abbrev pub version_text : List ℕ
+version_text = codes "0.1.0"

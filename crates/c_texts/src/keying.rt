@@ -1,19 +1,14 @@
-//! The key of a command, as a call.
+//! The key of a command, as a call, and the numbers of the programs that commands run.
 
 ghost use Rattle.std.specs.Prelude.{◌≡◌, map, IfOk, option_map};
-ghost use Rattle.c_texts.specs.Memory.{bytes_of};
 ghost use Rattle.c_texts.specs.Outcomes.{GivesText};
 ghost use Rattle.c_texts.specs.Refusals.{Answers};
-ghost use Rattle.c_texts.specs.Variables.{pair_of};
-ghost use Rattle.command_keys.specs.Keys.{shown, shown_variable};
 ghost use Rattle.c_texts.specs.KeyCalls as spec;
 
-use crate::memory::{InputText, TextAnswer};
+use crate::memory::{InputText, TextAnswer, Variable};
 use crate::outcome::tell_text;
 use crate::refusal::Refused;
 use crate::status::Status;
-use crate::tool::program_of;
-use crate::variables::Variable;
 use command_keys::{MOST_ROOTS, tool_variables};
 use compilers::plans::Program;
 use std::alloc::{AllocError, Global};
@@ -36,15 +31,40 @@ pub struct KeyCall<'a> {
     pub reserved: u32,
 }
 
+/// The number of a program.
+pub fn tool_number(program: Program) -> u32
+    ensures { result ≡ spec.tool_number program }
+{
+    match program {
+        Program::Cicc => 0,
+        Program::Ptxas => 1,
+        Program::Cudafe => 2,
+        Program::Fatbinary => 6,
+        Program::Nvlink => 7,
+        Program::Other => 8,
+    }
+}
+
+/// The program with a number.
+pub fn program_of(number: u32) -> Option<Program>
+    ensures { result ≡ spec.program_of number }
+{
+    match number {
+        0 => Some(Program::Cicc),
+        1 => Some(Program::Ptxas),
+        2 => Some(Program::Cudafe),
+        6 => Some(Program::Fatbinary),
+        7 => Some(Program::Nvlink),
+        8 => Some(Program::Other),
+        _ => None,
+    }
+}
+
 // Texts of the caller.
 fn texts_of<'a>(alloc: Global, texts: &[InputText<'a>]) -> Result<Vec<&'a [u8]>, AllocError>
-    ensures { IfOk result (λ list. map shown list.items ≡ map bytes_of texts.now) }
+    ensures { IfOk result (λ list. list.items ≡ map (λ text. text.bytes) texts.now) }
 {
-    let mut list = Vec::with_capacity(alloc, texts.len())?;
-    for text in texts {
-        list.push(text.bytes)?;
-    }
-    Ok(list)
+    texts.iter().map(|text| text.bytes).collect(alloc)
 }
 
 // Variables of the caller.
@@ -52,13 +72,11 @@ fn variables_of<'a>(
     alloc: Global,
     rows: &[Variable<'a>],
 ) -> Result<Vec<(&'a [u8], &'a [u8])>, AllocError>
-    ensures { IfOk result (λ list. map shown_variable list.items ≡ map pair_of rows.now) }
+    ensures { IfOk result (λ list. list.items ≡ map (λ row. (row.name.bytes, row.value.bytes)) rows.now) }
 {
-    let mut list = Vec::with_capacity(alloc, rows.len())?;
-    for row in rows {
-        list.push((row.name.bytes, row.value.bytes))?;
-    }
-    Ok(list)
+    rows.iter()
+        .map(|row| (row.name.bytes, row.value.bytes))
+        .collect(alloc)
 }
 
 // The key of a call's command, if no text of it contains NUL.

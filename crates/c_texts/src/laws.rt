@@ -1,6 +1,5 @@
 //! What holds of all answers.
 
-ghost use Rattle.c_texts.specs.EventLaws as events;
 ghost use Rattle.c_texts.specs.Laws as laws;
 
 /// The ranges of an answer cut its bytes into exactly its texts.
@@ -24,7 +23,7 @@ pub fn whole_answers()
 /// What calls do that are accepted: making a schedule gives that of a good graph in which nothing has started, and noting a
 /// start or an end is the event of `schedules`. So all laws of `schedules` hold of the events that a caller notes.
 pub fn events()
-    ensures begins { events.Begins }
-    ensures starts { events.Starts }
-    ensures ends { events.Ends }
+    ensures begins { laws.Begins }
+    ensures starts { laws.Starts }
+    ensures ends { laws.Ends }
 {}

@@ -9,7 +9,6 @@
 //! and `write_list` tell it to the caller. The crate `zigrunk_c` exports all calls to C. A program in Rust takes the answer itself.
 #![tactic(auto)]
 
-mod failure;
 mod keying;
 pub mod laws;
 mod memory;
@@ -22,21 +21,16 @@ mod schedule_ready;
 mod schedule_state;
 mod shell;
 mod status;
-mod tool;
-mod variables;
-mod versions;
 
-pub use failure::{or_refused, refused_by, status_of};
-pub use keying::{KeyCall, command_key};
-pub use memory::{InputText, ListAnswer, Range, TextAnswer, text_of, words_of};
+pub use keying::{KeyCall, command_key, program_of, tool_number};
+pub use memory::{
+    InputText, ListAnswer, Range, TextAnswer, Variable, text_of, variables_of, words_of,
+};
 pub use outcome::{Outcome, tell_text, write_list, write_text};
-pub use refusal::Refused;
+pub use refusal::{Refused, or_refused, refused_by, status_of};
 pub use schedule_call::{
     ProgressAnswer, ScheduleAnswer, ScheduleCall, ScheduledCommand, ToldAnswer,
 };
 pub use schedule_number::Reason;
 pub use shell::{quote, quoted_text, split, split_words};
-pub use status::{Status, message};
-pub use tool::{program_of, tool_number};
-pub use variables::{Variable, variables_of};
-pub use versions::{abi_version, version};
+pub use status::{Status, abi_version, message, version};

@@ -5,6 +5,7 @@ ghost use Rattle.std.specs.Str.{is_utf8};
 ghost use Rattle.c_texts.specs.Memory as spec;
 
 use std::alloc::{AllocError, Global};
+use texts::variables::Variables;
 use texts::words::Words;
 
 /// A text of the caller, as its bytes. In C: a pointer and a length.
@@ -13,6 +14,16 @@ use texts::words::Words;
 pub struct InputText<'a> {
     /// The text's bytes.
     pub bytes: &'a [u8],
+}
+
+/// An environment variable.
+#[repr(C)]
+#[derive(Clone, Copy, Debug)]
+pub struct Variable<'a> {
+    /// The name, without `=`.
+    pub name: InputText<'a>,
+    /// The value.
+    pub value: InputText<'a>,
 }
 
 /// A part of what a call wrote: bytes of the text, or elements of a list.
@@ -69,4 +80,19 @@ pub fn words_of(alloc: Global, texts: &[InputText<'_>]) -> Result<Option<Words>,
         words.push(String::from_str(alloc, text)?)?;
     }
     Ok(Some(words))
+}
+
+/// Copies of variables, if all their texts are UTF-8.
+pub fn variables_of(alloc: Global, rows: &[Variable<'_>]) -> Result<Option<Variables>, AllocError>
+    ensures { IfOk result (λ variables. variables ≡ spec.variables_of rows.now) }
+{
+    let mut variables = Variables::new(alloc);
+    for row in rows {
+        let (Some(name), Some(value)) = (text_of(row.name.bytes), text_of(row.value.bytes)) else {
+            return Ok(None);
+        };
+        let name = String::from_str(alloc, name)?;
+        variables.push(name, String::from_str(alloc, value)?)?;
+    }
+    Ok(Some(variables))
 }

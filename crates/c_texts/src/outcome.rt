@@ -103,7 +103,7 @@ impl Outcome {
     /// Adds texts, and says which elements of the list they are.
     pub fn push_list(&mut self, texts: &[String]) -> Result<Range, AllocError>
         ensures texts { OnOk result (self.new ≡ spec.with_texts self.old (map string_bytes texts.now)) }
-        ensures range { IfOk result (λ range. range ≡ record { offset = length self.old.1.0; length = length texts.now }) }
+        ensures range { IfOk result (λ range. range ≡ spec.list_at (length self.old.1.0) (map string_bytes texts.now)) }
     {
         let offset = self.count();
         self.push_all(texts)?;

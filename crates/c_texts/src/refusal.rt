@@ -1,13 +1,16 @@
-//! Why calls have no answer.
+//! Why calls have no answer, and what they tell of faults of lines and plans.
 
-ghost use Rattle.std.specs.Prelude.{◌≡◌};
+ghost use Rattle.std.specs.Prelude.{◌≡◌, IfOk, Result};
+ghost use Rattle.texts.specs.declared.fault.Fault.{Fault};
+ghost use Rattle.texts.specs.Fault.{UnlessMemory};
 ghost use Rattle.c_texts.specs.Outcomes.{TellsList, TellsText};
 ghost use Rattle.c_texts.specs.Refusals as spec;
 
 use crate::memory::{ListAnswer, Range, TextAnswer};
 use crate::outcome::{tell_list, tell_text};
 use crate::status::Status;
-use std::alloc::{AllocError, AllocFailed};
+use std::alloc::{AllocError, AllocFailed, Global};
+use texts::fault::Fault;
 use texts::text::Text;
 
 /// Why a call has no answer.
@@ -77,5 +80,40 @@ impl Refused {
         ensures { TellsList (spec.refusal self.now) result ranges.old ranges.new out.old out.new }
     {
         tell_list(self.status().number(), &[], self.text(), ranges, out)
+    }
+}
+
+/// The status of a fault.
+pub fn status_of(fault: &Fault) -> Status
+    ensures { result ≡ spec.status_of fault.now }
+{
+    match fault {
+        Fault::NotUtf8 { .. }
+        | Fault::BadShell { .. }
+        | Fault::EmptyCommand { .. }
+        | Fault::NoPath { .. } => Status::BadDryRun,
+        Fault::NotFound { .. } => Status::NotFound,
+        Fault::BadSuffixes => Status::BadSuffixes,
+        Fault::Memory => Status::Memory,
+        _ => Status::BadLine,
+    }
+}
+
+/// The refusal of a fault: its status and its message.
+pub fn refused_by(alloc: Global, fault: &Fault) -> Result<Refused, AllocError>
+    ensures { IfOk result (λ refused. refused ≡ spec.refused_by fault.now) }
+{
+    let why = Text::new(fault.message(alloc)?);
+    Ok(Refused::Told(status_of(fault), why))
+}
+
+/// What there is, or the refusal of a fault. Running out of memory is one of its own.
+pub fn or_refused<T: Drop>(alloc: Global, answer: Result<T, Fault>) -> Result<T, Refused>
+    ensures { (expected : Result T Fault) → UnlessMemory answer expected → spec.Answers result (spec.or_refused expected) }
+{
+    match answer {
+        Ok(found) => Ok(found),
+        Err(Fault::Memory) => Err(Refused::Memory),
+        Err(fault) => Err(refused_by(alloc, &fault)?),
     }
 }

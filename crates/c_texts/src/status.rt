@@ -1,8 +1,8 @@
-//! The statuses of calls: their numbers and texts.
+//! The statuses of calls: their numbers and texts. And the numbers of the library.
 
 ghost use Rattle.std.specs.Prelude.{◌≡◌};
 ghost use Rattle.c_texts.specs.Statuses as spec;
-ghost use Rattle.c_texts.specs.Outcomes.{TellsText, described};
+ghost use Rattle.c_texts.specs.Outcomes.{TellsText, described, of_text};
 
 use crate::memory::TextAnswer;
 use crate::outcome::tell_text;
@@ -46,22 +46,7 @@ impl Status {
     pub fn number(self) -> i32
         ensures { result ≡ spec.number self }
     {
-        match self {
-            Status::Success => 0,
-            Status::Memory => 1,
-            Status::NotUtf8 => 2,
-            Status::BadNumber => 3,
-            Status::OpenQuote => 4,
-            Status::BadDryRun => 5,
-            Status::NotFound => 6,
-            Status::BadSuffixes => 7,
-            Status::Unwritable => 8,
-            Status::BadLine => 9,
-            Status::ToNvcc => 10,
-            Status::OverLimit => 11,
-            Status::NoDryRun => 12,
-            Status::OddDirectory => 13,
-        }
+        self as i32
     }
 
     /// The status with this number.
@@ -118,4 +103,18 @@ pub fn message(number: i32, out: &mut [u8]) -> TextAnswer
         Some(status) => tell_text(0, status.text().as_bytes(), out),
         None => Refused::Plain(Status::BadNumber).tell_text(out),
     }
+}
+
+/// The number of the binary interface. It grows if a call, a record or a number that C programs use changes its meaning.
+pub fn abi_version() -> u32
+    ensures { result ≡ spec.abi_version }
+{
+    1
+}
+
+/// Writes the library's version, as the file VERSION has it.
+pub fn version(out: &mut [u8]) -> TextAnswer
+    ensures { TellsText (of_text spec.version_text) result out.old out.new }
+{
+    tell_text(0, "0.1.0".as_bytes(), out)
 }

@@ -1,7 +1,8 @@
 -- Fates: each command has one, and device groups begin with their steps.
-use Rattle.std.proofs.Common.{◌≡◌, ℕ, ◌+◌, suc, List, [], ◌∷◌, ◌++◌, Bool, true, false, cond, ◌||◌, Option, Some, map, length, refl, sym, ap, subst, ◌∙◌, arith, IsPermutation, bytes_eq, append-nil}
-use Rattle.std.specs.List.{list_any, fold, find, flat_map}
+use Rattle.std.proofs.Common.{◌≡◌, ℕ, ◌+◌, List, [], ◌∷◌, ◌++◌, Bool, true, false, cond, ◌||◌, Option, Some, map, length, refl, sym, ap, subst, ◌∙◌, ◌⊎◌, arith, IsPermutation, bytes_eq, append-nil}
+use Rattle.std.specs.List.{AllByRecursion, list_any, fold, find, flat_map}
 use Rattle.std.proofs.lemmas.Bool.{false≢true, or_from, or_left, or_right, or_parts}
+use Rattle.std.proofs.lemmas.List.{length-append, length-map}
 use Rattle.std.proofs.lemmas.Slice.Eq.{bytes_eq-Decides}
 use Rattle.std.proofs.lemmas.List.Sorted.{IsPermutation-refl, IsPermutation-sym, IsPermutation-trans, IsPermutation-cons, IsPermutation-map, IsPermutation-middle, IsPermutation-append_left, IsPermutation-append_right}
 use Rattle.std.proofs.lemmas.List.Folds.{list_any-append}
@@ -9,8 +10,8 @@ use Rattle.compilers.specs.declared.plans.plan.Reason.{Reason}
 use Rattle.texts.specs.Lists.{is_some_and, with_name}
 use Rattle.command_groups.specs.Stage.{Stage, StagedCommand, opens}
 use Rattle.command_groups.specs.Fate.{Fate, front, device, final, ungrouped, PlacedCommand, is_device, opens_name, opened_names, device_or, place_of, placed_after, places, fate_of, with_fates, fates}
-use Rattle.command_groups.specs.Plan.{is_front, is_final, of_fate}
-use Rattle.command_groups.specs.FateLaws.{is_ungrouped, regrouped, EachHasOneFate, BeginsWithLastStep, DeviceGroupsBeginWithTheirStep, OuterGroupsAreThere}
+use Rattle.command_groups.specs.Plan.{PlanSetting, is_front, is_final, of_fate, plan_of_staged}
+use Rattle.command_groups.specs.FateLaws.{is_ungrouped, regrouped, EachHasOneFate, BeginsWithLastStep, DeviceGroupsBeginWithTheirStep}
 
 -- Tests.
 
@@ -28,6 +29,20 @@ equal_texts a b e = (bytes_eq-Decides a b).1 e
 
 pub flipped : (a b : List ℕ) → bytes_eq a b ≡ bytes_eq b a
 flipped a b = grind (arith, equal_texts, same_text, false≢true)
+
+-- Lists all of whose elements have something.
+
+pub weaker : {X : Type 0} (P Q : X → Type 0) → ((x : X) → P x → Q x) → (xs : List X) → AllByRecursion P xs → AllByRecursion Q xs
+weaker P Q f [] h = tt
+weaker P Q f (x ∷ xs) h = (f x h.0, weaker P Q f xs h.1)
+
+pub all_push : {X : Type 0} (P : X → Type 0) (xs : List X) (y : X) → AllByRecursion P xs → P y → AllByRecursion P (xs ++ y ∷ [])
+all_push P [] y h k = (k, tt)
+all_push P (x ∷ xs) y h k = (h.0, all_push P xs y h.1 k)
+
+abbrev pub Among : {X : Type 0} → X → List X → Type 0
+Among x [] = ⊥
+Among x (y ∷ ys) = (x ≡ y) ⊎ Among x ys
 
 -- Different names.
 
@@ -58,8 +73,7 @@ Named names (device name) = list_any (bytes_eq name) names ≡ true
 Named names _ = Unit {0}
 
 abbrev AllNamed : List (List ℕ) → List PlacedCommand → Type 0
-AllNamed names [] = Unit {0}
-AllNamed names (p ∷ ps) = Named names p.fate × AllNamed names ps
+AllNamed names ps = AllByRecursion (λ p. Named names p.fate) ps
 
 pub known_with : (names : List (List ℕ)) (name : Option (List ℕ)) (m : List ℕ) → list_any (bytes_eq m) names ≡ true → list_any (bytes_eq m) (with_name names name) ≡ true
 known_with names name m e = grind (arith, list_any-append, or_left)
@@ -67,14 +81,6 @@ known_with names name m e = grind (arith, list_any-append, or_left)
 named_with : (names : List (List ℕ)) (name : Option (List ℕ)) (place : Fate) → Named names place → Named (with_name names name) place
 named_with names name (device m) h = known_with names name m h
 named_with names name _ h = tt
-
-all_named_with : (names : List (List ℕ)) (name : Option (List ℕ)) (ps : List PlacedCommand) → AllNamed names ps → AllNamed (with_name names name) ps
-all_named_with names name [] h = tt
-all_named_with names name (p ∷ ps) h = (named_with names name p.fate h.0, all_named_with names name ps h.1)
-
-all_named_push : (names : List (List ℕ)) (ps : List PlacedCommand) (p : PlacedCommand) → AllNamed names ps → Named names p.fate → AllNamed names (ps ++ p ∷ [])
-all_named_push names [] p h k = (k, tt)
-all_named_push names (q ∷ qs) p h k = (h.0, all_named_push names qs p h.1 k)
 
 pub new_name_known : (names : List (List ℕ)) (x : List ℕ) → list_any (bytes_eq x) (with_name names (Some x)) ≡ true
 new_name_known names x = grind (arith, list_any-append, or_right, or_left, equal_texts)
@@ -89,8 +95,10 @@ place_named names before stage = grind (arith, found_named, new_name_known)
 placed_named : (names : List (List ℕ)) (before : List PlacedCommand) (commands : List StagedCommand) → AllNamed names before → AllNamed (names_after names commands) (placed_after names before commands)
 placed_named names before [] h = h
 placed_named names before (c ∷ cs) h =
+    let later : List (List ℕ) = with_name names (opens c.stage) in
     let p : PlacedCommand = record { staged = c; fate = place_of names before c.stage } in
-    grind (arith, all_named_push, all_named_with, place_named, (placed_named (with_name names (opens c.stage)) (before ++ p ∷ []) cs (all_named_push (with_name names (opens c.stage)) before p (all_named_with names (opens c.stage) before h) (place_named names before c.stage))))
+    placed_named later (before ++ p ∷ []) cs
+    (all_push (λ q. Named later q.fate) before p (weaker (λ q. Named names q.fate) (λ q. Named later q.fate) (λ q k. named_with names (opens c.stage) q.fate k) before h) (place_named names before c.stage))
 
 fates_named : (names : List (List ℕ)) (ps : List PlacedCommand) → AllNamed names ps → AllNamed names (with_fates ps)
 fates_named names [] h = tt
@@ -196,21 +204,16 @@ abbrev AtHome : List ℕ → PlacedCommand → Type 0
 AtHome name p = opens_name name p ≡ true → is_device name p.fate ≡ true
 
 abbrev AllAtHome : List ℕ → List PlacedCommand → Type 0
-AllAtHome name [] = Unit {0}
-AllAtHome name (p ∷ ps) = AtHome name p × AllAtHome name ps
+AllAtHome name ps = AllByRecursion (AtHome name) ps
 
 home : (name : List ℕ) (names : List (List ℕ)) (before : List PlacedCommand) (stage : Stage) → is_some_and (λ opened. bytes_eq opened name) (opens stage) ≡ true → is_device name (place_of names before stage) ≡ true
 home name names before stage e = grind (arith, false≢true)
-
-home_push : (name : List ℕ) (ps : List PlacedCommand) (p : PlacedCommand) → AllAtHome name ps → AtHome name p → AllAtHome name (ps ++ p ∷ [])
-home_push name [] p h k = (k, tt)
-home_push name (q ∷ qs) p h k = (h.0, home_push name qs p h.1 k)
 
 all_home : (name : List ℕ) (names : List (List ℕ)) (before : List PlacedCommand) (commands : List StagedCommand) → AllAtHome name before → AllAtHome name (placed_after names before commands)
 all_home name names before [] h = h
 all_home name names before (c ∷ cs) h =
     let p : PlacedCommand = record { staged = c; fate = place_of names before c.stage } in
-    grind (arith, home_push, home, (all_home name (with_name names (opens c.stage)) (before ++ p ∷ []) cs (home_push name before p h (home name names before c.stage))))
+    all_home name (with_name names (opens c.stage)) (before ++ p ∷ []) cs (all_push (AtHome name) before p h (home name names before c.stage))
 
 -- a name that is known after a step was known before it, or the step opens it
 known_or_opened : (names : List (List ℕ)) (opened : Option (List ℕ)) (name : List ℕ) (b : Bool) → (list_any (bytes_eq name) names ≡ true → b ≡ true) → list_any (bytes_eq name) (with_name names opened) ≡ true → (b || (is_some_and (λ o. bytes_eq o name) opened || false)) ≡ true
@@ -262,9 +265,5 @@ device_groups_begin_with_their_step commands name e =
 
 -- The outer groups.
 
-length_with_last : {X Y : Type 0} (f : X → Y) (xs : List X) (y : Y) → length (map f xs ++ y ∷ []) ≡ length xs + 1
-length_with_last f [] y = refl
-length_with_last f (x ∷ xs) y = ap suc (length_with_last f xs y) ∙ omega arith
-
-pub outer_groups_are_there : OuterGroupsAreThere
-outer_groups_are_there s commands = grind (arith, length_with_last)
+pub outer_groups_are_there : (s : PlanSetting) (commands : List StagedCommand) → length (plan_of_staged s commands).groups ≡ length (opened_names commands) + 2
+outer_groups_are_there s commands = grind (arith, length-append, length-map)

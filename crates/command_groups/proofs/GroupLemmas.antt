@@ -1,21 +1,20 @@
 -- The plan that labels are cut into is the plan of the fates, and so are its origins.
-use Rattle.std.proofs.Common.{◌≡◌, ℕ, Bool, suc, zero, List, [], ◌∷◌, ◌++◌, true, false, cond, map, length, refl, sym, ap, ◌∙◌, arith, append_assoc, append-nil, Option, Some, None, Result, Ok, Err, ◌==◌, slice_get, fold, replicate, filter_map, if◌then◌else◌, bytes_eq}
-use Rattle.std.specs.List.{list_any, flat_map}
+use Rattle.std.proofs.Common.{◌≡◌, ℕ, suc, zero, List, [], ◌∷◌, ◌++◌, true, false, cond, map, length, refl, sym, ap, ◌∙◌, arith, append_assoc, append-nil, Option, Some, None, Result, Ok, Err, ◌==◌, slice_get, fold, replicate, filter_map, if◌then◌else◌, bytes_eq}
+use Rattle.std.specs.List.{list_any}
 use Rattle.std.proofs.lemmas.Bool.{false≢true, or_parts}
-use Rattle.std.proofs.lemmas.List.{length-replicate}
+use Rattle.std.proofs.lemmas.List.{length-append, length-map, length-replicate}
 use Rattle.texts.specs.Lists.{is_some_and}
 use Rattle.command_groups.specs.declared.openings.Opening.{Opening}
 use Rattle.command_groups.specs.declared.labels.Label.{Label}
-use Rattle.compilers.specs.declared.plans.origins.Origin.{Origin}
 use Rattle.compilers.specs.declared.plans.plan.Dropped.{Dropped}
 use Rattle.compilers.specs.declared.plans.plan.Reason.{Reason}
 use Rattle.compilers.specs.declared.plans.plan.Reason.TheVariants.{Superseded}
 use Rattle.command_groups.specs.Stage.{StagedCommand}
 use Rattle.command_groups.specs.Fate.{Fate, device, ungrouped, PlacedCommand, is_device}
-use Rattle.command_groups.specs.Plan.{PlanSetting, subcommand_of, is_front, is_final, of_fate, dropped_by, plan_of_staged}
+use Rattle.command_groups.specs.Plan.{PlanSetting, subcommand_of, is_front, is_final, of_fate, dropped_for, dropped_by, elements, groups_by}
 use Rattle.command_groups.specs.Openings.{Opened, names_of}
-use Rattle.command_groups.specs.Groups.{Labelled, grouped, fate_at, fate_by, settled, dropped_for, group_of_label, put_at, with_grouped, with_dropped, no_groups, CutState, with_labelled, plan_by_labels}
-use Rattle.command_groups.specs.Origins.{origin_of, origins_by, origins_of_placed, origins_of_staged}
+use Rattle.command_groups.specs.Groups.{Labelled, grouped, fate_at, fate_by, settled, group_of_label, put_at, with_grouped, with_dropped, no_groups, CutState, with_labelled, plan_by_labels}
+use Rattle.command_groups.specs.Origins.{origin_of, planned_of_staged}
 use Rattle.command_groups.proofs.FateLemmas.{Distinct, same_text, equal_texts}
 use Rattle.command_groups.proofs.LabelLemmas.{labels_are_fates, names_are_opened, names_are_distinct, stands}
 
@@ -85,10 +84,6 @@ module _ {X : Type 0} (x : X) (g : List ℕ → List X) where
   last_joined [] last = refl
   last_joined (y ∷ ys) last = ap (λ ts. g y.0 ∷ ts) (last_joined ys last)
 
-names_length : (opened : Opened) → length (names_of opened) ≡ length opened
-names_length [] = refl
-names_length (e ∷ es) = ap suc (names_length es)
-
 put_length : {X : Type 0} (place : ℕ) (x : X) (gs : List (List X)) → length (put_at place x gs) ≡ length gs
 put_length place x [] = refl
 put_length zero x (g ∷ gs) = refl
@@ -100,12 +95,8 @@ abbrev with_element : {X : Type 0} → (StagedCommand → X) → Opened → List
 with_element of opened gs l = with_grouped of gs l.staged (group_of_label opened l.label)
 
 module _ {X : Type 0} (of : StagedCommand → X) (opened : Opened) (d : Distinct (names_of opened)) where
-  -- the elements of the commands whose fate passes a test, and all groups of them
-  abbrev elements : (Fate → Bool) → List PlacedCommand → List X
-  elements test ps = map (λ p. of p.staged) (of_fate test ps)
-
   abbrev all_groups : List PlacedCommand → List (List X)
-  all_groups ps = elements is_front ps ∷ (map (λ name. elements (is_device name) ps) (names_of opened) ++ elements is_final ps ∷ [])
+  all_groups ps = groups_by of (names_of opened) ps
 
   abbrev groups_with : Result ℕ Reason → StagedCommand → List (List X) → List (List X)
   groups_with (Ok place) c gs = cons_at place (of c) gs
@@ -118,25 +109,20 @@ module _ {X : Type 0} (of : StagedCommand → X) (opened : Opened) (d : Distinct
   fits_device c ps o None h = refl
   fits_device c ps o (Some e) h =
       elim (e.1 == o.step) as (λ b. Fits c ps (cond b (device e.0) (ungrouped Superseded)) (cond b (Ok (suc o.number)) (Err Superseded)))
-      [ true ↦ ap (λ gs. elements is_front ps ∷ gs) (joined_by_name e h) | false ↦ refl ]
+      [ true ↦ ap (λ gs. elements of is_front ps ∷ gs) (joined_by_name e h) | false ↦ refl ]
     where
       joined_by_name : (e : List ℕ × ℕ) → slice_get opened o.number ≡ Some e →
-          map (λ name. elements (is_device name) (record { staged = c; fate = device e.0 } ∷ ps)) (names_of opened) ++ elements is_final ps ∷ [] ≡
-          cons_at o.number (of c) (map (λ name. elements (is_device name) ps) (names_of opened) ++ elements is_final ps ∷ [])
+          map (λ name. elements of (is_device name) (record { staged = c; fate = device e.0 } ∷ ps)) (names_of opened) ++ elements of is_final ps ∷ [] ≡
+          cons_at o.number (of c) (map (λ name. elements of (is_device name) ps) (names_of opened) ++ elements of is_final ps ∷ [])
       joined_by_name e h =
-          ap (λ gs. gs ++ elements is_final ps ∷ []) (pointwise e (names_of opened))
-          ∙ joined_at (of c) (λ name. elements (is_device name) ps) opened o.number e (elements is_final ps ∷ []) d h
+          ap (λ gs. gs ++ elements of is_final ps ∷ []) (λ i. map (λ name. one e name i) (names_of opened))
+          ∙ joined_at (of c) (λ name. elements of (is_device name) ps) opened o.number e (elements of is_final ps ∷ []) d h
         where
-          one : (e : List ℕ × ℕ) (name : List ℕ) → elements (is_device name) (record { staged = c; fate = device e.0 } ∷ ps) ≡ joined_by (of c) (λ n. elements (is_device n) ps) e.0 name
+          one : (e : List ℕ × ℕ) (name : List ℕ) → elements of (is_device name) (record { staged = c; fate = device e.0 } ∷ ps) ≡ joined_by (of c) (λ n. elements of (is_device n) ps) e.0 name
           one e name =
               elim (bytes_eq e.0 name)
-              as (λ b. map (λ p. of p.staged) (cond b (record { staged = c; fate = device e.0 } ∷ of_fate (is_device name) ps) (of_fate (is_device name) ps)) ≡ cond b (of c ∷ elements (is_device name) ps) (elements (is_device name) ps))
+              as (λ b. map (λ p. of p.staged) (cond b (record { staged = c; fate = device e.0 } ∷ of_fate (is_device name) ps) (of_fate (is_device name) ps)) ≡ cond b (of c ∷ elements of (is_device name) ps) (elements of (is_device name) ps))
               [ true ↦ refl | false ↦ refl ]
-
-          pointwise : (e : List ℕ × ℕ) (names : List (List ℕ)) →
-              map (λ name. elements (is_device name) (record { staged = c; fate = device e.0 } ∷ ps)) names ≡ map (joined_by (of c) (λ name. elements (is_device name) ps) e.0) names
-          pointwise e [] = refl
-          pointwise e (n ∷ ns) = λ i. one e n i ∷ pointwise e ns i
 
   fits : (c : StagedCommand) (ps : List PlacedCommand) (label : Label) → Fits c ps (fate_by opened label) (group_of_label opened label)
   fits c ps label = grind (arith, fits_device, last_joined)
@@ -146,7 +132,7 @@ module _ {X : Type 0} (of : StagedCommand → X) (opened : Opened) (d : Distinct
   by_result gs c ps place r f = grind (arith, put_before)
 
   groups_after : (gs : List (List X)) (ls : List Labelled) → length gs ≡ suc (suc (length opened)) → fold (with_element of opened) gs ls ≡ zipped gs (all_groups (map (settled opened) ls))
-  groups_after gs [] h = sym (zipped_with_nothing (names_of opened) gs (omega (arith, h, names_length opened)))
+  groups_after gs [] h = sym (zipped_with_nothing (names_of opened) gs (omega (arith, h, length-map opened (λ e. e.0))))
   groups_after gs (l ∷ ls) h =
       groups_after (with_element of opened gs l) ls (long (group_of_label opened l.label))
       ∙ by_result gs l.staged (map (settled opened) ls) (fate_by opened l.label) (group_of_label opened l.label) (fits l.staged (map (settled opened) ls) l.label)
@@ -156,11 +142,7 @@ module _ {X : Type 0} (of : StagedCommand → X) (opened : Opened) (d : Distinct
       long (Err reason) = h
 
   groups_long : (ps : List PlacedCommand) → length (all_groups ps) ≡ suc (suc (length opened))
-  groups_long ps = ap suc (one_more opened)
-    where
-      one_more : (es : Opened) → length (map (λ name. elements (is_device name) ps) (names_of es) ++ elements is_final ps ∷ []) ≡ suc (length es)
-      one_more [] = refl
-      one_more (e ∷ es) = ap suc (one_more es)
+  groups_long ps = grind (arith, length-append, length-map)
 
   groups_are : (ls : List Labelled) → fold (with_element of opened) (no_groups (length opened)) ls ≡ all_groups (map (settled opened) ls)
   groups_are ls = simp (groups_after, length-replicate, zipped_nothing, groups_long)
@@ -188,19 +170,6 @@ module _ (opened : Opened) where
   dropped_after ds [] = sym (append-nil ds)
   dropped_after ds (l ∷ ls) = simp (one_dropped, falls, (dropped_after (with_dropped ds l.staged (group_of_label opened l.label)) ls))
 
--- groups, one after the other
-joined_groups : (names : List (List ℕ)) (ps : List PlacedCommand) →
-    flat_map (λ (group : List Origin). group) (origins_by is_front ps ∷ (map (λ name. origins_by (is_device name) ps) names ++ origins_by is_final ps ∷ [])) ≡ origins_of_placed names ps
-joined_groups names ps = ap (λ t. origins_by is_front ps ++ t) (behind names)
-  where
-    behind : (names : List (List ℕ)) →
-        flat_map (λ (group : List Origin). group) (map (λ name. origins_by (is_device name) ps) names ++ origins_by is_final ps ∷ []) ≡
-        flat_map (λ name. origins_by (is_device name) ps) names ++ origins_by is_final ps
-    behind [] = append-nil (origins_by is_final ps)
-    behind (n ∷ ns) =
-        ap (λ t. origins_by (is_device n) ps ++ t) (behind ns)
-        ∙ sym (append_assoc (origins_by (is_device n) ps) (flat_map (λ name. origins_by (is_device name) ps) ns) (origins_by is_final ps))
-
 -- each part of what is cut is gathered by itself
 parts_are : (s : PlanSetting) (opened : Opened) (cut : CutState) (ls : List Labelled) →
     fold (with_labelled s opened) cut ls ≡ record {
@@ -213,5 +182,5 @@ parts_are s opened cut (l ∷ ls) = parts_are s opened (with_labelled s opened c
 
 -- the plan that labels are cut into is the plan of the commands
 pub cut_is_plan : (s : PlanSetting) (commands : List StagedCommand) →
-    plan_by_labels s (grouped commands) ≡ record { plan = plan_of_staged s commands; origins = origins_of_staged commands }
-cut_is_plan s commands = simp (names_are_distinct, parts_are, groups_are, dropped_after, joined_groups, names_are_opened, labels_are_fates)
+    plan_by_labels s (grouped commands) ≡ planned_of_staged s commands
+cut_is_plan s commands = simp (names_are_distinct, parts_are, groups_are, dropped_after, names_are_opened, labels_are_fates)

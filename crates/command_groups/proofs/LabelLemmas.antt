@@ -1,5 +1,5 @@
 -- The labels of grouping, by the entries of a map by names and the openings of device groups.
-use Rattle.std.proofs.Common.{◌≡◌, ℕ, List, [], ◌∷◌, map, refl, arith, Option, Some, None, String, Global, string_bytes, position, bytes_eq, string_eq, suc, zero, ◌<◌, ◌≤◌, Bool, true, false, cond, length, sym, ap, ◌∙◌, ◌⊎◌, inl, inr, ◌==◌, ◌&&◌, slice_get, if◌then◌else◌, ◌++◌, not, subst, ◌||◌, nat_le, fold}
+use Rattle.std.proofs.Common.{◌≡◌, ℕ, List, [], ◌∷◌, map, refl, arith, Option, Some, None, IfSome, String, Global, string_bytes, position, bytes_eq, string_eq, suc, zero, ◌<◌, ◌≤◌, Bool, true, false, cond, length, sym, ap, ◌∙◌, ◌⊎◌, inl, inr, ◌==◌, ◌&&◌, slice_get, if◌then◌else◌, ◌++◌, not, subst, ◌||◌, nat_le, fold}
 use Rattle.std.specs.List.{position_or_len, list_any, find, AllByRecursion}
 use Rattle.std.specs.Map.{lookup, keys_of}
 use Rattle.std.proofs.lemmas.Bool.{lt-ltb, false≢true, and_parts, eqb-true, eq-eqb, or_right, or_parts}
@@ -11,13 +11,12 @@ use Rattle.texts.specs.Lists.{is_some_and, with_name, last_of}
 use Rattle.compilers.specs.declared.plans.plan.Reason.{Reason}
 use Rattle.compilers.specs.declared.plans.plan.Reason.TheVariants.{Superseded, NotCuda, NoCiccGroup, NoPtxasGroup}
 use Rattle.command_groups.specs.declared.openings.Opening.{Opening}
-use Rattle.command_groups.specs.EntryView.{entry_seen}
-use Rattle.command_groups.specs.Openings.{opening_at, opening_of, number_of, Opened, names_of, is_live, lower, first_live_after, first_live, Made, further}
+use Rattle.command_groups.specs.Openings.{entry_seen, opening_at, opening_of, number_of, Opened, names_of, is_live, lower, first_live_after, first_live, Made, further}
 use Rattle.command_groups.specs.declared.labels.Label.{Label}
 use Rattle.command_groups.specs.declared.labels.Label.TheVariants.{Device, Front, Final, Ungrouped}
 use Rattle.command_groups.specs.Fate.{Fate, front, device, final, ungrouped, device_or, PlacedCommand, is_device_compiling, opens_name, opened_names, makes, is_made, place_of, placed_after, places, fate_of, with_fates, fates}
-use Rattle.command_groups.specs.Groups.{device_label, Labelled, GroupingState, no_commands, with_made, with_output, with_command, grouped, fate_at, fate_by, settled}
-use Rattle.command_groups.proofs.FateLemmas.{Distinct, same_text, distinct_with, equal_texts, names_after}
+use Rattle.command_groups.specs.Groups.{device_label, Labelled, GroupingState, no_commands, with_made, with_command, grouped, fate_at, fate_by, settled}
+use Rattle.command_groups.proofs.FateLemmas.{Distinct, Among, weaker, all_push, same_text, distinct_with, equal_texts, names_after}
 use Rattle.command_groups.specs.Merge.{MergedCommand}
 use Rattle.command_groups.specs.Stage.{Stage, linking, splitting, device_compiling, assembling, preprocessing, host_compiling, foreign, StagedCommand, opens}
 
@@ -110,23 +109,11 @@ is_at k e o = (o.number == k) && (e.1 == o.step)
 abbrev pub Tells : Opened → List Opening → (List ℕ → Bool) → Type 0
 Tells opened os test = (k : ℕ) (e : List ℕ × ℕ) → slice_get opened k ≡ Some e → test e.0 ≡ list_any (is_at k e) os
 
-abbrev Among : Opening → List Opening → Type 0
-Among x [] = ⊥
-Among x (y ∷ ys) = (x ≡ y) ⊎ Among x ys
-
-abbrev AtMost : Opening → Option Opening → Type 0
-AtMost f None = Unit {0}
-AtMost f (Some g) = f.number ≤ g.number
-
-abbrev IsLive : Opened → Option Opening → Type 0
-IsLive opened None = Unit {0}
-IsLive opened (Some o) = is_live opened o ≡ true
-
 -- what is first of an opening, if any, and of others: none where none of them is live, else a live one of the lowest number
 abbrev Best : Opened → Option Opening → List Opening → Option Opening → Type 0
 Best opened first os None = (first ≡ None) × AllByRecursion (λ o. is_live opened o ≡ false) os
 Best opened first os (Some f) =
-    (is_live opened f ≡ true) × ((first ≡ Some f) ⊎ Among f os) × AtMost f first × AllByRecursion (λ o. is_live opened o ≡ true → f.number ≤ o.number) os
+    (is_live opened f ≡ true) × ((first ≡ Some f) ⊎ Among f os) × IfSome first (λ g. f.number ≤ g.number) × AllByRecursion (λ o. is_live opened o ≡ true → f.number ≤ o.number) os
 
 module _ (opened : Opened) where
   taken : (first : Option Opening) (o : Opening) (os : List Opening) (r : Option Opening) → is_live opened o ≡ true → Best opened (Some (lower first o)) os r → Best opened first (o ∷ os) r
@@ -135,11 +122,11 @@ module _ (opened : Opened) where
   passed : (first : Option Opening) (o : Opening) (os : List Opening) (r : Option Opening) → is_live opened o ≡ false → Best opened first os r → Best opened first (o ∷ os) r
   passed first o os r h b = grind (arith, false≢true)
 
-  best : (first : Option Opening) (os : List Opening) → IsLive opened first → Best opened first os (first_live_after opened first os)
+  best : (first : Option Opening) (os : List Opening) → IfSome first (λ o. is_live opened o ≡ true) → Best opened first os (first_live_after opened first os)
   best None [] h = (refl, tt)
   best (Some f) [] h = (h, inl refl, omega arith, tt)
   best first (o ∷ os) h =
-      let ih : (g : Option Opening) → IsLive opened g → Best opened g os (first_live_after opened g os) = λ g k. best g os k in
+      let ih : (g : Option Opening) → IfSome g (λ o. is_live opened o ≡ true) → Best opened g os (first_live_after opened g os) = λ g k. best g os k in
       grind (arith, taken, passed)
 
   live_here : (o : Opening) (k : ℕ) (e : List ℕ × ℕ) → slice_get opened k ≡ Some e → is_at k e o ≡ true → (is_live opened o ≡ true) × (o.number ≡ k)
@@ -157,14 +144,8 @@ module _ (opened : Opened) where
   live_entry : (o : Opening) (g : Option (List ℕ × ℕ)) → is_some_and (λ (d : List ℕ × ℕ). d.1 == o.step) g ≡ true → (e : List ℕ × ℕ) × (g ≡ Some e) × ((e.1 == o.step) ≡ true)
   live_entry o g h = grind (arith, false≢true)
 
-module _ {X : Type 0} (P Q : X → Type 0) (f : (x : X) → P x → Q x) where
-  weaker : (xs : List X) → AllByRecursion P xs → AllByRecursion Q xs
-  weaker [] h = tt
-  weaker (x ∷ xs) h = (f x h.0, weaker xs h.1)
-
-  weaker_with : (xs : List X) (y : X) → AllByRecursion P xs → Q y → AllByRecursion Q (xs ++ y ∷ [])
-  weaker_with [] y h q = (q, tt)
-  weaker_with (x ∷ xs) y h q = (f x h.0, weaker_with xs y h.1 q)
+weaker_with : {X : Type 0} (P Q : X → Type 0) → ((x : X) → P x → Q x) → (xs : List X) (y : X) → AllByRecursion P xs → Q y → AllByRecursion Q (xs ++ y ∷ [])
+weaker_with P Q f xs y h q = all_push Q xs y (weaker P Q f xs h) q
 
 find_none : (opened : Opened) (test : List ℕ → Bool) → ((k : ℕ) (e : List ℕ × ℕ) → slice_get opened k ≡ Some e → test e.0 ≡ false) → find test (names_of opened) ≡ None
 find_none [] test h = refl
@@ -330,17 +311,11 @@ module _ (names : List (List ℕ)) (before : List PlacedCommand) (g : GroupingSt
   follows_quietly : is_device_compiling c.stage ≡ false → Holds names (before ++ new_place ∷ []) (record { opened = g.opened; made = g.made; labelled = g.labelled ++ new_label ∷ [] })
   follows_quietly f = follows g.made (λ path k e s. quiet_made path before new_place e.0 quiet f ∙ h.told path k e s) h.made_within
 
--- a bound of an opening, if there is one
-abbrev Bounded_by : (Opening → Type 0) → Option Opening → Type 0
-Bounded_by P None = Unit {0}
-Bounded_by P (Some o) = P o
-
 -- cicc.
 
 -- an opening of a name stands as an entry of that number
 abbrev StandsAs : Opened → ℕ → Option Opening → Type 0
-StandsAs opened place None = Unit {0}
-StandsAs opened place (Some o) = (d : List ℕ × ℕ) × (slice_get opened o.number ≡ Some d) × ((d.1 == o.step) ≡ true) × Within opened place o
+StandsAs opened place r = IfSome r (λ o. (d : List ℕ × ℕ) × (slice_get opened o.number ≡ Some d) × ((d.1 == o.step) ≡ true) × Within opened place o)
 
 opening_stands : (opened : Opened) (place : ℕ) (name : List ℕ) → AllByRecursion (λ e. e.1 < place) opened → StandsAs opened place (opening_of opened name)
 opening_stands [] place name h = tt
@@ -362,7 +337,7 @@ module _ (opened : Opened) (made : Made) (o : Opening) (d : List ℕ × ℕ) (u 
   within_with place w path None h = h
   within_with place w path (Some file) h =
       elim (bytes_eq path file) as (λ b. AllByRecursion (Within opened place) (cond b (made path ++ o ∷ []) (made path)))
-      [ true ↦ weaker_with (Within opened place) (Within opened place) (λ p q. q) (made path) o h w | false ↦ h ]
+      [ true ↦ all_push (Within opened place) (made path) o h w | false ↦ h ]
 
 module _ (names : List (List ℕ)) (before : List PlacedCommand) (g : GroupingState) (h : Holds names before g) (command : MergedCommand) where
   abbrev staged_as : Stage → StagedCommand
@@ -374,30 +349,30 @@ module _ (names : List (List ℕ)) (before : List PlacedCommand) (g : GroupingSt
 
   after_cicc : (name : List ℕ) (r : Option Opening) → StandsAs g.opened (length g.labelled) r → fate_by g.opened (device_label r NoCiccGroup) ≡ device_or NoCiccGroup (find (bytes_eq name) names) →
       Holds names (before ++ record { staged = staged_as (device_compiling (Some name)); fate = device_or NoCiccGroup (find (bytes_eq name) names) } ∷ [])
-      (record { opened = g.opened; made = with_output g.made r command.words; labelled = g.labelled ++ record { staged = staged_as (device_compiling (Some name)); label = device_label r NoCiccGroup } ∷ [] })
+      (record { opened = g.opened; made = with_made g.made r (last_of command.words); labelled = g.labelled ++ record { staged = staged_as (device_compiling (Some name)); label = device_label r NoCiccGroup } ∷ [] })
   after_cicc name None s e =
       subst (λ place. Holds names (before ++ record { staged = staged_as (device_compiling (Some name)); fate = place } ∷ []) (record { opened = g.opened; made = g.made; labelled = g.labelled ++ record { staged = staged_as (device_compiling (Some name)); label = Ungrouped NoCiccGroup } ∷ [] })) e
       (follows names before g h (staged_as (device_compiling (Some name))) (Ungrouped NoCiccGroup) (ungrouped NoCiccGroup) refl refl tt g.made
       (λ path k d q. made_pushed path before (record { staged = staged_as (device_compiling (Some name)); fate = ungrouped NoCiccGroup }) d.0 ∙ kept (is_made path before d.0) ∙ h.told path k d q) h.made_within)
   after_cicc name (Some o) s e =
       let found : fate_by g.opened (Device o) ≡ device s.0.0 = ap (λ q. fate_at q o.step) s.1 ∙ ap (λ b. cond b (device s.0.0) (ungrouped Superseded)) s.2 in
-      subst (λ place. Holds names (before ++ record { staged = staged_as (device_compiling (Some name)); fate = place } ∷ []) (record { opened = g.opened; made = with_output g.made (Some o) command.words; labelled = g.labelled ++ record { staged = staged_as (device_compiling (Some name)); label = Device o } ∷ [] })) (sym found ∙ e)
-      (follows names before g h (staged_as (device_compiling (Some name))) (Device o) (device s.0.0) refl found s.3 (with_output g.made (Some o) command.words)
+      subst (λ place. Holds names (before ++ record { staged = staged_as (device_compiling (Some name)); fate = place } ∷ []) (record { opened = g.opened; made = with_made g.made (Some o) (last_of command.words); labelled = g.labelled ++ record { staged = staged_as (device_compiling (Some name)); label = Device o } ∷ [] })) (sym found ∙ e)
+      (follows names before g h (staged_as (device_compiling (Some name))) (Device o) (device s.0.0) refl found s.3 (with_made g.made (Some o) (last_of command.words))
       (λ path k d q. made_pushed path before (record { staged = staged_as (device_compiling (Some name)); fate = device s.0.0 }) d.0 ∙ told_with g.opened g.made o s.0 h.distinct s.1 s.2 path (last_of command.words) (is_made path before) (h.told path) k d q)
       (λ path. within_with g.opened g.made o s.0 h.distinct s.1 s.2 (length g.labelled) s.3 path (last_of command.words) (h.made_within path)))
 
   -- ptxas
-  first_within : (P : Opening → Type 0) (first : Option Opening) (os : List Opening) → AllByRecursion P os → Bounded_by P first → Bounded_by P (first_live_after g.opened first os)
+  first_within : (P : Opening → Type 0) (first : Option Opening) (os : List Opening) → AllByRecursion P os → IfSome first P → IfSome (first_live_after g.opened first os) P
   first_within P first [] a b = b
   first_within P first (o ∷ os) a b =
       first_within P (cond (is_live g.opened o) (Some (lower first o)) first) os a.1
-      (elim (is_live g.opened o) as (λ c. Bounded_by P (cond c (Some (lower first o)) first)) [ true ↦ lowest first b | false ↦ b ])
+      (elim (is_live g.opened o) as (λ c. IfSome (cond c (Some (lower first o)) first) P) [ true ↦ lowest first b | false ↦ b ])
     where
-      lowest : (f : Option Opening) → Bounded_by P f → P (lower f o)
+      lowest : (f : Option Opening) → IfSome f P → P (lower f o)
       lowest None b = a.0
       lowest (Some f) b = elim (nat_le f.number o.number) as (λ c. P (cond c f o)) [ true ↦ b | false ↦ a.0 ]
 
-  label_within : (r : Option Opening) → Bounded_by (Within g.opened (length g.labelled)) r → Bounded g.opened (length g.labelled) (device_label r NoPtxasGroup)
+  label_within : (r : Option Opening) → IfSome r (Within g.opened (length g.labelled)) → Bounded g.opened (length g.labelled) (device_label r NoPtxasGroup)
   label_within r b = grind arith
 
   after_ptxas : (path : List ℕ) → After (assembling (Some path))

@@ -5,5 +5,4 @@ pub mod MergeLemmas
 pub mod OpenerLemmas
 pub mod PlanLemmas
 pub mod PlanNeedLemmas
-pub mod PutLemmas
 pub mod WordLemmas

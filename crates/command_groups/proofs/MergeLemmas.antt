@@ -9,8 +9,8 @@ use Rattle.std.proofs.lemmas.List.Sorted.{IsPermutation-refl, IsPermutation-sym,
 use Rattle.std.proofs.Math.Bool.{and-false}
 use Rattle.compilers.specs.CommandLines.{CommandLine, line_of}
 use Rattle.command_groups.specs.Merge.{MergedCommand, selected, is_nvcc_stem, is_host_stem, of_run, is_in_order, put_in_order, in_order, merged}
-use Rattle.command_groups.specs.MergeLaws.{InOrder, MergedIsInOrder, MergedAreTheSelected, Rises, is_before, RisesInOrder}
-use Rattle.command_groups.proofs.FateLemmas.{one_of}
+use Rattle.command_groups.specs.MergeLaws.{AllStand, InOrder, MergedAreTheSelected, Rises, is_before, RisesInOrder}
+use Rattle.command_groups.proofs.FateLemmas.{one_of, weaker, Among}
 
 -- Tests.
 
@@ -81,21 +81,13 @@ permuted [] = IsPermutation-refl []
 permuted (c ∷ cs) =
     IsPermutation-trans (c ∷ cs) (c ∷ in_order cs) (put_in_order c (in_order cs)) (IsPermutation-cons c cs (in_order cs) (permuted cs)) (put_permutes c (in_order cs))
 
-pub merged_is_in_order : MergedIsInOrder
+pub merged_is_in_order : (first second : List CommandLine) → InOrder (merged first second)
 merged_is_in_order first second = ordered (map (of_run 1) (selected is_nvcc_stem first) ++ map (of_run 2) (selected is_host_stem second))
 
 pub merged_are_the_selected : MergedAreTheSelected
 merged_are_the_selected first second = permuted (map (of_run 1) (selected is_nvcc_stem first) ++ map (of_run 2) (selected is_host_stem second))
 
 -- Members.
-
-abbrev Among : MergedCommand → List MergedCommand → Type 0
-Among x [] = ⊥
-Among x (y ∷ ys) = (x ≡ y) ⊎ Among x ys
-
-weaker : (P Q : MergedCommand → Type 0) → ((x : MergedCommand) → P x → Q x) → (xs : List MergedCommand) → AllByRecursion P xs → AllByRecursion Q xs
-weaker P Q f [] h = tt
-weaker P Q f (x ∷ xs) h = (f x h.0, weaker P Q f xs h.1)
 
 own_members : (xs : List MergedCommand) → AllByRecursion (λ x. Among x xs) xs
 own_members [] = tt
@@ -187,13 +179,15 @@ other_run : (r : ℕ) (a : MergedCommand) (cs : List CommandLine) → (a.run == 
 other_run r a [] e = refl
 other_run r a (c ∷ cs) e = grind (arith, tallied, and-false, (other_run r a cs e))
 
-all_left : (n : ℕ) (test : CommandLine → Bool) (cs : List CommandLine) → list_all (nat_lt n) (map line_of cs) ≡ true → list_all (nat_lt n) (map line_of (filter test cs)) ≡ true
-all_left n test [] h = refl
-all_left n test (c ∷ cs) h = grind (arith, and_from, (all_left n test cs))
+-- what is filtered stands as before
+module _ {X Y : Type 0} (f : X → Y) (test : X → Bool) where
+  all_left : (pass : Y → Bool) (xs : List X) → list_all pass (map f xs) ≡ true → list_all pass (map f (filter test xs)) ≡ true
+  all_left pass [] h = refl
+  all_left pass (x ∷ xs) h = grind (arith, and_from, (all_left pass xs))
 
-rises_left : (test : CommandLine → Bool) (cs : List CommandLine) → Rises (map line_of cs) → Rises (map line_of (filter test cs))
-rises_left test [] h = tt
-rises_left test (c ∷ cs) h = grind (arith, all_left, (rises_left test cs h.1))
+  pub stand_left : (stands : Y → Y → Bool) (xs : List X) → AllStand stands (map f xs) → AllStand stands (map f (filter test xs))
+  stand_left stands [] h = tt
+  stand_left stands (x ∷ xs) h = grind (arith, all_left, (stand_left stands xs h.1))
 
 two_runs : (cs ds : List CommandLine) → Rises (map line_of cs) → Rises (map line_of ds) → NoTies (map (of_run 1) cs ++ map (of_run 2) ds)
 two_runs cs ds h k a = grind (arith, eqb-true, other_run, not_equal, sum_by-append, rising_tally)
@@ -206,7 +200,7 @@ pub merged_once : (first second : List CommandLine) (ms : List MergedCommand) �
     IsPermutation (map (of_run 1) (selected is_nvcc_stem first) ++ map (of_run 2) (selected is_host_stem second)) ms → InOrder ms → (ms ≡ merged first second) × RisesInOrder ms
 merged_once first second ms h k p o =
     let xs = map (of_run 1) (selected is_nvcc_stem first) ++ map (of_run 2) (selected is_host_stem second) in
-    let apart : NoTies xs = two_runs (selected is_nvcc_stem first) (selected is_host_stem second) (rises_left _ first h) (rises_left _ second k) in
+    let apart : NoTies xs = two_runs (selected is_nvcc_stem first) (selected is_host_stem second) (stand_left line_of _ nat_lt first h) (stand_left line_of _ nat_lt second k) in
     let q : IsPermutation xs (in_order xs) = permuted xs in
     let rise : RisesInOrder ms = strict_order ms o (tallies_stay xs ms p apart) in
     let rises : RisesInOrder (in_order xs) = strict_order (in_order xs) (ordered xs) (tallies_stay xs (in_order xs) q apart) in (

@@ -10,15 +10,13 @@ use Rattle.command_groups.specs.Merge.{is_in_order}
 use Rattle.command_groups.specs.MergeLaws.{InOrder}
 use Rattle.command_groups.specs.Stage.{Stage, linking, splitting, device_compiling, assembling, preprocessing, host_compiling, foreign, StagedCommand, opens}
 use Rattle.command_groups.specs.Fate.{Fate, device, ungrouped, PlacedCommand, opens_name, place_of, placed_after, fate_of, with_fates, fates}
-use Rattle.command_groups.proofs.FateLemmas.{same_text, known_with, new_name_known, placed_staged}
+use Rattle.command_groups.proofs.FateLemmas.{same_text, all_push, known_with, new_name_known, placed_staged}
 
 -- lists of which one element passes a test
 module _ {X : Type 0} (test : X → Bool) where
   pub filter_holds : (xs : List X) (x : X) → filter test xs ≡ x ∷ [] → test x ≡ true
   filter_holds [] x h = cc
-  filter_holds (y ∷ ys) x h =
-      elim (test y) as (λ b. test y ≡ b → cond b (y ∷ filter test ys) (filter test ys) ≡ x ∷ [] → test x ≡ true)
-      [ true ↦ λ e k. let is : y ≡ x = cc in subst (λ z. test z ≡ true) is e | false ↦ λ e k. filter_holds ys x k ] refl h
+  filter_holds (y ∷ ys) x h = grind (arith, (filter_holds ys x))
 
   pub filter_member : (xs : List X) (x : X) → filter test xs ≡ x ∷ [] → Contains xs x
   filter_member [] x h = cc
@@ -28,9 +26,7 @@ module _ {X : Type 0} (test : X → Bool) where
 
   pub filter_none : (xs : List X) → filter test xs ≡ [] → list_any test xs ≡ false
   filter_none [] h = refl
-  filter_none (y ∷ ys) h =
-      elim (test y) as (λ b. cond b (y ∷ filter test ys) (filter test ys) ≡ [] → (b || list_any test ys) ≡ false)
-      [ true ↦ λ k. cc | false ↦ λ k. filter_none ys k ] h
+  filter_none (y ∷ ys) h = grind (arith, (filter_none ys))
 
 -- whether a command opens the group of a name
 abbrev pub opener : List ℕ → StagedCommand → Bool
@@ -51,10 +47,6 @@ opener_place n foreign h names before = absurd (false≢true h)
 opened_known : (n : List ℕ) (names : List (List ℕ)) (o : Option (List ℕ)) → is_some_and (λ opened. bytes_eq opened n) o ≡ true → list_any (bytes_eq n) (with_name names o) ≡ true
 opened_known n names None h = absurd (false≢true h)
 opened_known n names (Some m) h = subst (λ z. list_any (bytes_eq z) (with_name names (Some m)) ≡ true) (same_text m n h) (new_name_known names m)
-
-all_push : (P : PlacedCommand → Type 0) (ps : List PlacedCommand) (p : PlacedCommand) → AllByRecursion P ps → P p → AllByRecursion P (ps ++ p ∷ [])
-all_push P [] p h k = (k, tt)
-all_push P (q ∷ qs) p h k = (h.0, all_push P qs p h.1 k)
 
 -- Below, one step opens the group of a name, and a command goes there wherever that name is known; a command that stands
 -- before the step is another one.

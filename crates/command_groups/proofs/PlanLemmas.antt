@@ -2,6 +2,7 @@
 use Rattle.std.proofs.Common.{◌≡◌, ℕ, List, [], ◌∷◌, Bool, true, map, Option, None, Result, Ok, refl, sym, ap, subst, ◌∙◌, arith, ◌+◌, ◌<◌, ◌&&◌, nat_lt, lt-ltb, Err, IfOk}
 use Rattle.std.specs.List.{list_all, filter_map, enumerate_from}
 use Rattle.std.proofs.lemmas.Bool.{and_from}
+use Rattle.std.proofs.lemmas.Simd.{map-map}
 use Rattle.texts.specs.declared.fault.Fault.{Fault}
 use Rattle.compilers.specs.CommandLines.{CommandLine, line_of, words_of_command}
 use Rattle.dry_runs.specs.DryRun.{LookUp, Meaning, meanings, run_or_fault, dry_run_of, Runs, meaning_found, meaning_by_path, meaning_of_words, meaning_assigned, meaning_marked, meaning, environment_after, command_of}
@@ -19,15 +20,15 @@ use Rattle.dry_runs.specs.Parsed.{IsParsed, both_parsed, resolved}
 use Rattle.dry_runs.specs.Reading.{dry_run_seen, run_seen}
 use Rattle.dry_runs.proofs.ParsedLemmas.{parses-then-resolves}
 use Rattle.compilers.specs.declared.plans.origins.PlanWithOrigins.{PlanWithOrigins}
-use Rattle.command_groups.specs.Fate.{Fate, PlacedCommand}
-use Rattle.command_groups.specs.Merge.{MergedCommand, is_in_order}
+use Rattle.command_groups.specs.Fate.{Fate, PlacedCommand, places, fates}
+use Rattle.command_groups.specs.Merge.{MergedCommand, is_in_order, merged}
 use Rattle.command_groups.specs.MergeLaws.{InOrder, Rises}
 use Rattle.command_groups.specs.Plan.{PlanSetting, of_fate, staged_commands, plan_of}
 use Rattle.command_groups.specs.PlanOfBytes.{named, plan_or_fault, planning_of}
-use Rattle.command_groups.specs.PlanLaws.{AreCleanAndAlike, AlikePairsHaveOnePlan, AlikeTextsHaveOnePlan, faults_of_run, ReadableRunsArePlanned, PlannedRunsAreReadable, FirstRunIsRefused, SecondRunIsRefused, GroupIsInOrder, HasOneFateEach, Says, PlannedCommandsHaveOneFate}
-use Rattle.command_groups.specs.Stage.{staged}
+use Rattle.command_groups.specs.PlanLaws.{AreCleanAndAlike, AlikePairsHaveOnePlan, AlikeTextsHaveOnePlan, faults_of_run, ReadableRunsArePlanned, PlannedRunsAreReadable, FirstRunIsRefused, SecondRunIsRefused, HasOneFateEach, Says, PlannedCommandsHaveOneFate}
+use Rattle.command_groups.specs.Stage.{StagedCommand, staged}
 use Rattle.command_groups.proofs.FateLemmas.{each_has_one_fate, fates_staged, placed_staged}
-use Rattle.command_groups.proofs.MergeLemmas.{merged_is_in_order, merged_are_the_selected}
+use Rattle.command_groups.proofs.MergeLemmas.{merged_is_in_order, merged_are_the_selected, stand_left}
 use Rattle.command_groups.specs.Origins.{origins_or_fault, plan_alone, planning_of_parsed, planning_with_origins, ParsedRunsArePlanned}
 
 -- Runs that are alike.
@@ -92,26 +93,14 @@ pub all_staged_in_order : (s : PlanSetting) (cs : List MergedCommand) → InOrde
 all_staged_in_order s [] h = tt
 all_staged_in_order s (c ∷ cs) h = (staged_in_order s c cs h.0, all_staged_in_order s cs h.1)
 
--- what is filtered stays in order
-filtered_after : (test : Fate → Bool) (c : MergedCommand) (ps : List PlacedCommand) → list_all (is_in_order c) (map (λ p. p.staged.command) ps) ≡ true → list_all (is_in_order c) (map (λ p. p.staged.command) (of_fate test ps)) ≡ true
-filtered_after test c [] h = refl
-filtered_after test c (p ∷ ps) h = grind (arith, and_from, (filtered_after test c ps))
-
-filtered_in_order : (test : Fate → Bool) (ps : List PlacedCommand) → InOrder (map (λ p. p.staged.command) ps) → InOrder (map (λ p. p.staged.command) (of_fate test ps))
-filtered_in_order test [] h = tt
-filtered_in_order test (p ∷ ps) h = grind (arith, filtered_after, (filtered_in_order test ps h.1))
-
-commands_of_placed : (ps : List PlacedCommand) → map (λ p. p.staged.command) ps ≡ map (λ t. t.command) (map (λ p. p.staged) ps)
-commands_of_placed [] = refl
-commands_of_placed (p ∷ ps) = ap (λ t. p.staged.command ∷ t) (commands_of_placed ps)
-
-pub group_is_in_order : (s : PlanSetting) (first second : List CommandLine) (test : Fate → Bool) → GroupIsInOrder test (staged_commands s first second)
-group_is_in_order s first second test = grind (arith, filtered_in_order, commands_of_placed, fates_staged, placed_staged, all_staged_in_order, merged_is_in_order)
+pub group_is_in_order : (s : PlanSetting) (first second : List CommandLine) (test : Fate → Bool) → InOrder (map (λ p. p.staged.command) (of_fate test (fates (staged_commands s first second))))
+group_is_in_order s first second test =
+    let commands : List StagedCommand = staged_commands s first second in
+    stand_left (λ (p : PlacedCommand). p.staged.command) (λ (p : PlacedCommand). test p.fate) is_in_order (fates commands)
+    (subst InOrder (ap (map (λ (t : StagedCommand). t.command)) (sym (fates_staged (places commands) ∙ placed_staged [] [] commands)) ∙ map-map (λ (t : StagedCommand). t.command) (λ (p : PlacedCommand). p.staged) (fates commands))
+    (all_staged_in_order s (merged first second) (merged_is_in_order first second)))
 
 -- Fates.
-
-one_answer : (r : Result Plan Fault) (p q : Plan) → r ≡ Ok p → r ≡ Ok q → p ≡ q
-one_answer r p q e f = cc
 
 pub planned_commands_have_one_fate : PlannedCommandsHaveOneFate
 planned_commands_have_one_fate suffixes keep_dir s which first second plan e =
@@ -119,7 +108,7 @@ planned_commands_have_one_fate suffixes keep_dir s which first second plan e =
     let read = planned_runs_are_readable suffixes keep_dir s which first second plan e in
     let said : Says which s.cwd first second = record { one = _; two = _; one_is_read = ap (run_or_fault (meanings which 1 s.cwd [] (numbered_lines first))) read.0; two_is_read = ap (run_or_fault more) read.1 } in
     let exact : Plan = plan_of s said.one.1 (named suffixes keep_dir said.one.0) (named suffixes keep_dir said.two.0) in
-    let is : exact ≡ plan = one_answer (planning_of suffixes keep_dir s which first second) exact plan (planned suffixes keep_dir s which first second said.one said.two said.one_is_read said.two_is_read) e in
+    let is : exact ≡ plan = cc (planned suffixes keep_dir s which first second said.one said.two said.one_is_read said.two_is_read, e) in
     (said, subst (HasOneFateEach s said.one.1 (named suffixes keep_dir said.one.0) (named suffixes keep_dir said.two.0)) is ((grind (arith, merged_are_the_selected, merged_is_in_order, each_has_one_fate, group_is_in_order))))
 
 -- The commands of a dry run stand at rising lines, and their names change none.

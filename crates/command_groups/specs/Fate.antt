@@ -22,13 +22,10 @@ pub record PlacedCommand : Type 0 where
 abbrev pub opened_names : List StagedCommand → List (List ℕ)
 opened_names commands = fold (λ names c. with_name names (opens c.stage)) [] commands
 
--- the group of the first name that passes a test, else no group for a reason
+-- the group of a name, else no group for a reason
 abbrev pub device_or : Reason → Option (List ℕ) → Fate
 device_or reason None = ungrouped reason
 device_or reason (Some name) = device name
-
-abbrev pub first_group : Reason → (List ℕ → Bool) → List (List ℕ) → Fate
-first_group reason test names = device_or reason (find test names)
 
 -- whether a command's place or fate is the device group of a name
 abbrev pub is_device : List ℕ → Fate → Bool
@@ -53,28 +50,18 @@ abbrev pub is_made : List ℕ → List PlacedCommand → List ℕ → Bool
 is_made path [] name = false
 is_made path (p ∷ ps) name = (makes path name p && not (list_any (opens_name name) ps)) || is_made path ps name
 
--- where a preprocess step goes: into the group that it opens, if it opens one
-abbrev pub place_of_step : Option (List ℕ) → Fate
-place_of_step None = front
-place_of_step (Some name) = device name
-
--- where cicc goes: into the group of its preprocessed file, if a step before it opened that
-abbrev pub place_of_cicc : List (List ℕ) → Option (List ℕ) → Fate
-place_of_cicc names None = ungrouped NoCiccGroup
-place_of_cicc names (Some name) = first_group NoCiccGroup (bytes_eq name) names
-
--- where ptxas goes: into the first group, by first appearance of the names, that holds a cicc which makes ptxas's file
-abbrev pub place_of_ptxas : List (List ℕ) → List PlacedCommand → Option (List ℕ) → Fate
-place_of_ptxas names before None = ungrouped NoPtxasGroup
-place_of_ptxas names before (Some path) = first_group NoPtxasGroup (is_made path before) names
-
--- the place of a stage, of the names opened before and the placed commands before
+-- The place of a stage, of the names opened before and the placed commands before. A preprocess step goes into the group that it opens,
+-- if it opens one; cicc into the group of its preprocessed file, if a step before it opened that; and ptxas into the first group, by
+-- first appearance of the names, that holds a cicc which makes ptxas's file.
 abbrev pub place_of : List (List ℕ) → List PlacedCommand → Stage → Fate
 place_of names before linking = final
 place_of names before splitting = front
-place_of names before (device_compiling name) = place_of_cicc names name
-place_of names before (assembling path) = place_of_ptxas names before path
-place_of names before (preprocessing name) = place_of_step name
+place_of names before (device_compiling None) = ungrouped NoCiccGroup
+place_of names before (device_compiling (Some name)) = device_or NoCiccGroup (find (bytes_eq name) names)
+place_of names before (assembling None) = ungrouped NoPtxasGroup
+place_of names before (assembling (Some path)) = device_or NoPtxasGroup (find (is_made path before) names)
+place_of names before (preprocessing None) = front
+place_of names before (preprocessing (Some name)) = device name
 place_of names before host_compiling = final
 place_of names before foreign = ungrouped NotCuda
 

@@ -1,9 +1,9 @@
 -- What is claimed of fates and groups, for all lists of commands.
-use Rattle.std.specs.Prelude.{◌≡◌, ℕ, ◌+◌, List, ◌∷◌, ◌++◌, Bool, true, false, length, map, flat_map, IsPermutation, bytes_eq}
+use Rattle.std.specs.Prelude.{◌≡◌, ℕ, List, ◌∷◌, ◌++◌, Bool, true, false, map, flat_map, IsPermutation, bytes_eq}
 use Rattle.std.specs.List.{list_any}
 use Rattle.command_groups.specs.Stage.{StagedCommand}
 use Rattle.command_groups.specs.Fate.{Fate, ungrouped, PlacedCommand, is_device, opens_name, opened_names, fates}
-use Rattle.command_groups.specs.Plan.{PlanSetting, is_front, is_final, of_fate, plan_of_staged}
+use Rattle.command_groups.specs.Plan.{is_front, is_final, of_fate}
 
 -- whether a fate is no group
 abbrev pub is_ungrouped : Fate → Bool
@@ -32,7 +32,3 @@ BeginsWithLastStep name commands =
 abbrev pub DeviceGroupsBeginWithTheirStep : Type 0
 DeviceGroupsBeginWithTheirStep =
     (commands : List StagedCommand) (name : List ℕ) → list_any (bytes_eq name) (opened_names commands) ≡ true → BeginsWithLastStep name (fates commands)
-
--- a plan has a group for each opened name, and the outer two
-abbrev pub OuterGroupsAreThere : Type 0
-OuterGroupsAreThere = (s : PlanSetting) (commands : List StagedCommand) → length (plan_of_staged s commands).groups ≡ length (opened_names commands) + 2

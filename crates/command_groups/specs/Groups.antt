@@ -1,5 +1,5 @@
 -- The labels of commands, given one after the other, and the groups that a plan cuts the commands into.
-use Rattle.std.specs.Prelude.{ℕ, List, [], ◌∷◌, ◌++◌, length, fold, Option, Some, None, bytes_eq, suc, zero, ◌==◌, replicate, if◌then◌else◌, Result, Ok, Err, slice_get, flat_map}
+use Rattle.std.specs.Prelude.{ℕ, List, [], ◌∷◌, ◌++◌, length, fold, Option, Some, None, bytes_eq, suc, zero, ◌==◌, replicate, if◌then◌else◌, Result, Ok, Err, slice_get, flat_map, option_and_then}
 use Rattle.indexmap.specs.IndexMap.{insert_entry}
 use Rattle.texts.specs.Lists.{last_of}
 use Rattle.compilers.specs.declared.plans.plan.Reason.{Reason}
@@ -11,11 +11,10 @@ use Rattle.compilers.specs.declared.plans.origins.PlanWithOrigins.{PlanWithOrigi
 use Rattle.command_groups.specs.declared.openings.Opening.{Opening}
 use Rattle.command_groups.specs.declared.labels.Label.{Label}
 use Rattle.command_groups.specs.declared.labels.Label.TheVariants.{Front, Device, Final, Ungrouped}
-use Rattle.command_groups.specs.Stage.{Stage, linking, splitting, device_compiling, assembling, preprocessing, host_compiling, foreign, StagedCommand, cicc_input, ptxas_input}
+use Rattle.command_groups.specs.Stage.{Stage, linking, splitting, device_compiling, assembling, preprocessing, host_compiling, foreign, StagedCommand}
 use Rattle.command_groups.specs.Openings.{Opened, Made, opening_at, opening_of, number_of, first_live, with_file, is_live}
-use Rattle.command_groups.specs.Merge.{MergedCommand}
 use Rattle.command_groups.specs.Fate.{Fate, front, device, final, ungrouped, PlacedCommand}
-use Rattle.command_groups.specs.Plan.{PlanSetting, folder_of_run, subcommand_of}
+use Rattle.command_groups.specs.Plan.{PlanSetting, subcommand_of, dropped_for}
 use Rattle.command_groups.specs.Origins.{origin_of}
 
 -- a staged command with its label
@@ -37,57 +36,31 @@ abbrev pub device_label : Option Opening → Reason → Label
 device_label None reason = Ungrouped reason
 device_label (Some o) reason = Device o
 
--- the opening of cicc's input, and of ptxas's
-abbrev pub input_opening : Opened → Option (List ℕ) → Option Opening
-input_opening opened None = None
-input_opening opened (Some name) = opening_of opened name
-
-abbrev pub cicc_opening : Opened → List (List ℕ) → Option Opening
-cicc_opening opened words = input_opening opened (cicc_input words)
-
-abbrev pub made_opening : Opened → Made → Option (List ℕ) → Option Opening
-made_opening opened made None = None
-made_opening opened made (Some path) = first_live opened (made path)
-
-abbrev pub ptxas_opening : Opened → Made → List (List ℕ) → Option Opening
-ptxas_opening opened made words = made_opening opened made (ptxas_input words)
-
 -- the files made, once cicc of an opening makes its last word
 abbrev pub with_made : Made → Option Opening → Option (List ℕ) → Made
 with_made made None path = made
 with_made made (Some o) None = made
 with_made made (Some o) (Some path) = with_file made path o
 
-abbrev pub with_output : Made → Option Opening → List (List ℕ) → Made
-with_output made opening words = with_made made opening (last_of words)
-
--- the label of a step at a place, and the names opened after it
-abbrev pub step_label : Opened → ℕ → Option (List ℕ) → Label
-step_label opened place None = Front
-step_label opened place (Some name) = Device (opening_at (number_of opened name) place)
-
-abbrev pub with_opened : Opened → ℕ → Option (List ℕ) → Opened
-with_opened opened place None = opened
-with_opened opened place (Some name) = insert_entry bytes_eq opened name place
-
 -- the label of a stage at a place
 abbrev pub label_of : Opened → Made → ℕ → Stage → Label
 label_of opened made place linking = Final
 label_of opened made place splitting = Front
-label_of opened made place (device_compiling name) = device_label (input_opening opened name) NoCiccGroup
-label_of opened made place (assembling path) = device_label (made_opening opened made path) NoPtxasGroup
-label_of opened made place (preprocessing name) = step_label opened place name
+label_of opened made place (device_compiling name) = device_label (option_and_then (opening_of opened) name) NoCiccGroup
+label_of opened made place (assembling path) = device_label (option_and_then (λ p. first_live opened (made p)) path) NoPtxasGroup
+label_of opened made place (preprocessing None) = Front
+label_of opened made place (preprocessing (Some name)) = Device (opening_at (number_of opened name) place)
 label_of opened made place host_compiling = Final
 label_of opened made place foreign = Ungrouped NotCuda
 
 -- the names opened after a stage
 abbrev pub opened_after : Opened → ℕ → Stage → Opened
-opened_after opened place (preprocessing name) = with_opened opened place name
+opened_after opened place (preprocessing (Some name)) = insert_entry bytes_eq opened name place
 opened_after opened place _ = opened
 
 -- the files made after a stage with these words
 abbrev pub made_after : Opened → Made → List (List ℕ) → Stage → Made
-made_after opened made words (device_compiling name) = with_output made (input_opening opened name) words
+made_after opened made words (device_compiling name) = with_made made (option_and_then (opening_of opened) name) (last_of words)
 made_after opened made words _ = made
 
 -- one more command
@@ -119,12 +92,6 @@ abbrev pub settled : Opened → Labelled → PlacedCommand
 settled opened l = record { staged = l.staged; fate = fate_by opened l.label }
 
 -- Cutting, step by step.
-
-abbrev pub folder_of : PlanSetting → ℕ → List ℕ
-folder_of s run = folder_of_run s run
-
-abbrev pub dropped_for : Reason → MergedCommand → Dropped
-dropped_for reason c = record { line = c.line; run = c.run; exe = c.program; args = c.words; reason = reason }
 
 -- the place of a label's group among all groups, or why it has none
 abbrev pub group_of_label : Opened → Label → Result ℕ Reason
@@ -169,9 +136,6 @@ with_labelled s opened cut l = record {
   dropped = with_dropped cut.dropped l.staged (group_of_label opened l.label);
 }
 
-abbrev pub cut_of : PlanSetting → GroupingState → CutState
-cut_of s g = fold (with_labelled s g.opened) (nothing_cut (length g.opened)) g.labelled
-
 -- the plan, and the origins of its commands in plan order
 abbrev pub planned_of_cut : CutState → PlanWithOrigins
 planned_of_cut cut = record {
@@ -180,4 +144,4 @@ planned_of_cut cut = record {
 }
 
 abbrev pub plan_by_labels : PlanSetting → GroupingState → PlanWithOrigins
-plan_by_labels s g = planned_of_cut (cut_of s g)
+plan_by_labels s g = planned_of_cut (fold (with_labelled s g.opened) (nothing_cut (length g.opened)) g.labelled)

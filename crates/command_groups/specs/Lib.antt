@@ -1,4 +1,3 @@
-pub mod EntryView
 pub mod Fate
 pub mod FateLaws
 pub mod Groups
@@ -13,7 +12,6 @@ pub mod PlanNeeds
 pub mod PlanOfBytes
 pub mod PlanOfBytesExamples
 pub mod PlanWithin
-pub mod PlanWithinExamples
 pub mod Stage
 pub mod Views
 pub use Rattle.compilers.specs.Reasons

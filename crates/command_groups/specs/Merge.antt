@@ -5,13 +5,9 @@ use Rattle.texts.specs.Path.{file_stem_of}
 use Rattle.compilers.specs.CommandLines.{CommandLine, line_of, program_of, words_of_command}
 use Rattle.texts.specs.Lists.{is_some_and}
 
--- the stems of nvcc's own tools
-abbrev pub nvcc_stems : List (List ℕ)
-nvcc_stems = codes "cicc" ∷ codes "ptxas" ∷ codes "cudafe++" ∷ codes "nvlink" ∷ codes "fatbinary" ∷ []
-
 -- whether a stem is one of nvcc's own tools, and whether it is one of any other program
 abbrev pub is_nvcc_stem : List ℕ → Bool
-is_nvcc_stem stem = list_any (bytes_eq stem) nvcc_stems
+is_nvcc_stem stem = list_any (bytes_eq stem) (codes "cicc" ∷ codes "ptxas" ∷ codes "cudafe++" ∷ codes "nvlink" ∷ codes "fatbinary" ∷ [])
 
 abbrev pub is_host_stem : List ℕ → Bool
 is_host_stem stem = not (is_nvcc_stem stem)

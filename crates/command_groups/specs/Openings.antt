@@ -1,7 +1,12 @@
 -- Openings of device groups, as names in order of first appearance with the places of the steps that opened them last.
-use Rattle.std.specs.Prelude.{ℕ, suc, List, [], ◌∷◌, ◌++◌, Bool, ◌==◌, nat_le, map, if◌then◌else◌, Option, Some, None, slice_get, bytes_eq}
+use Rattle.std.specs.Prelude.{ℕ, suc, List, [], ◌∷◌, ◌++◌, Bool, ◌==◌, nat_le, map, if◌then◌else◌, Option, Some, None, slice_get, bytes_eq, String, string_bytes}
+use Rattle.std.specs.declared.alloc.Global.{Global}
 use Rattle.texts.specs.Lists.{is_some_and}
 use Rattle.command_groups.specs.declared.openings.Opening.{Opening}
+
+-- the entries of a map by names, seen as texts
+abbrev pub entry_seen : String Global × ℕ → List ℕ × ℕ
+entry_seen e = (string_bytes e.0, e.1)
 
 -- names with the places of steps, and the names alone
 abbrev pub Opened : Type 0

@@ -1,5 +1,5 @@
 -- The lines of the dry runs that the commands of a plan come from.
-use Rattle.std.specs.Prelude.{◌≡◌, ℕ, List, ◌++◌, map, Bool, Option, Result, Ok, Err, flat_map}
+use Rattle.std.specs.Prelude.{◌≡◌, ℕ, List, Option, Result, Ok, Err, flat_map}
 use Rattle.texts.specs.declared.fault.Fault.{Fault}
 use Rattle.dry_runs.specs.declared.parsed_runs.ParsedRuns.{ParsedRuns}
 use Rattle.compilers.specs.CommandLines.{CommandLine}
@@ -10,37 +10,29 @@ use Rattle.compilers.specs.declared.plans.origins.Origin.{Origin}
 use Rattle.compilers.specs.declared.plans.origins.PlanWithOrigins.{PlanWithOrigins}
 use Rattle.compilers.specs.declared.plans.plan.Plan.{Plan}
 use Rattle.command_groups.specs.Stage.{StagedCommand}
-use Rattle.command_groups.specs.Fate.{Fate, PlacedCommand, is_device, opened_names, fates}
-use Rattle.command_groups.specs.Plan.{PlanSetting, is_front, is_final, of_fate, staged_commands, plan_of}
+use Rattle.command_groups.specs.Fate.{opened_names, fates}
+use Rattle.command_groups.specs.Plan.{PlanSetting, groups_by, plan_of_staged, staged_commands, with_environment}
 use Rattle.command_groups.specs.PlanOfBytes.{named}
 
 -- the line and the run of a command
 abbrev pub origin_of : StagedCommand → Origin
 origin_of c = record { line = c.command.line; run = c.command.run }
 
--- those of the commands whose fate passes a test, in order
-abbrev pub origins_by : (Fate → Bool) → List PlacedCommand → List Origin
-origins_by test commands = map (λ p. origin_of p.staged) (of_fate test commands)
-
--- those of a plan's commands, in plan order: the front group, the device groups, and the final group
-abbrev pub origins_of_placed : List (List ℕ) → List PlacedCommand → List Origin
-origins_of_placed names commands =
-    origins_by is_front commands ++ (flat_map (λ name. origins_by (is_device name) commands) names ++ origins_by is_final commands)
-
-abbrev pub origins_of_staged : List StagedCommand → List Origin
-origins_of_staged commands = origins_of_placed (opened_names commands) (fates commands)
-
--- the plan of the commands of two runs, with the origins of its commands
-abbrev pub plan_with_origins : PlanSetting → List Variable → List CommandLine → List CommandLine → PlanWithOrigins
-plan_with_origins s variables first second = record {
-  plan = plan_of s variables first second;
-  origins = origins_of_staged (staged_commands s first second);
+-- the plan of staged commands, with the origins of its commands in plan order
+abbrev pub planned_of_staged : PlanSetting → List StagedCommand → PlanWithOrigins
+planned_of_staged s commands = record {
+  plan = plan_of_staged s commands;
+  origins = flat_map (λ group. group) (groups_by origin_of (opened_names commands) (fates commands));
 }
 
+-- the same of the commands of two runs
+abbrev pub plan_with_origins : PlanSetting → List Variable → List CommandLine → List CommandLine → PlanWithOrigins
+plan_with_origins s variables first second = planned_of_staged (with_environment s variables) (staged_commands s first second)
+
 -- the same of two runs that can be read; else the fault of the first, or of the second if the first can be read
-abbrev pub origins_or_fault : List (List ℕ) → Option (List ℕ) → PlanSetting →
-    Result (List CommandLine × List Variable) Fault → Result (List CommandLine × List Variable) Fault →
-    Result PlanWithOrigins Fault
+abbrev pub origins_or_fault : {E : Type 0} → List (List ℕ) → Option (List ℕ) → PlanSetting →
+    Result (List CommandLine × List Variable) E → Result (List CommandLine × List Variable) E →
+    Result PlanWithOrigins E
 origins_or_fault suffixes keep_dir s (Err fault) second = Err fault
 origins_or_fault suffixes keep_dir s (Ok first) (Err fault) = Err fault
 origins_or_fault suffixes keep_dir s (Ok first) (Ok second) =

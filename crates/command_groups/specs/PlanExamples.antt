@@ -8,10 +8,10 @@ use Rattle.compilers.specs.declared.compiler.NvccHostCompiler.TheVariants.{Gcc, 
 use Rattle.compilers.specs.declared.plans.plan.NvccGeneratedSubcommand.{NvccGeneratedSubcommand}
 use Rattle.compilers.specs.declared.plans.plan.Dropped.{Dropped}
 use Rattle.compilers.specs.declared.plans.plan.Reason.{Reason}
-use Rattle.compilers.specs.declared.plans.plan.Reason.TheVariants.{NotCuda, NoCiccGroup, NoPtxasGroup, Superseded}
+use Rattle.compilers.specs.declared.plans.plan.Reason.TheVariants.{NoCiccGroup, NoPtxasGroup, Superseded}
 use Rattle.compilers.specs.declared.plans.plan.Plan.{Plan}
 use Rattle.compilers.specs.CommandLines.{CommandLine}
-use Rattle.compilers.specs.OneKernel.{at, commands_of}
+use Rattle.compilers.specs.OneKernel.{at}
 use Rattle.command_groups.specs.Merge.{MergedCommand, merged}
 use Rattle.dry_runs.specs.Environment.{with_variables}
 use Rattle.command_groups.specs.Plan.{PlanSetting, plan_of}
@@ -35,12 +35,8 @@ abbrev pub runs : Cacheable → List ℕ → List ℕ → List ℕ → NvccGener
 runs cacheable cwd exe words = record { exe = exe; args = blank_separated words; cwd = cwd; env_vars = path_set; cacheable = cacheable }
 
 abbrev pub compiles : List ℕ → List ℕ → NvccGeneratedSubcommand
-compiles exe words = record {
-  exe = exe;
-  args = blank_separated words;
-  cwd = codes "/w";
+compiles exe words = record (runs Yes (codes "/w") exe words) {
   env_vars = (codes "PATH", codes "/b") ∷ (codes "__SCCACHE_THIS_IS_A_CUDA_COMPILATION__", []) ∷ [];
-  cacheable = Yes;
 }
 
 abbrev pub drops : Reason → ℕ → ℕ → List ℕ → List ℕ → Dropped
@@ -82,29 +78,6 @@ one_kernel_plan name second =
     []) ∷
     [])
     []
-
--- both runs with canonical names
-abbrev pub OneKernelPlan : Type 0
-OneKernelPlan = plan_of_both (commands_of (codes "x_0")) ≡ one_kernel_plan (codes "x_0") (codes "x_0")
-
--- the second run names its files in the folder of temporary files, and the device group is the same, since it has the file name
-abbrev pub NamesInAFolder : Type 0
-NamesInAFolder =
-    plan_of (setting Gcc (codes "-c")) path_set (commands_of (codes "x_0")) (commands_of (codes "/t/x_0")) ≡ one_kernel_plan (codes "x_0") (codes "/t/x_0")
-
--- no word is renamed
-abbrev pub NamesAsTheyAre : Type 0
-NamesAsTheyAre = plan_of_both (commands_of (codes "kernel")) ≡ one_kernel_plan (codes "kernel") (codes "kernel")
-
--- runs without commands: the outer groups are there, and empty
-abbrev pub EmptyRuns : Type 0
-EmptyRuns = plan_of (setting Gcc (codes "-c")) [] [] [] ≡ plan_with ([] ∷ [] ∷ []) []
-
--- host code alone is in the final group, and its environment says that it is compiled for CUDA
-abbrev pub HostCodeAlone : Type 0
-HostCodeAlone =
-    plan_of_both (at 2 (codes "/b/gcc") (codes "-D__NVCC__ -c x.cpp") ∷ []) ≡
-    plan_with ([] ∷ (compiles (codes "/b/gcc") (codes "-D__NVCC__ -c x.cpp") ∷ []) ∷ []) []
 
 -- a preprocess step and cicc, twice over
 abbrev pub step_and_cicc_twice : List CommandLine
@@ -221,10 +194,6 @@ CiccKeepsItsWords =
     plan_of (setting Gcc (codes "-ptx")) path_set step_and_generating_cicc step_and_generating_cicc ≡
     plan_with ([] ∷ step_and_cicc_with (codes "--gen_module_id_file --gen_module_id_file x_0.cpp1.ii -o k.ptx") ∷ [] ∷ []) []
 
--- a command that defines no macro of CUDA is dropped
-abbrev pub NotForCuda : Type 0
-NotForCuda = plan_of_both (at 1 (codes "/b/") (codes "x") ∷ []) ≡ plan_with ([] ∷ [] ∷ []) (drops NotCuda 1 2 (codes "/b/") (codes "x") ∷ [])
-
 -- a program without a stem is of neither run
 abbrev pub ProgramWithoutAStem : Type 0
 ProgramWithoutAStem =
@@ -243,12 +212,6 @@ abbrev pub StepWithoutAFileName : Type 0
 StepWithoutAFileName =
     plan_of_both (at 1 (codes "/b/gcc") (codes "-D__NVCC__ -E k.cu -o ..") ∷ []) ≡
     plan_with ((step (codes "..") ∷ []) ∷ [] ∷ []) []
-
--- the output with a `/` at its end is no generated name, but its file name opens a group, which cicc with its canonical name misses
-abbrev pub OutputWithASlash : Type 0
-OutputWithASlash =
-    plan_of_both (at 1 (codes "/b/gcc") (codes "-D__NVCC__ -E k.cu -o k.cpp1.ii/") ∷ at 2 (codes "/b/cicc") (codes "x_0.cpp1.ii -o k.ptx") ∷ []) ≡
-    plan_of_step (codes "k.cpp1.ii/") (drops NoCiccGroup 2 1 (codes "/b/cicc") (codes "x_0.cpp1.ii -o k.ptx") ∷ [])
 
 -- two groups: cicc and ptxas join the one that makes their input, which is the second; cicc and ptxas that name no input join none
 abbrev pub SecondGroupIsJoined : Type 0
@@ -288,14 +251,10 @@ FoldedEnvironment =
     ((codes "PATH", codes "/b") ∷ (codes "R", codes "2") ∷ []) ≡
     ((codes "PATH", codes "/b") ∷ (codes "Q", codes "1") ∷ (codes "PATH", codes "/y") ∷ (codes "R", codes "2") ∷ [])
 
--- a setting whose environment has the name of the pair that host compilers get
-abbrev pub marked_setting : PlanSetting
-marked_setting = record (setting Gcc (codes "-c")) { env_vars = (codes "__SCCACHE_THIS_IS_A_CUDA_COMPILATION__", codes "1") ∷ [] }
-
--- the pair comes last even where the name is known
+-- the pair that host compilers get comes last even where the environment has its name
 abbrev pub MarkedTwice : Type 0
 MarkedTwice =
-    plan_of marked_setting path_set [] (at 1 (codes "/b/gcc") (codes "-D__NVCC__ -c x.cpp") ∷ []) ≡
+    plan_of (record (setting Gcc (codes "-c")) { env_vars = (codes "__SCCACHE_THIS_IS_A_CUDA_COMPILATION__", codes "1") ∷ [] }) path_set [] (at 1 (codes "/b/gcc") (codes "-D__NVCC__ -c x.cpp") ∷ []) ≡
     plan_with
     ([] ∷
     (record (compiles (codes "/b/gcc") (codes "-D__NVCC__ -c x.cpp")) {

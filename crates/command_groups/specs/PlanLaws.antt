@@ -12,9 +12,8 @@ use Rattle.command_groups.specs.Fate.{Fate, opened_names, fates}
 use Rattle.command_groups.specs.FateLaws.{regrouped}
 use Rattle.command_groups.specs.Merge.{of_run, selected, is_nvcc_stem, is_host_stem, merged}
 use Rattle.command_groups.specs.MergeLaws.{InOrder}
-use Rattle.command_groups.specs.Plan.{PlanSetting, of_fate, groups_of, dropped_by, staged_commands, with_environment, plan_of}
+use Rattle.command_groups.specs.Plan.{PlanSetting, of_fate, subcommand_of, groups_by, dropped_by, staged_commands, with_environment, plan_of}
 use Rattle.command_groups.specs.PlanOfBytes.{named, planning_of}
-use Rattle.command_groups.specs.Stage.{StagedCommand}
 
 -- two runs that are clean, and alike
 pub record AreCleanAndAlike (suffixes : List (List ℕ)) (one other : List CommandLine) : Type 0 where
@@ -81,10 +80,6 @@ SecondRunIsRefused =
     (suffixes : List (List ℕ)) (keep_dir : Option (List ℕ)) (s : PlanSetting) (which : LookUp) (first second : List ℕ) (fault : Fault) (others : List Fault) →
     IsReadable which s.cwd 1 first → faults_of_run which s.cwd 2 second ≡ fault ∷ others → planning_of suffixes keep_dir s which first second ≡ Err fault
 
--- the commands of a group stand in order of line and run
-abbrev pub GroupIsInOrder : (Fate → Bool) → List StagedCommand → Type 0
-GroupIsInOrder test commands = InOrder (map (λ p. p.staged.command) (of_fate test (fates commands)))
-
 -- a plan of the commands of two runs, their words renamed already where they are to be: the merged commands are the selected
 -- ones, each once, in order of line and run; the groups and the dropped list are those of the fates of these commands, in
 -- which each has one, and each of them stands in order
@@ -94,9 +89,9 @@ pub record HasOneFateEach (s : PlanSetting) (variables : List Variable) (first s
   pub one_fate : IsPermutation (staged_commands s first second)
       (map (λ p. p.staged)
       (regrouped (opened_names (staged_commands s first second)) (fates (staged_commands s first second))))
-  pub groups : plan.groups ≡ groups_of (with_environment s variables) (opened_names (staged_commands s first second)) (fates (staged_commands s first second))
+  pub groups : plan.groups ≡ groups_by (subcommand_of (with_environment s variables)) (opened_names (staged_commands s first second)) (fates (staged_commands s first second))
   pub dropped : plan.dropped ≡ filter_map (λ p. dropped_by p.fate p.staged.command) (fates (staged_commands s first second))
-  pub in_order : (test : Fate → Bool) → GroupIsInOrder test (staged_commands s first second)
+  pub in_order : (test : Fate → Bool) → InOrder (map (λ p. p.staged.command) (of_fate test (fates (staged_commands s first second))))
 
 -- what two dry runs say
 pub record Says (which : LookUp) (cwd first second : List ℕ) : Type 0 where

@@ -1,9 +1,8 @@
 -- The laws of plans with one premise left out of each. None of these is so.
-use Rattle.std.specs.Prelude.{◌≡◌, ℕ, List, Option, Some, None}
+use Rattle.std.specs.Prelude.{◌≡◌, ℕ, List, Option, None}
 use Rattle.compilers.specs.CommandLines.{CommandLine}
 use Rattle.dry_runs.specs.Environment.{Variable}
 use Rattle.canonical_names.specs.CanonicalNames.{AreSuffixes}
-use Rattle.canonical_names.specs.RenamingNeeds.{AreAlikeFirstUnclean, AreAlikeSecondUnclean, AreCleanByAnyMap, AreCleanInOtherFolders}
 use Rattle.command_groups.specs.Plan.{PlanSetting, plan_of}
 use Rattle.command_groups.specs.PlanLaws.{AreCleanAndAlike}
 use Rattle.command_groups.specs.PlanOfBytes.{named}
@@ -17,24 +16,7 @@ PlansAgree Relation keep_dir =
     plan_of s variables (named suffixes keep_dir first) (named suffixes keep_dir second) ≡
     plan_of s variables (named suffixes keep_dir other_first) (named suffixes keep_dir other_second)
 
--- they have so if one run need not be clean, if the map need not be one-to-one, or need not keep folders
-abbrev pub PlansAgreeFirstUnclean : Type 0
-PlansAgreeFirstUnclean = PlansAgree AreAlikeFirstUnclean None
-
-abbrev pub PlansAgreeSecondUnclean : Type 0
-PlansAgreeSecondUnclean = PlansAgree AreAlikeSecondUnclean None
-
-abbrev pub PlansAgreeByAnyMap : Type 0
-PlansAgreeByAnyMap = PlansAgree AreCleanByAnyMap None
-
-abbrev pub PlansAgreeInOtherFolders : Type 0
-PlansAgreeInOtherFolders = PlansAgree AreCleanInOtherFolders None
-
--- they have so with a keep directory too
-abbrev pub PlansAgreeWithKeepDirectory : Type 0
-PlansAgreeWithKeepDirectory = (keep_dir : List ℕ) → PlansAgree AreCleanAndAlike (Some keep_dir)
-
--- they have so whatever the first runs' variables are
+-- pairs of runs that are clean and alike have equal plans whatever the first runs' variables are
 abbrev pub PlansAgreeWithAnyVariables : Type 0
 PlansAgreeWithAnyVariables =
     (suffixes : List (List ℕ)) → AreSuffixes suffixes →

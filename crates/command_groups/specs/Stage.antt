@@ -19,17 +19,14 @@ pub data ProgramKind : Type 0 where
   ptxas : ProgramKind
   other : ProgramKind
 
-abbrev pub kind_of_stem : List ℕ → ProgramKind
-kind_of_stem stem =
+-- the kind of a program, by its stem; a program without one is any other
+abbrev pub kind_of_optional_stem : Option (List ℕ) → ProgramKind
+kind_of_optional_stem None = other
+kind_of_optional_stem (Some stem) =
     if bytes_eq stem (codes "fatbinary") || bytes_eq stem (codes "nvlink") then linker else
     (if bytes_eq stem (codes "cudafe++") then cudafe else
     (if bytes_eq stem (codes "cicc") then cicc else
     (if bytes_eq stem (codes "ptxas") then ptxas else other)))
-
--- the kind of a program, by its stem; a program without one is any other
-abbrev pub kind_of_optional_stem : Option (List ℕ) → ProgramKind
-kind_of_optional_stem None = other
-kind_of_optional_stem (Some stem) = kind_of_stem stem
 
 abbrev pub kind_of_program : List ℕ → ProgramKind
 kind_of_program program = kind_of_optional_stem (file_stem_of program)
@@ -50,20 +47,17 @@ abbrev pub without_first_word : List ℕ → List (List ℕ) → List (List ℕ)
 without_first_word word [] = []
 without_first_word word (w ∷ ws) = if bytes_eq word w then ws else w ∷ without_first_word word ws
 
--- cudafe++'s words: if they lack `--gen_module_id_file`, it comes right before the first option that names the file. nvcc before
--- CUDA 12.0 doesn't write it: there a cicc makes the file, and cudafe++ comes last. A plan runs cudafe++ first, so cudafe++ makes it.
-abbrev pub cudafe_edit : List (List ℕ) → List (List ℕ)
-cudafe_edit words =
-    if has_word (codes "--gen_module_id_file") words then words else with_word_before (codes "--gen_module_id_file") (codes "--module_id_file_name") words
-
 -- cicc's words: if the call makes objects, they lose the first `--gen_module_id_file`. nvcc before CUDA 12.8 writes it. But for an
 -- object cudafe++ makes the file, and cicc must not make it again.
 abbrev pub cicc_edit : List ℕ → List (List ℕ) → List (List ℕ)
 cicc_edit flag words = if makes_objects flag then without_first_word (codes "--gen_module_id_file") words else words
 
--- the words of a program, edited; only those of cudafe++ and of cicc are
+-- The words of a program, edited; only those of cudafe++ and of cicc are. If cudafe++'s lack `--gen_module_id_file`, it comes right
+-- before the first option that names the file. nvcc before CUDA 12.0 doesn't write it: there a cicc makes the file, and cudafe++ comes
+-- last. A plan runs cudafe++ first, so cudafe++ makes it.
 abbrev pub edited_by : ProgramKind → List ℕ → List (List ℕ) → List (List ℕ)
-edited_by cudafe flag words = cudafe_edit words
+edited_by cudafe flag words =
+    if has_word (codes "--gen_module_id_file") words then words else with_word_before (codes "--gen_module_id_file") (codes "--module_id_file_name") words
 edited_by cicc flag words = cicc_edit flag words
 edited_by _ flag words = words
 
@@ -85,13 +79,11 @@ pub data Stage : Type 0 where
   host_compiling : Stage
   foreign : Stage
 
--- The beginnings of words that define a macro of CUDA's. Each line that nvcc writes for the host compiler has such a word. A line
+-- Whether a word begins with a definition of one of CUDA's macros. Each line that nvcc writes for the host compiler has such a word. A line
 -- without one compiles nothing, as `rm x_dlink.reg.c`, or runs a program of a newer toolkit that sccache doesn't know.
-abbrev pub cuda_macros : List (List ℕ)
-cuda_macros = codes "-D__CUDACC__" ∷ codes "-D__NVCC__" ∷ codes "-D__CUDA_ARCH__" ∷ codes "-D__CUDA_ARCH_LIST__" ∷ []
-
 abbrev pub defines_cuda : List ℕ → Bool
-defines_cuda word = list_any (starts_with nat_eq word) cuda_macros
+defines_cuda word =
+    list_any (starts_with nat_eq word) (codes "-D__CUDACC__" ∷ codes "-D__NVCC__" ∷ codes "-D__CUDA_ARCH__" ∷ codes "-D__CUDA_ARCH_LIST__" ∷ [])
 
 abbrev pub is_for_cuda : List (List ℕ) → Bool
 is_for_cuda words = list_any defines_cuda words
@@ -137,12 +129,9 @@ pub record StagedCommand : Type 0 where
   pub command : MergedCommand
   pub stage : Stage
 
-abbrev pub staged_words : NvccHostCompiler → MergedCommand → StagedCommand
-staged_words compiler c = record { command = c; stage = stage_by (kind_of_program c.program) compiler c.words }
-
 -- a merged command with its edited words and its stage, under a host compiler and a compilation flag
 abbrev pub staged : NvccHostCompiler → List ℕ → MergedCommand → StagedCommand
-staged compiler flag c = staged_words compiler (edited flag c)
+staged compiler flag c = record { command = edited flag c; stage = stage_by (kind_of_program c.program) compiler (edited flag c).words }
 
 -- the name that a stage opens a group by, if any
 abbrev pub opens : Stage → Option (List ℕ)

@@ -88,17 +88,6 @@ impl Model for Environments {
 }
 
 impl Environments {
-    /// The environments of commands that run in `env_vars`.
-    pub fn new(alloc: Global, env_vars: Variables) -> Result<Environments, AllocError>
-        ensures { IfOk result (λ environments. environments ≡ env_vars) }
-    {
-        let marked = marked(alloc, "__SCCACHE_THIS_IS_A_CUDA_COMPILATION__", &env_vars)?;
-        Ok(Environments {
-            plain: env_vars.share(alloc)?,
-            marked,
-        })
-    }
-
     /// The environments of commands that run in `env_vars`, with what a dry run's environment lines set.
     pub fn folded(
         alloc: Global,
@@ -108,7 +97,11 @@ impl Environments {
         ensures { IfOk result (λ environments. environments ≡ spec.with_variables (map pair_of env_vars.now) variables) }
     {
         let env_vars = with_variables(alloc, env_vars, variables)?;
-        Environments::new(alloc, env_vars)
+        let marked = marked(alloc, "__SCCACHE_THIS_IS_A_CUDA_COMPILATION__", &env_vars)?;
+        Ok(Environments {
+            plain: env_vars.share(alloc)?,
+            marked,
+        })
     }
 
     /// The environment of a stage.
@@ -117,12 +110,7 @@ impl Environments {
     {
         match stage {
             Stage::HostCompiling => self.marked.try_clone(alloc),
-            Stage::Linking
-            | Stage::Splitting
-            | Stage::DeviceCompiling
-            | Stage::Assembling
-            | Stage::Preprocessing
-            | Stage::Foreign => self.plain.try_clone(alloc),
+            _ => self.plain.try_clone(alloc),
         }
     }
 }

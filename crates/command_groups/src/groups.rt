@@ -1,11 +1,14 @@
 //! The groups that labelled commands are cut into.
 
 ghost use Rattle.std.specs.Prelude.{◌≡◌, ℕ, ◌+◌, ◌<◌, ◌^◌, List, [], ◌∷◌, ◌++◌, map, fold, length, IfOk, OnOk, string_bytes, vec_items, flat_map};
+ghost use Rattle.std.specs.Vec.Iter.{into_iter_items};
 ghost use Rattle.command_groups.specs.Groups as spec;
+ghost use Rattle.command_groups.specs.Origins.{planned_of_staged};
+ghost use Rattle.command_groups.specs.Stage.{staged};
 ghost use Rattle.command_groups.specs.Views.{cut_seen, labelled_seen, command_seen, setting_seen};
-ghost use Rattle.command_groups.specs.Plan.{subcommand_of};
+ghost use Rattle.command_groups.specs.Plan.{dropped_for, subcommand_of};
 
-use crate::labels::{Label, LabelledCommand};
+use crate::labels::{Grouping, Label, LabelledCommand, label_all};
 use crate::merged_commands::SelectedCommand;
 use crate::openings::OpenedNames;
 use crate::setting::Setting;
@@ -15,6 +18,7 @@ use compilers::plans::{
     PlanWithOrigins, Reason,
 };
 use std::alloc::{AllocError, Global};
+use std::vec::IntoIter;
 use texts::text::Text;
 use texts::words::Words;
 
@@ -38,7 +42,7 @@ fn subcommand(
 }
 
 fn dropped(command: SelectedCommand, reason: Reason) -> Dropped
-    ensures { result ≡ spec.dropped_for reason (command_seen command) }
+    ensures { result ≡ dropped_for reason (command_seen command) }
 {
     Dropped {
         line: command.line,
@@ -95,18 +99,6 @@ struct Cut {
 }
 
 impl Cut {
-    // Nothing yet, for so many names.
-    fn new(alloc: Global, names: usize) -> Result<Cut, AllocError>
-        requires { names < 2 ^ 63 }
-        ensures { IfOk result (λ cut. cut_seen cut ≡ spec.nothing_cut names) }
-    {
-        Ok(Cut {
-            groups: empty_groups(alloc, names)?,
-            origins: empty_groups(alloc, names)?,
-            dropped: Vec::new(alloc),
-        })
-    }
-
     fn take(
         &mut self,
         alloc: Global,
@@ -135,21 +127,13 @@ impl Cut {
     }
 }
 
-fn push_all(origins: &mut Vec<Origin>, group: &[Origin]) -> Result<(), AllocError>
-    ensures { OnOk result (origins.new.items ≡ origins.old.items ++ group.now) }
-{
-    for origin in group {
-        origins.push(*origin)?;
-    }
-    Ok(())
-}
-
-fn in_plan_order(alloc: Global, groups: &[Vec<Origin>]) -> Result<Origins, AllocError>
-    ensures { IfOk result (λ origins. origins ≡ flat_map (λ group. group) (map vec_items groups.now)) }
+fn in_plan_order(alloc: Global, groups: Vec<Vec<Origin>>) -> Result<Origins, AllocError>
+    ensures { IfOk result (λ origins. origins ≡ flat_map (λ group. group) (map vec_items groups.items)) }
 {
     let mut origins = Vec::new(alloc);
     for group in groups {
-        push_all(&mut origins, group.as_slice())?;
+        let mut group = group;
+        origins.append(&mut group)?;
     }
     Ok(Origins::from_vec(origins))
 }
@@ -162,15 +146,19 @@ fn cut_of(
 ) -> Result<Cut, AllocError>
     ensures { IfOk result (λ cut. cut_seen cut ≡ fold (spec.with_labelled (setting_seen setting.now) opened.now) (spec.nothing_cut (length opened.now)) (map labelled_seen labelled.items)) }
 {
-    let mut cut = Cut::new(alloc, opened.len())?;
+    let mut cut = Cut {
+        groups: empty_groups(alloc, opened.len())?,
+        origins: empty_groups(alloc, opened.len())?,
+        dropped: Vec::new(alloc),
+    };
     for command in labelled {
         cut.take(alloc, setting, opened, command)?;
     }
     Ok(cut)
 }
 
-/// The plan of labelled commands, each group with its commands in order, and the origins of these.
-pub fn plan_by_labels(
+// The plan of labelled commands, each group with its commands in order, and the origins of these.
+fn plan_by_labels(
     alloc: Global,
     setting: &Setting<'_>,
     opened: &OpenedNames,
@@ -179,10 +167,31 @@ pub fn plan_by_labels(
     ensures { IfOk result (λ planned. planned ≡ spec.planned_of_cut (fold (spec.with_labelled (setting_seen setting.now) opened.now) (spec.nothing_cut (length opened.now)) (map labelled_seen labelled.items))) }
 {
     let cut = cut_of(alloc, setting, opened, labelled)?;
-    let origins = in_plan_order(alloc, cut.origins.as_slice())?;
+    let origins = in_plan_order(alloc, cut.origins)?;
     let plan = Plan {
         groups: Groups::from_vec(cut.groups),
         dropped: DroppedCommands::from_vec(cut.dropped),
     };
     Ok(PlanWithOrigins { plan, origins })
+}
+
+/// The plan of merged commands, with their origins: each gets a label, and then they are cut into groups.
+pub fn plan_of_commands(
+    alloc: Global,
+    setting: &Setting<'_>,
+    commands: IntoIter<SelectedCommand>,
+) -> Result<PlanWithOrigins, AllocError>
+    ensures { IfOk result (λ planned. planned ≡ planned_of_staged (setting_seen setting.now)
+        (map (staged setting.now.call.now.host_compiler (setting_seen setting.now).flag) (map command_seen (into_iter_items commands)))) }
+{
+    let Grouping {
+        opened,
+        labelled,
+        ..
+    } = label_all(alloc, setting.call, commands)?;
+    let planned = plan_by_labels(alloc, setting, &opened, labelled);
+    // Dropped by a call: see "Explicit drops" in docs/ARCHITECTURE.md.
+    drop(opened);
+    let planned = planned?;
+    Ok(planned)
 }

@@ -1,19 +1,21 @@
 //! The labels of merged commands: where each goes.
 
 ghost use Rattle.std.specs.Prelude.{◌≡◌, ◌∷◌, [], ◌++◌, map, length, IfOk, OnOk, string_bytes};
+ghost use Rattle.std.specs.Vec.Iter.{into_iter_items};
 ghost use Rattle.command_groups.specs.Groups as spec;
 ghost use Rattle.command_groups.specs.Views.{grouping_seen, made_seen, command_seen, named_stage};
-ghost use Rattle.command_groups.specs.Stage.{staged, opened_name as opened_by};
-ghost use Rattle.compilers.specs.declared.plans.plan.Reason.TheVariants.{NoCiccGroup, NoPtxasGroup};
+ghost use Rattle.command_groups.specs.Stage.{staged};
 
 use crate::merged_commands::SelectedCommand;
 use crate::openings::{MadeFiles, OpenedNames, Opening};
+use crate::setting::CallToPlan;
 use crate::stage::{
     Stage, cicc_input, edited_words, last_word, opened_name, program_at, ptxas_input, stage_of,
 };
 use compilers::compiler::NvccHostCompiler;
 use compilers::plans::Reason;
 use std::alloc::{AllocError, Global};
+use std::vec::IntoIter;
 
 /// Where a command goes.
 #[derive(Clone, Copy)]
@@ -69,37 +71,7 @@ impl Grouping {
         })
     }
 
-    // The label of a cicc command, whose output is noted as made in its group.
-    fn label_cicc(&mut self, alloc: Global, words: &[String]) -> Result<Label, AllocError>
-        ensures label { IfOk result (λ label. label ≡ spec.device_label (spec.cicc_opening self.old.opened (map string_bytes words.now)) NoCiccGroup) }
-        ensures made { OnOk result (made_seen self.new.made ≡ spec.with_output (made_seen self.old.made) (spec.cicc_opening self.old.opened (map string_bytes words.now)) (map string_bytes words.now)) }
-        ensures others { OnOk result ((self.new.opened ≡ self.old.opened) × (self.new.labelled ≡ self.old.labelled)) }
-    {
-        let opening = match cicc_input(words) {
-            None => None,
-            Some(name) => self.opened.opening(name),
-        };
-        if let Some(opening) = opening {
-            if let Some(path) = last_word(words) {
-                self.made.add(alloc, path, opening)?;
-            }
-        }
-        Ok(device_label(opening, Reason::NoCiccGroup))
-    }
-
-    // The label of a preprocess step, which opens a group where its words name one.
-    fn label_step(&mut self, alloc: Global, words: &[String]) -> Result<Label, AllocError>
-        ensures label { IfOk result (λ label. label ≡ spec.step_label self.old.opened (length self.old.labelled.items) (opened_by (map string_bytes words.now))) }
-        ensures opened { OnOk result (self.new.opened ≡ spec.with_opened self.old.opened (length self.old.labelled.items) (opened_by (map string_bytes words.now))) }
-        ensures others { OnOk result ((self.new.made ≡ self.old.made) × (self.new.labelled ≡ self.old.labelled)) }
-    {
-        let Some(name) = opened_name(words) else {
-            return Ok(Label::Front);
-        };
-        let opening = self.opened.open(alloc, name, self.labelled.len())?;
-        Ok(Label::Device(opening))
-    }
-
+    // The label of a command. A preprocess step opens a group if its words name one, and cicc's output is noted as made in its group.
     fn label(&mut self, alloc: Global, stage: Stage, words: &[String]) -> Result<Label, AllocError>
         ensures label { IfOk result (λ label. label ≡ spec.label_of self.old.opened (made_seen self.old.made) (length self.old.labelled.items) (named_stage stage (map string_bytes words.now))) }
         ensures opened { OnOk result (self.new.opened ≡ spec.opened_after self.old.opened (length self.old.labelled.items) (named_stage stage (map string_bytes words.now))) }
@@ -110,7 +82,16 @@ impl Grouping {
             Stage::Splitting => Ok(Label::Front),
             Stage::Linking | Stage::HostCompiling => Ok(Label::Final),
             Stage::Foreign => Ok(Label::Ungrouped(Reason::NotCuda)),
-            Stage::DeviceCompiling => self.label_cicc(alloc, words),
+            Stage::DeviceCompiling => {
+                let opening = match cicc_input(words) {
+                    None => None,
+                    Some(name) => self.opened.opening(name),
+                };
+                if let (Some(opening), Some(path)) = (opening, last_word(words)) {
+                    self.made.add(alloc, path, opening)?;
+                }
+                Ok(device_label(opening, Reason::NoCiccGroup))
+            }
             Stage::Assembling => {
                 let opening = match ptxas_input(words) {
                     None => None,
@@ -118,7 +99,13 @@ impl Grouping {
                 };
                 Ok(device_label(opening, Reason::NoPtxasGroup))
             }
-            Stage::Preprocessing => self.label_step(alloc, words),
+            Stage::Preprocessing => {
+                let Some(name) = opened_name(words) else {
+                    return Ok(Label::Front);
+                };
+                let opening = self.opened.open(alloc, name, self.labelled.len())?;
+                Ok(Label::Device(opening))
+            }
         }
     }
 
@@ -132,27 +119,30 @@ impl Grouping {
     ) -> Result<(), AllocError>
         ensures { OnOk result (grouping_seen self.new ≡ spec.with_command (grouping_seen self.old) (staged host_compiler flag.now (command_seen command))) }
     {
-        let SelectedCommand {
-            line,
-            run,
-            program,
-            words,
-        } = command;
-        let tool = program_at(program.as_str());
-        let words = edited_words(alloc, tool, flag, words)?;
-        let stage = stage_of(tool, host_compiler, words.as_slice());
+        let program = program_at(command.program.as_str());
+        let words = edited_words(alloc, program, flag, command.words)?;
+        let stage = stage_of(program, host_compiler, words.as_slice());
         let label = self.label(alloc, stage, words.as_slice())?;
-        let command = SelectedCommand {
-            line,
-            run,
-            program,
-            words,
-        };
         self.labelled.push(LabelledCommand {
-            command,
+            command: SelectedCommand { words, ..command },
             stage,
             label,
         })?;
         Ok(())
     }
+}
+
+/// The commands of a plan, each with its label.
+pub fn label_all(
+    alloc: Global,
+    call: &CallToPlan<'_>,
+    commands: IntoIter<SelectedCommand>,
+) -> Result<Grouping, AllocError>
+    ensures { IfOk result (λ grouping. grouping_seen grouping ≡ spec.grouped (map (staged call.now.host_compiler call.now.compilation_flag.now) (map command_seen (into_iter_items commands)))) }
+{
+    let mut grouping = Grouping::with_capacity(alloc, commands.len())?;
+    for command in commands {
+        grouping.take(alloc, call.host_compiler, call.compilation_flag, command)?;
+    }
+    Ok(grouping)
 }

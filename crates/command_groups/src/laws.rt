@@ -1,20 +1,32 @@
 //! Laws of plans, and plans worked out by hand, which the definitions compute.
 
-ghost use Rattle.command_groups.specs.FateLaws.{EachHasOneFate, DeviceGroupsBeginWithTheirStep, OuterGroupsAreThere};
-ghost use Rattle.command_groups.specs.MergeLaws.{MergedIsInOrder, MergedAreTheSelected};
+ghost use Rattle.std.specs.Prelude.{◌≡◌, ℕ, ◌+◌, List, [], ◌∷◌, Some, None, Ok, Err, length, codes};
+ghost use Rattle.texts.specs.declared.fault.Fault.TheVariants.{NoPath, BadShell};
+ghost use Rattle.compilers.specs.CommandLines.{CommandLine};
+ghost use Rattle.compilers.specs.OneKernel as bytes;
+ghost use Rattle.compilers.specs.declared.plans.plan.Reason.TheVariants.{NotCuda, NoCiccGroup};
+ghost use Rattle.dry_runs.specs.declared.limit.LimitedFault.TheVariants as limited;
+ghost use Rattle.canonical_names.specs.Generated.{standard_suffixes};
+ghost use Rattle.dry_runs.specs.FirstDir.{first_dir};
+ghost use Rattle.canonical_names.specs.RenamingNeeds.{AreAlikeFirstUnclean, AreAlikeSecondUnclean, AreCleanByAnyMap, AreCleanInOtherFolders};
+ghost use Rattle.command_groups.specs.FateLaws.{EachHasOneFate, DeviceGroupsBeginWithTheirStep};
+ghost use Rattle.command_groups.specs.Fate.{opened_names};
+ghost use Rattle.command_groups.specs.Merge.{merged};
+ghost use Rattle.command_groups.specs.MergeLaws.{InOrder, MergedAreTheSelected};
 ghost use Rattle.command_groups.specs.Origins.{ParsedRunsArePlanned};
-ghost use Rattle.command_groups.specs.PlanLaws.{AlikePairsHaveOnePlan, AlikeTextsHaveOnePlan, ReadableRunsArePlanned, PlannedRunsAreReadable, FirstRunIsRefused, SecondRunIsRefused, PlannedCommandsHaveOneFate};
-ghost use Rattle.command_groups.specs.PlanNeeds.{PlansAgreeFirstUnclean, PlansAgreeSecondUnclean, PlansAgreeByAnyMap, PlansAgreeInOtherFolders, PlansAgreeWithKeepDirectory, PlansAgreeWithAnyVariables};
-ghost use Rattle.command_groups.specs.PlanOfBytesExamples.{OneKernelFromBytes, OtherNamesFromBytes, TemporaryNamesFromBytes, KeptNamesFromBytes, NothingFromBytes, HostCodeFromBytes, OtherNamesAreAlike, SecondRunIsBad, FirstRunIsBad, SecondPtxasFromBytes, SupersededCiccFromBytes, StepWithoutCiccFromBytes, OutputWithASlashFromBytes, NamelessFromBytes};
-ghost use Rattle.command_groups.specs.PlanWithinExamples.{EachRunHasTheLimit, FirstRunIsTooLong, SecondRunIsTooLong, FirstRunDecides};
-ghost use Rattle.command_groups.specs.PlanExamples.{OneKernelPlan, NamesInAFolder, NamesAsTheyAre, EmptyRuns, HostCodeAlone, ReopenedGroup, SecondPtxas, SupersededCicc, StepMakesNoPtx, SharedPtx, PreprocessesForMsvc, CompilesForGcc, CiccLosesOneWord, CiccKeepsItsWords, NotForCuda, ProgramWithoutAStem, StepWithoutAnOutput, StepWithoutAFileName, OutputWithASlash, SecondGroupIsJoined, MergedByLineAndRun, FoldedEnvironment, MarkedTwice};
+ghost use Rattle.command_groups.specs.Plan.{PlanSetting, plan_of_staged};
+ghost use Rattle.command_groups.specs.PlanLaws.{AreCleanAndAlike, AreAlikeTexts, AlikePairsHaveOnePlan, AlikeTextsHaveOnePlan, ReadableRunsArePlanned, PlannedRunsAreReadable, FirstRunIsRefused, SecondRunIsRefused, PlannedCommandsHaveOneFate};
+ghost use Rattle.command_groups.specs.PlanNeeds.{PlansAgree, PlansAgreeWithAnyVariables};
+ghost use Rattle.command_groups.specs.PlanOfBytesExamples.{planned_with, planned, planned_twice, planned_within, host_run, host_plan};
+ghost use Rattle.command_groups.specs.PlanExamples.{one_kernel_plan, plan_with, plan_of_step, compiles, drops, ReopenedGroup, SecondPtxas, SupersededCicc, StepMakesNoPtx, SharedPtx, PreprocessesForMsvc, CompilesForGcc, CiccLosesOneWord, CiccKeepsItsWords, ProgramWithoutAStem, StepWithoutAnOutput, StepWithoutAFileName, SecondGroupIsJoined, MergedByLineAndRun, FoldedEnvironment, MarkedTwice};
+ghost use Rattle.command_groups.specs.Stage.{StagedCommand};
 
 pub use compilers::plan_laws::equality;
 
 /// Laws of the merged list: it is in order of line and run (`in_order`), and has the selected commands of both
 /// runs, each once (`selected`).
 pub fn merge()
-    ensures in_order { MergedIsInOrder }
+    ensures in_order { (first second : List CommandLine) → InOrder (merged first second) }
     ensures selected { MergedAreTheSelected }
 {}
 
@@ -26,7 +38,7 @@ pub fn merge()
 pub fn fates()
     ensures one_fate { EachHasOneFate }
     ensures steps { DeviceGroupsBeginWithTheirStep }
-    ensures outer { OuterGroupsAreThere }
+    ensures outer { (s : PlanSetting) (commands : List StagedCommand) → length (plan_of_staged s commands).groups ≡ length (opened_names commands) + 2 }
 {}
 
 /// Laws of the plans of two dry runs whose words are renamed, as they are without a keep directory,
@@ -59,11 +71,6 @@ pub fn planning()
 
 /// What dry runs are planned as, by the definitions.
 pub fn worked_plans()
-    ensures one_kernel_is_planned { OneKernelPlan }
-    ensures names_in_a_folder { NamesInAFolder }
-    ensures names_as_they_are { NamesAsTheyAre }
-    ensures empty_runs { EmptyRuns }
-    ensures host_code_alone { HostCodeAlone }
     ensures reopened_group { ReopenedGroup }
     ensures second_ptxas { SecondPtxas }
     ensures superseded_cicc { SupersededCicc }
@@ -73,11 +80,9 @@ pub fn worked_plans()
     ensures compiles_for_gcc { CompilesForGcc }
     ensures cicc_loses_one_word { CiccLosesOneWord }
     ensures cicc_keeps_its_words { CiccKeepsItsWords }
-    ensures not_for_cuda { NotForCuda }
     ensures program_without_a_stem { ProgramWithoutAStem }
     ensures step_without_an_output { StepWithoutAnOutput }
     ensures step_without_a_file_name { StepWithoutAFileName }
-    ensures output_with_a_slash { OutputWithASlash }
     ensures second_group_is_joined { SecondGroupIsJoined }
     ensures merged_by_line_and_run { MergedByLineAndRun }
     ensures folded_environment { FoldedEnvironment }
@@ -85,29 +90,32 @@ pub fn worked_plans()
 {}
 
 /// What dry runs are planned as, from their bytes on, by the definitions.
+///
+/// With other names of the generated files the plan is the same. Host commands name the files of the second run in its folder, and no
+/// word is renamed if files are kept. Lines may end in two ways. An output with a `/` at its end is no generated name and stays, but its
+/// file name opens a group, which cicc, whose word gets its canonical name, misses. A program without a name is its folder.
 pub fn worked_plans_from_bytes()
-    ensures one_kernel_from_bytes { OneKernelFromBytes }
-    ensures other_names_from_bytes { OtherNamesFromBytes }
-    ensures other_names_are_alike { OtherNamesAreAlike }
-    ensures temporary_names_from_bytes { TemporaryNamesFromBytes }
-    ensures kept_names_from_bytes { KeptNamesFromBytes }
-    ensures nothing_from_bytes { NothingFromBytes }
-    ensures host_code_from_bytes { HostCodeFromBytes }
-    ensures second_run_is_bad { SecondRunIsBad }
-    ensures first_run_is_bad { FirstRunIsBad }
-    ensures second_ptxas_from_bytes { SecondPtxasFromBytes }
-    ensures superseded_cicc_from_bytes { SupersededCiccFromBytes }
-    ensures step_without_cicc_from_bytes { StepWithoutCiccFromBytes }
-    ensures output_with_a_slash_from_bytes { OutputWithASlashFromBytes }
-    ensures nameless_from_bytes { NamelessFromBytes }
+    ensures one_kernel_from_bytes { planned_twice bytes.one_kernel ≡ Ok (one_kernel_plan (codes "x_0") (codes "x_0")) }
+    ensures other_names_from_bytes { planned_twice bytes.one_kernel_elsewhere ≡ Ok (one_kernel_plan (codes "x_0") (codes "x_0")) }
+    ensures other_names_are_alike { AreAlikeTexts standard_suffixes first_dir (codes "/w") 1 bytes.one_kernel bytes.one_kernel_elsewhere }
+    ensures temporary_names_from_bytes { planned bytes.one_kernel bytes.one_kernel_in_temporary ≡ Ok (one_kernel_plan (codes "x_0") (codes "/t/x_0")) }
+    ensures kept_names_from_bytes { planned_with (Some (codes "/w/keep")) bytes.one_kernel bytes.one_kernel ≡ Ok (one_kernel_plan (codes "kernel") (codes "kernel")) }
+    ensures nothing_from_bytes { planned_twice [] ≡ Ok (plan_with ([] ∷ [] ∷ []) []) }
+    ensures host_code_from_bytes { planned_twice (codes "kernel.cu\r\n#$ PATH=/b\r\n#$ gcc -D__NVCC__ -c x.cpp") ≡ Ok (plan_with ([] ∷ (compiles (codes "/b/gcc") (codes "-D__NVCC__ -c x.cpp") ∷ []) ∷ []) []) }
+    ensures second_run_is_bad { planned [] (codes "#$ gcc\n") ≡ Err (NoPath 2 0) }
+    ensures first_run_is_bad { planned (codes "#$ gcc \"a\n") (codes "#$ gcc\n") ≡ Err (BadShell 1 0) }
+    ensures output_with_a_slash_from_bytes { planned_twice (codes "#$ PATH=/b\n#$ gcc -D__NVCC__ -E k.cu -o k.cpp1.ii/\n#$ cicc k.cpp1.ii -o k.ptx\n")
+        ≡ Ok (plan_of_step (codes "k.cpp1.ii/") (drops NoCiccGroup 2 1 (codes "/b/cicc") (codes "x_0.cpp1.ii -o k.ptx") ∷ [])) }
+    ensures nameless_from_bytes { planned_twice (codes "#$ PATH=/b\n#$ \"\" x\n") ≡ Ok (plan_with ([] ∷ [] ∷ []) (drops NotCuda 1 2 (codes "/b/") (codes "x") ∷ [])) }
 {}
 
-/// What some dry runs are planned as within a limit, by the definitions.
+/// What some dry runs are planned as within a limit, by the definitions: each run has the whole limit, and a fault of the first comes
+/// before a second that is too long.
 pub fn worked_limits()
-    ensures each_run_has_the_limit { EachRunHasTheLimit }
-    ensures first_run_is_too_long { FirstRunIsTooLong }
-    ensures second_run_is_too_long { SecondRunIsTooLong }
-    ensures first_run_decides { FirstRunDecides }
+    ensures each_run_has_the_limit { planned_within 8222 host_run host_run ≡ Ok host_plan }
+    ensures first_run_is_too_long { planned_within 8221 host_run [] ≡ Err (limited.TooLong 1 1) }
+    ensures second_run_is_too_long { planned_within 8221 [] host_run ≡ Err (limited.TooLong 2 1) }
+    ensures first_run_decides { planned_within 8221 (codes "#$ gcc\n") host_run ≡ Err (limited.Fault (NoPath 1 0)) }
 {}
 
 /// None of the premises of `plans` can be left out. Pairs of runs that are alike don't all have equal
@@ -115,10 +123,10 @@ pub fn worked_limits()
 /// isn't one-to-one (`one_to_one`) or changes a folder (`folder`), with a keep directory
 /// (`no_keep_directory`), or if the first runs set other variables (`variables`).
 pub fn plans_need()
-    ensures first_clean { PlansAgreeFirstUnclean → ⊥ }
-    ensures second_clean { PlansAgreeSecondUnclean → ⊥ }
-    ensures one_to_one { PlansAgreeByAnyMap → ⊥ }
-    ensures folder { PlansAgreeInOtherFolders → ⊥ }
-    ensures no_keep_directory { PlansAgreeWithKeepDirectory → ⊥ }
+    ensures first_clean { PlansAgree AreAlikeFirstUnclean None → ⊥ }
+    ensures second_clean { PlansAgree AreAlikeSecondUnclean None → ⊥ }
+    ensures one_to_one { PlansAgree AreCleanByAnyMap None → ⊥ }
+    ensures folder { PlansAgree AreCleanInOtherFolders None → ⊥ }
+    ensures no_keep_directory { ((keep_dir : List ℕ) → PlansAgree AreCleanAndAlike (Some keep_dir)) → ⊥ }
     ensures variables { PlansAgreeWithAnyVariables → ⊥ }
 {}

@@ -1,7 +1,6 @@
 //! What one `nvcc` call runs: its commands in groups, and those that it drops, each with a reason.
 #![tactic(auto)]
 
-mod command_plan;
 mod environment;
 mod groups;
 mod labels;

@@ -28,7 +28,7 @@ pub struct OpenedNames {
 
 impl Model for OpenedNames {
     ghost use Rattle.std.specs.Prelude.{List, ℕ, map};
-    ghost use Rattle.command_groups.specs.EntryView.{entry_seen};
+    ghost use Rattle.command_groups.specs.Openings.{entry_seen};
 
     ghost Value = { List (List ℕ × ℕ) };
 
@@ -67,23 +67,18 @@ impl OpenedNames {
     pub fn opening(&self, name: &str) -> Option<Opening>
         ensures { result ≡ opening_of self.now name.now }
     {
-        match self.steps.get_full(name) {
-            None => None,
-            Some((number, _, step)) => Some(Opening {
-                number,
-                step: *step,
-            }),
-        }
+        let (number, _, step) = self.steps.get_full(name)?;
+        Some(Opening {
+            number,
+            step: *step,
+        })
     }
 
     /// Whether an opening is the last one of its group.
     pub fn is_live(&self, opening: Opening) -> bool
         ensures { result ≡ is_live_at self.now opening }
     {
-        match self.steps.get_index(opening.number) {
-            None => false,
-            Some((_, step)) => *step == opening.step,
-        }
+        matches!(self.steps.get_index(opening.number), Some((_, step)) if *step == opening.step)
     }
 
     /// Of the openings that are the last ones of their groups, that of the lowest number.

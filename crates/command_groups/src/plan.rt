@@ -11,13 +11,12 @@ ghost use Rattle.dry_runs.specs.Reading.{dry_run_seen, dry_run_seen_within};
 ghost use Rattle.compilers.specs.declared.plans.origins.PlanWithOrigins.{PlanWithOrigins};
 ghost use Rattle.command_groups.specs.MergeLaws.{Rises};
 ghost use Rattle.command_groups.specs.Origins as origins;
-ghost use Rattle.command_groups.specs.Plan.{staged_commands, plan_of, plan_of_staged};
 ghost use Rattle.command_groups.specs.PlanOfBytes as spec;
 ghost use Rattle.command_groups.specs.PlanWithin as within;
-ghost use Rattle.command_groups.specs.Views.{call_seen, setting_seen};
+ghost use Rattle.command_groups.specs.Views.{call_seen};
 
-use crate::command_plan::plan_of_commands;
 use crate::environment::Environments;
+use crate::groups::plan_of_commands;
 use crate::merged_commands::merge;
 use crate::setting::{CallToPlan, Setting};
 use canonical_names::{Suffixes, remap_commands};
@@ -67,24 +66,6 @@ fn named(
     }
 }
 
-fn plan_of_runs(
-    alloc: Global,
-    suffixes: &Suffixes,
-    keep_dir: Option<&str>,
-    setting: &Setting<'_>,
-    first: Commands,
-    second: Commands,
-) -> Result<PlanWithOrigins, AllocError>
-    requires first_rises { Rises (map line_of first) }
-    requires second_rises { Rises (map line_of second) }
-    ensures plan { IfOk result (λ planned. planned.plan ≡ plan_of_staged (setting_seen setting.now) (staged_commands (setting_seen setting.now) (spec.named suffixes.now (option_copied keep_dir.entry) first) (spec.named suffixes.now (option_copied keep_dir.entry) second))) }
-    ensures origins { IfOk result (λ planned. planned.origins ≡ origins.origins_of_staged (staged_commands (setting_seen setting.now) (spec.named suffixes.now (option_copied keep_dir.entry) first) (spec.named suffixes.now (option_copied keep_dir.entry) second))) }
-{
-    let first = named(alloc, suffixes, keep_dir, first)?;
-    let second = named(alloc, suffixes, keep_dir, second)?;
-    plan_of_commands(alloc, setting, merge(alloc, first, second)?)
-}
-
 fn plan_of_dry_runs(
     alloc: Global,
     call: &CallToPlan<'_>,
@@ -93,15 +74,15 @@ fn plan_of_dry_runs(
 ) -> Result<PlanWithOrigins, AllocError>
     requires first_rises { Rises (map line_of first.commands) }
     requires second_rises { Rises (map line_of second.commands) }
-    ensures plan { IfOk result (λ planned. planned.plan ≡ plan_of (call_seen call.now) first.env (spec.named call.now.suffixes.now (option_copied call.now.keep_dir) first.commands) (spec.named call.now.suffixes.now (option_copied call.now.keep_dir) second.commands)) }
-    ensures origins { IfOk result (λ planned. planned.origins ≡ origins.origins_of_staged (staged_commands (call_seen call.now) (spec.named call.now.suffixes.now (option_copied call.now.keep_dir) first.commands) (spec.named call.now.suffixes.now (option_copied call.now.keep_dir) second.commands))) }
+    ensures { IfOk result (λ planned. planned ≡ origins.plan_with_origins (call_seen call.now) first.env (spec.named call.now.suffixes.now (option_copied call.now.keep_dir) first.commands) (spec.named call.now.suffixes.now (option_copied call.now.keep_dir) second.commands)) }
 {
     let setting = Setting {
         call,
         environments: Environments::folded(alloc, call.env_vars, first.env)?,
     };
-    let (first, second) = (first.commands, second.commands);
-    plan_of_runs(alloc, call.suffixes, call.keep_dir, &setting, first, second)
+    let first = named(alloc, call.suffixes, call.keep_dir, first.commands)?;
+    let second = named(alloc, call.suffixes, call.keep_dir, second.commands)?;
+    plan_of_commands(alloc, &setting, merge(alloc, first, second)?)
 }
 
 /// Plans one nvcc call as [`plan_with_origins`](crate::plan_with_origins) does, if each of its dry runs can be read
@@ -173,21 +154,8 @@ pub fn plan_of_parsed<W: Which>(
         (call_seen call.now) (W.answer which.now) runs) }
 {
     let ParsedRuns { first, second } = runs;
-    let first = match resolve(alloc, first, call.cwd, which) {
-        Ok(first) => first,
-        Err(fault) => {
-            // Dropped by a call: see "Explicit drops" in docs/ARCHITECTURE.md.
-            drop(second);
-            return Err(fault);
-        }
-    };
-    let second = match resolve(alloc, second, call.cwd, which) {
-        Ok(second) => second,
-        Err(fault) => {
-            drop(first);
-            return Err(fault);
-        }
-    };
+    let first = resolve(alloc, first, call.cwd, which)?;
+    let second = resolve(alloc, second, call.cwd, which)?;
     let planned = plan_of_dry_runs(alloc, call, first, second)?;
     Ok(planned)
 }

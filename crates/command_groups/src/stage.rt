@@ -100,13 +100,10 @@ pub fn edited_words(
             }
             with_word_before(alloc, new, "--module_id_file_name", words)
         }
-        Program::Cicc => {
-            if asks_object(flag) {
-                return Ok(without_first_word("--gen_module_id_file", words));
-            }
-            Ok(words)
+        Program::Cicc if asks_object(flag) => {
+            Ok(without_first_word("--gen_module_id_file", words))
         }
-        Program::Fatbinary | Program::Nvlink | Program::Ptxas | Program::Other => Ok(words),
+        _ => Ok(words),
     }
 }
 

@@ -2,12 +2,14 @@
 use Rattle.std.proofs.Common.{◌≡◌, ℕ, ◌-◌, Bool, true, false, cond, ◌&&◌, List, [], ◌∷◌, ◌++◌, refl, ap, sym, ◌∙◌, nat_lt, map, append_assoc, arith}
 use Rattle.std.specs.List.{flat_map, list_all}
 use Rattle.std.proofs.lemmas.Bool.{and_parts, and_from, not-true}
+use Rattle.std.proofs.lemmas.List.{map-id}
+use Rattle.std.proofs.lemmas.List.Folds.{list_all-append}
 use Rattle.std.proofs.lemmas.Simd.{map-map}
 use Rattle.texts.specs.Path.{lacks}
 use Rattle.command_keys.specs.declared.marks.Part.{Part}
 use Rattle.command_keys.specs.declared.marks.Part.TheVariants.{Byte, Root}
 use Rattle.command_keys.specs.Marks.{parts, text_of, renamed, are_told}
-use Rattle.command_keys.specs.Keys.{Command, Ended, texts_of, texts_of_variable, key_of_part, key_of_text, command_key, is_plain, is_plain_variable, with_texts, renamed_command, word_end, name_end, value_end, first_mark}
+use Rattle.command_keys.specs.Keys.{Command, Ended, texts_of, texts_of_variable, key_of_part, key_of_text, command_key, is_plain, is_plain_variable, renamed_command, word_end, name_end, value_end, first_mark}
 use Rattle.command_keys.specs.KeyReading.{EndedParts, with_part, read_from, words_of, variables_behind, command_of, restored}
 use Rattle.command_keys.specs.KeyLaws.{KeysReadBack, EqualKeysRename, RenamedKeysAreEqual}
 use Rattle.command_keys.proofs.MarkLemmas.{text-parts, parts-told, plain-past, is_plain_part}
@@ -29,10 +31,6 @@ read-texts : (roots : List (List ℕ)) (texts : List Ended) → list_all is_read
 read-texts roots [] all = refl
 read-texts roots (text ∷ texts) all = grind (arith, append_assoc, read-text, plain-past, (read-texts roots texts))
 
-all-append : {X : Type 0} (test : X → Bool) (xs ys : List X) → list_all test xs ≡ true → list_all test ys ≡ true → list_all test (xs ++ ys) ≡ true
-all-append test [] ys first second = second
-all-append test (x ∷ xs) ys first second = grind (arith, and_from, (all-append test xs ys))
-
 readable-words : (words : List (List ℕ)) → list_all (lacks 0) words ≡ true → list_all is_readable (map (λ word. (word, word_end)) words) ≡ true
 readable-words [] all = refl
 readable-words (word ∷ words) all = grind (arith, and_from, (readable-words words))
@@ -42,7 +40,7 @@ readable-variables [] all = refl
 readable-variables (v ∷ variables) all = grind (arith, and_from, (readable-variables variables))
 
 readable : (command : Command) → is_plain command ≡ true → list_all is_readable (texts_of command) ≡ true
-readable command plain = grind (arith, and_parts, all-append, readable-words, readable-variables)
+readable command plain = grind (arith, and_parts, and_from, list_all-append, readable-words, readable-variables)
 
 -- a command is made of its texts again
 no-words : (variables : List (List ℕ × List ℕ)) → words_of (flat_map texts_of_variable variables) ≡ []
@@ -72,7 +70,7 @@ changed-variables : (change : List ℕ → List ℕ) (variables : List (List ℕ
 changed-variables change [] = refl
 changed-variables change (v ∷ variables) = ap (λ ts. (change v.0, name_end) ∷ (change v.1, value_end) ∷ ts) (changed-variables change variables)
 
-changed-texts : (change : List ℕ → List ℕ) (words : List (List ℕ)) (variables : List (List ℕ × List ℕ)) → texts_of (with_texts change (words, variables)) ≡ map (changed change) (texts_of (words, variables))
+changed-texts : (change : List ℕ → List ℕ) (words : List (List ℕ)) (variables : List (List ℕ × List ℕ)) → texts_of (map change words, map (λ v. (change v.0, change v.1)) variables) ≡ map (changed change) (texts_of (words, variables))
 changed-texts change [] variables = changed-variables change variables
 changed-texts change (word ∷ words) variables = ap (λ ts. (change word, word_end) ∷ ts) (changed-texts change words variables)
 
@@ -87,16 +85,10 @@ restored-key roots others command plain =
     ∙ command-again (renamed_command roots others command)
 
 -- the same roots change nothing
-same-words : (change : List ℕ → List ℕ) → ((text : List ℕ) → change text ≡ text) → (words : List (List ℕ)) → map change words ≡ words
-same-words change same [] = refl
-same-words change same (word ∷ words) = λ i. same word i ∷ same-words change same words i
-
-same-variables : (change : List ℕ → List ℕ) → ((text : List ℕ) → change text ≡ text) → (variables : List (List ℕ × List ℕ)) → map (λ v. (change v.0, change v.1)) variables ≡ variables
-same-variables change same [] = refl
-same-variables change same (v ∷ variables) = λ i. (same v.0 i, same v.1 i) ∷ same-variables change same variables i
-
 renamed-same : (roots : List (List ℕ)) (command : Command) → renamed_command roots roots command ≡ command
-renamed-same roots command = grind (arith, same-words, text-parts, same-variables)
+renamed-same roots command =
+    (λ i. (map (λ text. text-parts roots text i) command.0, map (λ v. (text-parts roots v.0 i, text-parts roots v.1 i)) command.1))
+    ∙ (λ i. (map-id command.0 i, map-id command.1 i))
 
 pub keys-read_back : KeysReadBack
 keys-read_back roots command plain = restored-key roots roots command plain ∙ renamed-same roots command
@@ -112,4 +104,5 @@ same-keys roots others [] all = refl
 same-keys roots others (text ∷ texts) all = grind (arith, parts-told, (same-keys roots others texts))
 
 pub renamed-keys_are_equal : RenamedKeysAreEqual
-renamed-keys_are_equal roots others command free = grind (arith, changed-texts, same-keys)
+renamed-keys_are_equal roots others command free =
+    ap (flat_map (key_of_text others)) (changed-texts (renamed roots others) command.0 command.1) ∙ same-keys roots others (texts_of command) free

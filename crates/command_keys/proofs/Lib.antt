@@ -1,3 +1,2 @@
 pub mod KeyLemmas
 pub mod MarkLemmas
-pub mod RootLemmas

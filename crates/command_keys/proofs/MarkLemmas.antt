@@ -1,21 +1,17 @@
 -- Roots in texts: a text is that of its parts, and parts are found again where no root begins elsewhere.
-use Rattle.std.proofs.Common.{◌≡◌, ℕ, zero, suc, ◌+◌, ◌-◌, ◌<◌, ◌==◌, Bool, true, false, not, cond, ◌&&◌, List, [], ◌∷◌, ◌++◌, Option, Some, None, MatchOption, Bor, length-append, refl, ap, sym, ◌∙◌, length, take, drop, get_or, arith, bytes_eq, sub-one, take-append-drop}
-use Rattle.std.specs.List.{position_from, list_all}
+use Rattle.std.proofs.Common.{◌≡◌, ℕ, zero, suc, ◌+◌, ◌-◌, ◌<◌, ◌==◌, Bool, true, false, not, cond, ◌&&◌, List, [], ◌∷◌, ◌++◌, Option, Some, None, MatchOption, Bor, length-append, refl, ap, sym, ◌∙◌, length, take, drop, get_or, arith, bytes_eq, nat_eq, sub-one, take-append-drop}
+use Rattle.std.specs.List.{position_from, list_all, starts_with}
 use Rattle.std.proofs.lemmas.Bool.{false≢true, and_parts, and_from, false_from_ne_true}
 use Rattle.std.proofs.lemmas.Slice.Eq.{bytes_eq-Decides}
-use Rattle.std.proofs.Math.Seq.{drop-append_seam}
 use Rattle.std.proofs.lemmas.Option.{none-some, same_Some}
 use Rattle.texts.specs.Path.{lacks}
 use Rattle.command_keys.specs.declared.marks.Part.{Part}
 use Rattle.command_keys.specs.declared.marks.Part.TheVariants.{Byte, Root}
-use Rattle.command_keys.specs.Marks.{has_in_front, begins_with, begins_with_all, may_end, longest, root_at, root_of, part_at, length_behind, parts_past, parts, text_of_part, text_of, are_told, is_told}
+use Rattle.command_keys.specs.Marks.{begins_with, begins_with_all, may_end, longest, root_at, root_of, part_at, length_behind, parts_past, parts, text_of_part, text_of, are_told, is_told}
 
 -- a text that begins with a root is the root and the rest
-front-split : (c : ℕ) (cs root : List ℕ) → has_in_front (c ∷ cs) root ≡ true → root ++ drop (length root - 1) cs ≡ c ∷ cs
-front-split c cs root h = grind (arith, false≢true, bytes_eq-Decides, sub-one, take-append-drop)
-
 begins-split : (c : ℕ) (cs root : List ℕ) → begins_with (c ∷ cs) root ≡ true → root ++ drop (length root - 1) cs ≡ c ∷ cs
-begins-split c cs root h = front-split c cs root (and_parts (has_in_front (c ∷ cs) root) (may_end root (drop (length root) (c ∷ cs))) h).0
+begins-split c cs root h = grind (arith, and_parts, false≢true, bytes_eq-Decides, sub-one, take-append-drop)
 
 -- the position that is found, counted from the first of the list
 record Found (text : List ℕ) (most : ℕ) (roots : List (List ℕ)) (start number : ℕ) : Type 0 where
@@ -106,17 +102,17 @@ plain-past roots zero (c ∷ cs) h =
       | Some number ↦ plain-past roots (length (root_of roots number) - 1) cs both.1
     ]
 
--- a text with a root's bytes in front begins with it if it may end there
-pub behind_bytes : (text root rest : List ℕ) → has_in_front text root ≡ true → text ≡ root ++ rest → begins_with text root ≡ may_end root rest
-behind_bytes text root rest front is =
-    ap (λ b. b && may_end root (drop (length root) text)) front
-    ∙ ap (may_end root) (ap (drop (length root)) is ∙ drop-append_seam root rest)
+-- a text off which a root is stripped
+front-stripped : (text : List ℕ) (c : ℕ) (cs : List ℕ) → bytes_eq (take (length (c ∷ cs)) text) (c ∷ cs) ≡ true → starts_with nat_eq text (c ∷ cs) ≡ true
+front-stripped text c cs front = grind (arith, false≢true, false_from_ne_true, bytes_eq-Decides, take-append-drop)
 
--- what std says of a root that is stripped off
-pub stripped : (text root : List ℕ) (rest : Option (Bor (List ℕ))) → (length root == 0) ≡ false →
-    MatchOption rest (bytes_eq (take (length root) text) root ≡ false) (λ r. (bytes_eq (take (length root) text) root ≡ true) × (r.now ≡ drop (length root) text) × (length r.now + length root ≡ length text)) →
-    MatchOption rest (has_in_front text root ≡ false) (λ r. (has_in_front text root ≡ true) × (text ≡ root ++ r.now))
-stripped text root rest some h = grind (arith, false≢true, false_from_ne_true, bytes_eq-Decides, take-append-drop)
+pub begins-stripped : (text root rest : List ℕ) → (length root == 0) ≡ false → bytes_eq (take (length root) text) root ≡ true → rest ≡ drop (length root) text → begins_with text root ≡ may_end root rest
+begins-stripped text [] rest some front is = absurd (false≢true (sym some))
+begins-stripped text (c ∷ cs) rest some front is =
+    ap (λ b. b && may_end (c ∷ cs) (drop (length (c ∷ cs)) text)) (front-stripped text c cs front) ∙ ap (may_end (c ∷ cs)) (sym is)
+
+pub stripped : (text root rest : List ℕ) → bytes_eq (take (length root) text) root ≡ true → rest ≡ drop (length root) text → text ≡ root ++ rest
+stripped text root rest front is = grind (arith, bytes_eq-Decides, take-append-drop)
 
 -- a text that begins with a root, and what follows it
 some-root : (text root : List ℕ) → begins_with text root ≡ true → 0 < length root

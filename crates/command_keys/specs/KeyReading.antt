@@ -14,36 +14,23 @@ abbrev pub with_part : Part → List EndedParts → List EndedParts
 with_part part [] = []
 with_part part (text ∷ texts) = (part ∷ text.0, text.1) ∷ texts
 
--- a byte that isn't behind NUL, in front of texts: NUL itself says nothing
-abbrev pub with_byte : ℕ → List EndedParts → List EndedParts
-with_byte byte texts = if byte == 0 then texts else with_part (Byte byte) texts
-
--- a byte behind NUL, in front of texts: what ends a text, or the letter of a root
-abbrev pub with_mark : ℕ → List EndedParts → List EndedParts
-with_mark byte texts = if nat_lt byte first_mark then ([], byte) ∷ texts else with_part (Root (byte - first_mark)) texts
-
--- the texts of what is left of a key, behind NUL or not
+-- the texts of what is left of a key, behind NUL or not: NUL itself says nothing, and a byte behind it is what ends a text, or the
+-- letter of a root
 abbrev pub read_from : Bool → List ℕ → List EndedParts
 read_from after_nul [] = []
-read_from false (byte ∷ rest) = with_byte byte (read_from (byte == 0) rest)
-read_from true (byte ∷ rest) = with_mark byte (read_from false rest)
+read_from false (byte ∷ rest) = if byte == 0 then read_from true rest else with_part (Byte byte) (read_from false rest)
+read_from true (byte ∷ rest) =
+    if nat_lt byte first_mark then ([], byte) ∷ read_from false rest else with_part (Root (byte - first_mark)) (read_from false rest)
 
--- a text in front of words, if it is one
-abbrev pub with_word : Ended → List (List ℕ) → List (List ℕ)
-with_word text words = if text.1 == word_end then text.0 ∷ words else words
-
+-- the words among texts
 abbrev pub words_of : List Ended → List (List ℕ)
 words_of [] = []
-words_of (text ∷ texts) = with_word text (words_of texts)
-
--- a variable with a name in front of others, if the text is its value
-abbrev pub with_value : List ℕ → Ended → List (List ℕ × List ℕ) → List (List ℕ × List ℕ)
-with_value name text variables = if text.1 == value_end then (name, text.0) ∷ variables else variables
+words_of (text ∷ texts) = if text.1 == word_end then text.0 ∷ words_of texts else words_of texts
 
 -- each value among texts, with the text before it as its name
 abbrev pub variables_behind : List ℕ → List Ended → List (List ℕ × List ℕ)
 variables_behind name [] = []
-variables_behind name (text ∷ texts) = with_value name text (variables_behind text.0 texts)
+variables_behind name (text ∷ texts) = if text.1 == value_end then (name, text.0) ∷ variables_behind text.0 texts else variables_behind text.0 texts
 
 -- the command of texts
 abbrev pub command_of : List Ended → Command

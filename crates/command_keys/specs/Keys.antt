@@ -65,13 +65,10 @@ most_roots = 26
 abbrev pub key_of : List (List ℕ) → Command → Option (List ℕ)
 key_of roots command = if nat_le (length roots) most_roots && is_plain command then Some (command_key roots command) else None
 
--- a command with each text changed
-abbrev pub with_texts : (List ℕ → List ℕ) → Command → Command
-with_texts change command = (map change command.0, map (λ v. (change v.0, change v.1)) command.1)
-
 -- a command with each of some roots replaced by the one that has its number in other roots
 abbrev pub renamed_command : List (List ℕ) → List (List ℕ) → Command → Command
-renamed_command roots others command = with_texts (renamed roots others) command
+renamed_command roots others command =
+    (map (renamed roots others) command.0, map (λ v. (renamed roots others v.0, renamed roots others v.1)) command.1)
 
 -- Whether a command that is renamed so has the other roots exactly where it had the old ones. `/u` isn't free in `/t/a /u/b`.
 abbrev pub are_free : List (List ℕ) → List (List ℕ) → Command → Bool

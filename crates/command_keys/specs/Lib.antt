@@ -1,4 +1,3 @@
-pub mod Fitting
 pub mod KeyLaws
 pub mod KeyReading
 pub mod Keys

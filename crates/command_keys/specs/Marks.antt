@@ -1,27 +1,19 @@
 -- Texts in which marks replace roots: directories whose paths don't count, such as a temporary one.
-use Rattle.std.specs.Prelude.{◌≡◌, ℕ, zero, suc, ◌-◌, ◌==◌, List, [], ◌∷◌, nat_eq, nat_lt, length, drop, get_or, fold, Bool, true, false, not, ◌&&◌, ◌||◌, if◌then◌else◌, Option, Some, None, refl, codes}
+use Rattle.std.specs.Prelude.{◌≡◌, ℕ, zero, suc, ◌-◌, ◌==◌, ◌<◌, ⊤, List, [], ◌∷◌, nat_eq, nat_lt, length, drop, get_or, fold, Bool, true, false, not, ◌&&◌, ◌||◌, if◌then◌else◌, Option, Some, None, refl, codes}
 use Rattle.std.specs.List.{flat_map, position_from, starts_with}
 use Rattle.command_keys.specs.declared.marks.Part.{Part}
 use Rattle.command_keys.specs.declared.marks.Part.TheVariants.{Byte, Root}
 
--- whether nothing follows, or a `/`: `-deps` behind `/u/proj` is of another name
-abbrev pub ends_name : List ℕ → Bool
-ends_name [] = true
-ends_name (c ∷ cs) = c == 47
-
--- whether a root may end in front of a rest: an absolute path where its last name ends, another text anywhere
+-- whether a root may end in front of a rest: an absolute path where nothing follows or a `/`, since `-deps` behind `/u/proj` is of
+-- another name; another text anywhere
 abbrev pub may_end : List ℕ → List ℕ → Bool
 may_end [] rest = true
-may_end (c ∷ cs) rest = not (c == 47) || ends_name rest
+may_end (c ∷ cs) rest = not (c == 47) || ((length rest == 0) || starts_with nat_eq rest (codes "/"))
 
--- whether a text has a root's bytes in front; those of an empty one, none has
-abbrev pub has_in_front : List ℕ → List ℕ → Bool
-has_in_front text [] = false
-has_in_front text (c ∷ cs) = starts_with nat_eq text (c ∷ cs)
-
--- whether a text begins with a root
+-- whether a text begins with a root; none begins with an empty one
 abbrev pub begins_with : List ℕ → List ℕ → Bool
-begins_with text root = has_in_front text root && may_end root (drop (length root) text)
+begins_with text [] = false
+begins_with text (c ∷ cs) = starts_with nat_eq text (c ∷ cs) && may_end (c ∷ cs) (drop (length (c ∷ cs)) text)
 
 -- the length of the longest root so far that a text begins with, given a further root
 abbrev pub with_longer : List ℕ → ℕ → List ℕ → ℕ
@@ -86,6 +78,11 @@ is_told (Root number) (Some other) = number == other
 abbrev pub are_told : List (List ℕ) → List Part → Bool
 are_told roots [] = true
 are_told roots (part ∷ parts) = is_told part (root_at roots (text_of roots (part ∷ parts))) && are_told roots parts
+
+-- a part that is a root has a number below a bound
+abbrev pub fits : ℕ → Part → Type 0
+fits bound (Byte byte) = ⊤
+fits bound (Root number) = number < bound
 
 -- Examples: the innermost root counts, in any order; a directory ends where its name does; a name is everywhere, and an empty root nowhere.
 pub inner_root_counts : parts (codes "/t" ∷ codes "/t/u" ∷ []) (codes "a/t/u") ≡ Byte 97 ∷ Root 1 ∷ []

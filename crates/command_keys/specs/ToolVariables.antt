@@ -6,6 +6,7 @@
 -- and PATH: they change where something is, or a message, and a program that PATH finds is part of what a cache knows of the tool, as is a
 -- library that LD_LIBRARY_PATH finds.
 use Rattle.std.specs.Prelude.{◌≡◌, ℕ, List, [], ◌∷◌, ◌++◌, if◌then◌else◌, Option, Some, None, refl, codes, flat_map, bytes_eq}
+use Rattle.std.specs.Option.{option_map_or}
 use Rattle.texts.specs.Lists.{latest}
 use Rattle.compilers.specs.declared.plans.program.Program.{Program}
 use Rattle.compilers.specs.declared.plans.program.Program.TheVariants.{Cicc, Ptxas, Cudafe, Fatbinary, Nvlink, Other}
@@ -40,13 +41,13 @@ abbrev pub last_value : List ℕ → List (List ℕ × List ℕ) → Option (Lis
 last_value name [] = None
 last_value name (variable ∷ rest) = latest (if bytes_eq variable.0 name then Some variable.1 else None) (last_value name rest)
 
-abbrev pub set_variable : List ℕ → Option (List ℕ) → List (List ℕ × List ℕ)
-set_variable name None = []
-set_variable name (Some value) = (name, value) ∷ []
+-- the variable of a name with its value, if an environment sets it
+abbrev pub variable_of : List (List ℕ × List ℕ) → List ℕ → List (List ℕ × List ℕ)
+variable_of environment name = option_map_or (λ value. (name, value) ∷ []) (last_value name environment) []
 
 -- the variables that a tool reads, as far as an environment sets them
 abbrev pub tool_variables : Program → List (List ℕ × List ℕ) → List (List ℕ × List ℕ)
-tool_variables tool environment = flat_map (λ name. set_variable name (last_value name environment)) (read_by tool)
+tool_variables tool environment = flat_map (variable_of environment) (read_by tool)
 
 -- Examples: the order of the environment doesn't count, and of two values the last one does; those of the loader count for each tool.
 pub variables_of_cudafe :

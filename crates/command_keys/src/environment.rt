@@ -1,20 +1,25 @@
 //! The environment variables that count in a key.
 
-ghost use Rattle.std.specs.Prelude.{◌≡◌, map, IfOk, option_copied};
+ghost use Rattle.std.specs.Prelude.{◌≡◌, ◌++◌, map, flat_map, IfOk, OnOk, option_copied};
 ghost use Rattle.command_keys.specs.Keys.{shown, shown_variable};
 ghost use Rattle.command_keys.specs.ToolVariables as spec;
 
 use compilers::plans::Program;
 use std::alloc::{AllocError, Global};
 
+// What the C library and its loader read in any tool.
+fn names_of_loader() -> &'static [&'static str]
+    ensures { map shown result.now ≡ spec.read_by_loader }
+{
+    &["GLIBC_TUNABLES", "LD_AUDIT", "LD_PRELOAD"]
+}
+
+// What a tool reads itself.
 fn names_of(tool: Program) -> &'static [&'static str]
-    ensures { map shown result.now ≡ spec.read_by tool }
+    ensures { map shown result.now ≡ spec.read_by_code tool }
 {
     match tool {
         Program::Cicc => &[
-            "GLIBC_TUNABLES",
-            "LD_AUDIT",
-            "LD_PRELOAD",
             "EDG_BASE",
             "EDG_MODULES_PATH",
             "LLVM_OVERRIDE_PRODUCER",
@@ -24,33 +29,11 @@ fn names_of(tool: Program) -> &'static [&'static str]
             "PWD",
             "USR_INCLUDE",
         ],
-        Program::Ptxas => &[
-            "GLIBC_TUNABLES",
-            "LD_AUDIT",
-            "LD_PRELOAD",
-            "CAN_FINALIZE_DEBUG",
-            "DUMP_KNOBS_TO_FILE",
-        ],
-        Program::Cudafe => &[
-            "GLIBC_TUNABLES",
-            "LD_AUDIT",
-            "LD_PRELOAD",
-            "EDG_BASE",
-            "EDG_MODULES_PATH",
-            "USR_INCLUDE",
-        ],
-        Program::Fatbinary => &["GLIBC_TUNABLES", "LD_AUDIT", "LD_PRELOAD"],
-        Program::Nvlink => &[
-            "GLIBC_TUNABLES",
-            "LD_AUDIT",
-            "LD_PRELOAD",
-            "CAN_FINALIZE_DEBUG",
-            "LIBRARY_PATH",
-        ],
+        Program::Ptxas => &["CAN_FINALIZE_DEBUG", "DUMP_KNOBS_TO_FILE"],
+        Program::Cudafe => &["EDG_BASE", "EDG_MODULES_PATH", "USR_INCLUDE"],
+        Program::Fatbinary => &[],
+        Program::Nvlink => &["CAN_FINALIZE_DEBUG", "LIBRARY_PATH"],
         Program::Other => &[
-            "GLIBC_TUNABLES",
-            "LD_AUDIT",
-            "LD_PRELOAD",
             "BINUTILS_ROOT",
             "CCC_OVERRIDE_OPTIONS",
             "COMPILER_PATH",
@@ -89,6 +72,24 @@ fn last_value<'a>(environment: &[(&'a [u8], &'a [u8])], name: &[u8]) -> Option<&
     last
 }
 
+// Puts the variables of these names last, with their values, as far as an environment sets them.
+fn push_set<'a>(
+    chosen: &mut Vec<(&'a [u8], &'a [u8])>,
+    environment: &[(&'a [u8], &'a [u8])],
+    names: &[&'static str],
+) -> Result<(), AllocError>
+    ensures { OnOk result (map shown_variable chosen.new.items
+        ≡ map shown_variable chosen.old.items ++ flat_map (spec.variable_of (map shown_variable environment.now)) (map shown names.now)) }
+{
+    for name in names {
+        let name: &'a [u8] = name.as_bytes();
+        if let Some(value) = last_value(environment, name) {
+            chosen.push((name, value))?;
+        }
+    }
+    Ok(())
+}
+
 /// The variables that a tool reads, with their values, as far as `environment` sets them: always in one order, whatever
 /// the environment's is. Of a name that occurs twice, the last value counts.
 ///
@@ -102,11 +103,7 @@ pub fn tool_variables<'a>(
     ensures { IfOk result (λ chosen. map shown_variable chosen.items ≡ spec.tool_variables tool (map shown_variable environment.now)) }
 {
     let mut chosen = Vec::new(alloc);
-    for name in names_of(tool) {
-        let name: &'a [u8] = name.as_bytes();
-        if let Some(value) = last_value(environment, name) {
-            chosen.push((name, value))?;
-        }
-    }
+    push_set(&mut chosen, environment, names_of_loader())?;
+    push_set(&mut chosen, environment, names_of(tool))?;
     Ok(chosen)
 }

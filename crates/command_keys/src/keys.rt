@@ -40,7 +40,6 @@ fn are_plain_variables(variables: &[(&[u8], &[u8])]) -> bool
     true
 }
 
-// Adds words to a key.
 fn push_words(key: &mut Vec<u8>, roots: &[&[u8]], words: &[&[u8]]) -> Result<(), AllocError>
     requires { length roots.now ≤ 26 }
     ensures { OnOk result (key.new.items ≡ key.old.items
@@ -52,7 +51,6 @@ fn push_words(key: &mut Vec<u8>, roots: &[&[u8]], words: &[&[u8]]) -> Result<(),
     Ok(())
 }
 
-// Adds variables to a key.
 fn push_variables(
     key: &mut Vec<u8>,
     roots: &[&[u8]],

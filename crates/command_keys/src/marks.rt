@@ -1,8 +1,7 @@
 //! Texts in which marks replace roots.
 
 ghost use Rattle.std.specs.Prelude.{◌≡◌, [], ◌∷◌, ◌++◌, ◌<◌, ◌≤◌, Some, None, true, false, map, length, OnOk, MatchOption};
-ghost use Rattle.command_keys.specs.Fitting.{fits};
-ghost use Rattle.command_keys.specs.Keys.{key_of_part, key_of_text, shown};
+ghost use Rattle.command_keys.specs.Keys.{key_of_text, shown};
 ghost use Rattle.command_keys.specs.Marks as spec;
 
 use std::alloc::AllocError;
@@ -16,57 +15,29 @@ pub enum Part {
     Root(usize),
 }
 
-// Whether nothing follows, or a `/`.
-fn ends_name(rest: &[u8]) -> bool
-    ensures { result ≡ spec.ends_name rest.now }
-{
-    match rest.first() {
-        None => true,
-        Some(byte) => *byte == b'/',
-    }
-}
-
 // Whether a root may end in front of a rest: an absolute path where its last name ends, another text anywhere.
 fn may_end(root: &[u8], rest: &[u8]) -> bool
     ensures { result ≡ spec.may_end root.now rest.now }
 {
     match root.first() {
         None => true,
-        Some(byte) => *byte != b'/' || ends_name(rest),
+        Some(byte) => *byte != b'/' || rest.is_empty() || rest.starts_with(b"/"),
     }
 }
 
-// What follows the bytes of a root in a text that has them in front. None has those of an empty one.
-fn past_bytes<'a>(text: &'a [u8], root: &[u8]) -> Option<&'a [u8]>
-    ensures { MatchOption result (spec.has_in_front text.now root.now ≡ false)
-        (λ rest. (spec.has_in_front text.now root.now ≡ true) × (text.now ≡ root.now ++ rest.now)) }
-{
-    if root.is_empty() {
-        return None;
-    }
-    text.strip_prefix(root)
-}
-
-// What follows a root in a text that begins with it.
+// What follows a root in a text that begins with it. None begins with an empty one.
 fn behind<'a>(text: &'a [u8], root: &[u8]) -> Option<&'a [u8]>
     ensures { MatchOption result (spec.begins_with text.now root.now ≡ false)
         (λ rest. (spec.begins_with text.now root.now ≡ true) × (text.now ≡ root.now ++ rest.now)) }
 {
-    let rest = past_bytes(text, root)?;
+    if root.is_empty() {
+        return None;
+    }
+    let rest = text.strip_prefix(root)?;
     if may_end(root, rest) {
         Some(rest)
     } else {
         None
-    }
-}
-
-// The length of the longest root so far that a text begins with, given a further root.
-fn with_longer(text: &[u8], most: usize, root: &[u8]) -> usize
-    ensures { result ≡ spec.with_longer text.now most root.now }
-{
-    match behind(text, root) {
-        Some(_) if most < root.len() => root.len(),
-        _ => most,
     }
 }
 
@@ -76,21 +47,12 @@ fn longest(roots: &[&[u8]], text: &[u8]) -> usize
 {
     let mut most = 0;
     for root in roots {
-        most = with_longer(text, most, root);
+        match behind(text, root) {
+            Some(_) if most < root.len() => most = root.len(),
+            _ => {}
+        }
     }
     most
-}
-
-// What follows a root of a length in a text that begins with it.
-fn behind_all<'a>(text: &'a [u8], most: usize, root: &[u8]) -> Option<&'a [u8]>
-    ensures { MatchOption result (spec.begins_with_all text.now most root.now ≡ false)
-        (λ rest. (spec.begins_with_all text.now most root.now ≡ true) × (text.now ≡ root.now ++ rest.now)) }
-{
-    if root.len() == most {
-        behind(text, root)
-    } else {
-        None
-    }
 }
 
 // The number of the innermost root that a text begins with, and what follows it.
@@ -101,8 +63,9 @@ fn root_at<'a>(roots: &[&[u8]], text: &'a [u8]) -> Option<(usize, &'a [u8])>
 {
     let most = longest(roots, text);
     for (number, root) in roots.iter().enumerate() {
-        if let Some(rest) = behind_all(text, most, root) {
-            return Some((number, rest));
+        match behind(text, root) {
+            Some(rest) if root.len() == most => return Some((number, rest)),
+            _ => {}
         }
     }
     None
@@ -113,28 +76,13 @@ fn first_part<'a>(roots: &[&[u8]], text: &'a [u8]) -> Option<(Part, &'a [u8])>
     ensures { MatchOption result (text.now ≡ []) (λ next.
         (spec.parts (map shown roots.now) text.now ≡ next.0 ∷ spec.parts (map shown roots.now) next.1.now)
         × (length next.1.now < length text.now)
-        × fits (length roots.now) next.0) }
+        × spec.fits (length roots.now) next.0) }
 {
     if let Some((number, rest)) = root_at(roots, text) {
         return Some((Part::Root(number), rest));
     }
     let (byte, rest) = text.split_first()?;
     Some((Part::Byte(*byte), rest))
-}
-
-// Adds a part to a key.
-fn push_part(key: &mut Vec<u8>, part: Part) -> Result<(), AllocError>
-    requires { fits 26 part }
-    ensures { OnOk result (key.new.items ≡ key.old.items ++ key_of_part part) }
-{
-    match part {
-        Part::Byte(byte) => key.push(byte)?,
-        Part::Root(number) => {
-            key.push(0)?;
-            key.push(b'A' + number as u8)?;
-        }
-    }
-    Ok(())
 }
 
 /// Adds a text to a key, and what ends it.
@@ -149,7 +97,13 @@ pub(crate) fn push_text(
 {
     let mut rest = text;
     while let Some((part, behind)) = first_part(roots, rest) {
-        push_part(key, part)?;
+        match part {
+            Part::Byte(byte) => key.push(byte)?,
+            Part::Root(number) => {
+                key.push(0)?;
+                key.push(b'A' + number as u8)?;
+            }
+        }
         rest = behind;
     }
     key.push(0)?;

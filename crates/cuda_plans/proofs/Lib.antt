@@ -1,9 +1,6 @@
-pub mod ExecutionLemmas
 pub mod FileLemmas
-pub mod OutcomeLemmas
 pub mod RunningLemmas
 pub mod ScheduleLemmas
 pub mod ShadowLawLemmas
 pub mod ShadowLemmas
 pub mod ShadowRankLemmas
-pub mod StepShadowLemmas

@@ -1,14 +1,15 @@
--- A group's account, command by command.
-use Rattle.std.proofs.Common.{◌≡◌, ℕ, ◌+◌, List, [], ◌∷◌, ◌++◌, Bool, true, false, not, ◌&&◌, ltb, refl, ap, sym, ◌∙◌, map, subst, append_assoc, MatchBool, Result, ℤ, pos, ◌↔◌, arith, fold, IsTrue, IfOk, IsErr, MatchResult, ne_eqb}
+-- What a run says before its plan and of one group's account, command by command.
+use Rattle.std.proofs.Common.{◌≡◌, ℕ, ◌+◌, List, [], ◌∷◌, ◌++◌, Bool, true, false, not, ◌&&◌, ltb, refl, ap, sym, ◌∙◌, map, subst, append_assoc, MatchBool, Result, Err, ℤ, pos, ◌↔◌, arith, fold, IsTrue, IsErr, IsErrAnd, MatchResult, ne_eqb}
 use Rattle.std.proofs.lemmas.List.{append-nil, map-append}
 use Rattle.std.proofs.lemmas.List.Sums.{fold-append}
-use Rattle.std.specs.declared.alloc.AllocError.{AllocError}
+use Rattle.texts.specs.declared.fault.Fault.{Fault}
 use Rattle.compilers.specs.declared.plans.plan.NvccGeneratedSubcommand.{NvccGeneratedSubcommand}
 use Rattle.texts.specs.declared.status.Output.{Output}
 use Rattle.texts.specs.Endings.{is_success}
+use Rattle.texts.specs.Fault.{UnlessMemory}
+use Rattle.compilers.specs.declared.plans.plan.Plan.{Plan}
 use Rattle.cuda_plans.specs.Outcome.{aggregated}
-use Rattle.cuda_plans.specs.Running.{step_at, OfGroup}
-use Rattle.cuda_plans.specs.Schedule.{AccountEntry, output_of_entry, fails, step_of, Gains}
+use Rattle.cuda_plans.specs.Schedule.{AccountEntry, step_at, output_of_entry, fails, step_of, ExecutesAs, Gains, OfGroup}
 
 abbrev no_entries : List AccountEntry
 no_entries = []
@@ -22,10 +23,6 @@ push-next xs x ys = append_assoc xs (x ∷ []) ys
 -- one entry is an account of a group's command that may stop anywhere
 pub one-entry : (e : AccountEntry) (group index : ℕ) (c : NvccGeneratedSubcommand) (cs : List NvccGeneratedSubcommand) → step_of e ≡ step_at group index c → OfGroup false group index (e ∷ []) (c ∷ cs)
 one-entry e group index c cs at = grind arith
-
--- the answer's output was made, or memory was refused for it
-pub command-answered : (r : Result Output AllocError) (before after : List AccountEntry) (e : AccountEntry) (group index : ℕ) (c : NvccGeneratedSubcommand) → after ≡ before ++ e ∷ [] → step_of e ≡ step_at group index c → IfOk r (λ output. output ≡ output_of_entry e) → MatchResult r (λ output. (e : AccountEntry) × (after ≡ before ++ e ∷ []) × (step_of e ≡ step_at group index c) × (output ≡ output_of_entry e)) (λ _. Gains before after (λ account. OfGroup false group index account (c ∷ [])))
-command-answered r before after e group index c gained at said = grind (arith, one-entry)
 
 -- A group, so far.
 
@@ -43,31 +40,36 @@ joined-next output joined more account e was is = grind (arith, map-append, fold
 gained-next : (before middle after account : List AccountEntry) (e : AccountEntry) → middle ≡ before ++ account → after ≡ middle ++ e ∷ [] → after ≡ before ++ (account ++ e ∷ [])
 gained-next before middle after account e was is = is ∙ ap (λ l. l ++ e ∷ []) was ∙ append_assoc before account (e ∷ [])
 
+-- the commands that are left, said otherwise
+pub group-left : {before after : List AccountEntry} {group index : ℕ} {rest others commands : List NvccGeneratedSubcommand} {output joined : Output}
+    → rest ≡ others → GroupSoFar before after group index rest commands output joined → GroupSoFar before after group index others commands output joined
+group-left {before} {after} {group} {index} {rest} {others} {commands} {output} {joined} same far = subst (λ l. GroupSoFar before after group index l commands output joined) same far
+
 -- a command that succeeded
-pub group-goes_on : (before middle after : List AccountEntry) (group index : ℕ) (c : NvccGeneratedSubcommand) (rest commands : List NvccGeneratedSubcommand) (output joined more : Output)
+pub group-goes_on : (before middle after : List AccountEntry) (group index : ℕ) (c : NvccGeneratedSubcommand) (rest commands : List NvccGeneratedSubcommand) (output joined more all : Output)
     → GroupSoFar before middle group index (c ∷ rest) commands output joined → (e : AccountEntry) → after ≡ middle ++ e ∷ [] → step_of e ≡ step_at group index c → more ≡ output_of_entry e → fails e ≡ false
-    → GroupSoFar before after group (index + 1) rest commands output (aggregated joined more)
-group-goes_on before middle after group index c rest commands output joined more s e gained at is succeeds = record {
+    → all ≡ aggregated joined more → GroupSoFar before after group (index + 1) rest commands output all
+group-goes_on before middle after group index c rest commands output joined more all s e gained at is succeeds put = record {
   account = s.account ++ e ∷ [];
   gained = gained-next before middle after s.account e s.gained gained;
   whole = λ to_end others h. subst (λ l. OfGroup to_end group 0 l commands) (sym (push-next s.account e others))
       (s.whole to_end (e ∷ others) (at, subst (λ failed. MatchBool failed (others ≡ []) (OfGroup to_end group (index + 1) others rest)) (sym succeeds) h));
-  outputs = joined-next output joined more s.account e s.outputs is;
+  outputs = put ∙ joined-next output joined more s.account e s.outputs is;
 }
 
 abbrev pub GroupEnds : Bool → ℕ → List NvccGeneratedSubcommand → Output → Output → List AccountEntry → Type 0
 GroupEnds to_end group commands output joined account = OfGroup to_end group 0 account commands × (joined ≡ fold aggregated output (map output_of_entry account))
 
 -- a command that failed
-pub group-fails : (before middle after : List AccountEntry) (group index : ℕ) (c : NvccGeneratedSubcommand) (rest commands : List NvccGeneratedSubcommand) (output joined more : Output)
+pub group-fails : (before middle after : List AccountEntry) (group index : ℕ) (c : NvccGeneratedSubcommand) (rest commands : List NvccGeneratedSubcommand) (output joined more all : Output)
     → GroupSoFar before middle group index (c ∷ rest) commands output joined → (e : AccountEntry) → after ≡ middle ++ e ∷ [] → step_of e ≡ step_at group index c → more ≡ output_of_entry e → fails e ≡ true
-    → Gains before after (GroupEnds true group commands output (aggregated joined more))
-group-fails before middle after group index c rest commands output joined more s e gained at is failed = (
+    → all ≡ aggregated joined more → Gains before after (GroupEnds true group commands output all)
+group-fails before middle after group index c rest commands output joined more all s e gained at is failed put = (
   s.account ++ e ∷ [],
   gained-next before middle after s.account e s.gained gained,
   (
     s.whole true (e ∷ []) (at, subst (λ f. MatchBool f (no_entries ≡ []) (OfGroup true group (index + 1) [] rest)) (sym failed) refl),
-    joined-next output joined more s.account e s.outputs is,
+    put ∙ joined-next output joined more s.account e s.outputs is,
   ),
 )
 
@@ -100,6 +102,9 @@ group-cut_joining before middle after group index c rest commands output joined 
 pub success-is : (b : Bool) (z : ℤ) → (IsTrue b ↔ (z ≡ pos 0)) → b ≡ is_success z
 success-is b z h = grind (arith, ne_eqb)
 
+pub fails-is : (e : AccountEntry) (more : Output) (b : Bool) → more ≡ output_of_entry e → (IsTrue b ↔ (more.status ≡ pos 0)) → fails e ≡ not b
+fails-is e more b is h = ap not (ap (λ o. is_success o.status) (sym is) ∙ sym (success-is b more.status h))
+
 -- what the code tests of a group's chunk and of the last one is what is said of them
 pub held-test : (last next : ℕ) (success held : Bool) (status : ℤ) → (IsTrue success ↔ (status ≡ pos 0)) → held ≡ (ltb last next && not success) → (ltb last next && not (is_success status)) ≡ held
 held-test last next success held status h test = ap (λ b. ltb last next && not b) (sym (success-is success status h)) ∙ sym test
@@ -107,3 +112,12 @@ held-test last next success held status h test = ap (λ b. ltb last next && not 
 -- a refusal that was passed on
 pub refused : {T E : Type 0} (r : Result T E) (P : T → Type 0) (Q : Type 0) → IsErr r → Q → MatchResult r P (λ _. Q)
 refused r P Q h q = grind arith
+
+-- Before the run.
+
+-- a refusal of the planning, before anything ran
+refused-planning : (fault : Fault) (planned : Result Plan Fault) (parallel : ℕ) → UnlessMemory {T = Plan} (Err fault) planned → ExecutesAs planned parallel [] (Err fault)
+refused-planning fault planned parallel h = grind arith
+
+pub nothing-ran : (before : List AccountEntry) (r : Result Output Fault) (fault : Fault) (planned : Result Plan Fault) (parallel : ℕ) → IsErrAnd r (λ f. f ≡ fault) → UnlessMemory {T = Plan} (Err fault) planned → Gains before before (λ account. ExecutesAs planned parallel account r)
+nothing-ran before r fault planned parallel is told = grind (arith, append-nil, refused-planning)

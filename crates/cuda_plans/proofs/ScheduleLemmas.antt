@@ -13,10 +13,9 @@ use Rattle.cuda_plans.specs.declared.runner.Place.{Place}
 use Rattle.texts.specs.declared.fault.Fault.TheVariants.{Process}
 use Rattle.texts.specs.declared.status.Output.{Output}
 use Rattle.texts.specs.Endings.{is_success}
-use Rattle.cuda_plans.specs.Outcome.{aggregated, empty_success, all_aggregated}
-use Rattle.cuda_plans.specs.Running.{step_at, OfGroup}
+use Rattle.cuda_plans.specs.Outcome.{aggregated, empty_success}
 use Rattle.cuda_plans.proofs.RunningLemmas.{GroupEnds}
-use Rattle.cuda_plans.specs.Schedule.{Step, AccountEntry, steps_of_group, steps_from, steps, output_of_entry, output_of_account, fails, step_of, depends_on, is_due, chunk_of, outcome_of, Gains}
+use Rattle.cuda_plans.specs.Schedule.{Step, AccountEntry, step_at, steps_of_group, steps_from, steps, output_of_entry, output_of_account, fails, step_of, depends_on, is_due, chunk_of, outcome_of, Gains, NoneLeft, OfGroup}
 
 -- A fact of each item of a list.
 abbrev pub Each : {X : Type 0} → (X → Type 0) → List X → Type 0
@@ -96,17 +95,12 @@ any-here p (z ∷ zs) x ys h = ap (λ b. p z || b) (any-here p zs x ys h) ∙ or
 abbrev pub Harmless : (ℕ → ℕ) → ℕ → ℕ → List AccountEntry → Type 0
 Harmless chunk group index account = (j : ℕ) → index ≤ j → Each (λ e. stops chunk (at group j) e ≡ false) account
 
--- no step is left where the account is to reach the end
-abbrev pub NoStepLeft : Bool → List Step → Type 0
-NoStepLeft true left = left ≡ []
-NoStepLeft false left = Unit {0}
-
-no-step_left : (to_end : Bool) → NoStepLeft to_end []
+no-step_left : (to_end : Bool) → NoneLeft {X = Step} to_end []
 no-step_left to_end = grind arith
 
 -- of the commands of a group from a number on those of an account are due, and behind them what is left
 abbrev pub GroupDue : Bool → (ℕ → ℕ) → List AccountEntry → List AccountEntry → List Step → Type 0
-GroupDue to_end chunk before account all = (rest : List Step) × (filter (is_due chunk (before ++ account)) all ≡ map step_of account ++ rest) × NoStepLeft to_end rest
+GroupDue to_end chunk before account all = (rest : List Step) × (filter (is_due chunk (before ++ account)) all ≡ map step_of account ++ rest) × NoneLeft to_end rest
 
 -- a failed entry stops the commands behind it
 behind-failure : (chunk : ℕ → ℕ) (account : List AccountEntry) (group index : ℕ) (commands : List NvccGeneratedSubcommand) → ((j : ℕ) → index ≤ j → list_any (stops chunk (at group j)) account ≡ true) → Each (λ s. is_due chunk account s ≡ false) (steps_of_group group index commands)
@@ -276,7 +270,7 @@ plan-goes_on chunk rises before middle after all group commands groups last next
       entries_before = each-append (λ x. x.place.group < group + 1) s.account more.0 (each-map (λ x. x.place.group < group) (λ x. x.place.group < group + 1) s.account (λ x lt. omega (arith, lt)) s.entries_before) (each-map (λ x. (x.place.group ≡ group) × (0 ≤ x.place.index)) (λ x. x.place.group < group + 1) more.0 (λ x p. omega (arith, p.0)) entries);
       within = each-append (λ x. chunk x.place.group ≤ next) s.account more.0 (each-map (λ x. chunk x.place.group ≤ last) (λ x. chunk x.place.group ≤ next) s.account (λ x le. omega (arith, le, ordered)) s.within) (each-map (λ x. (x.place.group ≡ group) × (0 ≤ x.place.index)) (λ x. chunk x.place.group ≤ next) more.0 (λ x p. omega (arith, ap chunk p.0, number)) entries);
       failed_last = each-append (λ x. fails x ≡ true → next ≤ chunk x.place.group) s.account more.0 held (each-map (λ x. (x.place.group ≡ group) × (0 ≤ x.place.index)) (λ x. fails x ≡ true → next ≤ chunk x.place.group) more.0 (λ x p bad. omega (arith, ap chunk p.0, number)) entries);
-      outputs = more.2.1 ∙ ap (λ o. fold aggregated o (map output_of_entry more.0)) s.outputs ∙ sym (ap all_aggregated (map-append output_of_entry s.account more.0) ∙ fold-append aggregated empty_success (map output_of_entry s.account) (map output_of_entry more.0));
+      outputs = more.2.1 ∙ ap (λ o. fold aggregated o (map output_of_entry more.0)) s.outputs ∙ sym (ap (fold aggregated empty_success) (map-append output_of_entry s.account more.0) ∙ fold-append aggregated empty_success (map output_of_entry s.account) (map output_of_entry more.0));
     }
 
 -- What a whole run of a plan's groups says, and one that was cut short.
@@ -359,11 +353,9 @@ chunks-rise devices parallel a b le = grind (arith, rise)
 failed-if : (account : List AccountEntry) (output : Output) (success : Bool) → output ≡ output_of_account account → is_success output.status ≡ success → list_any fails account ≡ not success
 failed-if account output success is h = grind (arith, not-not, account-status)
 
-pub outcome-ok : (account : List AccountEntry) (output : Output) → output ≡ output_of_account account → is_success output.status ≡ true → outcome_of account ≡ Ok output
-outcome-ok account output is h = λ i. cond (failed-if account output true is h i) (Err (Process (sym is i))) (Ok (sym is i))
-
-pub outcome-err : (account : List AccountEntry) (output : Output) → output ≡ output_of_account account → is_success output.status ≡ false → outcome_of account ≡ Err (Process output)
-outcome-err account output is h = λ i. cond (failed-if account output false is h i) (Err (Process (sym is i))) (Ok (sym is i))
+pub outcome-is : (account : List AccountEntry) (output : Output) (success : Bool) → output ≡ output_of_account account → is_success output.status ≡ success → outcome_of account ≡ cond success (Ok output) (Err (Process output))
+outcome-is account output true is h = λ i. cond (failed-if account output true is h i) (Err (Process (sym is i))) (Ok (sym is i))
+outcome-is account output false is h = λ i. cond (failed-if account output false is h i) (Err (Process (sym is i))) (Ok (sym is i))
 
 -- a group that is held back begins a later chunk, and something before it failed
 pub held-true : (last next : ℕ) (success : Bool) → (ltb last next && not success) ≡ true → (last < next) × (success ≡ false)

@@ -16,23 +16,21 @@ use Rattle.canonical_names.specs.CanonicalNames.{AreSuffixes, word_by_all, comma
 use Rattle.canonical_names.specs.Generated.{core_of, generated_name, begins_with_dash}
 use Rattle.canonical_names.specs.Renaming.{canonical_file, canonical_name, rank, names_of_run}
 use Rattle.canonical_names.specs.Appearances.{appearances}
-use Rattle.cuda_plans.specs.Shadow.{is_plain_output}
-use Rattle.cuda_plans.specs.StepShadow.{step_names, is_step_shadow}
+use Rattle.cuda_plans.specs.Shadow.{is_plain_output, step_names, is_step_shadow}
 use Rattle.canonical_names.proofs.AlikeLemmas.{dash-unmarked, mapped-member, same-tests}
 use Rattle.canonical_names.proofs.AppearanceLemmas.{names-tested}
 use Rattle.canonical_names.proofs.CleanLemmas.{clean-run_is_a_map}
-use Rattle.cuda_plans.proofs.StepShadowLemmas.{shadow-is_step_shadow}
 use Rattle.canonical_names.proofs.CanonicalLemmas.{canonical-at, no-member, head-member, tail-member, member-cases, find-found, rank-apart, bytes_eq-itself, eqb-turned}
 use Rattle.cuda_plans.proofs.FileLemmas.{bare-relative}
 use Rattle.cuda_plans.proofs.ShadowLemmas.{test-kept, class-by_end, plain-class, plain-word, bare-canonical, canonical-file_name, renamed-cicc, file-end, plain-outputs_stay_apart}
-use Rattle.cuda_plans.proofs.ShadowRankLemmas.{cicc-joined_name, step-names_keep_rank}
+use Rattle.cuda_plans.proofs.ShadowRankLemmas.{shadow-is_step_shadow, shadow-parts, cicc-joined_name, step-names_keep_rank}
 use Rattle.canonical_names.proofs.SuffixLemmas.{each-member, any-member}
 use Rattle.compilers.specs.declared.plans.plan.Reason.TheVariants.{NoCiccGroup}
 use Rattle.command_groups.specs.Fate.{device, device_or, PlacedCommand, place_of, places, fates}
 use Rattle.command_groups.specs.Merge.{MergedCommand, of_run, is_taken, is_nvcc_stem, is_host_stem, selected, is_in_order, put_in_order, in_order, merged}
 use Rattle.command_groups.specs.MergeLaws.{InOrder}
 use Rattle.command_groups.specs.Plan.{PlanSetting, staged_commands}
-use Rattle.cuda_plans.specs.ShadowLaws.{writes, is_step_to, planned_command, IsFedBy, HasFate, StandTogether, StepShadowsStandTogether, ShadowsStandTogether}
+use Rattle.cuda_plans.specs.ShadowLaws.{writes, is_step_to, planned_command, IsFedBy, HasFate, StandTogether, ShadowsStandTogether}
 use Rattle.command_groups.specs.Stage.{ProgramKind, linker, cudafe, cicc, ptxas, other, kind_of_optional_stem, has_word, without_first_word, cicc_edit, edited_by, device_compiling, preprocessing, host_compiling, foreign, StagedCommand, staged, stage_by, opens, defines_cuda, is_for_cuda, preprocess_word, device_name, opened_name, cicc_input, kind_of_program}
 use Rattle.command_groups.proofs.FateLemmas.{same_text, equal_texts, fates_staged, placed_staged}
 use Rattle.command_groups.proofs.MergeLemmas.{merged_is_in_order, merged_are_the_selected}
@@ -271,9 +269,7 @@ module _ (suffixes : List (List ℕ)) (lawful : AreSuffixes suffixes) (s : PlanS
 
   plain_each : (c : CommandLine) → Contains second c → is_plain_output (word_after (codes "-o") (words_of_command c)) ≡ true
   plain_each c h =
-      let plain : CommandLine → Bool = λ command. is_plain_output (word_after (codes "-o") (words_of_command command)) in
-      let same = pointwise bytes_eq (step_names suffixes second) (map (joined s.tmp) (step_names suffixes first)) in
-      each-member plain second c (and_parts same (list_all plain second) (and_parts (list_all is_bare (step_names suffixes first)) (same && list_all plain second) shadow).1).1 h
+      each-member (λ command. is_plain_output (word_after (codes "-o") (words_of_command command))) second c (shadow-parts (step_names suffixes first) (step_names suffixes second) s.tmp second shadow).2 h
 
   -- what a word opens once it is renamed
   opened_file : (r : Option (List ℕ)) → is_some_and is_file (option_and_then device_name r) ≡ true → r ≡ Some file
@@ -426,11 +422,8 @@ module _ (suffixes : List (List ℕ)) (lawful : AreSuffixes suffixes) (s : PlanS
     record { stands = stand fed_by (filter_member (opener file) all fed_by one_opener); goes = fate_settled file fed_by fed_by step_placed step_behind all in_line one_opener },
   )
 
-  pub stand_together : StandTogether suffixes s first second cicc_line step name
-  stand_together = grind (arith, clean-run_is_a_map, name_is, as_mapped)
-
-pub step_shadows_stand_together : StepShadowsStandTogether
-step_shadows_stand_together suffixes lawful s first second cicc_line step name shadow fed = stand_together suffixes lawful s first second cicc_line step name shadow fed
+  pub step_shadows_stand_together : StandTogether suffixes s first second cicc_line step name
+  step_shadows_stand_together = grind (arith, clean-run_is_a_map, name_is, as_mapped)
 
 pub shadows_stand_together : ShadowsStandTogether
 shadows_stand_together suffixes lawful s first second cicc_line step name shadow fed =

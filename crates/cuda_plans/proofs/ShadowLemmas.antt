@@ -10,11 +10,10 @@ use Rattle.texts.specs.Path.{joined, is_bare, proper_name, folder_of, separator_
 use Rattle.texts.proofs.NumeralLemmas.{numeral-same}
 use Rattle.texts.proofs.PathLaw.{joined-has_name}
 use Rattle.texts.proofs.PathLemmas.{folder-lacking}
-use Rattle.canonical_names.specs.CanonicalNames.{AreSuffixes, core_by_all, word_by_all}
+use Rattle.canonical_names.specs.CanonicalNames.{AreSuffixes, word_by_all, core_by_all}
 use Rattle.canonical_names.specs.Generated.{head_of, core_of, class_of, class_of_name, is_file_mark, begins_with_dash}
 use Rattle.canonical_names.specs.Renaming.{canonical_file, canonical_in, rank}
 use Rattle.cuda_plans.specs.Shadow.{is_cicc_file, is_plain_output}
-use Rattle.cuda_plans.specs.StepShadow.{PlainOutputsStayApart}
 use Rattle.canonical_names.proofs.AlikeLemmas.{Unmarked, mark-turned, long-unmarked, one-unmarked, two-unmarked, dash-unmarked, dash-canonical, not-dash}
 use Rattle.canonical_names.proofs.CanonicalLemmas.{ends-split, ends-append, two-ends, find-found, find-only, file-bare, canonical-front, canonical-split}
 use Rattle.cuda_plans.proofs.FileLemmas.{proper-behind, cicc-front, cicc-file, any-front, dash-file}
@@ -156,9 +155,7 @@ module _ (suffixes : List (List ℕ)) (lawful : AreSuffixes suffixes) (names : L
       (sym name ∙ sym (append_assoc found.0 (codes "x_" ++ numeral (rank class names core)) class)) in
       cicc-file word (core-ends word class e same)
 
-  opened-is : (word : List ℕ) (k : ℕ) → is_plain_output (Some word) ≡ true → file_name_of (renamed_one word) ≡ Some (canonical_file k (codes ".cpp1.ii")) →
+  -- of plain outputs only an input of cicc gets a canonical file name of its class
+  pub plain-outputs_stay_apart : (word : List ℕ) (k : ℕ) → is_plain_output (Some word) ≡ true → file_name_of (renamed_one word) ≡ Some (canonical_file k (codes ".cpp1.ii")) →
       (begins_with_dash word ≡ false) × (is_cicc_word word ≡ true) × (rank (codes ".cpp1.ii") names word ≡ k)
-  opened-is word k plain h = grind (arith, or_cases, false≢true, not-true, unread-by_class, and_parts, same_Some, plain-word, canonical-file_name, append_cancel_right, append_cancel_left, numeral-same)
-
-pub plain-outputs_stay_apart : PlainOutputsStayApart
-plain-outputs_stay_apart suffixes lawful names word k plain h = opened-is suffixes lawful names word k plain h
+  plain-outputs_stay_apart word k plain h = grind (arith, or_cases, false≢true, not-true, unread-by_class, and_parts, same_Some, plain-word, canonical-file_name, append_cancel_right, append_cancel_left, numeral-same)

@@ -1,25 +1,72 @@
--- An input of cicc and the same one in a folder have one rank, each among those of its run.
-use Rattle.std.proofs.Common.{◌≡◌, ℕ, ◌++◌, ◌&&◌, ◌||◌, Bool, true, false, cond, List, [], ◌∷◌, map, filter, refl, ap, sym, ◌∙◌, fold, codes, bytes_eq, zero-add, arith}
+-- A shadow is one by the inputs of cicc alone, and such an input and the same one in a folder have one rank, each among those
+-- of its run.
+use Rattle.std.proofs.Common.{◌≡◌, ℕ, ◌++◌, ◌&&◌, ◌||◌, Bool, true, false, cond, List, [], ◌∷◌, map, filter, refl, ap, sym, ◌∙◌, fold, codes, bytes_eq, zero-add, arith, nat_eq, length, take, ◌-◌, append_assoc}
 use Rattle.std.specs.Cmp.Lexicographic.{pointwise}
-use Rattle.std.specs.List.{list_any, list_all}
+use Rattle.std.specs.List.{list_any, list_all, ends_with}
 use Rattle.std.proofs.lemmas.Bool.{false≢true, and_parts, and_from}
 use Rattle.std.proofs.lemmas.Slice.Eq.{bytes_eq-Decides}
 use Rattle.std.proofs.lemmas.List.{map-append}
 use Rattle.texts.specs.DeviceFiles.{is_cicc_word}
 use Rattle.texts.specs.Lists.{word_after}
-use Rattle.texts.specs.Path.{joined, is_bare}
+use Rattle.texts.specs.Path.{joined, is_bare, is_absolute_path, separator_after}
 use Rattle.texts.proofs.EqualityLemmas.{lists}
 use Rattle.texts.proofs.PathLaw.{joined-cancels}
 use Rattle.compilers.specs.CommandLines.{CommandLine, words_of_command}
 use Rattle.canonical_names.specs.Renaming.{rank, names_of_run}
 use Rattle.canonical_names.specs.Appearances.{appearances}
-use Rattle.cuda_plans.specs.Shadow.{is_plain_output}
-use Rattle.cuda_plans.specs.StepShadow.{step_names, StepNamesKeepRank}
+use Rattle.cuda_plans.specs.Shadow.{is_plain_output, are_shadows, step_names}
+use Rattle.cuda_plans.specs.ShadowLaws.{StepNamesKeepRank, ShadowIsStepShadow}
 use Rattle.canonical_names.proofs.AlikeLemmas.{same-tests}
-use Rattle.canonical_names.proofs.AppearanceLemmas.{all-append}
-use Rattle.cuda_plans.proofs.StepShadowLemmas.{joined-split}
+use Rattle.canonical_names.proofs.AppearanceLemmas.{all-append, appearances-classes}
 use Rattle.cuda_plans.proofs.FileLemmas.{cicc-front, bare-relative}
-use Rattle.canonical_names.proofs.CanonicalLemmas.{add, bytes_eq-itself, run-names}
+use Rattle.canonical_names.proofs.CanonicalLemmas.{add, bytes_eq-itself, run-names, ends-split, two-ends}
+use Rattle.canonical_names.specs.CanonicalNames.{AreSuffixes}
+use Rattle.canonical_names.specs.Counted.{has_class}
+use Rattle.canonical_names.specs.Generated.{class_of_name}
+use Rattle.canonical_names.proofs.ReferenceLemmas.{class-found}
+
+-- a name in a folder ends in `.cpp1.ii` where the name does
+pub joined-split : (folder n : List ℕ) → (front : List ℕ) × (joined folder n ≡ front ++ n)
+joined-split folder n =
+    elim (is_absolute_path n) as (λ b. (front : List ℕ) × (cond b n ((folder ++ separator_after folder) ++ n) ≡ front ++ n)) [ true ↦ ([], refl) | false ↦ (folder ++ separator_after folder, refl) ]
+
+pub cicc-joined_name : (folder n : List ℕ) → is_cicc_word n ≡ true → is_cicc_word (joined folder n) ≡ true
+cicc-joined_name folder n h = let split = joined-split folder n in ap is_cicc_word split.1 ∙ cicc-front split.0 n h
+
+cicc-joined : (suffixes : List (List ℕ)) → AreSuffixes suffixes → (folder n : List ℕ) → has_class suffixes n ≡ true → is_cicc_word (joined folder n) ≡ is_cicc_word n
+cicc-joined suffixes lawful folder n class =
+    let found = class-found suffixes n (class_of_name suffixes n) refl class in
+    same-tests (is_cicc_word (joined folder n)) (is_cicc_word n) (λ k.
+    let split = joined-split folder n in
+    let whole = joined folder n in
+    let cicc = codes ".cpp1.ii" in
+    let by_class : whole ≡ (split.0 ++ take (length n - length found.0) n) ++ found.0 = split.1 ∙ ap (λ z. split.0 ++ z) (ends-split n found.0 found.2) ∙ sym (append_assoc split.0 (take (length n - length found.0) n) found.0) in
+    let same : cicc ≡ found.0 = two-ends suffixes lawful cicc found.0 (take (length whole - length cicc) whole) (split.0 ++ take (length n - length found.0) n) lawful.input found.1 (sym (ends-split whole cicc k) ∙ by_class) in
+    ap (ends_with nat_eq n) same ∙ found.2)
+    (cicc-joined_name folder n)
+
+filter-joined : (suffixes : List (List ℕ)) → AreSuffixes suffixes → (folder : List ℕ) (names : List (List ℕ)) → list_all (has_class suffixes) names ≡ true → filter is_cicc_word (map (joined folder) names) ≡ map (joined folder) (filter is_cicc_word names)
+filter-joined suffixes lawful folder [] h = refl
+filter-joined suffixes lawful folder (n ∷ names) h = grind (arith, cicc-joined, (filter-joined suffixes lawful folder names))
+
+all-kept : {A : Type 0} (test kept : A → Bool) (xs : List A) → list_all test xs ≡ true → list_all test (filter kept xs) ≡ true
+all-kept test kept [] h = refl
+all-kept test kept (x ∷ xs) h = grind (arith, and_from, (all-kept test kept xs))
+
+-- what the test of a shadow says
+pub shadow-parts : (first second : List (List ℕ)) (folder : List ℕ) (commands : List CommandLine) → are_shadows first second folder commands ≡ true →
+    (list_all is_bare first ≡ true) × (second ≡ map (joined folder) first) × (list_all (λ c. is_plain_output (word_after (codes "-o") (words_of_command c))) commands ≡ true)
+shadow-parts first second folder commands h =
+    let one = and_parts (list_all is_bare first) _ h in
+    let two = and_parts (pointwise bytes_eq second (map (joined folder) first)) _ one.1 in
+    (one.0, (lists bytes_eq bytes_eq-Decides second (map (joined folder) first)).0 two.0, two.1)
+
+pub shadow-is_step_shadow : ShadowIsStepShadow
+shadow-is_step_shadow suffixes lawful first second folder h =
+    let names = appearances suffixes first in
+    let parts = shadow-parts names (appearances suffixes second) folder second h in
+    let steps : step_names suffixes second ≡ map (joined folder) (step_names suffixes first) = ap (filter is_cicc_word) parts.1 ∙ filter-joined suffixes lawful folder names (appearances-classes suffixes first) in
+    grind (arith, and_from, all-kept, lists, bytes_eq-Decides)
 
 -- a name that is no input of cicc is another than one that is
 other-name : (n name : List ℕ) → is_cicc_word n ≡ false → is_cicc_word name ≡ true → bytes_eq n name ≡ false
@@ -86,9 +133,6 @@ all-fold test (x ∷ xs) seen h k = grind (arith, add, all-add, (all-fold test x
 
 -- Below, bare names are put into a folder.
 module _ (folder : List ℕ) where
-  pub cicc-joined_name : (n : List ℕ) → is_cicc_word n ≡ true → is_cicc_word (joined folder n) ≡ true
-  cicc-joined_name n h = let split = joined-split folder n in ap is_cicc_word split.1 ∙ cicc-front split.0 n h
-
   bytes-joined : (m n : List ℕ) → is_bare m ≡ true → is_bare n ≡ true → bytes_eq (joined folder m) (joined folder n) ≡ bytes_eq m n
   bytes-joined m n hm hn = grind (arith, same-tests, joined-cancels, bare-relative, bytes_eq-Decides, bytes_eq-itself)
 
@@ -111,14 +155,9 @@ module _ (folder : List ℕ) where
 
 pub step-names_keep_rank : StepNamesKeepRank
 step-names_keep_rank suffixes lawful first second folder h name bare ends =
-    let s = codes ".cpp1.ii" in
     let steps = step_names suffixes first in
-    let others = step_names suffixes second in
-    let plain = list_all (λ command. is_plain_output (word_after (codes "-o") (words_of_command command))) second in
-    let one = and_parts (list_all is_bare steps) (pointwise bytes_eq others (map (joined folder) steps) && plain) h in
-    let two = and_parts (pointwise bytes_eq others (map (joined folder) steps)) plain one.1 in
-    let same : others ≡ map (joined folder) steps = (lists bytes_eq bytes_eq-Decides others (map (joined folder) steps)).0 two.0 in
+    let parts = shadow-parts steps (step_names suffixes second) folder second h in
     rank-of_steps suffixes first name ends
-    ∙ sym (rank-joined folder name bare (fold add [] steps) (all-fold is_bare steps [] one.0 refl) (all-fold is_cicc_word steps [] (all-filtered (appearances suffixes first)) refl))
-    ∙ ap (λ ns. rank s ns (joined folder name)) (sym (fold-joined folder steps [] one.0 refl) ∙ ap (fold add []) (sym same))
+    ∙ sym (rank-joined folder name bare (fold add [] steps) (all-fold is_bare steps [] parts.0 refl) (all-fold is_cicc_word steps [] (all-filtered (appearances suffixes first)) refl))
+    ∙ ap (λ ns. rank (codes ".cpp1.ii") ns (joined folder name)) (sym (fold-joined folder steps [] parts.0 refl) ∙ ap (fold add []) (sym parts.1))
     ∙ sym (rank-of_steps suffixes second (joined folder name) (cicc-joined_name folder name ends))

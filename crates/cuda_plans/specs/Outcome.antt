@@ -1,5 +1,5 @@
 -- The outputs of answers to commands, and outputs joined.
-use Rattle.std.specs.Prelude.{◌≡◌, ℕ, suc, List, [], ◌∷◌, ◌++◌, if◌then◌else◌, Option, Some, None, ℤ, pos, negsuc, unwrap_or, codes, refl, fold}
+use Rattle.std.specs.Prelude.{◌≡◌, ℕ, suc, List, [], ◌∷◌, ◌++◌, if◌then◌else◌, Option, Some, None, ℤ, pos, negsuc, unwrap_or, codes, refl}
 use Rattle.texts.specs.declared.fault.Fault.{Fault}
 use Rattle.texts.specs.declared.fault.Fault.TheVariants.{Process, Runner}
 use Rattle.texts.specs.declared.status.Output.{Output}
@@ -23,18 +23,10 @@ empty_success = output_with (status_of_code (pos 0)) [] []
 abbrev pub aggregated : Output → Output → Output
 aggregated a b = output_with (if is_success a.status then b.status else a.status) (a.stdout ++ b.stdout) (a.stderr ++ b.stderr)
 
--- outputs joined, in order
-abbrev pub all_aggregated : List Output → Output
-all_aggregated outputs = fold aggregated empty_success outputs
-
--- the output of a fault that no process left: code 1 and the fault's message
-abbrev pub told : Fault → Output
-told fault = output_with (status_of_code (pos 1)) [] (message_of fault)
-
--- the output of a fault: that of the process that failed, else the fault is told
+-- the output of a fault: that of the process that failed, else code 1 and the fault's message
 abbrev pub output_of_fault : Fault → Output
 output_of_fault (Process output) = output
-output_of_fault fault = told fault
+output_of_fault fault = output_with (status_of_code (pos 1)) [] (message_of fault)
 
 -- a whole number in decimal digits, behind a `-` if it is below 0
 abbrev pub signed_numeral : ℤ → List ℕ
@@ -69,10 +61,6 @@ pub first_failure_counts : aggregated (output_with (status_of_code (pos 3)) (cod
     (output_with (status_of_code (pos 5)) (codes "b") []) ≡ output_with (pos 768) (codes "ab") []
 first_failure_counts = refl
 
-pub failure_after_success : aggregated (output_with (pos 0) (codes "a") [])
-    (output_with (status_of_code (pos 2)) (codes "b") []) ≡ output_with (pos 512) (codes "ab") []
-failure_after_success = refl
-
 -- a signal after a success: that signal
 pub signal_after_success : aggregated (output_with (pos 0) (codes "a") [])
     (output_with (status_of_signal (pos 9)) (codes "b") []) ≡ output_with (pos 9) (codes "ab") []
@@ -82,13 +70,7 @@ signal_after_success = refl
 pub runner_says : output_of_fault (Runner (codes "no such compiler")) ≡ output_with (pos 256) [] (codes "no such compiler")
 runner_says = refl
 
-pub failed_process_is_kept : output_of_fault (Process (output_with (pos 9) (codes "a") (codes "b"))) ≡ output_with (pos 9) (codes "a") (codes "b")
-failed_process_is_kept = refl
-
--- a value that was left: a code, a code with texts, neither code nor signal, a signal
-pub finished_well : output_of_finished (codes "ptxas") (record { retcode = Some (pos 0); signal = None; stdout = []; stderr = [] }) ≡ output_with (pos 0) [] []
-finished_well = refl
-
+-- a value that was left: a code with texts, neither code nor signal, a signal
 pub finished_badly : output_of_finished (codes "ptxas")
     (record { retcode = Some (pos 1); signal = None; stdout = codes "out"; stderr = codes "err" }) ≡
     output_with (pos 256) (codes "out") (codes "err")

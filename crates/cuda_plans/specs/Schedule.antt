@@ -1,5 +1,5 @@
 -- In which order a plan's commands run, which of them run at all once one fails, and what comes of it.
-use Rattle.std.specs.Prelude.{◌≡◌, ℕ, ◌+◌, ◌-◌, ◌/◌, min, max, List, [], ◌∷◌, ◌++◌, Bool, not, ◌&&◌, ◌||◌, ◌==◌, nat_lt, nat_le, if◌then◌else◌, length, map, filter, Result, Ok, Err}
+use Rattle.std.specs.Prelude.{◌≡◌, ℕ, ◌+◌, ◌-◌, ◌/◌, min, max, List, [], ◌∷◌, ◌++◌, Bool, true, false, not, ◌&&◌, ◌||◌, ◌==◌, nat_lt, nat_le, if◌then◌else◌, length, map, filter, fold, Result, Ok, Err, MatchBool}
 use Rattle.std.specs.List.{list_any}
 use Rattle.texts.specs.declared.fault.Fault.{Fault}
 use Rattle.texts.specs.declared.fault.Fault.TheVariants.{Process, Memory}
@@ -10,17 +10,20 @@ use Rattle.compilers.specs.declared.plans.plan.NvccGeneratedSubcommand.{NvccGene
 use Rattle.compilers.specs.declared.plans.plan.Plan.{Plan}
 use Rattle.cuda_plans.specs.declared.runner.Answer.{Answer}
 use Rattle.cuda_plans.specs.declared.runner.Place.{Place}
-use Rattle.cuda_plans.specs.Outcome.{output_of_answer, all_aggregated}
+use Rattle.cuda_plans.specs.Outcome.{output_of_answer, aggregated, empty_success}
 
 -- A command of a plan, at its place.
 pub record Step : Type 0 where
   pub place : Place
   pub command : NvccGeneratedSubcommand
 
--- the commands of a group from a place on
+-- a group's command at its place, and the commands of a group from a place on
+abbrev pub step_at : ℕ → ℕ → NvccGeneratedSubcommand → Step
+step_at group index command = record { place = record { group = group; index = index }; command = command }
+
 abbrev pub steps_of_group : ℕ → ℕ → List NvccGeneratedSubcommand → List Step
 steps_of_group group index [] = []
-steps_of_group group index (c ∷ cs) = record { place = record { group = group; index = index }; command = c } ∷ steps_of_group group (index + 1) cs
+steps_of_group group index (c ∷ cs) = step_at group index c ∷ steps_of_group group (index + 1) cs
 
 -- the commands of groups that are numbered from a number on, one group after the other
 abbrev pub steps_from : ℕ → List (List NvccGeneratedSubcommand) → List Step
@@ -90,7 +93,7 @@ IsWhole groups parallel account = due_steps groups parallel account ≡ map step
 
 -- the output of an account: the outputs of its answers, joined
 abbrev pub output_of_account : List AccountEntry → Output
-output_of_account account = all_aggregated (map output_of_entry account)
+output_of_account account = fold aggregated empty_success (map output_of_entry account)
 
 -- what comes of a whole account: its output, as a refusal if an answer failed
 abbrev pub outcome_of : List AccountEntry → Result Output Fault
@@ -117,3 +120,15 @@ ExecutesAs (Err fault) parallel account result = (account ≡ []) × UnlessMemor
 -- a list of entries that became another by an account of which a fact holds, put behind it
 abbrev pub Gains : List AccountEntry → List AccountEntry → (List AccountEntry → Type 0) → Type 0
 Gains before after P = (account : List AccountEntry) × (after ≡ before ++ account) × P account
+
+-- no element is left where an account is to reach the end
+abbrev pub NoneLeft : {X : Type 0} → Bool → List X → Type 0
+NoneLeft true left = left ≡ []
+NoneLeft false left = Unit {0}
+
+-- whether an account is that of a group's commands from a number on: each at its place, and none behind a failure; it
+-- reaches the group's end or a failure, unless it may stop anywhere
+abbrev pub OfGroup : Bool → ℕ → ℕ → List AccountEntry → List NvccGeneratedSubcommand → Type 0
+OfGroup to_end group index [] commands = NoneLeft to_end commands
+OfGroup to_end group index (e ∷ es) [] = ⊥
+OfGroup to_end group index (e ∷ es) (c ∷ cs) = (step_of e ≡ step_at group index c) × MatchBool (fails e) (es ≡ []) (OfGroup to_end group (index + 1) es cs)

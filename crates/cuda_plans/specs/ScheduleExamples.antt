@@ -1,5 +1,5 @@
 -- Schedules worked out by hand: three kernels, and which of their commands run once one fails.
-use Rattle.std.proofs.Common.{◌≡◌, ℕ, ◌*◌, List, [], ◌∷◌, ◌++◌, map, pos, Ok, Err, codes, refl}
+use Rattle.std.proofs.Common.{◌≡◌, ℕ, ◌*◌, List, [], ◌∷◌, ◌++◌, map, pos, Ok, Err, codes}
 use Rattle.compilers.specs.declared.command.Cacheable.TheVariants.{Yes, No}
 use Rattle.texts.specs.declared.fault.Fault.TheVariants.{Process}
 use Rattle.compilers.specs.declared.plans.plan.NvccGeneratedSubcommand.{NvccGeneratedSubcommand}
@@ -73,58 +73,34 @@ EndsWithThree parallel account = IsWhole three_groups parallel account × (outco
 abbrev pub ThreeKernelsPlan : Type 0
 ThreeKernelsPlan = plan_of_both three_kernels ≡ plan_with three_groups []
 
-pub three_kernels_are_planned : ThreeKernelsPlan
-three_kernels_are_planned = refl
-
 -- the chunks of these groups, the device groups by two: the front group, two groups, one group, and the final group
 abbrev pub ChunksOfTwo : Type 0
 ChunksOfTwo = map (chunk_of 3 2) (0 ∷ 1 ∷ 2 ∷ 3 ∷ 4 ∷ []) ≡ (0 ∷ 1 ∷ 1 ∷ 2 ∷ 4 ∷ [])
-
-pub chunks_of_two : ChunksOfTwo
-chunks_of_two = refl
 
 -- by two, the second group fails at once: its chunk is at its end, and nothing more runs
 abbrev pub FailureEndsItsGroup : Type 0
 FailureEndsItsGroup = EndsWithThree 2 (ran 1 0 step_a (code 0) ∷ ran 1 1 cicc_a (code 0) ∷ ran 2 0 step_b (code 3) ∷ [])
 
-pub failure_ends_its_group : FailureEndsItsGroup
-failure_ends_its_group = (refl, refl)
-
 -- by two, the first group fails at once: the second one is of its chunk and runs to its end
 abbrev pub ChunkIsFinished : Type 0
 ChunkIsFinished = EndsWithThree 2 (ran 1 0 step_a (code 3) ∷ ran 2 0 step_b (code 0) ∷ ran 2 1 cicc_b (code 0) ∷ [])
-
-pub chunk_is_finished : ChunkIsFinished
-chunk_is_finished = (refl, refl)
 
 -- one at a time, the first group fails at once: it ends its chunk
 abbrev pub OneAtATime : Type 0
 OneAtATime = EndsWithThree 1 (ran 1 0 step_a (code 3) ∷ [])
 
-pub one_at_a_time : OneAtATime
-one_at_a_time = (refl, refl)
-
 -- none at a time is one at a time
 abbrev pub NoneAtATime : Type 0
 NoneAtATime = EndsWithThree 0 (ran 1 0 step_a (code 3) ∷ [])
-
-pub none_at_a_time : NoneAtATime
-none_at_a_time = (refl, refl)
 
 -- more at a time than there are: all device groups are one chunk
 abbrev pub ManyAtATime : Type 0
 ManyAtATime =
     EndsWithThree 9 (ran 1 0 step_a (code 3) ∷ ran 2 0 step_b (code 0) ∷ ran 2 1 cicc_b (code 0) ∷ ran 3 0 step_c (code 0) ∷ ran 3 1 cicc_c (code 0) ∷ [])
 
-pub many_at_a_time : ManyAtATime
-many_at_a_time = (refl, refl)
-
 -- both groups of a chunk fail: the first failure counts
 abbrev pub FirstFailureIsKept : Type 0
 FirstFailureIsKept = EndsWithThree 2 (ran 1 0 step_a (code 3) ∷ ran 2 0 step_b (code 5) ∷ [])
-
-pub first_failure_is_kept : FirstFailureIsKept
-first_failure_is_kept = (refl, refl)
 
 -- all commands in the order of their places, with one answer for each
 abbrev pub all_ran : Answer → List AccountEntry
@@ -136,12 +112,6 @@ all_ran answer =
 abbrev pub AllSucceed : Type 0
 AllSucceed = IsWhole three_groups 2 (all_ran (code 0)) × (outcome_of (all_ran (code 0)) ≡ Ok (output_with (pos 0) [] []))
 
-pub all_succeed : AllSucceed
-all_succeed = (refl, refl)
-
 -- a failure that carries the output of a success is none
 abbrev pub FailureOfASuccess : Type 0
 FailureOfASuccess = IsWhole three_groups 1 (all_ran no_failure) × (outcome_of (all_ran no_failure) ≡ Ok (output_with (pos 0) [] []))
-
-pub failure_of_a_success : FailureOfASuccess
-failure_of_a_success = (refl, refl)

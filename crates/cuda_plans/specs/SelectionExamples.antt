@@ -1,10 +1,9 @@
 -- Selections of dry runs worked out by hand.
-use Rattle.std.specs.Prelude.{◌≡◌, ℕ, List, [], ◌∷◌, ◌++◌, Bool, true, false, Result, Ok, Err, refl, codes, bytes_eq}
+use Rattle.std.specs.Prelude.{◌≡◌, ℕ, List, [], ◌∷◌, ◌++◌, Bool, true, false, Result, Ok, Err, codes, bytes_eq}
 use Rattle.texts.specs.Rows.{spaced}
 use Rattle.texts.specs.declared.fault.Fault.{Fault}
 use Rattle.texts.specs.declared.fault.Fault.TheVariants.{BadShell}
 use Rattle.compilers.specs.CommandLines.{CommandLine}
-use Rattle.dry_runs.specs.Computing.{dry_runs_compute}
 use Rattle.dry_runs.specs.DryRun.{dry_run_of}
 use Rattle.dry_runs.specs.Environment.{Variable}
 use Rattle.dry_runs.specs.FirstDir.{first_dir}
@@ -36,17 +35,9 @@ OneOfOneKernel =
           spaced "-o kernel.ptx",
     ) ∷ [])
 
-pub one_of_one_kernel : OneOfOneKernel
-unfolding dry_runs_compute
-one_of_one_kernel = refl
-
 -- a known name keeps its place
 abbrev pub FoldedBehindOneKernel : Type 0
 FoldedBehindOneKernel = behind one_kernel ≡ Ok ((codes "PATH", codes "/b") ∷ (codes "Q", codes "1") ∷ [])
-
-pub folded_behind_one_kernel : FoldedBehindOneKernel
-unfolding dry_runs_compute
-folded_behind_one_kernel = refl
 
 -- a run of two commands with a name each
 abbrev pub two_names : List ℕ
@@ -56,38 +47,18 @@ two_names = codes "#$ PATH=/b\n#$ gcc a.cpp1.ii\n#$ cicc b.cpp1.ii\n#$ TOP=/u\n"
 abbrev pub AllNamesCount : Type 0
 AllNamesCount = ciccs true two_names ≡ Ok ((2, codes "/b/cicc", codes "x_1.cpp1.ii" ∷ []) ∷ [])
 
-pub all_names_count : AllNamesCount
-unfolding dry_runs_compute
-all_names_count = refl
-
 -- names stay where no canonical ones are asked for
 abbrev pub NamesStay : Type 0
 NamesStay = ciccs false two_names ≡ Ok ((2, codes "/b/cicc", codes "b.cpp1.ii" ∷ []) ∷ [])
-
-pub names_stay : NamesStay
-unfolding dry_runs_compute
-names_stay = refl
 
 -- a program's folder and its extension are no part of its stem
 abbrev pub NothingIsSelected : Type 0
 NothingIsSelected = ciccs true (codes "#$ PATH=/cicc\n#$ gcc k.cpp1.ii\n#$ ./cicc/x.cicc k.cpp1.ii\n") ≡ Ok []
 
-pub nothing_is_selected : NothingIsSelected
-unfolding dry_runs_compute
-nothing_is_selected = refl
-
 -- an environment line behind all commands counts, and a new name comes last
 abbrev pub LaterLineSetsToo : Type 0
 LaterLineSetsToo = behind two_names ≡ Ok ((codes "PATH", codes "/b") ∷ (codes "Q", codes "1") ∷ (codes "TOP", codes "/u") ∷ [])
 
-pub later_line_sets_too : LaterLineSetsToo
-unfolding dry_runs_compute
-later_line_sets_too = refl
-
 -- a bad line behind a command that is selected refuses the whole run
 abbrev pub BadRunIsRefused : Type 0
 BadRunIsRefused = ciccs true (codes "#$ PATH=/b\n#$ cicc k.cpp1.ii\n#$ gcc \"a\n") ≡ Err (BadShell 1 2)
-
-pub bad_run_is_refused : BadRunIsRefused
-unfolding dry_runs_compute
-bad_run_is_refused = refl

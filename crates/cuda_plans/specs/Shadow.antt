@@ -1,5 +1,5 @@
 -- Shadow runs: second runs that put the generated files of the first run into a temporary directory.
-use Rattle.std.specs.Prelude.{ℕ, List, map, Bool, true, false, not, ◌&&◌, ◌||◌, Option, Some, None, codes, bytes_eq}
+use Rattle.std.specs.Prelude.{ℕ, List, map, filter, Bool, true, false, not, ◌&&◌, ◌||◌, Option, Some, None, codes, bytes_eq}
 use Rattle.std.specs.List.{list_all}
 use Rattle.std.specs.Cmp.Lexicographic.{pointwise}
 use Rattle.texts.specs.Path.{joined, is_bare, file_name_of}
@@ -31,3 +31,11 @@ are_shadows first second folder commands =
 -- whether the second run shadows the first in a folder, by all generated names
 abbrev pub is_shadow : List (List ℕ) → List CommandLine → List CommandLine → List ℕ → Bool
 is_shadow suffixes first second folder = are_shadows (appearances suffixes first) (appearances suffixes second) folder second
+
+-- the generated names of a run that end in `.cpp1.ii` in order of appearance, each as often as it appears
+abbrev pub step_names : List (List ℕ) → List CommandLine → List (List ℕ)
+step_names suffixes commands = filter is_cicc_word (appearances suffixes commands)
+
+-- whether the second run shadows the first in a folder by these names: the files that preprocess steps write and cicc reads
+abbrev pub is_step_shadow : List (List ℕ) → List CommandLine → List CommandLine → List ℕ → Bool
+is_step_shadow suffixes first second folder = are_shadows (step_names suffixes first) (step_names suffixes second) folder second

@@ -1,17 +1,16 @@
 -- Shadow runs worked out by hand, for the folder `/t`: where cicc stands beside the step that makes its input, and where it
 -- doesn't, since one premise is missing.
-use Rattle.std.proofs.Common.{◌≡◌, ℕ, List, [], ◌∷◌, None, true, false, map, filter, refl, codes, lit<}
+use Rattle.std.specs.Prelude.{◌≡◌, ◌==◌, ℕ, List, [], ◌∷◌, None, true, false, if◌then◌else◌, map, filter, codes}
 use Rattle.std.specs.List.{list_all}
-use Rattle.std.proofs.lemmas.List.Elements.{Contains-push}
 use Rattle.compilers.specs.declared.compiler.NvccHostCompiler.TheVariants.{Gcc}
 use Rattle.texts.specs.Path.{joined, is_bare}
+use Rattle.texts.specs.Rows.{spaced}
 use Rattle.compilers.specs.CommandLines.{CommandLine}
 use Rattle.compilers.specs.OneKernel.{at, one_kernel_commands, one_kernel_in_temporary_commands}
 use Rattle.canonical_names.specs.Alike.{is_clean}
 use Rattle.canonical_names.specs.Generated.{standard_suffixes}
 use Rattle.canonical_names.specs.Appearances.{appearances}
-use Rattle.cuda_plans.specs.Shadow.{is_shadow}
-use Rattle.cuda_plans.specs.StepShadow.{is_step_shadow, bare_stub_commands}
+use Rattle.cuda_plans.specs.Shadow.{is_shadow, is_step_shadow}
 use Rattle.compilers.specs.declared.plans.plan.Reason.TheVariants.{NoCiccGroup, Superseded}
 use Rattle.command_groups.specs.Fate.{Fate, front, device, final, ungrouped, fates}
 use Rattle.command_groups.specs.Plan.{PlanSetting, staged_commands}
@@ -52,26 +51,9 @@ EarlierStepStandsTogether =
     (steps_to (codes "a.cpp1.ii") earlier_step ≡ earlier_step) ×
     (all_fates one_cicc earlier_step ≡ device (codes "x_0.cpp1.ii") ∷ device (codes "x_0.cpp1.ii") ∷ [])
 
-pub earlier_step_stands_together : EarlierStepStandsTogether
-earlier_step_stands_together = ((refl, refl), refl, refl, refl)
-
 -- they meet all premises of the laws of shadow runs
 abbrev pub EarlierStepFeedsCicc : Type 0
 EarlierStepFeedsCicc = IsFedBy standard_suffixes shadow_setting one_cicc earlier_step cicc_of_a step_of_a (codes "a.cpp1.ii")
-
-pub earlier_step_feeds_cicc : EarlierStepFeedsCicc
-earlier_step_feeds_cicc = record {
-  first_is_clean = refl;
-  second_is_clean = refl;
-  folder_is_absolute = refl;
-  cicc_stands = Contains-push [] cicc_of_a;
-  cicc_is_cicc = refl;
-  input = refl;
-  input_is_bare = refl;
-  input_is_no_option = refl;
-  one_step = refl;
-  step_is_earlier = lit< tt;
-}
 
 -- the step stands at a later line: cicc has no group
 abbrev pub later_step : List CommandLine
@@ -82,9 +64,6 @@ LaterStepStandsApart =
     AreBothClean one_cicc later_step × (is_shadow standard_suffixes one_cicc later_step (codes "/t") ≡ true) ×
     (steps_to (codes "a.cpp1.ii") later_step ≡ later_step) ×
     (all_fates one_cicc later_step ≡ ungrouped NoCiccGroup ∷ device (codes "x_0.cpp1.ii") ∷ [])
-
-pub later_step_stands_apart : LaterStepStandsApart
-later_step_stands_apart = ((refl, refl), refl, refl, refl)
 
 -- two steps write cicc's input, one earlier and one later: cicc and the earlier step lose their group
 abbrev pub cicc_and_step : List CommandLine
@@ -98,9 +77,6 @@ TwoStepsStandApart =
     AreBothClean cicc_and_step two_steps × (is_shadow standard_suffixes cicc_and_step two_steps (codes "/t") ≡ true) ×
     (steps_to (codes "a.cpp1.ii") two_steps ≡ two_steps) ×
     (all_fates cicc_and_step two_steps ≡ ungrouped Superseded ∷ ungrouped Superseded ∷ device (codes "x_0.cpp1.ii") ∷ [])
-
-pub two_steps_stand_apart : TwoStepsStandApart
-two_steps_stand_apart = ((refl, refl), refl, refl, refl)
 
 -- cicc's input has a folder, and all else is as in a shadow: the step opens the group of the file name alone, and cicc has none
 abbrev pub cicc_in_folder : List CommandLine
@@ -117,8 +93,25 @@ FolderStandsApart =
     (steps_to (codes "d/a.cpp1.ii") step_in_folder ≡ step_in_folder) ×
     (all_fates cicc_in_folder step_in_folder ≡ device (codes "x_0.cpp1.ii") ∷ ungrouped NoCiccGroup ∷ [])
 
-pub folder_stands_apart : FolderStandsApart
-folder_stands_apart = ((refl, refl), refl, refl, refl, refl)
+-- the one-kernel dry run in the folder `/t`, except that cudafe++ names the stub file without it, like nvcc 13.0
+abbrev pub bare_stub_commands : List CommandLine
+bare_stub_commands =
+    map
+    (λ c. if c.0 == 2 then (
+      2,
+      codes "/b/cudafe++",
+      spaced "--gen_c_file_name /t/kernel.cudafe1.cpp --stub_file_name kernel.cudafe1.stub.c --module_id_file_name kernel.module_id --simt-only /t/kernel.cpp4.ii",
+    ) else c)
+    one_kernel_in_temporary_commands
+
+-- The one-kernel dry run and the same run in the folder `/t` are shadows by the inputs of cicc. They still are if cudafe++'s
+-- stub file is bare, although they are no shadows then. A run doesn't shadow itself.
+abbrev pub OneKernelHasStepShadows : Type 0
+OneKernelHasStepShadows =
+    (is_step_shadow standard_suffixes one_kernel_commands one_kernel_in_temporary_commands (codes "/t") ≡ true)
+    × (is_step_shadow standard_suffixes one_kernel_commands bare_stub_commands (codes "/t") ≡ true)
+    × (is_shadow standard_suffixes one_kernel_commands bare_stub_commands (codes "/t") ≡ false)
+    × (is_step_shadow standard_suffixes one_kernel_commands one_kernel_commands (codes "/t") ≡ false)
 
 -- the one-kernel dry run and the same run in the folder `/t`, with cudafe++'s stub file bare: no shadow, but one as far as the
 -- inputs of cicc go, and cicc stands beside its step
@@ -129,14 +122,8 @@ OneKernelStandsTogether =
     (all_fates one_kernel_commands bare_stub_commands ≡ front ∷ front ∷ device (codes "x_0.cpp1.ii") ∷
     device (codes "x_0.cpp1.ii") ∷ device (codes "x_0.cpp1.ii") ∷ final ∷ final ∷ [])
 
-pub one_kernel_stands_together : OneKernelStandsTogether
-one_kernel_stands_together = ((refl, refl), refl, refl, refl)
-
 -- the same run in the folder `/t` shadows the one-kernel dry run; a run doesn't shadow itself
 abbrev pub OneKernelHasAShadow : Type 0
 OneKernelHasAShadow =
     (is_shadow standard_suffixes one_kernel_commands one_kernel_in_temporary_commands (codes "/t") ≡ true) ×
     (is_shadow standard_suffixes one_kernel_commands one_kernel_commands (codes "/t") ≡ false)
-
-pub one_kernel_has_a_shadow : OneKernelHasAShadow
-one_kernel_has_a_shadow = (refl, refl)

@@ -3,9 +3,8 @@
 ghost use Rattle.std.specs.Prelude.{◌≡◌, option_copied, ◌++◌, ◌∷◌, [], ◌-◌, map, IfOk, MatchResult, true, false, nat_lt, not, ◌&&◌, fold};
 ghost use Rattle.cuda_plans.specs.NvccPlan.{planned};
 ghost use Rattle.cuda_plans.specs.Outcome.{aggregated, empty_success, output_of_answer as output_of};
-ghost use Rattle.cuda_plans.specs.Running.{step_at, OfGroup};
 ghost use Rattle.cuda_plans.specs.Schedule as spec;
-ghost use Rattle.cuda_plans.specs.Schedule.{Gains, ExecutesAs};
+ghost use Rattle.cuda_plans.specs.Schedule.{Gains, ExecutesAs, OfGroup, step_at};
 ghost use Rattle.texts.specs.Fault.{UnlessMemory};
 
 use crate::outcome::{aggregate_output, compile_result_to_output, error_to_output};
@@ -21,7 +20,6 @@ use texts::fault::Fault;
 use texts::status::{ExitStatus, Output};
 use texts::text::Text;
 
-// The path of a folder that may be missing.
 fn path_of(folder: &Option<Text>) -> Option<&str>
     ensures { option_copied result ≡ folder.now }
 {
@@ -31,7 +29,6 @@ fn path_of(folder: &Option<Text>) -> Option<&str>
     }
 }
 
-// The plan of the call.
 fn plan_of<W: Which>(
     alloc: Global,
     call: &NvccCompileCommand,
@@ -92,7 +89,6 @@ pub fn execute<W: Which, R: Runner>(
     run_plan(alloc, runner, plan.groups, call.num_parallel)
 }
 
-// The output of an answer to the program `exe`.
 fn output_of_answer(alloc: Global, exe: &str, answer: Answer) -> Result<Output, AllocError>
     ensures { IfOk result (λ output. output ≡ output_of exe.now answer) }
 {
@@ -195,7 +191,6 @@ fn run_groups<R: Runner>(
     Ok(joined)
 }
 
-// The output of nothing: success without a text.
 fn empty_output(alloc: Global) -> Output
     ensures { result ≡ empty_success }
 {

@@ -6,8 +6,7 @@ ghost use Rattle.cuda_plans.specs.Outcome.{AggregationIsAssociative, EmptySucces
 ghost use Rattle.cuda_plans.specs.ScheduleExamples as examples;
 ghost use Rattle.cuda_plans.specs.SelectionExamples as selections;
 ghost use Rattle.cuda_plans.specs.ShadowExamples as shadows;
-ghost use Rattle.cuda_plans.specs.ShadowLaws.{ShadowsStandTogether, StepShadowsStandTogether};
-ghost use Rattle.cuda_plans.specs.StepShadow.{ShadowIsStepShadow, StepNamesKeepRank, PlainOutputsStayApart, OneKernelHasStepShadows};
+ghost use Rattle.cuda_plans.specs.ShadowLaws.{ShadowIsStepShadow, StepNamesKeepRank, PlainOutputsStayApart, ShadowsStandTogether, StepShadowsStandTogether};
 ghost use Rattle.device_lines.specs.Reread.{CiccLinesReread, PtxasLinesReread, CudaFELinesReread};
 ghost use Rattle.texts.specs.Equality.{TellsEqual};
 
@@ -90,7 +89,7 @@ pub fn step_shadows()
     ensures implied { ShadowIsStepShadow }
     ensures ranks { StepNamesKeepRank }
     ensures outputs { PlainOutputsStayApart }
-    ensures worked { OneKernelHasStepShadows }
+    ensures worked { shadows.OneKernelHasStepShadows }
     ensures one_kernel { shadows.OneKernelHasAShadow }
 {}
 

@@ -10,7 +10,6 @@ use texts::fault::Fault;
 use texts::status::{CompileFinished, ExitStatus, Output};
 use texts::text::file_stem;
 
-// Bytes, followed by others.
 fn joined(first: Bytes, second: Bytes) -> Result<Bytes, AllocError>
     ensures { IfOk result (λ bytes. bytes ≡ first ++ second) }
 {
@@ -64,7 +63,6 @@ fn program_name(exe: &str) -> &str
     }
 }
 
-// A signal's number in decimal digits.
 fn number_text(alloc: Global, signal: i32) -> Result<String, AllocError>
     ensures said { IfOk result (λ text. string_bytes text ≡ signed_decimal signal) }
     ensures numeral { IfOk result (λ text. string_bytes text ≡ spec.signed_numeral signal) }
@@ -72,7 +70,6 @@ fn number_text(alloc: Global, signal: i32) -> Result<String, AllocError>
     format!(in alloc; "{signal}")
 }
 
-// The message on a program that a signal ended.
 fn terminated_text(alloc: Global, exe: &str, signal: i32) -> Result<String, AllocError>
     ensures { IfOk result (λ text. string_bytes text ≡ spec.terminated_text exe.now signal) }
 {

@@ -8,10 +8,9 @@ ghost use Rattle.texts.specs.Path as paths;
 ghost use Rattle.texts.specs.Path.{joined};
 ghost use Rattle.compilers.specs.CommandLines.{line_seen, words_of_command};
 ghost use Rattle.canonical_names.specs.Appearances.{appearances};
+ghost use Rattle.canonical_names.specs.Shown.{name_shown};
 ghost use Rattle.canonical_names.specs.Generated.{generated_name};
 ghost use Rattle.cuda_plans.specs.Shadow as spec;
-ghost use Rattle.canonical_names.specs.Shown.{name_shown};
-ghost use Rattle.cuda_plans.specs.StepShadow as step;
 
 use canonical_names::{Suffixes, begins_with_dash};
 use compilers::dry_run::DryRun;
@@ -20,7 +19,6 @@ use texts::device_files::is_cicc_input;
 use texts::text::{file_name, is_bare, join};
 use texts::words::word_after;
 
-// Appends the generated names of a command.
 fn push_names<'a>(
     names: &mut Vec<&'a str>,
     words: &'a [String],
@@ -57,7 +55,7 @@ fn step_names<'a>(
     commands: &'a [(usize, String, Vec<String>)],
     suffixes: &Suffixes,
 ) -> Result<Vec<&'a str>, AllocError>
-    ensures { IfOk result (λ names. map name_shown names.items ≡ step.step_names suffixes.now (map line_seen commands.now)) }
+    ensures { IfOk result (λ names. map name_shown names.items ≡ spec.step_names suffixes.now (map line_seen commands.now)) }
 {
     let names = appearances(alloc, commands, suffixes)?;
     let mut kept = Vec::new(alloc);
@@ -166,7 +164,7 @@ pub fn is_step_shadow(
     tmp: &str,
     suffixes: &Suffixes,
 ) -> Result<bool, AllocError>
-    ensures { IfOk result (λ b. b ≡ step.is_step_shadow suffixes.now run1.now.commands run2.now.commands tmp.now) }
+    ensures { IfOk result (λ b. b ≡ spec.is_step_shadow suffixes.now run1.now.commands run2.now.commands tmp.now) }
 {
     let first = step_names(alloc, run1.commands.as_slice(), suffixes)?;
     let second = step_names(alloc, run2.commands.as_slice(), suffixes)?;

@@ -4,10 +4,9 @@ use Rattle.std.specs.Io.KnownBytes.{Keeps}
 use Rattle.programs.specs.declared.stop.Stop.{Stop}
 use Rattle.programs.specs.Operands.{LineOf, PlanOf, line_of, plan_of, line_call_of, plan_call_of}
 use Rattle.programs.specs.Delivery.{Delivers}
-use Rattle.programs.specs.LineText.{shown_line}
-use Rattle.programs.specs.PlanText.{PlansFiles}
-use Rattle.cudaplan.specs.declared.call.Call.{Call}
-use Rattle.cudaplan.specs.declared.call.Call.TheVariants as calls
+use Rattle.programs.specs.PlanText.{PlansFiles, shown_line}
+use Rattle.cudaplan.specs.declared.program.Call.{Call}
+use Rattle.cudaplan.specs.declared.program.Call.TheVariants as calls
 
 pub data CallOf : Type 0 where
   reads : LineOf → CallOf

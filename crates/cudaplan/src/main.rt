@@ -6,7 +6,6 @@ use programs::{Disk, Process, call_words};
 use std::io;
 use std::process::ExitCode;
 
-mod call;
 mod program;
 
 fn main(rt: HostRuntime) -> ExitCode {

@@ -22,16 +22,12 @@ text_in Compdb plan = Ok (compact_text (database plan.planned.plan))
 text_in Makeflow plan = makeflow_answer plan.tmp plan.planned.plan
 text_in Text plan = Ok (show_plan plan.planned.plan)
 
--- the text of a format with a newline at its end, which that of JSON and of a compilation database lacks
-abbrev pub ended : Format → List ℕ → List ℕ
-ended Json text = text ++ 10 ∷ []
-ended Compdb text = text ++ 10 ∷ []
-ended format text = text
-
--- a plan as a file
+-- a plan as a file: with a newline at its end, which the text of JSON and of a compilation database lacks
 abbrev pub file_with : Format → Result (List ℕ) Refusal → Result (List ℕ) Refusal
-file_with format (Ok text) = Ok (ended format text)
 file_with format (Err refusal) = Err refusal
+file_with Json (Ok text) = Ok (text ++ 10 ∷ [])
+file_with Compdb (Ok text) = Ok (text ++ 10 ∷ [])
+file_with format (Ok text) = Ok text
 
 abbrev pub file_in : Format → Described → Result (List ℕ) Refusal
 file_in format plan = file_with format (text_in format plan)

@@ -1,6 +1,5 @@
 //! A plan in a format.
 
-ghost use Rattle.std.specs.Prelude.{◌≡◌, OnOk, string_bytes};
 ghost use Rattle.plan_texts.specs.Answers.{Answers};
 ghost use Rattle.plan_formats.specs.Texts as spec;
 
@@ -8,7 +7,7 @@ use compilers::plans::PlanWithOrigins;
 use plan_json::{compdb_text, json_text};
 use plan_makeflow::makeflow_file;
 use plan_texts::{Format, Refusal, dot_text, ninja_file, shell_script, show_plan};
-use std::alloc::{AllocError, Global};
+use std::alloc::Global;
 
 /// A plan as the text of a format, given what it was made for: the working directory `cwd`, the temporary directory `tmp` and the
 /// compilation flag. JSON and a compilation database have no newline at their end.
@@ -36,16 +35,6 @@ pub fn plan_text(
     }
 }
 
-// Adds the newline that the text of a format lacks.
-fn push_end(text: &mut String, format: Format) -> Result<(), AllocError>
-    ensures { OnOk result (string_bytes text.new ≡ spec.ended format (string_bytes text.old)) }
-{
-    match format {
-        Format::Json | Format::Compdb => text.push_str("\n"),
-        _ => Ok(()),
-    }
-}
-
 /// The same as a file: JSON and a compilation database end in a newline too.
 pub fn plan_file(
     alloc: Global,
@@ -58,6 +47,8 @@ pub fn plan_file(
     ensures { Answers result (spec.file_in format (record { cwd = cwd.now; tmp = tmp.now; flag = flag.now; planned = planned.now })) }
 {
     let mut text = plan_text(alloc, format, cwd, tmp, flag, planned)?;
-    push_end(&mut text, format)?;
+    if matches!(format, Format::Json | Format::Compdb) {
+        text.push_str("\n")?;
+    }
     Ok(text)
 }

@@ -1,5 +1,5 @@
 -- A database has no float and nests no deeper than a text that is read may.
-use Rattle.std.proofs.Common.{◌≡◌, ℕ, ◌-◌, ◌≤◌, List, [], ◌∷◌, ◌++◌, ◌||◌, map, length, Bool, true, false, cond, Some, refl, sym, subst, arith, ◌==◌, flat_map}
+use Rattle.std.proofs.Common.{◌≡◌, ℕ, ◌-◌, ◌≤◌, List, [], ◌∷◌, ◌++◌, map, length, Bool, true, false, cond, refl, arith, ◌==◌, flat_map}
 use Rattle.compilers.specs.declared.plans.plan.NvccGeneratedSubcommand.{NvccGeneratedSubcommand}
 use Rattle.compilers.specs.declared.plans.plan.Plan.{Plan}
 use Rattle.compilers.specs.Listed.{Listed, listed}
@@ -7,15 +7,15 @@ use Rattle.command_files.specs.declared.files.CommandFiles.{CommandFiles}
 use Rattle.command_files.specs.CommandFiles.{files_of_words}
 use Rattle.serde_json.specs.Data.{Data, string, depth, items_depth}
 use Rattle.serde_json.specs.View.{items_of}
-use Rattle.serde_json.specs.Read.{read, max_depth}
-use Rattle.serde_json.specs.Written.{has_float, items_have_float, compact_text}
+use Rattle.serde_json.specs.Read.{max_depth}
+use Rattle.serde_json.specs.Written.{has_float, items_have_float}
 use Rattle.plan_json.specs.ClangWords.{line_for_clang}
 use Rattle.plan_json.specs.Compdb.{record_data, records_by, records_of, database}
-use Rattle.std.proofs.lemmas.Bool.{false≢true}
-use Rattle.plan_json.proofs.ValueLemmas.{items_within, neither, texts_float_free}
+use Rattle.std.proofs.lemmas.Bool.{or_from, or_parts}
+use Rattle.plan_json.proofs.ValueLemmas.{items_within, texts_float_free}
 
 -- a list of data in which each nests no deeper than two and has no float
-record Plain (ds : List Data) : Type 0 where
+pub record Plain (ds : List Data) : Type 0 where
   pub within : items_depth (items_of ds) ≤ 2
   pub float_free : items_have_float (items_of ds) ≡ false
 
@@ -31,36 +31,23 @@ plain_records c (file ∷ files) =
     let rest = plain_records c files in
     record {
       within = omega (arith, record_within c file, rest.within);
-      float_free = neither (neither (texts_float_free (line_for_clang c.exe c.args)) refl) rest.float_free;
+      float_free = or_from _ _ (or_from _ _ (texts_float_free (line_for_clang c.exe c.args)) refl) rest.float_free;
     }
 
 plain_joined : (ds es : List Data) → Plain ds → Plain es → Plain (ds ++ es)
 plain_joined [] es first second = second
 plain_joined (d ∷ ds) es first second =
-    let rest = plain_joined ds es (record { within = omega (arith, first.within); float_free = second_false (has_float d) (items_have_float (items_of ds)) first.float_free }) second in
+    let parts = or_parts (has_float d) (items_have_float (items_of ds)) first.float_free in
+    let rest = plain_joined ds es (record { within = omega (arith, first.within); float_free = parts.1 }) second in
     record {
       within = omega (arith, first.within, rest.within);
-      float_free = neither (first_false (has_float d) (items_have_float (items_of ds)) first.float_free) rest.float_free;
+      float_free = or_from _ _ parts.0 rest.float_free;
     }
-  where
-    first_false : (a b : Bool) → (a || b) ≡ false → a ≡ false
-    first_false true b e = e
-    first_false false b e = refl
-
-    second_false : (a b : Bool) → (a || b) ≡ false → b ≡ false
-    second_false true b e = absurd (false≢true (sym e))
-    second_false false b e = e
-
-plain_command : (c : NvccGeneratedSubcommand) (files : CommandFiles) → Plain (records_by files c)
-plain_command c files = either files.complete
-  where
-    either : (complete : Bool) → Plain (cond complete [] (map (record_data c) files.reads))
-    either true = nothing_plain
-    either false = plain_records c files.reads
 
 plain_unless : (last : Bool) (c : NvccGeneratedSubcommand) (files : CommandFiles) → Plain (cond last [] (records_by files c))
 plain_unless true c files = nothing_plain
-plain_unless false c files = plain_command c files
+plain_unless false c files =
+    elim files.complete as (λ complete. Plain (cond complete [] (map (record_data c) files.reads))) [ true ↦ nothing_plain | false ↦ plain_records c files.reads ]
 
 plain_all : (count : ℕ) (commands : List Listed) → Plain (flat_map (records_of count) commands)
 plain_all count [] = nothing_plain
@@ -68,15 +55,8 @@ plain_all count (l ∷ commands) =
     let c = l.command in
     plain_joined (records_of count l) (flat_map (records_of count) commands) (plain_unless (count - l.group == 1) c (files_of_words c.exe c.args c.cwd)) (plain_all count commands)
 
-database_plain : (plan : Plan) → Plain (flat_map (records_of (length plan.groups)) (listed plan.groups))
+pub database_plain : (plan : Plan) → Plain (flat_map (records_of (length plan.groups)) (listed plan.groups))
 database_plain plan = plain_all (length plan.groups) (listed plan.groups)
 
--- what is written of a value with a plan's database
-pub database_text : (plan : Plan) (d : Data) (text : List ℕ) → d ≡ database plan → (has_float d ≡ false → text ≡ compact_text d) → text ≡ compact_text (database plan)
-database_text plan d text same written =
-    (subst (λ d. has_float d ≡ false → text ≡ compact_text d) same written) (database_plain plan).float_free
-
-pub database_reads_back : (plan : Plan) (d : Data) (text : List ℕ) → d ≡ database plan → (depth d ≤ max_depth → read text ≡ Some d) → read text ≡ Some (database plan)
-database_reads_back plan d text same written =
-    let within : items_depth (items_of (flat_map (records_of (length plan.groups)) (listed plan.groups))) ≤ 2 = (database_plain plan).within in
-    grind arith
+pub database_within : (plan : Plan) → depth (database plan) ≤ max_depth
+database_within plan = omega (arith, (database_plain plan).within)

@@ -1,5 +1,6 @@
 -- A plan's data has no float and nests no deeper than a text that is read may.
-use Rattle.std.proofs.Common.{◌≡◌, ℕ, ◌+◌, ◌≤◌, List, [], ◌∷◌, false, Some, refl, arith}
+use Rattle.std.proofs.Common.{◌≡◌, ℕ, ◌+◌, ◌≤◌, List, [], ◌∷◌, false, refl, arith}
+use Rattle.std.proofs.lemmas.Bool.{or_from}
 use Rattle.compilers.specs.declared.plans.origins.Origin.{Origin}
 use Rattle.compilers.specs.declared.plans.plan.NvccGeneratedSubcommand.{NvccGeneratedSubcommand}
 use Rattle.compilers.specs.declared.plans.plan.Dropped.{Dropped}
@@ -7,13 +8,13 @@ use Rattle.compilers.specs.Listed.{Listed, listed}
 use Rattle.command_files.specs.declared.files.CommandFiles.{CommandFiles}
 use Rattle.command_files.specs.CommandFiles.{files_of_words}
 use Rattle.command_files.specs.Order.{needs_at}
-use Rattle.serde_json.specs.Data.{Data, string, depth, items_depth}
+use Rattle.serde_json.specs.Data.{string, depth, items_depth}
 use Rattle.serde_json.specs.View.{items_of}
-use Rattle.serde_json.specs.Read.{read, max_depth}
-use Rattle.serde_json.specs.Written.{has_float, items_have_float, compact_text}
+use Rattle.serde_json.specs.Read.{max_depth}
+use Rattle.serde_json.specs.Written.{has_float, items_have_float}
 use Rattle.command_files.specs.Numbered.{numbered}
 use Rattle.plan_json.specs.Values.{count_data}
-use Rattle.plan_json.proofs.ValueLemmas.{items_within, neither, items_float_free, texts_float_free}
+use Rattle.plan_json.proofs.ValueLemmas.{items_within, items_float_free, texts_float_free}
 use Rattle.plan_json.specs.Json.{counts_data, variable_data, variables_data, command_data, Known, origin_at, command_at, dropped_data, Described, known_of, data_of}
 
 command_within : (id group : ℕ) (origin : Origin) (needs : List ℕ) (files : CommandFiles) (c : NvccGeneratedSubcommand) → depth (command_data id group origin needs files c) ≤ 3
@@ -52,18 +53,11 @@ variables_float_free : (variables : List (List ℕ × List ℕ)) → has_float (
 variables_float_free variables = items_float_free variable_data (λ x. refl) variables
 
 command_float_free : (id group : ℕ) (origin : Origin) (needs : List ℕ) (files : CommandFiles) (c : NvccGeneratedSubcommand) → has_float (command_data id group origin needs files c) ≡ false
-command_float_free id group origin needs files c = simp (neither, texts_float_free, variables_float_free, counts_float_free)
+command_float_free id group origin needs files c = simp (or_from, texts_float_free, variables_float_free, counts_float_free)
 
 commands_float_free : (known : Known) (id : ℕ) (commands : List Listed) → items_have_float (items_of (numbered (command_at known) id commands)) ≡ false
 commands_float_free known id [] = refl
-commands_float_free known id (l ∷ commands) = simp (neither, command_float_free, (commands_float_free known (id + 1) commands))
+commands_float_free known id (l ∷ commands) = simp (or_from, command_float_free, (commands_float_free known (id + 1) commands))
 
 pub plan_float_free : (d : Described) → has_float (data_of d) ≡ false
-plan_float_free d = simp (neither, commands_float_free, items_float_free)
-
--- what is written of a value with a plan's data
-pub exact_text : (plan : Described) (d : Data) (text : List ℕ) → d ≡ data_of plan → (has_float d ≡ false → text ≡ compact_text d) → text ≡ compact_text (data_of plan)
-exact_text plan d text same written = grind (arith, plan_float_free)
-
-pub text_reads_back : (plan : Described) (d : Data) (text : List ℕ) → d ≡ data_of plan → (depth d ≤ max_depth → read text ≡ Some d) → read text ≡ Some (data_of plan)
-text_reads_back plan d text same written = grind (arith, plan_within)
+plan_float_free d = simp (or_from, commands_float_free, items_float_free)

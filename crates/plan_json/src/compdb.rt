@@ -1,6 +1,6 @@
 //! The commands of a plan that compile its source, as a compilation database.
 
-ghost use Rattle.std.specs.Prelude.{◌≡◌, ◌++◌, ◌∷◌, [], IfOk, OnOk, Some, map, string_bytes};
+ghost use Rattle.std.specs.Prelude.{◌≡◌, ◌++◌, IfOk, OnOk, Some, map, string_bytes};
 ghost use Rattle.serde_json.specs.Read.{read};
 ghost use Rattle.serde_json.specs.View.{view};
 ghost use Rattle.serde_json.specs.Written.{compact_text};
@@ -29,21 +29,6 @@ fn record_value(
     Ok(Value::Object(map))
 }
 
-// Adds the records of a command that compiles these files.
-fn push_files(
-    alloc: Global,
-    list: &mut Vec<Value>,
-    command: &NvccGeneratedSubcommand,
-    paths: &[String],
-) -> Result<(), AllocError>
-    ensures { OnOk result (map view list.new.items ≡ map view list.old.items ++ map (spec.record_data command.now) (map string_bytes paths.now)) }
-{
-    for path in paths {
-        push(list, record_value(alloc, command, path.as_str())?)?;
-    }
-    Ok(())
-}
-
 // Adds the records of a command, unless it is in the last of `count` groups.
 fn push_listed(
     alloc: Global,
@@ -60,7 +45,11 @@ fn push_listed(
     if files.complete {
         return Ok(());
     }
-    push_files(alloc, list, listed.command, files.reads.as_slice())
+    let paths = files.reads.as_slice();
+    for path in paths {
+        push(list, record_value(alloc, listed.command, path.as_str())?)?;
+    }
+    Ok(())
 }
 
 // The database of a plan.

@@ -28,7 +28,6 @@ fn variable_value(alloc: Global, pair: &(String, String)) -> Result<Value, Alloc
     Ok(Value::Array(list))
 }
 
-// A list of variables.
 fn variables_value(alloc: Global, variables: &[(String, String)]) -> Result<Value, AllocError>
     ensures { IfOk result (λ v. view v ≡ spec.variables_data (map pair_of variables.now)) }
 {
@@ -39,7 +38,6 @@ fn variables_value(alloc: Global, variables: &[(String, String)]) -> Result<Valu
     Ok(Value::Array(list))
 }
 
-// A list of numbers.
 fn counts_value(alloc: Global, counts: &[usize]) -> Result<Value, AllocError>
     ensures { IfOk result (λ v. view v ≡ spec.counts_data counts.now) }
 {
@@ -65,7 +63,6 @@ fn put_origin(
     put(members, alloc, "run", Value::from(run))
 }
 
-// A command's object.
 fn command_value(
     alloc: Global,
     id: usize,
@@ -96,7 +93,6 @@ fn command_value(
     Ok(Value::Object(map))
 }
 
-// Where the command with a number comes from.
 fn origin_at(origins: &[Origin], id: usize) -> Origin
     ensures { result ≡ spec.origin_at origins.now id }
 {
@@ -106,7 +102,6 @@ fn origin_at(origins: &[Origin], id: usize) -> Origin
     }
 }
 
-// What the command with a number needs.
 fn needs_at(needs: &[Vec<usize>], id: usize) -> &[usize]
     ensures { result.now ≡ needs_at (map vec_items needs.now) id }
 {
@@ -139,7 +134,6 @@ fn described_value(
     )
 }
 
-// A list of commands.
 fn commands_value(
     alloc: Global,
     origins: &[Origin],
@@ -157,7 +151,6 @@ fn commands_value(
     Ok(Value::Array(list))
 }
 
-// A dropped command's object.
 fn dropped_value(alloc: Global, dropped: &Dropped) -> Result<Value, AllocError>
     ensures { IfOk result (λ v. view v ≡ spec.dropped_data dropped.now) }
 {
@@ -169,7 +162,6 @@ fn dropped_value(alloc: Global, dropped: &Dropped) -> Result<Value, AllocError>
     Ok(Value::Object(map))
 }
 
-// A list of dropped commands.
 fn all_dropped_value(alloc: Global, dropped: &[Dropped]) -> Result<Value, AllocError>
     ensures { IfOk result (λ v. view v ≡ spec.all_dropped_data dropped.now) }
 {
@@ -180,27 +172,15 @@ fn all_dropped_value(alloc: Global, dropped: &[Dropped]) -> Result<Value, AllocE
     Ok(Value::Array(list))
 }
 
-// Adds to an object the commands of a plan.
-fn put_commands(
-    alloc: Global,
-    members: &mut Map<String, Value>,
-    planned: &PlanWithOrigins,
-) -> Result<(), AllocError>
-    ensures { OnOk result (members_view members.new.entries
-        ≡ with_member (codes "commands") (spec.commands_data planned.now) (members_view members.old.entries)) }
+fn plan_commands(alloc: Global, planned: &PlanWithOrigins) -> Result<Value, AllocError>
+    ensures { IfOk result (λ v. view v ≡ spec.commands_data planned.now) }
 {
+    let origins = planned.origins.as_slice();
     let commands = planned.plan.groups.listed(alloc)?;
     let needed = needs(alloc, &planned.plan)?;
-    let value = commands_value(
-        alloc,
-        planned.origins.as_slice(),
-        needed.as_slice(),
-        commands.as_slice(),
-    )?;
-    put(members, alloc, "commands", value)
+    commands_value(alloc, origins, needed.as_slice(), commands.as_slice())
 }
 
-// A plan's object.
 fn plan_value(
     alloc: Global,
     cwd: &str,
@@ -215,7 +195,7 @@ fn plan_value(
     put_text(alloc, &mut map, "cwd", cwd)?;
     put_text(alloc, &mut map, "tmp", tmp)?;
     put_text(alloc, &mut map, "flag", flag)?;
-    put_commands(alloc, &mut map, planned)?;
+    put(&mut map, alloc, "commands", plan_commands(alloc, planned)?)?;
     let groups = planned.plan.groups.as_slice().len();
     put(&mut map, alloc, "groups", Value::from(groups))?;
     let dropped = all_dropped_value(alloc, planned.plan.dropped.as_slice())?;

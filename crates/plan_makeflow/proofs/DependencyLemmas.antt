@@ -1,9 +1,10 @@
 -- Rules wait as commands need each other, and name the files that commands hand on.
-use Rattle.std.proofs.Common.{◌≡◌, ℕ, zero, suc, ◌+◌, ◌<◌, List, [], ◌∷◌, ◌++◌, Bool, true, false, cond, not, ◌&&◌, ◌==◌, nat_eq, Option, Some, None, map, length, get_or, refl, sym, ap, subst, ◌∙◌, arith, codes, option_and_then, bytes_eq}
+use Rattle.std.proofs.Common.{◌≡◌, ℕ, zero, suc, ◌+◌, ◌<◌, List, [], ◌∷◌, ◌++◌, Bool, true, false, cond, ◌&&◌, ◌==◌, nat_eq, Option, Some, None, map, length, get_or, refl, sym, ap, subst, ◌∙◌, arith, codes, option_and_then, option_to_list, bytes_eq}
 use Rattle.std.specs.Bool.{one_answer}
 use Rattle.std.specs.List.{starts_with}
-use Rattle.std.proofs.lemmas.Bool.{false≢true, and_parts, eqb-true, eq-eqb, ltb-true, lt-ltb}
-use Rattle.std.proofs.lemmas.List.{append_cancel_left}
+use Rattle.std.specs.Option.{option_map_or}
+use Rattle.std.proofs.lemmas.Bool.{false≢true, not-false, and_parts, eqb-true, eq-eqb, ltb-true, lt-ltb}
+use Rattle.std.proofs.lemmas.List.{append_cancel_left, length-map, nil_from_length}
 use Rattle.std.proofs.lemmas.List.Folds.{list_any-append}
 use Rattle.std.proofs.lemmas.Slice.Eq.{bytes_eq-Decides}
 use Rattle.texts.specs.Lists.{rest_after}
@@ -20,12 +21,12 @@ use Rattle.command_files.specs.Order.{is_in, needs_at}
 use Rattle.command_files.specs.PlanNeeds.{step_needs, plan_steps, plan_files, plan_needs}
 use Rattle.command_files.proofs.OrderLemmas.{in_either, in_first, in_second, in_both}
 use Rattle.command_files.proofs.NeedLemmas.{needs_each, needs_earlier}
+use Rattle.plan_json.specs.Json.{is_cacheable}
 use Rattle.plan_makeflow.specs.declared.facts.Side.{Side}
 use Rattle.plan_makeflow.specs.declared.facts.Side.TheVariants.{Made, Passed}
 use Rattle.plan_makeflow.specs.Names.{stamp, is_plain, plain_name, name_in}
-use Rattle.plan_makeflow.specs.Writers.{writers_of}
-use Rattle.plan_makeflow.specs.Rules.{Rule, Known, known_of, files_at, by_one, is_named, name_alone, names_of, targets, sources, is_word, are_named, is_cacheable, has_all_named, can_move, rule_in, rules}
-use Rattle.plan_makeflow.specs.Dependencies.{no_rule, rule_numbered, files_of, waits_for, IsMade, IsHandedOn, HasItsFiles}
+use Rattle.plan_makeflow.specs.Rules.{Rule, Known, writers_of, known_of, files_at, by_one, is_named, names_of, targets, sources, are_named, can_move, rule_in, rules}
+use Rattle.plan_makeflow.specs.Dependencies.{no_rule, rule_numbered, files_of, IsMade, IsHandedOn, HasItsFiles}
 
 -- ---- names
 
@@ -38,11 +39,7 @@ own_bytes a b e = (bytes_eq-Decides a b).1 e
 split_at_text : (text word rest : List ℕ) → rest_after text word ≡ Some rest → word ≡ text ++ rest
 split_at_text [] word rest e = cc
 split_at_text (c ∷ cs) [] rest e = absurd cc
-split_at_text (c ∷ cs) (d ∷ ds) rest e = at (λ found. split_at_text cs ds rest found) (c == d) refl e
-  where
-    at : (rest_after cs ds ≡ Some rest → ds ≡ cs ++ rest) → (b : Bool) → (c == d) ≡ b → cond b (rest_after cs ds) None ≡ Some rest → d ∷ ds ≡ c ∷ (cs ++ rest)
-    at ih true same found = let tail = ih found in let first = eqb-true c d same in cc
-    at ih false same found = absurd cc
+split_at_text (c ∷ cs) (d ∷ ds) rest e = grind (arith, eqb-true, (split_at_text cs ds rest))
 
 -- a plain name is the name itself, and no stamp's
 record Plain (text name : List ℕ) : Type 0 where
@@ -99,7 +96,7 @@ record Named (side : Side) (known : Known) (n : ℕ) (paths : List (List ℕ)) (
 named_by : (side : Side) (known : Known) (n : ℕ) (paths : List (List ℕ)) (name : List ℕ) → is_among (names_of side known n paths) name ≡ true → Named side known n paths name
 named_by side known n [] name e = absurd (false≢true e)
 named_by side known n (path ∷ paths) name e =
-    let here = cond (is_named side known n path) (name_alone (name_in known.tmp path)) [] in
+    let here = cond (is_named side known n path) (option_to_list (name_in known.tmp path)) [] in
     in_either (is_among here name) (is_among (names_of side known n paths) name)
     (λ k.
     let found = one (is_named side known n path) (name_in known.tmp path) k in
@@ -109,7 +106,7 @@ named_by side known n (path ∷ paths) name e =
     record { path = found.path; among = in_second (bytes_eq found.path path) (is_among paths found.path) found.among; named = found.named; name_is = found.name_is })
     (sym (list_any-append (bytes_eq name) here (names_of side known n paths)) ∙ e)
   where
-    one : (b : Bool) (o : Option (List ℕ)) → is_among (cond b (name_alone o) []) name ≡ true → (b ≡ true) × (o ≡ Some name)
+    one : (b : Bool) (o : Option (List ℕ)) → is_among (cond b (option_to_list o) []) name ≡ true → (b ≡ true) × (o ≡ Some name)
     one true (Some text) k = (refl, ap Some (sym (same_bytes name text (in_either (bytes_eq name text) false (λ h. h) (λ h. absurd (false≢true h)) k))))
     one true None k = absurd (false≢true k)
     one false o k = absurd (false≢true k)
@@ -118,15 +115,15 @@ names_it : (side : Side) (known : Known) (n : ℕ) (paths : List (List ℕ)) (pa
     is_among paths path ≡ true → is_named side known n path ≡ true → name_in known.tmp path ≡ Some name → is_among (names_of side known n paths) name ≡ true
 names_it side known n [] path name e named is = absurd (false≢true e)
 names_it side known n (p ∷ paths) path name e named is =
-    let here = cond (is_named side known n p) (name_alone (name_in known.tmp p)) [] in
+    let here = cond (is_named side known n p) (option_to_list (name_in known.tmp p)) [] in
     list_any-append (bytes_eq name) here (names_of side known n paths)
     ∙ in_either (bytes_eq path p) (is_among paths path)
     (λ k. in_first (is_among here name) (is_among (names_of side known n paths) name) (at p (sym (same_bytes path p k))))
     (λ k. in_second (is_among here name) (is_among (names_of side known n paths) name) (names_it side known n paths path name k named is)) e
   where
-    at : (q : List ℕ) → q ≡ path → is_among (cond (is_named side known n q) (name_alone (name_in known.tmp q)) []) name ≡ true
+    at : (q : List ℕ) → q ≡ path → is_among (cond (is_named side known n q) (option_to_list (name_in known.tmp q)) []) name ≡ true
     at q same =
-        subst (λ r. is_among (cond (is_named side known n r) (name_alone (name_in known.tmp r)) []) name ≡ true) (sym same)
+        subst (λ r. is_among (cond (is_named side known n r) (option_to_list (name_in known.tmp r)) []) name ≡ true) (sym same)
         (rw (named, is) (in_first (bytes_eq name name) false (own_bytes name name refl)))
 
 -- the stamps of commands
@@ -229,10 +226,6 @@ length_numbered : {A X : Type 0} (f : ℕ → A → X) (n : ℕ) (xs : List A) �
 length_numbered f n [] = refl
 length_numbered f n (x ∷ xs) = ap suc (length_numbered f (n + 1) xs)
 
-length_mapped : {X Y : Type 0} (f : X → Y) (xs : List X) → length (map f xs) ≡ length xs
-length_mapped f [] = refl
-length_mapped f (x ∷ xs) = ap suc (length_mapped f xs)
-
 record At (known : Known) (n : ℕ) (r : Rule) : Type 0 where
   item : Listed
   is : r ≡ rule_in known n item
@@ -243,12 +236,12 @@ numbered_at known n zero (c ∷ commands) h = record { item = c; is = ap (λ k. 
 numbered_at known n (suc i) (c ∷ commands) h = grind (arith, (numbered_at known (n + 1) i commands (omega arith)))
 
 pub rules_counted : (tmp : List ℕ) (plan : Plan) → length (rules tmp plan) ≡ length (plan_steps plan)
-rules_counted tmp plan = simp (length_numbered, length_mapped)
+rules_counted tmp plan = simp (length_numbered, length-map)
 
 rule_found : (tmp : List ℕ) (plan : Plan) (n : ℕ) → n < length (plan_steps plan) → At (known_of tmp plan) n (rule_numbered tmp plan n)
 rule_found tmp plan n h =
     let here : 0 + n ≡ n = omega arith in
-    grind (arith, numbered_at, length_mapped)
+    grind (arith, numbered_at, length-map)
 
 targets_are : (tmp : List ℕ) (plan : Plan) (n : ℕ) → n < length (plan_steps plan) → (rule_numbered tmp plan n).targets ≡ targets (known_of tmp plan) n
 targets_are tmp plan n h = ap (λ r. r.targets) (rule_found tmp plan n h).is
@@ -279,7 +272,7 @@ needed_of tmp plan m n name within made needed =
     subst (λ k. is_in (needs_at (plan_needs plan) n) k ≡ true) maker (needs_writer plan by.maker n passed.path by.before within by.writes passed.among)))
 
 pub rules_wait : (tmp : List ℕ) (plan : Plan) (m n : ℕ) → m < length (plan_steps plan) → n < length (plan_steps plan) →
-    waits_for (rule_numbered tmp plan n) (rule_numbered tmp plan m) ≡ is_in (needs_at (plan_needs plan) n) m
+    share (rule_numbered tmp plan m).targets (rule_numbered tmp plan n).sources ≡ is_in (needs_at (plan_needs plan) n) m
 rules_wait tmp plan m n first second =
     let known = known_of tmp plan in
     let needs = needs_at (plan_needs plan) n in
@@ -350,22 +343,15 @@ record Worded (side : Side) (known : Known) (n : ℕ) (path : List ℕ) : Type 0
 worded : (side : Side) (known : Known) (n : ℕ) (words paths : List (List ℕ)) (path : List ℕ) → are_named side known n words paths ≡ true → is_among paths path ≡ true → Worded side known n path
 worded side known n words [] path e among = absurd (false≢true among)
 worded side known n words (p ∷ paths) path e among =
-    let parts = and_parts (is_named side known n p && is_word words (name_in known.tmp p)) (are_named side known n words paths) e in
-    let here = and_parts (is_named side known n p) (is_word words (name_in known.tmp p)) parts.0 in
+    let parts = and_parts (is_named side known n p && option_map_or (is_among words) (name_in known.tmp p) false) (are_named side known n words paths) e in
+    let here = and_parts (is_named side known n p) (option_map_or (is_among words) (name_in known.tmp p) false) parts.0 in
     in_either (bytes_eq path p) (is_among paths path)
     (λ k. subst (Worded side known n) (sym (same_bytes path p k)) (at p (name_in known.tmp p) refl here.0 here.1))
     (λ k. worded side known n words paths path parts.1 k) among
   where
-    at : (q : List ℕ) (o : Option (List ℕ)) → name_in known.tmp q ≡ o → is_named side known n q ≡ true → is_word words o ≡ true → Worded side known n q
+    at : (q : List ℕ) (o : Option (List ℕ)) → name_in known.tmp q ≡ o → is_named side known n q ≡ true → option_map_or (is_among words) o false ≡ true → Worded side known n q
     at q None is named word = absurd (false≢true word)
     at q (Some name) is named word = record { name = name; named = named; name_is = is }
-
-no_paths : (paths : List (List ℕ)) → (length paths == 0) ≡ true → paths ≡ []
-no_paths [] e = refl
-no_paths (p ∷ paths) e = let none : length (p ∷ paths) ≡ 0 = eqb-true (length (p ∷ paths)) 0 e in absurd (omega arith)
-
-not_false : (b : Bool) → not b ≡ false → b ≡ true
-not_false b e = grind (arith, false≢true)
 
 pub others_have_files : (tmp : List ℕ) (plan : Plan) (n : ℕ) → n < length (plan_steps plan) → (rule_numbered tmp plan n).is_local ≡ false → HasItsFiles tmp plan n
 others_have_files tmp plan n within e =
@@ -373,17 +359,17 @@ others_have_files tmp plan n within e =
     let found = rule_found tmp plan n within in
     let c = found.item.command in
     let files = files_of plan n in
-    let moves : can_move known n c ≡ true = not_false (can_move known n c) (sym (ap (λ r. r.is_local) found.is) ∙ e) in
-    let first = and_parts (is_cacheable c.cacheable) (bytes_eq tmp c.cwd && has_all_named known n c.args files) moves in
-    let second = and_parts (bytes_eq tmp c.cwd) (has_all_named known n c.args files) first.1 in
+    let moves : can_move known n c ≡ true = not-false (can_move known n c) (sym (ap (λ r. r.is_local) found.is) ∙ e) in
     let written = are_named Made known n c.args files.writes in
     let read = are_named Passed known n c.args files.reads in
-    let third = and_parts files.complete ((length files.may_write == 0) && (written && read)) second.1 in
-    let fourth = and_parts (length files.may_write == 0) (written && read) third.1 in
-    let fifth = and_parts written read fourth.1 in
+    let rest = is_cacheable c.cacheable && (bytes_eq tmp c.cwd && (written && read)) in
+    let first = and_parts files.complete ((length files.may_write == 0) && rest) moves in
+    let second = and_parts (length files.may_write == 0) rest first.1 in
+    let third = and_parts (is_cacheable c.cacheable) (bytes_eq tmp c.cwd && (written && read)) second.1 in
+    let fifth = and_parts written read (and_parts (bytes_eq tmp c.cwd) (written && read) third.1).1 in
     record {
-      complete = third.0;
-      leaves_out_none = no_paths files.may_write fourth.0;
+      complete = first.0;
+      leaves_out_none = nil_from_length files.may_write (eqb-true (length files.may_write) 0 second.0);
       reads = λ path among.
           let w = worded Passed known n c.args files.reads path fifth.1 among in
           record {

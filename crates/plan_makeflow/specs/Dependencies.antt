@@ -1,13 +1,12 @@
 -- Which rules wait for which, and which files they name.
-use Rattle.std.specs.Prelude.{◌≡◌, ℕ, ◌<◌, List, [], ◌∷◌, Bool, true, false, get_or, length, Some}
+use Rattle.std.specs.Prelude.{◌≡◌, ℕ, ◌<◌, List, [], ◌∷◌, true, false, get_or, length, Some}
 use Rattle.compilers.specs.declared.plans.plan.Plan.{Plan}
 use Rattle.command_files.specs.declared.files.CommandFiles.{CommandFiles}
 use Rattle.command_files.specs.Files.{is_among, share}
 use Rattle.command_files.specs.Order.{is_in, needs_at}
 use Rattle.command_files.specs.PlanNeeds.{plan_steps, plan_files, plan_needs}
 use Rattle.plan_makeflow.specs.Names.{name_in}
-use Rattle.plan_makeflow.specs.Writers.{writers_of}
-use Rattle.plan_makeflow.specs.Rules.{Rule, files_at, rules}
+use Rattle.plan_makeflow.specs.Rules.{Rule, writers_of, files_at, rules}
 
 -- the rule of the command with a number
 abbrev pub no_rule : Rule
@@ -20,19 +19,15 @@ rule_numbered tmp plan number = get_or (rules tmp plan) number no_rule
 abbrev pub files_of : Plan → ℕ → CommandFiles
 files_of plan number = files_at (plan_files plan) number
 
--- a rule waits for another if it needs a file that the other makes
-abbrev pub waits_for : Rule → Rule → Bool
-waits_for later earlier = share earlier.targets later.sources
-
 -- there is a rule for each command
 abbrev pub RulesAreCounted : Type 0
 RulesAreCounted = (tmp : List ℕ) (plan : Plan) → length (rules tmp plan) ≡ length (plan_steps plan)
 
--- a rule waits for another exactly if its command needs that of the other
+-- a rule waits for another, since it needs a file that the other makes, exactly if its command needs that of the other
 abbrev pub RulesWaitAsNeeded : Type 0
 RulesWaitAsNeeded =
     (tmp : List ℕ) (plan : Plan) (m n : ℕ) → m < length (plan_steps plan) → n < length (plan_steps plan) →
-    waits_for (rule_numbered tmp plan n) (rule_numbered tmp plan m) ≡ is_in (needs_at (plan_needs plan) n) m
+    share (rule_numbered tmp plan m).targets (rule_numbered tmp plan n).sources ≡ is_in (needs_at (plan_needs plan) n) m
 
 -- Each file that a rule needs is made by a rule before it. So Makeflow finds each, and no rules wait for each other.
 pub record IsMade (tmp : List ℕ) (plan : Plan) (n : ℕ) (name : List ℕ) : Type 0 where

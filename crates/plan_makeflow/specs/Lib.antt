@@ -5,4 +5,3 @@ pub mod Names
 pub mod ReadBack
 pub mod RuleExamples
 pub mod Rules
-pub mod Writers

@@ -28,15 +28,12 @@ abbrev pub makeflow_data : List ℕ → Plan → Data
 makeflow_data tmp plan =
     object (member (codes "directory") (string tmp) (member (codes "rules") (array (items_of (map rule_data (rules tmp plan)))) no_members))
 
--- the file: its data and a newline
-abbrev pub makeflow_text : List ℕ → Plan → List ℕ
-makeflow_text tmp plan = compact_text (makeflow_data tmp plan) ++ 10 ∷ []
-
--- The Makeflow file of a plan, or why there is none. JSON can represent every text, but Makeflow doesn't read a long one, and a shell, which
+-- The Makeflow file of a plan, its data and a newline, or why there is none. JSON can represent every text, but Makeflow doesn't read a long one, and a shell, which
 -- runs the commands, can't represent each.
 abbrev pub makeflow_answer : List ℕ → Plan → Result (List ℕ) Refusal
 makeflow_answer tmp plan =
-    if has_long_command plan then Err LongCommand else unless_refused (judged_commands formats.Makeflow (listed plan.groups)) (makeflow_text tmp plan)
+    if has_long_command plan then Err LongCommand else
+    unless_refused (judged_commands formats.Makeflow (listed plan.groups)) (compact_text (makeflow_data tmp plan) ++ 10 ∷ [])
 
 -- a text is JSON and a newline, and a reader of the JSON gets this data
 pub record ReadsAs (text : List ℕ) (data_read : Data) : Type 0 where

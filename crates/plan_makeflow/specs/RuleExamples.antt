@@ -1,19 +1,14 @@
 -- The rules of a real plan for two targets, and what two of them run, worked out by hand.
-use Rattle.std.specs.Prelude.{◌≡◌, ℕ, List, [], ◌∷◌, Bool, true, false, map, codes, refl}
-use Rattle.std.specs.Str.{chars, is_utf8}
-use Rattle.compilers.specs.declared.command.Cacheable.TheVariants.{Yes}
+use Rattle.std.specs.Prelude.{◌≡◌, ℕ, List, [], ◌∷◌, Bool, true, false, map, codes}
 use Rattle.texts.specs.Rows.{spaced}
-use Rattle.compilers.specs.declared.plans.plan.NvccGeneratedSubcommand.{NvccGeneratedSubcommand}
 use Rattle.command_files.specs.PlanNeeds.{object_plan}
-use Rattle.plan_makeflow.specs.Rules.{Rule, rules, line}
-
-abbrev pub files_named : Rule → List (List ℕ) × List (List ℕ) × Bool
-files_named r = (r.targets, r.sources, r.is_local)
+use Rattle.plan_json.specs.JsonExamples.{cicc}
+use Rattle.plan_makeflow.specs.Rules.{rules, line}
 
 -- cudafe++ is number 1, cicc 3, and the two ptxas are 4 and 5. The last compile writes outside of the temporary directory
 abbrev pub RulesOfObject : Type 0
 RulesOfObject =
-    map files_named (rules (codes "/t") object_plan)
+    map {B = List (List ℕ) × List (List ℕ) × Bool} (λ r. (r.targets, r.sources, r.is_local)) (rules (codes "/t") object_plan)
     ≡ (spaced "zigrunk.0 x_0.cpp4.ii", [], true)
     ∷ (spaced "zigrunk.1 x_0.cudafe1.cpp kernel.module_id", spaced "zigrunk.0 x_0.cpp4.ii", false)
     ∷ (spaced "zigrunk.2 x_0.cpp1.ii", spaced "zigrunk.0", true)
@@ -28,17 +23,7 @@ RulesOfObject =
     ∷ (spaced "zigrunk.7", spaced "zigrunk.0 zigrunk.1 zigrunk.2 zigrunk.3 zigrunk.4 zigrunk.5 zigrunk.6 x_0.cudafe1.cpp", true)
     ∷ []
 
-pub rules_of_object : RulesOfObject
-rules_of_object = refl
-
-abbrev pub cicc : NvccGeneratedSubcommand
-cicc = record { exe = codes "/b/cicc"; args = codes "a$b" ∷ []; cwd = codes "/t"; env_vars = (codes "K", codes "v w") ∷ []; cacheable = Yes }
-
 abbrev pub LinesOfCicc : Type 0
 LinesOfCicc =
     (line true 3 cicc ≡ codes "env 'K=v w' /b/cicc 'a$b' && touch zigrunk.3")
     × (line false 3 cicc ≡ codes "( cd /t && env 'K=v w' /b/cicc 'a$b' ) && touch zigrunk.3")
-
-pub lines_of_cicc : LinesOfCicc
-unfolding chars is_utf8 lib.Utf8.encode
-lines_of_cicc = (refl, refl)

@@ -1,9 +1,9 @@
 -- The rules of a plan: one for each command, by its number in plan order.
-use Rattle.std.specs.Prelude.{ℕ, List, [], ◌∷◌, ◌++◌, Bool, true, false, not, ◌==◌, ◌&&◌, nat_lt, get_or, map, length, vec_items, if◌then◌else◌, Option, Some, None, codes, bytes_eq}
+use Rattle.std.specs.Prelude.{ℕ, ◌+◌, List, [], ◌∷◌, ◌++◌, Bool, false, not, ◌==◌, ◌&&◌, nat_lt, get_or, map, length, vec_items, if◌then◌else◌, codes, option_to_list, bytes_eq}
+use Rattle.std.specs.HashMap.{get_by_text}
 use Rattle.std.specs.List.{list_all}
+use Rattle.std.specs.Option.{option_map_or}
 use Rattle.texts.specs.Shell.Quoting.{written}
-use Rattle.compilers.specs.declared.command.Cacheable.{Cacheable}
-use Rattle.compilers.specs.declared.command.Cacheable.TheVariants.{Yes, No}
 use Rattle.compilers.specs.declared.plans.plan.NvccGeneratedSubcommand.{NvccGeneratedSubcommand}
 use Rattle.compilers.specs.declared.plans.plan.Plan.{Plan}
 use Rattle.compilers.specs.Listed.{Listed, listed}
@@ -13,13 +13,26 @@ use Rattle.command_files.specs.Files.{is_among}
 use Rattle.command_files.specs.Numbered.{numbered}
 use Rattle.command_files.specs.Order.{needs_at}
 use Rattle.command_files.specs.PlanNeeds.{plan_files, plan_needs}
-use Rattle.command_files.specs.Touched.{Numbers}
+use Rattle.command_files.specs.Touched.{Numbers, no_numbers, with_numbers}
+use Rattle.plan_json.specs.Json.{is_cacheable}
 use Rattle.plan_makeflow.specs.declared.facts.Facts.{Facts}
 use Rattle.plan_makeflow.specs.declared.facts.Side.{Side}
 use Rattle.plan_makeflow.specs.declared.facts.Side.TheVariants.{Made, Passed}
+use Rattle.plan_makeflow.specs.declared.writers.Writers.{Writers}
 use Rattle.plan_makeflow.specs.CommandText.{command_text}
 use Rattle.plan_makeflow.specs.Names.{stamp, name_in}
-use Rattle.plan_makeflow.specs.Writers.{writers_of, writers_seen}
+
+-- how the code holds the numbers of the commands that write or may write each file
+abbrev pub writers_seen : Writers → Numbers
+writers_seen w path = option_map_or (λ numbers. numbers.items) (get_by_text w.numbers path) []
+
+-- the numbers with those of commands from a number on, which have these files
+abbrev pub with_writers : Numbers → ℕ → List CommandFiles → Numbers
+with_writers numbers number [] = numbers
+with_writers numbers number (f ∷ files) = with_writers (with_numbers (with_numbers numbers f.writes number) f.may_write number) (number + 1) files
+
+abbrev pub writers_of : List CommandFiles → Numbers
+writers_of files = with_writers no_numbers 0 files
 
 -- a rule: the files that it makes, those that it needs, whether it runs where Makeflow runs, and what it runs
 pub record Rule : Type 0 where
@@ -62,14 +75,10 @@ abbrev pub is_named : Side → Known → ℕ → List ℕ → Bool
 is_named side known number path = by_one side known number path (known.writers path)
 
 -- the names of such files
-abbrev pub name_alone : Option (List ℕ) → List (List ℕ)
-name_alone None = []
-name_alone (Some name) = name ∷ []
-
 abbrev pub names_of : Side → Known → ℕ → List (List ℕ) → List (List ℕ)
 names_of side known number [] = []
 names_of side known number (path ∷ paths) =
-    (if is_named side known number path then name_alone (name_in known.tmp path) else []) ++ names_of side known number paths
+    (if is_named side known number path then option_to_list (name_in known.tmp path) else []) ++ names_of side known number paths
 
 -- what a command's rule makes, and what it needs: the stamps of the commands that the command needs, and the files passed to it
 abbrev pub targets : Known → ℕ → List (List ℕ)
@@ -79,49 +88,31 @@ abbrev pub sources : Known → ℕ → List (List ℕ)
 sources known number = map stamp (needs_at known.needs number) ++ names_of Passed known number (files_at known.files number).reads
 
 -- whether a rule names all of these files, and words name them as the rule does
-abbrev pub is_word : List (List ℕ) → Option (List ℕ) → Bool
-is_word words None = false
-is_word words (Some name) = is_among words name
-
 abbrev pub are_named : Side → Known → ℕ → List (List ℕ) → List (List ℕ) → Bool
 are_named side known number words paths =
-    list_all (λ path. is_named side known number path && is_word words (name_in known.tmp path)) paths
+    list_all (λ path. is_named side known number path && option_map_or (is_among words) (name_in known.tmp path) false) paths
 
--- whether a cache may serve a command's outputs
-abbrev pub is_cacheable : Cacheable → Bool
-is_cacheable Yes = true
-is_cacheable No = false
-
--- Whether a command can run on another machine: a cache may serve its outputs, it runs in the temporary directory, its record is
--- complete, it leaves out no output, and its rule names each file that it reads or writes.
-abbrev pub has_all_named : Known → ℕ → List (List ℕ) → CommandFiles → Bool
-has_all_named known number words files =
-    files.complete && ((length files.may_write == 0)
-    && (are_named Made known number words files.writes && are_named Passed known number words files.reads))
-
+-- Whether a command can run on another machine: its record is complete, it leaves out no output, a cache may serve its outputs, it runs in
+-- the temporary directory, and its rule names each file that it reads or writes.
 abbrev pub can_move : Known → ℕ → NvccGeneratedSubcommand → Bool
 can_move known number c =
-    is_cacheable c.cacheable && (bytes_eq known.tmp c.cwd && has_all_named known number c.args (files_at known.files number))
+    let files = files_at known.files number in
+    files.complete && ((length files.may_write == 0) && (is_cacheable c.cacheable && (bytes_eq known.tmp c.cwd
+    && (are_named Made known number c.args files.writes && are_named Passed known number c.args files.reads))))
 
 -- what a rule runs: the command, and then `touch`
 abbrev pub line : Bool → ℕ → NvccGeneratedSubcommand → List ℕ
 line moves number c = command_text moves c ++ (codes " && touch " ++ written (stamp number ∷ []))
 
--- the rule of a command
-abbrev pub rule_of : Known → ℕ → Bool → NvccGeneratedSubcommand → Rule
-rule_of known number moves c = record {
+-- the rule of a command. It doesn't depend on the command's group
+abbrev pub rule_in : Known → ℕ → Listed → Rule
+rule_in known number l = record {
   targets = targets known number;
   sources = sources known number;
-  is_local = not moves;
-  command = line moves number c;
+  is_local = not (can_move known number l.command);
+  command = line (can_move known number l.command) number l.command;
 }
 
-abbrev pub rule_at : Known → ℕ → NvccGeneratedSubcommand → Rule
-rule_at known number c = rule_of known number (can_move known number c) c
-
--- the rules of a plan, in plan order. They don't depend on the groups
-abbrev pub rule_in : Known → ℕ → Listed → Rule
-rule_in known number l = rule_at known number l.command
-
+-- the rules of a plan, in plan order
 abbrev pub rules : List ℕ → Plan → List Rule
 rules tmp plan = numbered (rule_in (known_of tmp plan)) 0 (listed plan.groups)

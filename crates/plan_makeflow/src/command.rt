@@ -1,7 +1,6 @@
 //! The text of a command, as a shell runs it for a rule.
 
-ghost use Rattle.std.specs.Prelude.{◌≡◌, ◌++◌, ◌∷◌, IfOk, OnOk, codes, string_bytes};
-ghost use Rattle.texts.specs.Shell.Quoting.{written};
+ghost use Rattle.std.specs.Prelude.{◌≡◌, ◌++◌, IfOk, OnOk, string_bytes};
 ghost use Rattle.plan_makeflow.specs.CommandText as spec;
 
 use compilers::plans::{NvccGeneratedSubcommand, Plan};

@@ -1,6 +1,6 @@
 //! A plan as a Makeflow file.
 
-ghost use Rattle.std.specs.Prelude.{◌≡◌, ◌++◌, ◌∷◌, [], IfOk, OnOk, Some, map, string_bytes};
+ghost use Rattle.std.specs.Prelude.{◌≡◌, IfOk, Some, map, string_bytes};
 ghost use Rattle.serde_json.specs.Data.{array};
 ghost use Rattle.serde_json.specs.Read.{read};
 ghost use Rattle.serde_json.specs.View.{items_of, view};
@@ -21,20 +21,6 @@ use plan_texts::{Format, Refusal, judge_commands};
 use serde_json::{Map, Value, push, put};
 use std::alloc::{AllocError, Global};
 
-// Adds the rule of the command with a number.
-fn push_rule(
-    alloc: Global,
-    list: &mut Vec<Value>,
-    facts: &Facts<'_>,
-    number: usize,
-    listed: &ListedCommand<'_>,
-) -> Result<(), AllocError>
-    ensures { OnOk result (map view list.new.items ≡ map view list.old.items ++ spec.rule_data (rule_in (seen facts.now) number listed.now) ∷ []) }
-{
-    push(list, rule_value(alloc, facts, number, listed.command)?)
-}
-
-// A list of the rules of commands.
 fn commands_value(
     alloc: Global,
     facts: &Facts<'_>,
@@ -44,12 +30,11 @@ fn commands_value(
 {
     let mut list = Vec::new(alloc);
     for (number, listed) in commands.iter().enumerate() {
-        push_rule(alloc, &mut list, facts, number, listed)?;
+        push(&mut list, rule_value(alloc, facts, number, listed)?)?;
     }
     Ok(Value::Array(list))
 }
 
-// A list of the rules of a plan.
 fn rules_value(alloc: Global, tmp: &str, plan: &Plan) -> Result<Value, AllocError>
     ensures { IfOk result (λ v. view v ≡ array (items_of (map spec.rule_data (rules tmp.now plan.now)))) }
 {
@@ -65,7 +50,6 @@ fn rules_value(alloc: Global, tmp: &str, plan: &Plan) -> Result<Value, AllocErro
     commands_value(alloc, &facts, commands.as_slice())
 }
 
-// The object of a plan.
 fn plan_value(alloc: Global, tmp: &str, plan: &Plan) -> Result<Value, AllocError>
     ensures { IfOk result (λ v. view v ≡ spec.makeflow_data tmp.now plan.now) }
 {

@@ -3,11 +3,11 @@
 ghost use Rattle.std.specs.Prelude.{◌≡◌, ◌++◌, IfOk, OnOk, map, string_bytes, option_copied};
 ghost use Rattle.std.specs.List.{list_all};
 ghost use Rattle.texts.specs.Lists.{rest_after};
-ghost use Rattle.command_files.specs.Files.{is_among};
 ghost use Rattle.plan_makeflow.specs.Names as spec;
 ghost use Rattle.plan_makeflow.specs.Rules as rules;
 
 use crate::facts::{Facts, Side, written_by};
+use command_files::has_word;
 use std::alloc::{AllocError, Global};
 use texts::words::Words;
 
@@ -32,14 +32,12 @@ fn is_name_char(byte: u8) -> bool
     is_letter(byte) || byte == b'.' || byte == b'+' || byte == b'-'
 }
 
-// Whether a plain name may have all of these bytes.
 fn are_name_chars(bytes: &[u8]) -> bool
     ensures { result ≡ list_all spec.is_name_char bytes.now }
 {
     bytes.iter().all(|byte| is_name_char(*byte))
 }
 
-// Whether a name is plain.
 fn is_plain(name: &[u8]) -> bool
     ensures { result ≡ spec.is_plain name.now }
 {
@@ -73,25 +71,13 @@ pub fn name_in<'a>(directory: &str, path: &'a str) -> Option<&'a str>
     plain_name(rest_of(rest_of(path, directory)?, "/")?)
 }
 
-// Whether a name is among words.
-fn is_among(words: &[String], name: &str) -> bool
-    ensures { result ≡ is_among (map string_bytes words.now) name.now }
-{
-    for word in words {
-        if name == word.as_str() {
-            return true;
-        }
-    }
-    false
-}
-
 // Whether the rule of the command with a number names a file on a side.
 fn is_named(side: Side, facts: &Facts<'_>, number: usize, path: &str) -> bool
     ensures { result ≡ rules.is_named side (rules.seen facts.now) number path.now }
 {
     match (side, facts.writers.of(path)) {
         (Side::Made, [writer]) => *writer == number,
-        (Side::Passed, [writer]) => *writer < number && is_among(written_by(facts, *writer), path),
+        (Side::Passed, [writer]) => *writer < number && has_word(written_by(facts, *writer), path),
         _ => false,
     }
 }
@@ -118,16 +104,6 @@ pub fn push_names(
     Ok(())
 }
 
-// Whether there is a name and it's among words.
-fn is_word(words: &[String], name: Option<&str>) -> bool
-    ensures { result ≡ rules.is_word (map string_bytes words.now) (option_copied name.entry) }
-{
-    match name {
-        None => false,
-        Some(name) => is_among(words, name),
-    }
-}
-
 /// Whether the rule of the command with a number names all of these files on a side, and words name them as the rule does.
 pub fn are_named(
     side: Side,
@@ -139,9 +115,10 @@ pub fn are_named(
     ensures { result ≡ rules.are_named side (rules.seen facts.now) number (map string_bytes words.now) (map string_bytes paths.now) }
 {
     for path in paths {
-        let name = name_in(facts.tmp, path.as_str());
-        if !(is_named(side, facts, number, path.as_str()) && is_word(words, name)) {
-            return false;
+        let file = path.as_str();
+        match name_in(facts.tmp, file) {
+            Some(name) if is_named(side, facts, number, file) && has_word(words, name) => {}
+            _ => return false,
         }
     }
     true

@@ -1,6 +1,6 @@
 //! The rules of commands.
 
-ghost use Rattle.std.specs.Prelude.{◌≡◌, ◌++◌, IfOk, OnOk, map, string_bytes};
+ghost use Rattle.std.specs.Prelude.{◌≡◌, IfOk, map, string_bytes};
 ghost use Rattle.serde_json.specs.View.{view};
 ghost use Rattle.plan_makeflow.specs.Makeflow.{rule_data};
 ghost use Rattle.plan_makeflow.specs.Names.{stamp};
@@ -10,14 +10,13 @@ use crate::command::push_command;
 use crate::facts::{Facts, Side, needs_at, read_by, written_by};
 use crate::names::{are_named, push_names, stamp};
 use compilers::command::Cacheable;
-use compilers::plans::NvccGeneratedSubcommand;
+use compilers::plans::{ListedCommand, NvccGeneratedSubcommand};
 use plan_json::{put_text, put_texts};
 use serde_json::{Map, Value, put};
 use std::alloc::{AllocError, Global};
 use texts::shell::push_quoted;
 use texts::words::Words;
 
-// What the rule of the command with a number makes.
 fn targets(alloc: Global, facts: &Facts<'_>, number: usize) -> Result<Words, AllocError>
     ensures { IfOk result (λ names. names ≡ spec.targets (spec.seen facts.now) number) }
 {
@@ -28,7 +27,6 @@ fn targets(alloc: Global, facts: &Facts<'_>, number: usize) -> Result<Words, All
     Ok(names)
 }
 
-// What the rule of the command with a number needs.
 fn sources(alloc: Global, facts: &Facts<'_>, number: usize) -> Result<Words, AllocError>
     ensures { IfOk result (λ names. names ≡ spec.sources (spec.seen facts.now) number) }
 {
@@ -42,26 +40,21 @@ fn sources(alloc: Global, facts: &Facts<'_>, number: usize) -> Result<Words, All
     Ok(names)
 }
 
-// Whether the record of the command with a number is complete, leaves out no output, and has only files that both `words` and its rule name.
-fn has_all_named(facts: &Facts<'_>, number: usize, words: &[String]) -> bool
-    ensures { result ≡ spec.has_all_named (spec.seen facts.now) number (map string_bytes words.now) (spec.files_at (spec.seen facts.now).files number) }
+// Whether a command can run on another machine: its record is complete, leaves out no output, and has only files that both its words and its
+// rule name.
+fn can_move(facts: &Facts<'_>, number: usize, command: &NvccGeneratedSubcommand) -> bool
+    ensures { result ≡ spec.can_move (spec.seen facts.now) number command.now }
 {
     let Some(files) = facts.files.get(number) else {
         return false;
     };
+    let words = command.args.as_slice();
     files.complete
         && files.may_write.is_empty()
+        && matches!(command.cacheable, Cacheable::Yes)
+        && facts.tmp == command.cwd.as_str()
         && are_named(Side::Made, facts, number, words, files.writes.as_slice())
         && are_named(Side::Passed, facts, number, words, files.reads.as_slice())
-}
-
-// Whether a command can run on another machine.
-fn can_move(facts: &Facts<'_>, number: usize, command: &NvccGeneratedSubcommand) -> bool
-    ensures { result ≡ spec.can_move (spec.seen facts.now) number command.now }
-{
-    matches!(command.cacheable, Cacheable::Yes)
-        && facts.tmp == command.cwd.as_str()
-        && has_all_named(facts, number, command.args.as_slice())
 }
 
 // What a rule runs: the command, and then `touch`.
@@ -85,10 +78,11 @@ pub fn rule_value(
     alloc: Global,
     facts: &Facts<'_>,
     number: usize,
-    command: &NvccGeneratedSubcommand,
+    listed: &ListedCommand<'_>,
 ) -> Result<Value, AllocError>
-    ensures { IfOk result (λ v. view v ≡ rule_data (spec.rule_at (spec.seen facts.now) number command.now)) }
+    ensures { IfOk result (λ v. view v ≡ rule_data (spec.rule_in (spec.seen facts.now) number listed.now)) }
 {
+    let command = listed.command;
     let moves = can_move(facts, number, command);
     let line = line(alloc, moves, number, command)?;
     let sources = sources(alloc, facts, number)?;

@@ -2,7 +2,7 @@
 
 ghost use Rattle.std.specs.Prelude.{◌≡◌, IfOk, OnOk, map, string_bytes};
 ghost use Rattle.command_files.specs.Touched.{no_numbers, with_number, with_numbers};
-ghost use Rattle.plan_makeflow.specs.Writers as spec;
+ghost use Rattle.plan_makeflow.specs.Rules as spec;
 
 use command_files::CommandFiles;
 use std::alloc::{AllocError, Global};

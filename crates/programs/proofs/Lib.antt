@@ -1,2 +1,1 @@
-pub mod ExcerptLemmas
 pub mod ReadLemmas

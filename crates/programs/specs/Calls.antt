@@ -2,14 +2,14 @@
 use Rattle.std.specs.Prelude.{◌≡◌, ℕ, List, [], ◌∷◌, length, Bool, true, false, ◌||◌, ◌&&◌, if◌then◌else◌, Option, Some, None, Result, Ok, Err, slice_get, codes, refl, option_map, bytes_eq}
 use Rattle.plan_texts.specs.declared.format.Format.{Format}
 use Rattle.plan_texts.specs.declared.format.Format.TheVariants.{Ninja, Json}
+use Rattle.plan_texts.specs.Formats.{format_of_name}
 use Rattle.compilers.specs.Calls.{NvccOf, nvcc_of, DirectoryOf, directory_of}
 use Rattle.programs.specs.Operands.{nvcc_call_of, directory_call_of, LineOf, PlanOf, line_of, plan_of, line_call_of, plan_call_of}
-use Rattle.programs.specs.Commands.{command_named, takes_options, operands_of, form_of}
 use Rattle.programs.specs.Misuse.{MisuseOf, misuse_seen, all_calls, misuse_at}
 use Rattle.programs.specs.Settings.{begins_option, options_taken}
 use Rattle.programs.specs.declared.settings.Settings.{Settings}
-use Rattle.programs.specs.declared.command.Command.{Command}
-use Rattle.programs.specs.declared.command.Command.TheVariants.{Export, Plan, Calls, Directory, Line, Help, Version}
+use Rattle.programs.specs.declared.call.Command.{Command}
+use Rattle.programs.specs.declared.call.Command.TheVariants.{Export, Plan, Calls, Directory, Line, Help, Version}
 use Rattle.programs.specs.declared.call.Call.{Call}
 use Rattle.programs.specs.declared.call.Call.TheVariants as calls
 use Rattle.programs.specs.declared.call.ExportCall.{ExportCall}
@@ -59,6 +59,42 @@ result_seen (Err misuse) = Err (misuse_seen misuse)
 abbrev pub no_options : Settings
 no_options = record { limit = 2097152; keeps = false; whole = false }
 
+-- the command of a name
+abbrev pub command_named : List ℕ → Option Command
+command_named name =
+    if bytes_eq name (codes "plan") then Some Plan else
+    if bytes_eq name (codes "calls") then Some Calls else
+    if bytes_eq name (codes "directory") then Some Directory else
+    if bytes_eq name (codes "line") then Some Line else
+    if bytes_eq name (codes "--help") then Some Help else
+    if bytes_eq name (codes "-h") then Some Help else
+    if bytes_eq name (codes "--version") then Some Version else option_map Export (format_of_name name)
+
+-- whether options may follow a command
+abbrev pub takes_options : Command → Bool
+takes_options (Export format) = true
+takes_options command = false
+
+-- the operands that a command needs, as a message names them
+abbrev pub operands_of : Command → List (List ℕ)
+operands_of (Export format) = codes "CWD" ∷ codes "TMP" ∷ codes "FLAG" ∷ codes "DRY1" ∷ codes "DRY2" ∷ []
+operands_of Plan = codes "CWD" ∷ codes "TMP" ∷ codes "FLAG" ∷ codes "DRY1" ∷ codes "DRY2" ∷ []
+operands_of Calls = codes "CWD" ∷ codes "TMP" ∷ codes "NVCC" ∷ []
+operands_of Directory = codes "CWD" ∷ codes "NVCC" ∷ []
+operands_of Line = codes "cicc, ptxas or cudafe++" ∷ codes "CWD" ∷ []
+operands_of Help = []
+operands_of Version = []
+
+-- the form of a command's call, as a message shows it
+abbrev pub form_of : Command → List ℕ
+form_of (Export format) = codes "FORMAT [--limit BYTES] [--keep] [--whole] CWD TMP FLAG DRY1 DRY2 SUFFIX.."
+form_of Plan = codes "plan CWD TMP FLAG DRY1 DRY2 SUFFIX.."
+form_of Calls = codes "calls CWD TMP NVCC WORD.."
+form_of Directory = codes "directory CWD NVCC WORD.."
+form_of Line = codes "line cicc|ptxas|cudafe++ CWD WORD.."
+form_of Help = codes "-h | --help | --version"
+form_of Version = codes "-h | --help | --version"
+
 -- whether words are one that asks for help
 abbrev pub are_help : List (List ℕ) → Bool
 are_help (word ∷ []) = bytes_eq word (codes "--help") || bytes_eq word (codes "-h")
@@ -69,13 +105,10 @@ abbrev pub alone : CallOf → List (List ℕ) → Option CallOf
 alone call [] = Some call
 alone call (word ∷ words) = None
 
--- the call that writes a plan in a format
-abbrev pub exporting : Format → Settings → PlanOf → CallOf
-exporting format settings plan = exports (record { format = format; keeps = settings.keeps; whole = settings.whole; plan = plan })
-
 -- the call of a command with these operands, if it takes them
 abbrev pub call_with : Command → Settings → List (List ℕ) → Option CallOf
-call_with (Export format) settings words = option_map (exporting format settings) (plan_call_of words)
+call_with (Export format) settings words =
+    option_map (λ plan. exports (record { format = format; keeps = settings.keeps; whole = settings.whole; plan = plan })) (plan_call_of words)
 call_with Plan settings words = option_map plans (plan_call_of words)
 call_with Calls settings words = option_map reads (nvcc_call_of words)
 call_with Directory settings words = option_map names (directory_call_of words)
@@ -90,15 +123,11 @@ odd_word count (word ∷ words) expected form =
     if bytes_eq word (codes "--limit") then misuse_at count words (codes "a number of bytes for --limit") form
     else misuse_at count (word ∷ words) expected form
 
--- what a command takes in place of its first operand, if it lacks none
-abbrev pub other_operand : Command → List ℕ
-other_operand Line = codes "cicc, ptxas or cudafe++"
-other_operand c = codes "no more words"
-
 -- the misuse of operands that a command doesn't take, given the one that it lacks: if it lacks none, the first is another
 abbrev pub lacking_or_other : ℕ → Command → List (List ℕ) → Option (List ℕ) → MisuseOf
 lacking_or_other count c words (Some name) = misuse_at count [] name (form_of c)
-lacking_or_other count c words None = misuse_at count words (other_operand c) (form_of c)
+lacking_or_other count Line words None = misuse_at count words (codes "cicc, ptxas or cudafe++") (form_of Line)
+lacking_or_other count c words None = misuse_at count words (codes "no more words") (form_of c)
 
 abbrev pub operand_misuse : ℕ → Command → List (List ℕ) → MisuseOf
 operand_misuse count c words = lacking_or_other count c words (slice_get (operands_of c) (length words))
@@ -143,7 +172,7 @@ call_of words =
     let front = options_taken no_options words in
     call_behind (length words) front.0 front.1
 
--- examples: options in two orders that mean the same; a limit that is no number; a run that is missing; and a command that is no format
+-- examples: options before a format and behind it; a limit that is no number; a run that is missing; and a command that is no format
 abbrev pub two_runs : List (List ℕ)
 two_runs = codes "/w" ∷ codes "/t" ∷ codes "-c" ∷ codes "d1" ∷ codes "d2" ∷ []
 
@@ -161,9 +190,6 @@ ninja_kept =
 
 pub options_before_and_behind : call_of (codes "--limit" ∷ codes "5" ∷ codes "ninja" ∷ codes "--limit" ∷ codes "7" ∷ codes "--keep" ∷ two_runs) ≡ ninja_kept
 options_before_and_behind = refl
-
-pub options_before : call_of (codes "--keep" ∷ codes "--limit" ∷ codes "7" ∷ codes "ninja" ∷ two_runs) ≡ ninja_kept
-options_before = refl
 
 pub limit_is_no_number :
     call_of (codes "json" ∷ codes "--keep" ∷ codes "--limit" ∷ codes "2M" ∷ two_runs)

@@ -1,10 +1,16 @@
--- What the program writes for a plan.
-use Rattle.std.specs.Prelude.{ℕ, List, length, ◌==◌, Bool, true, false, not, if◌then◌else◌, codes, Option, Some, None, Result, Ok, Err, bytes_eq}
+-- What the program writes for the plan of the dry runs of two files.
+use Rattle.std.specs.Prelude.{ℕ, List, ◌⊎◌, length, ◌==◌, Bool, true, false, not, if◌then◌else◌, codes, Option, Some, None, Result, Ok, Err, bytes_eq}
 use Rattle.std.specs.List.{list_all}
 use Rattle.texts.specs.declared.fault.Fault.{Fault}
 use Rattle.dry_runs.specs.declared.parsed_runs.ParsedRuns.{ParsedRuns}
 use Rattle.dry_runs.specs.DryRun.{LookUp}
-use Rattle.dry_runs.specs.Parsed.{both_parsed}
+use Rattle.dry_runs.specs.Parsed.{both_parsed, both_parsed_within}
+use Rattle.dry_runs.specs.declared.limit.LimitedFault.{LimitedFault}
+use Rattle.dry_runs.specs.declared.limit.LimitedFault.TheVariants as limited
+use Rattle.dry_runs.specs.declared.snapshot.Entry.{Entry}
+use Rattle.dry_runs.specs.Asked.{asked_of_both}
+use Rattle.dry_runs.specs.LookupLimit.{both_fitting}
+use Rattle.dry_runs.specs.Snapshot.{answer_in, IsSnapshotOf}
 use Rattle.compilers.specs.declared.plans.origins.PlanWithOrigins.{PlanWithOrigins}
 use Rattle.compilers.specs.declared.plans.plan.Plan.{Plan}
 use Rattle.command_groups.specs.Origins.{planning_of_parsed}
@@ -16,7 +22,9 @@ use Rattle.programs.specs.declared.stop.Stop.{Stop}
 use Rattle.programs.specs.declared.stop.Stop.TheVariants as stops
 use Rattle.programs.specs.Operands.{PlanOf}
 use Rattle.dry_runs.specs.DryRunText.{is_dry_run}
-use Rattle.programs.specs.PlanText.{program_setting}
+use Rattle.programs.specs.Delivery.{Delivers}
+use Rattle.programs.specs.Messages.{over_limit}
+use Rattle.programs.specs.PlanText.{program_setting, ReadsBoth, out_of_memory, shown_plan}
 use Rattle.canonical_names.specs.FurtherSuffixes.{all_suffixes}
 use Rattle.programs.specs.Calls.{ExportOf}
 use Rattle.canonical_names.specs.Directories.{is_plain}
@@ -76,3 +84,45 @@ unfit call first second =
 -- what the program writes for a call
 abbrev pub exported : ExportOf → LookUp → List ℕ → List ℕ → Result (List ℕ) Stop
 exported call which first second = unless_stopped (unfit call.plan first second) (planned_in call (plan_of_runs call which (both_parsed first second)))
+
+-- the answer if two dry runs can't be parsed within the limit
+abbrev pub unparsed : LimitedFault → Result (List ℕ) Stop
+unparsed (limited.TooLong run line) = Err (stops.Unwritable over_limit)
+unparsed (limited.Fault fault) = Err (stops.Fault fault)
+
+-- what the program writes, given two dry runs that are parsed within the limit, and what follows if they can be
+abbrev pub WithinLimit : Result ParsedRuns LimitedFault → Type 0 → Result (Unit {0}) Stop → Option (List ℕ) → Option (List ℕ) → Type 0
+WithinLimit (Ok runs) Follows answer before after = Follows
+WithinLimit (Err fault) Follows answer before after = Delivers answer (unparsed fault) before after
+
+-- what the program writes for a call that plans, given the limit, the bytes of its two files and the engine's answer
+abbrev pub ShowsBytes : ℕ → PlanOf → List ℕ → List ℕ → Result (Unit {0}) Stop → Option (List ℕ) → Option (List ℕ) → Type 0
+ShowsBytes limit c first second answer before after =
+    Delivers answer out_of_memory before after
+    ⊎ WithinLimit (both_parsed_within limit first second) (Delivers answer (shown_plan c.cwd c.tmp c.flag first second c.suffixes) before after) answer before after
+
+-- the same, given only what files may hold and the engine's answer: the text of the plan of these two files
+abbrev pub ShowsFiles :
+    (List ℕ → Option (List ℕ) → Type 0) → ℕ → PlanOf → Result (Unit {0}) Stop → Option (List ℕ) → Option (List ℕ) → Type 0
+ShowsFiles holds limit c answer before after =
+    ReadsBoth holds c (λ first second. ShowsBytes limit c first second answer before after) answer before after
+
+-- what the program writes for a call that exports a plan, given the bytes of its two files and the engine's answer. The disk
+-- may say anything of the programs that the dry runs look up
+abbrev pub ExportsFitting : ExportOf → List ℕ → List ℕ → Result (Unit {0}) Stop → Option (List ℕ) → Option (List ℕ) → Type 0
+ExportsFitting c first second answer before after =
+    (programs : List Entry)
+    × IsSnapshotOf (asked_of_both first second c.plan.cwd) programs
+    × Delivers answer (exported c (answer_in programs) first second) before after
+
+-- the same, unless a dry run, or the paths that its look-ups try, exceed the limit, or memory runs out before
+abbrev pub ExportsBytes : ℕ → ExportOf → List ℕ → List ℕ → Result (Unit {0}) Stop → Option (List ℕ) → Option (List ℕ) → Type 0
+ExportsBytes limit c first second answer before after =
+    Delivers answer out_of_memory before after
+    ⊎ WithinLimit (both_fitting limit c.plan.cwd first second) (ExportsFitting c first second answer before after) answer before after
+
+-- the same, given only what files may hold and the engine's answer: the plan of these two files
+abbrev pub ExportsFiles :
+    (List ℕ → Option (List ℕ) → Type 0) → ℕ → ExportOf → Result (Unit {0}) Stop → Option (List ℕ) → Option (List ℕ) → Type 0
+ExportsFiles holds limit c answer before after =
+    ReadsBoth holds c.plan (λ first second. ExportsBytes limit c first second answer before after) answer before after

@@ -1,15 +1,11 @@
 pub mod Calls
-pub mod Commands
-pub mod Complaint
 pub mod Delivery
 pub mod Excerpts
 pub mod Exports
-pub mod LineText
 pub mod Messages
 pub mod Misuse
 pub mod Operands
 pub mod Places
-pub mod PlanFiles
 pub mod PlanText
 pub mod PlanTextExamples
 pub mod Settings

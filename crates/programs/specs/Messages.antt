@@ -8,10 +8,7 @@ use Rattle.texts.specs.Fault.{message_of as fault_text}
 use Rattle.texts.specs.Numeral.{numeral}
 use Rattle.texts.specs.Path.{is_bare}
 use Rattle.dry_runs.specs.DryRun.{LookUp}
-use Rattle.programs.specs.Misuse.{MisuseOf}
-use Rattle.programs.specs.Misuse as misuses
 use Rattle.programs.specs.Operands.{PlanOf}
-use Rattle.programs.specs.Complaint.{message_of, complaint}
 use Rattle.programs.specs.Excerpts.{shown}
 use Rattle.programs.specs.SuffixFault.{further_text}
 use Rattle.programs.specs.Unread as unread
@@ -20,6 +17,18 @@ use Rattle.programs.specs.declared.stop.Stop.TheVariants as stops
 use Rattle.programs.specs.declared.unread.Unread.{Unread}
 use Rattle.dry_runs.specs.DryRunText.{is_dry_run}
 use Rattle.programs.specs.Places.{PlaceOf, place_of}
+
+-- why a program stops, as text
+abbrev pub message_of : Stop → List ℕ
+message_of (stops.Fault fault) = fault_text fault
+message_of stops.NotCompilation = codes "not a compilation"
+message_of (stops.ToNvcc why) = codes "goes to nvcc: " ++ why
+message_of (stops.Unwritable why) = why
+message_of stops.Write = codes "cannot write"
+
+-- the line that a program writes to standard error
+abbrev pub complaint : List ℕ → Stop → List ℕ
+complaint program stop = program ++ (codes ": " ++ (message_of stop ++ codes "\n"))
 
 -- a text, as far as a message shows it, and a line of a file, below the message
 abbrev pub text : List ℕ → List ℕ
@@ -124,14 +133,6 @@ unread_message file why = codes "cannot read " ++ (text file ++ (codes ": " ++ u
 abbrev pub said : List ℕ → List ℕ
 said message = codes "zigrunk: " ++ (message ++ codes "\n")
 
--- it says that a dry run exceeds the limit, and if there is memory for it, where
-abbrev pub SaysExcess : Option (List ℕ) → Option (List ℕ) → List ℕ → Type 0
-SaysExcess before after message = Appends before after (said message) ⊎ Appends before after (said over_limit)
-
--- it says a message. If there is no memory for that, it says the short text of the reason
-abbrev pub Says : Option (List ℕ) → Option (List ℕ) → List ℕ → Stop → Type 0
-Says before after message stop = Appends before after (said message) ⊎ Appends before after (complaint (codes "zigrunk") stop)
-
--- it says what is wrong with words, or, if there is no memory for that, where to look
-abbrev pub SaysMisuse : Option (List ℕ) → Option (List ℕ) → MisuseOf → Type 0
-SaysMisuse before after misuse = Appends before after (said (misuses.message_of misuse)) ⊎ Appends before after (said (codes "wrong usage: see zigrunk --help"))
+-- it says a message, or a short one if there is no memory for that
+abbrev pub Says : Option (List ℕ) → Option (List ℕ) → List ℕ → List ℕ → Type 0
+Says before after message short = Appends before after (said message) ⊎ Appends before after (said short)

@@ -1,5 +1,5 @@
 -- Words that are no call: where they stop being one, and what the program says of them.
-use Rattle.std.specs.Prelude.{◌≡◌, ℕ, ◌+◌, ◌-◌, ◌^◌, min, List, [], ◌∷◌, ◌++◌, length, Option, Some, None, option_copied, slice_get, refl, codes}
+use Rattle.std.specs.Prelude.{◌≡◌, ℕ, ◌+◌, ◌-◌, ◌^◌, min, List, [], ◌++◌, length, Option, Some, None, option_copied, slice_get, refl, codes}
 use Rattle.texts.specs.Numeral.{numeral}
 use Rattle.programs.specs.Excerpts.{shown}
 use Rattle.programs.specs.declared.misuse.Misuse.{Misuse}

@@ -1,5 +1,5 @@
 -- The operands of calls.
-use Rattle.std.specs.Prelude.{ℕ, List, [], ◌∷◌, Option, Some, None, map, string_bytes, option_map}
+use Rattle.std.specs.Prelude.{ℕ, List, ◌∷◌, Option, Some, None, map, string_bytes, option_map}
 use Rattle.plan_texts.specs.declared.tool.Tool.{Tool}
 use Rattle.plan_texts.specs.Tools.{tool_of_name}
 use Rattle.programs.specs.declared.operands.LineCall.{LineCall}

@@ -1,5 +1,6 @@
 -- The line of two dry runs that stops the program.
-use Rattle.std.specs.Prelude.{ℕ, zero, suc, List, [], ◌∷◌, ◌==◌, if◌then◌else◌, Option, Some, None, option_map}
+use Rattle.std.specs.Prelude.{ℕ, zero, suc, List, [], ◌∷◌, ◌==◌, if◌then◌else◌, Option, option_map}
+use Rattle.std.specs.Option.{option_or}
 use Rattle.std.specs.Str.Lines.{lines}
 use Rattle.dry_runs.specs.DryRun.{LookUp}
 use Rattle.dry_runs.specs.Parsed.{bad_line, parsed_of, path_of}
@@ -32,14 +33,9 @@ abbrev pub place_in : LookUp → List ℕ → ℕ → List ℕ → List ℕ → 
 place_in which cwd run file bytes =
     option_map (λ number. place_at file bytes number (path_of (parsed_of run bytes).env)) (bad_line which cwd (parsed_of run bytes))
 
--- a place, or else another one
-abbrev pub or_place : Option PlaceOf → Option PlaceOf → Option PlaceOf
-or_place (Some place) other = Some place
-or_place None other = other
-
 -- the bad line of a call: that of the first file, or else that of the second
 abbrev pub place_of : LookUp → PlanOf → List ℕ → List ℕ → Option PlaceOf
-place_of which call first second = or_place (place_in which call.cwd 1 call.dry1 first) (place_in which call.cwd 2 call.dry2 second)
+place_of which call first second = option_or (place_in which call.cwd 1 call.dry1 first) (place_in which call.cwd 2 call.dry2 second)
 
 -- where a line that exceeds the limit is: in the file of its run
 abbrev pub place_of_excess : PlanOf → List ℕ → List ℕ → ℕ → ℕ → PlaceOf

@@ -1,4 +1,4 @@
--- The text that a program writes for two dry runs.
+-- The texts that a program writes for a tool's line and for two dry runs.
 use Rattle.std.specs.Prelude.{ℕ, List, [], ◌⊎◌, Option, Some, None, Result, Ok, Err}
 use Rattle.compilers.specs.declared.compiler.NvccHostCompiler.TheVariants.{Gcc}
 use Rattle.texts.specs.declared.fault.Fault.{Fault}
@@ -9,7 +9,10 @@ use Rattle.command_groups.specs.Plan.{PlanSetting}
 use Rattle.command_groups.specs.PlanOfBytes.{planning_of}
 use Rattle.dry_runs.specs.FirstDir.{first_dir}
 use Rattle.programs.specs.declared.stop.Stop.{Stop}
+use Rattle.programs.specs.declared.stop.Stop.TheVariants.{NotCompilation}
 use Rattle.programs.specs.declared.stop.Stop.TheVariants as stops
+use Rattle.plan_texts.specs.declared.tool.Tool.{Tool}
+use Rattle.plan_texts.specs.Shown.{line_text}
 use Rattle.plan_texts.specs.ShownPlan.{show_plan}
 use Rattle.programs.specs.Operands.{PlanOf}
 use Rattle.programs.specs.Delivery.{Delivers}
@@ -37,10 +40,6 @@ planned cwd tmp flag first second further = planned_with (program_setting cwd tm
 abbrev pub shown_plan : List ℕ → List ℕ → List ℕ → List ℕ → List ℕ → List (List ℕ) → Result (List ℕ) Stop
 shown_plan cwd tmp flag first second further = show_planning (planned cwd tmp flag first second further)
 
--- the answer if the file of a run can't be read
-abbrev pub unread : Result (List ℕ) Stop
-unread = Err (stops.Fault Read)
-
 -- the answer if memory runs out before there is a text
 abbrev pub out_of_memory : Result (List ℕ) Stop
 out_of_memory = Err (stops.Fault Memory)
@@ -51,7 +50,7 @@ abbrev pub ReadsFirst :
     (Option (List ℕ) → Type 0) → (List ℕ → Type 0) → Result (Unit {0}) Stop → Option (List ℕ) → Option (List ℕ) → Type 0
 ReadsFirst holds Follows answer before after =
     Delivers answer out_of_memory before after
-    ⊎ ((holds None × Delivers answer unread before after) ⊎ ((bytes : List ℕ) × holds (Some bytes) × Follows bytes))
+    ⊎ ((holds None × Delivers answer (Err (stops.Fault Read)) before after) ⊎ ((bytes : List ℕ) × holds (Some bytes) × Follows bytes))
 
 -- what a program writes once it has read the two files of a call that plans, given what files may hold and what follows from their bytes
 abbrev pub ReadsBoth :
@@ -64,3 +63,13 @@ abbrev pub PlansFiles :
     (List ℕ → Option (List ℕ) → Type 0) → PlanOf → Result (Unit {0}) Stop → Option (List ℕ) → Option (List ℕ) → Type 0
 PlansFiles holds c answer before after =
     ReadsBoth holds c (λ first second. Delivers answer (shown_plan c.cwd c.tmp c.flag first second c.suffixes) before after) answer before after
+
+-- a text, or why there is none
+abbrev pub stopped : Result (Option (List ℕ)) Fault → Result (List ℕ) Stop
+stopped (Ok (Some text)) = Ok text
+stopped (Ok None) = Err NotCompilation
+stopped (Err fault) = Err (stops.Fault fault)
+
+-- the text of a tool's line, read at a working directory and written back, or why there is none
+abbrev pub shown_line : Tool → List ℕ → List (List ℕ) → Result (List ℕ) Stop
+shown_line tool cwd words = stopped (line_text tool cwd words)

@@ -1,5 +1,5 @@
 -- Texts of plans, worked out by hand.
-use Rattle.std.specs.Prelude.{◌≡◌, ℕ, List, [], ◌∷◌, ◌++◌, codes, refl, flat_map}
+use Rattle.std.specs.Prelude.{◌≡◌, ℕ, List, [], ◌∷◌, ◌++◌, codes, flat_map}
 use Rattle.compilers.specs.declared.compiler.NvccHostCompiler.TheVariants.{Gcc}
 use Rattle.command_groups.specs.Plan.{plan_of}
 use Rattle.compilers.specs.OneKernel.{at, commands_of}
@@ -30,15 +30,9 @@ OneKernelShown =
     codes "yes cd /w && /b/gcc -D__CUDA_ARCH__=800 -D__CUDACC__ -c -x c++ x_0.cudafe1.cpp -o kernel.o" ∷
     [])
 
-pub one_kernel_shown : OneKernelShown
-one_kernel_shown = refl
-
 -- runs without commands
 abbrev pub EmptyRunsShown : Type 0
 EmptyRunsShown = show_plan (plan_of (setting Gcc (codes "-c")) [] [] []) ≡ lines_of (codes "group 0" ∷ codes "group 1" ∷ [])
-
-pub empty_runs_shown : EmptyRunsShown
-empty_runs_shown = refl
 
 -- a superseded pair, and one PTX file that feeds two ptxas steps
 abbrev pub DroppedShown : Type 0
@@ -58,9 +52,6 @@ DroppedShown =
     codes "dropped 2 run 1 Superseded /b/cicc x_0.cpp1.ii -o k.ptx" ∷
     [])
 
-pub dropped_shown : DroppedShown
-dropped_shown = refl
-
 -- a ptxas whose file no cicc makes
 abbrev pub PtxasWithoutAGroupShown : Type 0
 PtxasWithoutAGroupShown =
@@ -75,9 +66,6 @@ PtxasWithoutAGroupShown =
     codes "dropped 2 run 1 NoPtxasGroup /b/ptxas k.ptx -o a.cubin" ∷
     [])
 
-pub ptxas_without_a_group_shown : PtxasWithoutAGroupShown
-ptxas_without_a_group_shown = refl
-
 -- a cicc that misses the group of an output with a `/` at its end
 abbrev pub OutputWithASlashShown : Type 0
 OutputWithASlashShown =
@@ -90,14 +78,8 @@ OutputWithASlashShown =
     codes "dropped 2 run 1 NoCiccGroup /b/cicc x_0.cpp1.ii -o k.ptx" ∷
     [])
 
-pub output_with_a_slash_shown : OutputWithASlashShown
-output_with_a_slash_shown = refl
-
 -- a program whose name is empty
 abbrev pub NotForCudaShown : Type 0
 NotForCudaShown =
     show_plan (plan_of_both (at 1 (codes "/b/") (codes "x") ∷ [])) ≡
     lines_of (codes "group 0" ∷ codes "group 1" ∷ codes "dropped 1 run 2 NotCuda /b/ x" ∷ [])
-
-pub not_for_cuda_shown : NotForCudaShown
-not_for_cuda_shown = refl

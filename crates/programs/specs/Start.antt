@@ -1,5 +1,5 @@
 -- What a program was started with.
-use Rattle.std.specs.Prelude.{◌≡◌, ◌⊎◌, ℕ, List, [], ◌∷◌, ◌++◌, Option, Some, None, Result, Ok, Err, String, string_bytes, MatchResult}
+use Rattle.std.specs.Prelude.{◌≡◌, ◌⊎◌, ℕ, List, [], ◌∷◌, ◌++◌, Option, Some, None, Result, Ok, Err, String, string_bytes, drop, MatchResult}
 use Rattle.std.specs.declared.alloc.Global.{Global}
 use Rattle.std.specs.declared.env.VarError.{VarError}
 use Rattle.std.specs.declared.env.VarError.TheVariants.{NotPresent, NotUnicode, OutOfMemory}
@@ -7,14 +7,9 @@ use Rattle.texts.specs.declared.fault.Fault.TheVariants.{Memory}
 use Rattle.programs.specs.declared.stop.Stop.{Stop}
 use Rattle.programs.specs.declared.stop.Stop.TheVariants as stops
 
--- the words after the first
-abbrev pub behind_first : List (List ℕ) → List (List ℕ)
-behind_first [] = []
-behind_first (word ∷ words) = words
-
 -- the words of a call: those after the program's name, or none if one isn't UTF-8
 abbrev pub words_of_call : Option (List (List ℕ)) → List (List ℕ)
-words_of_call (Some words) = behind_first words
+words_of_call (Some words) = drop 1 words
 words_of_call None = []
 
 -- the answer is the words of a call, given which words a program may have been started with. Only memory runs out

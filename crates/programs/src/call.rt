@@ -1,10 +1,9 @@
 //! The calls of `zigrunk`, and how words are read as one.
 
-ghost use Rattle.std.specs.Prelude.{◌≡◌, map, string_bytes, option_map, option_copied};
+ghost use Rattle.std.specs.Prelude.{◌≡◌, map, string_bytes, option_map};
 ghost use Rattle.programs.specs.Misuse as misuses;
 ghost use Rattle.programs.specs.Calls as spec;
 
-use crate::command::{Command, command_named, form_of, operands_of};
 use crate::misuse::{ALL_CALLS, Misuse, misuse_at};
 use crate::operands::{LineCall, PlanCall, directory_call, line_call, nvcc_call, plan_call};
 use crate::settings::{Settings, begins_option, options_taken};
@@ -43,6 +42,60 @@ pub enum Call<'a> {
     Version,
 }
 
+// What a call does: the `Call` that it is, without its operands.
+#[derive(Clone, Copy)]
+enum Command {
+    Export(Format),
+    Plan,
+    Calls,
+    Directory,
+    Line,
+    Help,
+    Version,
+}
+
+fn command_named(name: &str) -> Option<Command>
+    ensures { result ≡ spec.command_named name.now }
+{
+    match name {
+        "plan" => Some(Command::Plan),
+        "calls" => Some(Command::Calls),
+        "directory" => Some(Command::Directory),
+        "line" => Some(Command::Line),
+        "--help" | "-h" => Some(Command::Help),
+        "--version" => Some(Command::Version),
+        _ => Format::named(name).map(Command::Export),
+    }
+}
+
+// The operands that a command needs, as a message names them.
+fn operands_of(command: Command) -> &'static [&'static str]
+    ensures { map (λ text. text.now) result.now ≡ spec.operands_of command }
+{
+    match command {
+        Command::Export(_) | Command::Plan => &["CWD", "TMP", "FLAG", "DRY1", "DRY2"],
+        Command::Calls => &["CWD", "TMP", "NVCC"],
+        Command::Directory => &["CWD", "NVCC"],
+        Command::Line => &["cicc, ptxas or cudafe++", "CWD"],
+        Command::Help | Command::Version => &[],
+    }
+}
+
+fn form_of(command: Command) -> &'static str
+    ensures { result.now ≡ spec.form_of command }
+{
+    match command {
+        Command::Export(_) => {
+            "FORMAT [--limit BYTES] [--keep] [--whole] CWD TMP FLAG DRY1 DRY2 SUFFIX.."
+        }
+        Command::Plan => "plan CWD TMP FLAG DRY1 DRY2 SUFFIX..",
+        Command::Calls => "calls CWD TMP NVCC WORD..",
+        Command::Directory => "directory CWD NVCC WORD..",
+        Command::Line => "line cicc|ptxas|cudafe++ CWD WORD..",
+        Command::Help | Command::Version => "-h | --help | --version",
+    }
+}
+
 // The settings of a call without options. The limit is 2 MiB: the dry runs of a real call hold some hundred KiB.
 const NO_OPTIONS: Settings = Settings {
     limit: 2_097_152,
@@ -65,16 +118,12 @@ fn call_with<'a>(command: Command, settings: Settings, operands: &'a [String]) -
     ensures { option_map spec.seen result ≡ spec.call_with command settings (map string_bytes operands.now) }
 {
     match command {
-        Command::Export(format) => {
-            let plan = plan_call(operands)?;
-            let (keeps, whole) = (settings.keeps, settings.whole);
-            Some(Call::Export(ExportCall {
-                format,
-                keeps,
-                whole,
-                plan,
-            }))
-        }
+        Command::Export(format) => Some(Call::Export(ExportCall {
+            format,
+            keeps: settings.keeps,
+            whole: settings.whole,
+            plan: plan_call(operands)?,
+        })),
         Command::Plan => plan_call(operands).map(Call::Plan),
         Command::Calls => nvcc_call(operands).map(Call::Nvcc),
         Command::Directory => directory_call(operands).map(Call::Directory),

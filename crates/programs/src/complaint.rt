@@ -1,10 +1,9 @@
 //! What a program says when it stops: the file, the line, the cause and what to do.
 
-ghost use Rattle.std.specs.Prelude.{◌≡◌, OnOk};
+ghost use Rattle.std.specs.Prelude.{◌≡◌, OnOk, codes};
 ghost use Rattle.std.specs.Io.KnownBytes.{Appends};
-ghost use Rattle.programs.specs.Misuse.{misuse_seen};
+ghost use Rattle.programs.specs.Misuse.{message_of, misuse_seen};
 ghost use Rattle.programs.specs.Operands.{plan_of};
-ghost use Rattle.programs.specs.Complaint as short;
 ghost use Rattle.programs.specs.Messages as spec;
 ghost use Rattle.programs.specs.Places.{place_seen};
 ghost use Rattle.programs.specs.Unread.{stop_of};
@@ -29,7 +28,7 @@ const MISUSED: &str = "wrong usage: see zigrunk --help";
 ///
 /// If a write fails, part of the line may have been written.
 pub fn complain<E: Write>(program: &str, stop: &Stop, err: &mut E) -> io::Result<()>
-    ensures { OnOk result (Appends (E.contents err.old) (E.contents err.new) (short.complaint program.now stop.now)) }
+    ensures { OnOk result (Appends (E.contents err.old) (E.contents err.new) (spec.complaint program.now stop.now)) }
 {
     write!(err, "{program}: {stop}\n")
 }
@@ -45,7 +44,7 @@ fn say<E: Write>(message: &str, err: &mut E) -> io::Result<()>
 ///
 /// If a write fails, part of the message may have been written.
 pub fn complain_of<E: Write>(alloc: Global, stop: &Stop, err: &mut E) -> io::Result<()>
-    ensures { OnOk result (spec.Says (E.contents err.old) (E.contents err.new) (spec.text (short.message_of stop.now)) stop.now) }
+    ensures { OnOk result (spec.Says (E.contents err.old) (E.contents err.new) (spec.text (spec.message_of stop.now)) (spec.message_of stop.now)) }
 {
     match plain_message(alloc, stop) {
         Ok(message) => say(message.as_str(), err),
@@ -64,7 +63,7 @@ pub fn complain_of_plan<L: Which, E: Write>(
     err: &mut E,
 ) -> io::Result<()>
     ensures { OnOk result (spec.Says (E.contents err.old) (E.contents err.new)
-        (spec.plan_message (L.answer which.now) (plan_of call.now) dry1.now dry2.now stop.now) stop.now) }
+        (spec.plan_message (L.answer which.now) (plan_of call.now) dry1.now dry2.now stop.now) (spec.message_of stop.now)) }
 {
     match plan_message(alloc, which, call, dry1, dry2, stop) {
         Ok(message) => say(message.as_str(), err),
@@ -81,7 +80,7 @@ pub fn complain_of_excess<E: Write>(
     limit: usize,
     err: &mut E,
 ) -> io::Result<()>
-    ensures { OnOk result (spec.SaysExcess (E.contents err.old) (E.contents err.new) (spec.excess_message limit (place_seen place.now))) }
+    ensures { OnOk result (spec.Says (E.contents err.old) (E.contents err.new) (spec.excess_message limit (place_seen place.now)) spec.over_limit) }
 {
     match excess_message(alloc, place, limit) {
         Ok(message) => say(message.as_str(), err),
@@ -96,7 +95,7 @@ pub fn complain_of_file<E: Write>(
     why: Unread,
     err: &mut E,
 ) -> io::Result<()>
-    ensures { OnOk result (spec.Says (E.contents err.old) (E.contents err.new) (spec.unread_message file.now why) (stop_of why)) }
+    ensures { OnOk result (spec.Says (E.contents err.old) (E.contents err.new) (spec.unread_message file.now why) (spec.message_of (stop_of why))) }
 {
     match unread_message(alloc, file, why) {
         Ok(message) => say(message.as_str(), err),
@@ -145,7 +144,7 @@ pub fn complain_of_misuse<E: Write>(
     misuse: &Misuse<'_>,
     err: &mut E,
 ) -> io::Result<()>
-    ensures { OnOk result (spec.SaysMisuse (E.contents err.old) (E.contents err.new) (misuse_seen misuse.now)) }
+    ensures { OnOk result (spec.Says (E.contents err.old) (E.contents err.new) (message_of (misuse_seen misuse.now)) (codes "wrong usage: see zigrunk --help")) }
 {
     match misuse.message(alloc) {
         Ok(message) => say(message.as_str(), err),

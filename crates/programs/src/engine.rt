@@ -1,13 +1,12 @@
 //! The engines that programs run: they read a line or plan two dry runs, and write the text.
 
-ghost use Rattle.std.specs.Prelude.{map, string_bytes};
+ghost use Rattle.std.specs.Prelude.{ℕ, List, Result, map, string_bytes};
 ghost use Rattle.programs.specs.Operands.{plan_of};
-ghost use Rattle.programs.specs.Delivery.{Delivers};
-ghost use Rattle.programs.specs.LineText.{shown_line};
+ghost use Rattle.programs.specs.declared.stop.Stop.{Stop};
+ghost use Rattle.programs.specs.Delivery.{Answers, Delivers, text_of};
 ghost use Rattle.programs.specs.PlanText as spec;
 
 use crate::PlanCall;
-use crate::delivery::deliver;
 use crate::sources::Sources;
 use crate::stop::Stop;
 use canonical_names::all_suffixes;
@@ -17,6 +16,19 @@ use dry_runs::FirstDir;
 use plan_texts::{Tool, show_line, show_plan};
 use std::alloc::Global;
 use std::io::Write;
+
+/// Writes a text in one piece, or nothing if there is none.
+///
+/// Fails with the reason why there is no text, and if `w` fails (`Stop::Write`).
+pub fn deliver<W: Write>(answer: Result<String, Stop>, w: &mut W) -> Result<(), Stop>
+    ensures { (expected : Result (List ℕ) Stop) → Answers (text_of answer) expected → Delivers result expected (W.contents w.old) (W.contents w.new) }
+{
+    let text = answer?;
+    match w.write_all(text.as_bytes()) {
+        Ok(()) => Ok(()),
+        Err(_) => Err(Stop::Write),
+    }
+}
 
 /// Reads the words of a tool's line at the working directory `cwd`, writes them back, and writes the written words to `w`
 /// in one piece, each followed by a newline.
@@ -30,7 +42,7 @@ pub fn write_line<W: Write>(
     words: &[String],
     w: &mut W,
 ) -> Result<(), Stop>
-    ensures { Delivers result (shown_line tool cwd.now (map string_bytes words.now)) (W.contents w.old) (W.contents w.new) }
+    ensures { Delivers result (spec.shown_line tool cwd.now (map string_bytes words.now)) (W.contents w.old) (W.contents w.new) }
 {
     match show_line(alloc, tool, cwd, words)? {
         Some(text) => deliver(Ok(text.into_string()), w),
@@ -72,8 +84,7 @@ pub fn write_plan<W: Write>(
         &FirstDir,
         &suffixes,
     )?;
-    let text = show_plan(alloc, &plan)?;
-    deliver(Ok(text), w)
+    deliver(Ok(show_plan(alloc, &plan)?), w)
 }
 
 /// Reads the two files of a call from `sources`, plans their dry runs as [`write_plan`] does, and writes the plan's text

@@ -1,12 +1,10 @@
 //! The engine that plans two dry runs and writes the plan for another tool.
 
-ghost use Rattle.std.specs.Prelude.{◌≡◌, ◌==◌, List, ℕ, length, map, vec_items, Result, Ok, Err, option_copied};
+ghost use Rattle.std.specs.Prelude.{◌≡◌, ◌==◌, length, map, vec_items, Result, Ok, Err, option_copied};
 ghost use Rattle.std.specs.List.{list_all};
 ghost use Rattle.texts.specs.Fault.{UnlessMemory};
 ghost use Rattle.dry_runs.specs.Parsed.{AreParsed, both_parsed};
 ghost use Rattle.plan_texts.specs.declared.refusal.Refusal.{Refusal};
-ghost use Rattle.plan_texts.specs.Answers as exports;
-ghost use Rattle.plan_texts.specs.Message.{message_of};
 ghost use Rattle.programs.specs.declared.stop.Stop.TheVariants as stops;
 ghost use Rattle.programs.specs.Delivery.{Answers, Delivers, text_of};
 ghost use Rattle.programs.specs.Operands.{plan_of as plan_seen};
@@ -14,7 +12,7 @@ ghost use Rattle.programs.specs.Calls.{export_of};
 ghost use Rattle.programs.specs.PlanText.{program_setting};
 ghost use Rattle.programs.specs.Exports as spec;
 
-use crate::delivery::deliver;
+use crate::engine::deliver;
 use crate::stop::Stop;
 use crate::{ExportCall, PlanCall};
 use canonical_names::{Suffixes, all_suffixes, is_plain};
@@ -104,7 +102,6 @@ fn plan_named<L: Which>(
     plan_of_parsed(alloc, runs, &nvcc_call, which)
 }
 
-// The plan of a call, given its two dry runs.
 fn plan_of<L: Which>(
     alloc: Global,
     call: &ExportCall<'_>,

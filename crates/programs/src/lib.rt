@@ -3,9 +3,7 @@
 #![tactic(auto)]
 
 mod call;
-mod command;
 mod complaint;
-mod delivery;
 mod engine;
 mod excerpts;
 mod export;
@@ -25,8 +23,7 @@ mod unread;
 
 pub use call::{Call, ExportCall, call_of};
 pub use complaint::{complain, complain_of_answer, complain_of_misuse};
-pub use delivery::deliver;
-pub use engine::{write_line, write_plan, write_plan_of_files};
+pub use engine::{deliver, write_line, write_plan, write_plan_of_files};
 pub use excerpts::push_shown;
 pub use misuse::Misuse;
 pub use operands::{LineCall, PlanCall, line_call, plan_call};

@@ -1,12 +1,8 @@
 //! The messages of `zigrunk` when it stops.
 
-ghost use Rattle.std.specs.Prelude.{◌≡◌, ◌++◌, IfOk, OnOk, map, string_bytes, option_copied, option_map};
-ghost use Rattle.std.specs.List.{starts_with};
+ghost use Rattle.std.specs.Prelude.{◌≡◌, ◌++◌, IfOk, OnOk, string_bytes, option_copied, option_map};
 ghost use Rattle.texts.specs.Fault.{message_of as fault_text};
-ghost use Rattle.texts.specs.Numeral.{numeral};
 ghost use Rattle.programs.specs.Operands.{plan_of};
-ghost use Rattle.programs.specs.Complaint.{message_of};
-ghost use Rattle.programs.specs.SuffixFault.{further_text};
 ghost use Rattle.programs.specs.Messages as spec;
 ghost use Rattle.programs.specs.Places.{place_seen};
 
@@ -213,7 +209,7 @@ fn with_file(alloc: Global, file: Option<&str>, why: &str) -> Result<String, All
 
 /// The message of any stop.
 pub fn plain_message(alloc: Global, stop: &Stop) -> Result<String, AllocError>
-    ensures { IfOk result (λ text. string_bytes text ≡ spec.text (message_of stop.now)) }
+    ensures { IfOk result (λ text. string_bytes text ≡ spec.text (spec.message_of stop.now)) }
 {
     let message = stop.to_string(alloc)?;
     let mut text = String::new(alloc);

@@ -39,7 +39,6 @@ fn line_at<'a>(dry_run: &'a [u8], number: usize) -> &'a [u8]
     b""
 }
 
-// The place of a line in a file.
 fn place_at<'a>(file: &'a str, dry_run: &'a [u8], number: usize, path: Text) -> Place<'a>
     ensures { spec.place_seen result ≡ spec.place_at file.now dry_run.now number path }
 {

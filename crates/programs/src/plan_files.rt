@@ -1,22 +1,17 @@
 //! The calls that plan the dry runs of two files.
 
-ghost use Rattle.std.specs.Prelude.{◌≡◌, ◌⊎◌, map, Some, None, string_bytes, IfOk, MatchResult};
+ghost use Rattle.std.specs.Prelude.{◌≡◌, Some, None, MatchResult};
 ghost use Rattle.texts.specs.declared.fault.Fault.TheVariants.{Read};
 ghost use Rattle.texts.specs.Fault.{UnlessMemoryIs};
-ghost use Rattle.dry_runs.specs.Parsed.{both_parsed};
-ghost use Rattle.dry_runs.specs.Asked.{asked_by};
-ghost use Rattle.dry_runs.specs.Snapshot.{IsSnapshotOf};
 ghost use Rattle.programs.specs.Operands.{plan_of};
 ghost use Rattle.programs.specs.Delivery.{Delivers};
-ghost use Rattle.programs.specs.PlanText.{out_of_memory, shown_plan};
 ghost use Rattle.programs.specs.Calls as forms;
-ghost use Rattle.programs.specs.PlanFiles as spec;
+ghost use Rattle.programs.specs.Exports as spec;
 
 use crate::complaint::{
     OVER_LIMIT, complain_of_answer, complain_of_excess, complain_of_file, complain_of_plan_answer,
 };
-use crate::delivery::deliver;
-use crate::engine::write_plan;
+use crate::engine::{deliver, write_plan};
 use crate::export::{refused, write_export};
 use crate::place::place_of_excess;
 use crate::sources::Sources;

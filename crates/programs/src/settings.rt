@@ -32,7 +32,6 @@ pub fn begins_option(words: &[String]) -> bool
     }
 }
 
-// Takes the number of `--limit`.
 fn limit_taken<'a>(settings: Settings, words: &'a [String]) -> Option<(Settings, &'a [String])>
     ensures { option_map spec.rest_seen result ≡ spec.limit_taken settings (map string_bytes words.now) }
 {
@@ -43,31 +42,20 @@ fn limit_taken<'a>(settings: Settings, words: &'a [String]) -> Option<(Settings,
     Some((Settings { limit, ..settings }, rest))
 }
 
-// Takes the option that words begin with.
 fn option_taken<'a>(settings: Settings, words: &'a [String]) -> Option<(Settings, &'a [String])>
     ensures { option_map spec.rest_seen result ≡ spec.option_taken settings (map string_bytes words.now) }
 {
     let [word, rest @ ..] = words else {
         return None;
     };
+    let mut taken = settings;
     match word.as_str() {
-        "--keep" => Some((
-            Settings {
-                keeps: true,
-                ..settings
-            },
-            rest,
-        )),
-        "--whole" => Some((
-            Settings {
-                whole: true,
-                ..settings
-            },
-            rest,
-        )),
-        "--limit" => limit_taken(settings, rest),
-        _ => None,
+        "--keep" => taken.keeps = true,
+        "--whole" => taken.whole = true,
+        "--limit" => return limit_taken(settings, rest),
+        _ => return None,
     }
+    Some((taken, rest))
 }
 
 /// Takes all options that words begin with: `--keep`, `--whole` and `--limit BYTES`, in any order. Of several limits the last one

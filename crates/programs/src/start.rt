@@ -1,6 +1,6 @@
 //! What a program was started with.
 
-ghost use Rattle.std.specs.Prelude.{ℕ, List, ◌≡◌, Option, None, Some, Result, map, string_bytes, IfOk, MatchResult};
+ghost use Rattle.std.specs.Prelude.{ℕ, List, Option, None, Some, Result, IfOk, MatchResult};
 ghost use Rattle.std.specs.declared.env.VarError.{VarError};
 ghost use Rattle.programs.specs.Start as spec;
 

@@ -22,7 +22,7 @@ pub enum Stop {
 
 impl fmt::Display for Stop {
     ghost use Rattle.std.specs.Prelude.{Some};
-    ghost use Rattle.programs.specs.Complaint.{message_of};
+    ghost use Rattle.programs.specs.Messages.{message_of};
 
     ghost output = { λ s. Some (message_of s) };
 

@@ -21,42 +21,22 @@ fn odd_in(list: &[String]) -> Option<&str>
     None
 }
 
-// Two suffixes of a list: the first is an end of the second.
-#[derive(Clone, Copy)]
-struct Overlap<'a> {
-    end: &'a str,
-    whole: &'a str,
-}
-
-// Whether a text is an end of another one.
-fn is_end(end: &str, whole: &str) -> bool
-    ensures { result ≡ spec.is_end end.now whole.now }
+// Two suffixes, if they overlap: the first is an end of the second.
+fn overlap_of<'a>(suffix: &'a str, other: &'a str) -> Option<(&'a str, &'a str)>
+    ensures { option_map spec.pair_seen result ≡ spec.overlap_of suffix.now other.now }
 {
-    whole.as_bytes().ends_with(end.as_bytes())
-}
-
-// Two suffixes, if they overlap.
-fn overlap_of<'a>(suffix: &'a str, other: &'a str) -> Option<Overlap<'a>>
-    ensures { option_map spec.overlap_seen result ≡ spec.overlap_of suffix.now other.now }
-{
-    if is_end(suffix, other) {
-        Some(Overlap {
-            end: suffix,
-            whole: other,
-        })
-    } else if is_end(other, suffix) {
-        Some(Overlap {
-            end: other,
-            whole: suffix,
-        })
+    if other.as_bytes().ends_with(suffix.as_bytes()) {
+        Some((suffix, other))
+    } else if suffix.as_bytes().ends_with(other.as_bytes()) {
+        Some((other, suffix))
     } else {
         None
     }
 }
 
 // A suffix with the first of others that overlaps with it.
-fn overlap_with<'a>(suffix: &'a str, others: &'a [String]) -> Option<Overlap<'a>>
-    ensures { option_map spec.overlap_seen result ≡ spec.overlap_with suffix.now (map string_bytes others.now) }
+fn overlap_with<'a>(suffix: &'a str, others: &'a [String]) -> Option<(&'a str, &'a str)>
+    ensures { option_map spec.pair_seen result ≡ spec.overlap_with suffix.now (map string_bytes others.now) }
 {
     let mut rest = others;
     while let Some((other, behind)) = rest.split_first() {
@@ -68,9 +48,8 @@ fn overlap_with<'a>(suffix: &'a str, others: &'a [String]) -> Option<Overlap<'a>
     None
 }
 
-// The first overlap in a list.
-fn overlap_in(list: &[String]) -> Option<Overlap<'_>>
-    ensures { option_map spec.overlap_seen result ≡ spec.overlap_in (map string_bytes list.now) }
+fn overlap_in(list: &[String]) -> Option<(&str, &str)>
+    ensures { option_map spec.pair_seen result ≡ spec.overlap_in (map string_bytes list.now) }
 {
     let mut rest = list;
     while let Some((suffix, others)) = rest.split_first() {
@@ -107,12 +86,10 @@ fn push_fault(text: &mut String, list: &[String]) -> Result<(), AllocError>
         return push_about(text, suffix, rule);
     }
     match overlap_in(list) {
-        Some(overlap) if overlap.end == overlap.whole => {
-            push_about(text, overlap.end, " is in the list twice")
-        }
-        Some(overlap) => {
-            push_about(text, overlap.end, " is a suffix of ")?;
-            push_quoted(text, overlap.whole)
+        Some((end, whole)) if end == whole => push_about(text, end, " is in the list twice"),
+        Some((end, whole)) => {
+            push_about(text, end, " is a suffix of ")?;
+            push_quoted(text, whole)
         }
         None => text.push_str("bad generated suffixes"),
     }

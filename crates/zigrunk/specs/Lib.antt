@@ -1,4 +1,2 @@
 pub mod Endings
 pub mod Environment
-pub mod NvccText
-pub mod OptionsFiles

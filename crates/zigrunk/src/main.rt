@@ -12,7 +12,6 @@ use std::rt::Env;
 
 mod environment;
 mod input;
-mod nvcc_text;
 mod options_files;
 mod program;
 

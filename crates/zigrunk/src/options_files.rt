@@ -2,7 +2,7 @@
 
 ghost use Rattle.std.specs.Prelude.{Some, IfOk, IfSome, string_bytes};
 ghost use Rattle.compilers.specs.Calls.{nvcc_of};
-ghost use Rattle.zigrunk.specs.OptionsFiles as spec;
+ghost use Rattle.zigrunk.specs.Endings as spec;
 
 use compilers::NvccCall;
 use nvcc_calls::file_names;

@@ -1,6 +1,6 @@
 //! The program's calls.
 
-ghost use Rattle.std.specs.Prelude.{◌≡◌, [], ◌∷◌, ◌++◌, map, Ok, string_bytes};
+ghost use Rattle.std.specs.Prelude.{[], ◌∷◌, ◌++◌, map, Ok, string_bytes};
 ghost use Rattle.texts.specs.Variables.{pair_of};
 ghost use Rattle.nvcc_calls.specs.Directory as directories;
 ghost use Rattle.compilers.specs.Calls.{directory_of, nvcc_of};
@@ -8,10 +8,9 @@ ghost use Rattle.programs.specs.Delivery.{Delivers};
 ghost use Rattle.programs.specs.Calls as forms;
 ghost use Rattle.zigrunk.specs.Endings as spec;
 
-use crate::nvcc_text::write_nvcc_text;
 use crate::options_files::options_files;
 use compilers::{DirectoryCall, NvccCall};
-use nvcc_calls::directory_name;
+use nvcc_calls::{Answer, directory_name, read_call, shell_text};
 use programs::{
     Call, HELP, Sources, Stop, VERSION, call_of, complain_of_answer, complain_of_misuse, deliver,
     export_files, show_files, write_line,
@@ -20,12 +19,10 @@ use std::alloc::Global;
 use std::fs::Files;
 use std::io::Write;
 
-// Writes a page.
 fn show<W: Write>(alloc: Global, page: &str, out: &mut W) -> Result<(), Stop>
     ensures { Delivers result (Ok page.now) (W.contents out.old) (W.contents out.new) }
 {
-    let text = String::from_str(alloc, page)?;
-    deliver(Ok(text), out)
+    deliver(Ok(String::from_str(alloc, page)?), out)
 }
 
 // Writes the name of a directory and a newline.
@@ -43,7 +40,8 @@ fn show_directory<W: Write>(
     deliver(Ok(name), out)
 }
 
-// Reads the options files of an nvcc line, and writes the line's text.
+// Reads an nvcc line as nvcc does, with the words of `variables` and of its options files. Writes, for a shell's `eval`, the command that
+// writes its dependency file, its two dry runs, the compilation flag, the number of threads and the directory that keeps generated files.
 fn read_line<R: Files + AllocGlobal, S: Sources, W: Write>(
     rt: &R,
     sources: &S,
@@ -54,10 +52,17 @@ fn read_line<R: Files + AllocGlobal, S: Sources, W: Write>(
     ensures { spec.ReadsLine (S.holds sources.now) (nvcc_of call.now) (map pair_of variables.now) result (W.contents out.old) (W.contents out.new) }
 {
     let files = options_files(rt, sources, call, variables)?;
-    let written = write_nvcc_text(rt.alloc(), call, variables, files.as_slice(), out);
+    let answer = read_call(rt.alloc(), call, variables, files.as_slice());
     // Dropped by a call: see "Explicit drops" in docs/ARCHITECTURE.md.
     drop(files);
-    written
+    match answer? {
+        Answer::Split(outline) => {
+            let text = shell_text(rt.alloc(), &outline);
+            drop(outline);
+            deliver(Ok(text?), out)
+        }
+        Answer::Pass(why) => Err(Stop::ToNvcc(why)),
+    }
 }
 
 // Runs the engine that a call asks for. If it stops, it first says why.
@@ -85,17 +90,6 @@ fn serve<R: Files + AllocGlobal, S: Sources, W: Write, E: Write>(
     complain_of_answer(alloc, answer, err)
 }
 
-// The exit status of an engine's answer.
-fn ended(call: &Call<'_>, answer: &Result<(), Stop>) -> u8
-    ensures { result ≡ spec.status_of (forms.seen call.now) answer.now }
-{
-    match (call, answer) {
-        (_, Ok(())) => 0,
-        (Call::Nvcc(_), Err(Stop::NotCompilation | Stop::ToNvcc(_))) => 3,
-        _ => 1,
-    }
-}
-
 /// Runs a call of the program, given the words after its name and `variables`, those of the environment that nvcc takes
 /// words from. The dry runs' files come from `sources`. The output goes to `out`, and the line that says why the program stopped to `err`. Gives the exit status: 0 on
 /// success, 1 on a fault or if a write failed, 2 for wrong usage, 3 if an nvcc call goes to nvcc unchanged.
@@ -117,7 +111,11 @@ pub fn run_program<R: Files + AllocGlobal, S: Sources, W: Write, E: Write>(
         }
     };
     let answer = serve(rt, sources, limit, &call, variables, out, err);
-    let status = ended(&call, &answer);
+    let status = match (&call, &answer) {
+        (_, Ok(())) => 0,
+        (Call::Nvcc(_), Err(Stop::NotCompilation | Stop::ToNvcc(_))) => 3,
+        _ => 1,
+    };
     // Dropped by a call: see "Explicit drops" in docs/ARCHITECTURE.md.
     drop(answer);
     status

@@ -2,23 +2,19 @@
 #![tactic(auto)]
 
 ghost use Rattle.std.specs.Prelude.{◌≡◌, length, map, replicate, slice_set};
-ghost use Rattle.c_lines.specs.LineRecordCalls.{line_records};
-ghost use Rattle.c_lines.specs.LineRecords.{GivesLine};
+ghost use Rattle.c_lines.specs.LineRecords.{line_records, GivesLine};
 ghost use Rattle.c_lines.specs.Lines as lines;
-ghost use Rattle.c_lines.specs.NvccOutline.{nvcc_outcome};
-ghost use Rattle.c_plans.specs.Asking.{candidates_outcome, limited_lookups_outcome};
+ghost use Rattle.c_plans.specs.Asking.{candidates_outcome, limited_lookups_outcome, remap_outcome};
 ghost use Rattle.c_plans.specs.PlanSteps.{plan_steps};
 ghost use Rattle.c_plans.specs.Planning.{plan_outcome};
-ghost use Rattle.c_plans.specs.Renaming.{remap_outcome};
-ghost use Rattle.c_plans.specs.StepBuffers.{GivesSteps};
+ghost use Rattle.c_plans.specs.Steps.{GivesSteps};
 ghost use Rattle.c_texts.specs.KeyCalls.{key_outcome};
 ghost use Rattle.c_texts.specs.Memory.{bytes_of};
 ghost use Rattle.c_texts.specs.Outcomes.{GivesList, GivesText, TellsText, described, of_text};
 ghost use Rattle.c_texts.specs.ScheduleAnswers as schedule_answers;
 ghost use Rattle.c_texts.specs.ScheduleCalls as schedules;
 ghost use Rattle.c_texts.specs.Shell.{quote_outcome, split_outcome};
-ghost use Rattle.c_texts.specs.Statuses.{with_number};
-ghost use Rattle.c_texts.specs.Version as version;
+ghost use Rattle.c_texts.specs.Statuses as statuses;
 
 use c_lines::{LineAnswer, LineCall, NvccLineCall, OutputRecord};
 use c_plans::{CommandRecord, GroupRecord, PlanCall, StepRecord, StepsAnswer};
@@ -31,7 +27,7 @@ use std::alloc::Global;
 /// The number of the binary interface.
 #[unsafe(no_mangle)]
 pub extern "C" fn zigrunk_abi_version() -> u32
-    ensures { result ≡ version.abi_version }
+    ensures { result ≡ statuses.abi_version }
 {
     c_texts::abi_version()
 }
@@ -39,7 +35,7 @@ pub extern "C" fn zigrunk_abi_version() -> u32
 /// Writes the library's version.
 #[unsafe(no_mangle)]
 pub extern "C" fn zigrunk_version(out: &mut [u8]) -> TextAnswer
-    ensures { TellsText (of_text version.version_text) result out.old out.new }
+    ensures { TellsText (of_text statuses.version_text) result out.old out.new }
 {
     c_texts::version(out)
 }
@@ -47,7 +43,7 @@ pub extern "C" fn zigrunk_version(out: &mut [u8]) -> TextAnswer
 /// Writes the text of a status.
 #[unsafe(no_mangle)]
 pub extern "C" fn zigrunk_message(status: i32, out: &mut [u8]) -> TextAnswer
-    ensures { TellsText (described (with_number status)) result out.old out.new }
+    ensures { TellsText (described (statuses.with_number status)) result out.old out.new }
 {
     c_texts::message(status, out)
 }
@@ -161,7 +157,7 @@ pub extern "C" fn zigrunk_nvcc_line(
     ranges: &mut [Range],
     out: &mut [u8],
 ) -> ListAnswer
-    ensures { GivesList (nvcc_outcome call.now) result ranges.old ranges.new out.old out.new }
+    ensures { GivesList (lines.nvcc_outcome call.now) result ranges.old ranges.new out.old out.new }
 {
     c_lines::nvcc_line(alloc, call, ranges, out)
 }

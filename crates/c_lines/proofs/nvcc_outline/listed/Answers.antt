@@ -1,6 +1,6 @@
 use Rattle.std.proofs.Common.{◌∙◌}
 use Rattle.c_texts.specs.Outcomes.{with_texts}
-use Rattle.c_lines.specs.NvccOutline as spec
+use Rattle.c_lines.specs.Lines as spec
 use Rattle.c_lines.proofs.nvcc_outline.listed.Goals as goal
 
 pub returns : goal.returns

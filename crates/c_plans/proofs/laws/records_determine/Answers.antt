@@ -1,8 +1,5 @@
 use Rattle.c_plans.proofs.RecordReading.{records-read-back, records-are-one-to-one}
 use Rattle.c_plans.proofs.laws.records_determine.Goals as goal
 
-pub returns-clause-read_back : goal.returns-clause-read_back
-returns-clause-read_back c = records-read-back
-
-pub returns-clause-one_to_one : goal.returns-clause-one_to_one
-returns-clause-one_to_one c = records-are-one-to-one
+pub returns : goal.returns
+returns c = record { read_back = records-read-back; one_to_one = records-are-one-to-one }

@@ -1,6 +1,6 @@
 use Rattle.std.proofs.Common.{◌≡◌, ◌++◌, map, drop}
 use Rattle.std.specs.List.{list_all}
-use Rattle.c_plans.specs.PlanCalls.{entry_of, is_utf8_row}
+use Rattle.c_plans.specs.Acceptance.{entry_of, is_utf8_row}
 use Rattle.c_plans.proofs.plan_call.entries_of.Given as goal
 
 -- the entries so far and the rows that are left are all of them; and all are UTF-8 if those that are left are

@@ -3,7 +3,7 @@ use Rattle.texts.specs.Variables.{pair_of}
 use Rattle.c_texts.specs.Outcomes.{with_texts}
 use Rattle.c_plans.specs.Records.{Recorded, Shared, Variables, shared_first, shared_of, variable_texts}
 use Rattle.c_plans.proofs.RecordLemmas.{records-are}
-use Rattle.c_texts.proofs.TextLemmas.{mapped-length}
+use Rattle.std.proofs.lemmas.List.{length-map}
 use Rattle.c_plans.proofs.plan_entries.push_plan.Goals as goal
 
 pub returns : goal.returns
@@ -22,4 +22,4 @@ returns c =
     c.in_ok-push_commands.ensures c.in_ok-push_groups.ensures c.in_ok-push_dropped.ensures
     c.as_slice-origins.ensures (c.shared_of-variables.ensures ∙ ap shared_of (c.as_slice.ensures.value ∙ c.in_ok-commands.ensures))
     (c.as_slice-2.ensures.value ∙ c.in_ok-commands.ensures) c.as_slice-groups.ensures
-    (sym (mapped-length vec_items groups) ∙ ap length c.as_slice-groups.ensures) c.as_slice-3.ensures
+    (sym (length-map groups vec_items) ∙ ap length c.as_slice-groups.ensures) c.as_slice-3.ensures

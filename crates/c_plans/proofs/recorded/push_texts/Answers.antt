@@ -1,7 +1,6 @@
-use Rattle.std.proofs.Common.{length, sym, ◌∙◌, string_bytes}
+use Rattle.std.proofs.Common.{◌∙◌}
 use Rattle.c_plans.specs.Records.{Entry, entry_seen}
 use Rattle.c_plans.proofs.RecordLemmas.{command-texts, command-record}
-use Rattle.c_texts.proofs.TextLemmas.{mapped-length}
 use Rattle.c_plans.proofs.recorded.push_texts.Goals as goal
 
 pub returns-clause-texts : goal.returns-clause-texts
@@ -12,10 +11,8 @@ returns-clause-texts c =
 pub returns-clause-record : goal.returns-clause-record
 returns-clause-record c =
     let e : Entry = entry_seen c.args.entry in
-    let words = c.in_ok-arguments.ensures.range
-    ∙ (λ i. record { offset = length c.push-2.new.self.1.0; length = sym (mapped-length string_bytes c.args.entry.arguments.now) i }) in
     (λ i. record {
-      arguments = words i;
+      arguments = c.in_ok-arguments.ensures.range i;
       variables = c.in_ok-variables.ensures.range i;
       program = c.count-program.ensures i;
       cwd = c.count-cwd.ensures i;

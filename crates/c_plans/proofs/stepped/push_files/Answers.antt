@@ -1,6 +1,5 @@
-use Rattle.std.proofs.Common.{length, sym, ap, ◌∙◌, string_bytes}
-use Rattle.c_texts.proofs.TextLemmas.{mapped-length}
-use Rattle.c_texts.specs.Outcomes.{with_texts}
+use Rattle.std.proofs.Common.{length, ap, ◌∙◌}
+use Rattle.c_texts.specs.Outcomes.{list_at, with_texts}
 use Rattle.c_plans.specs.Steps.{Extra, extra_seen}
 use Rattle.c_plans.proofs.StepLemmas.{file-texts-are, step-record-is}
 use Rattle.c_plans.proofs.stepped.push_files.Goals as goal
@@ -15,22 +14,11 @@ returns-clause-texts c =
 pub returns-clause-record : goal.returns-clause-record
 returns-clause-record c =
     let e : Extra = extra_seen c.args.extra in
-    let reads = sym (mapped-length string_bytes c.as_slice.result.now) ∙ ap length c.as_slice.ensures in
-    let writes = sym (mapped-length string_bytes c.as_slice-2.result.now) ∙ ap length c.as_slice-2.ensures in
-    let may_write = sym (mapped-length string_bytes c.as_slice-3.result.now) ∙ ap length c.as_slice-3.ensures in
     (λ i. record {
       needs = c.args.needs;
-      reads = c.in_ok-reads.ensures.range i;
-      writes = c.in_ok-writes.ensures.range i;
-      may_write = c.in_ok-may_write.ensures.range i;
-      tool = e.tool;
-      missing = e.missing;
-    })
-    ∙ (λ i. record {
-      needs = c.args.needs;
-      reads = record { offset = length c.args.texts.now.1.0; length = reads i };
-      writes = record { offset = length c.push_list.new.self.1.0; length = writes i };
-      may_write = record { offset = length c.push_list-2.new.self.1.0; length = may_write i };
+      reads = (c.in_ok-reads.ensures.range ∙ ap (list_at (length c.args.texts.now.1.0)) c.as_slice.ensures) i;
+      writes = (c.in_ok-writes.ensures.range ∙ ap (list_at (length c.push_list.new.self.1.0)) c.as_slice-2.ensures) i;
+      may_write = (c.in_ok-may_write.ensures.range ∙ ap (list_at (length c.push_list-2.new.self.1.0)) c.as_slice-3.ensures) i;
       tool = e.tool;
       missing = e.missing;
     })

@@ -1,6 +1,7 @@
-use Rattle.std.proofs.Common.{◌≡◌, ◌∷◌, [], ◌++◌, List, suc, map, refl, ap, subst, ◌∙◌, arith, add-one, IsPermutation, IsSorted, Result, IfOk}
+use Rattle.std.proofs.Common.{◌≡◌, ◌∷◌, [], ◌++◌, List, suc, map, ap, subst, ◌∙◌, arith, add-one, IsPermutation, IsSorted, Result, IfOk}
 use Rattle.std.specs.Vec.Iter.{into_iter_items}
 use Rattle.compilers.specs.CommandLines.{CommandLine, line_of}
+use Rattle.std.proofs.lemmas.List.{map-append}
 use Rattle.std.proofs.lemmas.List.Sorted.{IsPermutation-map}
 use Rattle.command_groups.specs.declared.merged_commands.SelectedCommand.{SelectedCommand}
 use Rattle.command_groups.specs.contracts.merged_commands.SelectedCommandOrd.TheImpl as compared
@@ -16,10 +17,6 @@ neighbours (x ∷ []) s = tt
 neighbours (x ∷ y ∷ ys) s =
     (not_greater (command_seen x) (command_seen y) _ (s 0 x (omega arith) (omega arith)), neighbours (y ∷ ys) (λ k d p q. rw add-one (rw add-one at (s (suc k) d (omega arith) (omega arith)))))
 
-mapped : (xs ys : List SelectedCommand) → map command_seen (xs ++ ys) ≡ map command_seen xs ++ map command_seen ys
-mapped [] ys = refl
-mapped (x ∷ xs) ys = ap (λ zs. command_seen x ∷ zs) (mapped xs ys)
-
 -- the commands of both runs, once they are sorted
 all_merged : (first second : List CommandLine) (tools others commands sorted : List SelectedCommand) → Rises (map line_of first) → Rises (map line_of second) →
     map command_seen tools ≡ map (spec.of_run 1) (spec.selected spec.is_nvcc_stem first) → map command_seen others ≡ map (spec.of_run 2) (spec.selected spec.is_host_stem second) →
@@ -27,7 +24,7 @@ all_merged : (first second : List CommandLine) (tools others commands sorted : L
     (map command_seen sorted ≡ spec.merged first second) × RisesInOrder (map command_seen sorted)
 all_merged first second tools others commands sorted h k e f g p s =
     let same : map command_seen commands ≡ map (spec.of_run 1) (spec.selected spec.is_nvcc_stem first) ++ map (spec.of_run 2) (spec.selected spec.is_host_stem second) =
-    ap (map command_seen) g ∙ mapped tools others ∙ (λ i. e i ++ f i) in
+    ap (map command_seen) g ∙ map-append command_seen tools others ∙ (λ i. e i ++ f i) in
     merged_once first second (map command_seen sorted) h k
     (subst (λ xs. IsPermutation xs (map command_seen sorted)) same (IsPermutation-map command_seen commands sorted p))
     (ordered_by_neighbours (map command_seen sorted) (neighbours sorted s))

@@ -1,5 +1,5 @@
 use Rattle.cuda_plans.specs.NvccPlan.{planned}
-use Rattle.cuda_plans.proofs.ExecutionLemmas.{nothing-ran}
+use Rattle.cuda_plans.proofs.RunningLemmas.{nothing-ran}
 use Rattle.cuda_plans.proofs.execution.execute.Goals as goal
 
 pub returns-in_err-plan : goal.returns-in_err-plan

@@ -1,5 +1,4 @@
-use Rattle.std.proofs.Common.{◌≡◌, ◌∙◌, sym, rules, tests}
-use Rattle.std.specs.List.{list_all}
+use Rattle.std.proofs.Common.{◌∙◌, sym, rules, tests}
 use Rattle.std.proofs.lemmas.List.Folds.{list_all-map}
 use Rattle.std.proofs.lemmas.Iterator.{YieldsList-from_slice}
 use Rattle.std.proofs.lemmas.Iterator.Search.{all_from_yields_List}
@@ -9,6 +8,5 @@ use Rattle.cuda_plans.proofs.shadow.are_bare.Goals as goal
 
 pub returns : goal.returns
 returns c =
-    let all : c.all.result ≡ list_all (λ x. is_bare (name_shown x)) c.args.names.now =
-    all_from_yields_List (λ x. is_bare (name_shown x)) _ _ c.all.result c.all.ensures.ran (YieldsList-from_slice c.args.names.now (search rules)) (λ x b q k. search (rules, tests)) in
-    all ∙ sym (list_all-map (is_bare) name_shown c.args.names.now)
+    all_from_yields_List (λ x. is_bare (name_shown x)) _ _ c.all.result c.all.ensures.ran (YieldsList-from_slice c.args.names.now (search rules)) (λ x b q k. search (rules, tests))
+    ∙ sym (list_all-map is_bare name_shown c.args.names.now)

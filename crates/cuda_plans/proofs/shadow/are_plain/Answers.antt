@@ -1,5 +1,4 @@
-use Rattle.std.proofs.Common.{◌≡◌, ◌∙◌, sym, rules, codes, tests}
-use Rattle.std.specs.List.{list_all}
+use Rattle.std.proofs.Common.{◌∙◌, sym, rules, codes, tests}
 use Rattle.std.proofs.lemmas.List.Folds.{list_all-map}
 use Rattle.std.proofs.lemmas.Iterator.{YieldsList-from_slice}
 use Rattle.std.proofs.lemmas.Iterator.Search.{all_from_yields_List}
@@ -11,6 +10,5 @@ use Rattle.cuda_plans.proofs.shadow.are_plain.Goals as goal
 pub returns : goal.returns
 returns c =
     let commands = c.args.commands.now in
-    let all : c.all.result ≡ list_all (λ x. is_plain_output (word_after (codes "-o") (words_of_command (line_seen x)))) commands =
-    all_from_yields_List (λ x. is_plain_output (word_after (codes "-o") (words_of_command (line_seen x)))) _ _ c.all.result c.all.ensures.ran (YieldsList-from_slice commands (search rules)) (λ x b q k. search (rules, tests)) in
-    all ∙ sym (list_all-map (λ command. is_plain_output (word_after (codes "-o") (words_of_command command))) line_seen commands)
+    all_from_yields_List (λ x. is_plain_output (word_after (codes "-o") (words_of_command (line_seen x)))) _ _ c.all.result c.all.ensures.ran (YieldsList-from_slice commands (search rules)) (λ x b q k. search (rules, tests))
+    ∙ sym (list_all-map (λ command. is_plain_output (word_after (codes "-o") (words_of_command command))) line_seen commands)

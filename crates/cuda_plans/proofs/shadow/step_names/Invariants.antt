@@ -2,7 +2,7 @@ use Rattle.std.proofs.Common.{◌≡◌, ◌++◌, map, filter, drop}
 use Rattle.texts.specs.DeviceFiles.{is_cicc_word}
 use Rattle.compilers.specs.CommandLines.{line_seen}
 use Rattle.canonical_names.specs.Shown.{name_shown}
-use Rattle.cuda_plans.specs.StepShadow.{step_names}
+use Rattle.cuda_plans.specs.Shadow.{step_names}
 use Rattle.cuda_plans.proofs.shadow.step_names.Given as goal
 
 abbrev pub invariant-loop-name : goal.invariant-loop-name

@@ -1,5 +1,8 @@
-use Rattle.plan_json.proofs.JsonExampleProofs.{json_of_cicc}
+use Rattle.std.proofs.Common.{refl}
+use Rattle.std.specs.Fmt.{digits}
+use Rattle.serde_json.proofs.OnLiterals.{serde_json_on_literals}
 use Rattle.plan_json.proofs.laws.worked_json.Goals as goal
 
 pub returns : goal.returns
-returns c = json_of_cicc
+unfolding serde_json_on_literals digits
+returns c = refl

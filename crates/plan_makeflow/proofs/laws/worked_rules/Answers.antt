@@ -1,5 +1,7 @@
-use Rattle.plan_makeflow.specs.RuleExamples.{rules_of_object, lines_of_cicc}
+use Rattle.std.proofs.Common.{refl}
+use Rattle.std.specs.Str.{chars, is_utf8}
 use Rattle.plan_makeflow.proofs.laws.worked_rules.Goals as goal
 
-pub returns : goal.returns
-returns c = record { rules_of_object = rules_of_object; lines_of_cicc = lines_of_cicc }
+pub returns-clause-lines_of_cicc : goal.returns-clause-lines_of_cicc
+unfolding chars is_utf8 lib.Utf8.encode
+returns-clause-lines_of_cicc c = (refl, refl)

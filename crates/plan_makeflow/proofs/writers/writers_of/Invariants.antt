@@ -1,5 +1,5 @@
 use Rattle.std.proofs.Common.{◌≡◌, drop}
-use Rattle.plan_makeflow.specs.Writers.{writers_seen, with_writers, writers_of}
+use Rattle.plan_makeflow.specs.Rules.{writers_seen, with_writers, writers_of}
 use Rattle.plan_makeflow.proofs.writers.writers_of.Given as goal
 
 -- what the commands that are left add is what all commands add

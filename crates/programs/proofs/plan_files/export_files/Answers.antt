@@ -1,6 +1,6 @@
 use Rattle.std.proofs.Common.{inr, rules}
 use Rattle.programs.specs.Calls.{export_of}
-use Rattle.programs.specs.PlanFiles.{ExportsBytes}
+use Rattle.programs.specs.Exports.{ExportsBytes}
 use Rattle.programs.proofs.ReadLemmas.{both_read}
 use Rattle.programs.proofs.plan_files.export_files.Goals as goal
 

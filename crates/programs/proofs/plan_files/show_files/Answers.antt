@@ -1,6 +1,6 @@
 use Rattle.std.proofs.Common.{inr, rules}
 use Rattle.programs.specs.Operands.{plan_of}
-use Rattle.programs.specs.PlanFiles.{ShowsBytes}
+use Rattle.programs.specs.Exports.{ShowsBytes}
 use Rattle.programs.proofs.ReadLemmas.{both_read}
 use Rattle.programs.proofs.plan_files.show_files.Goals as goal
 

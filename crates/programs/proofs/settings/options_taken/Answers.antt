@@ -1,4 +1,4 @@
-use Rattle.std.proofs.Common.{◌≡◌, ◌∙◌, ℕ, List, [], ◌∷◌, Option, None, map, string_bytes, option_map, drop, sym, ap, refl, subst}
+use Rattle.std.proofs.Common.{◌≡◌, ◌∙◌, ℕ, List, [], ◌∷◌, None, map, string_bytes, option_map, drop, sym, ap, refl, subst}
 use Rattle.std.proofs.lemmas.List.{drop_all}
 use Rattle.programs.specs.Settings.{rest_seen, option_taken, options_taken, taken_within}
 use Rattle.programs.specs.declared.settings.Settings.{Settings}

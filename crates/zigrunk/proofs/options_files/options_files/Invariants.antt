@@ -1,5 +1,5 @@
 use Rattle.compilers.specs.Calls.{nvcc_of}
-use Rattle.zigrunk.specs.OptionsFiles.{AreHeld}
+use Rattle.zigrunk.specs.Endings.{AreHeld}
 use Rattle.zigrunk.proofs.options_files.options_files.Given as goal
 
 -- the files so far are held

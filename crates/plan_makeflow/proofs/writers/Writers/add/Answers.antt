@@ -1,7 +1,7 @@
 use Rattle.std.proofs.Common.{◌≡◌, arith}
 use Rattle.std.proofs.lemmas.Map.Text.{text_keys}
 use Rattle.command_files.specs.Touched.{with_number}
-use Rattle.plan_makeflow.specs.Writers.{writers_seen}
+use Rattle.plan_makeflow.specs.Rules.{writers_seen}
 use Rattle.plan_makeflow.proofs.writers.Writers.add.Goals as goal
 
 pub returns : goal.returns

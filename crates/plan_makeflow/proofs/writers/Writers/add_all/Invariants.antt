@@ -1,6 +1,6 @@
 use Rattle.std.proofs.Common.{◌≡◌, map, string_bytes, drop}
 use Rattle.command_files.specs.Touched.{with_numbers}
-use Rattle.plan_makeflow.specs.Writers.{writers_seen}
+use Rattle.plan_makeflow.specs.Rules.{writers_seen}
 use Rattle.plan_makeflow.proofs.writers.Writers.add_all.Given as goal
 
 -- what the paths that are left add is what all paths add
