@@ -475,7 +475,10 @@ static void try_line(zigrunk_line_call *it) {
         GIVE(&written, words, at, words.count);
         answer said_again = ask(asks_line, &written, 0), words_again = ask(call_line_words, &written, 0);
         holds(!said_again.out || are_same(&said_again, &said), "a line that was written back has the same texts");
-        holds(!said_again.out || memcmp(&told, &read_line.told, sizeof told) == 0, "a line that was written back has the same record");
+        /* by its parts, since the whole answer has bytes between its numbers that say nothing */
+        int same = told.status == read_line.told.status && told.outputs == read_line.told.outputs && told.ranges == read_line.told.ranges
+            && told.length == read_line.told.length && memcmp(&told.line, &read_line.told.line, sizeof told.line) == 0;
+        holds(!said_again.out || same, "a line that was written back has the same record");
         holds(!said_again.out || memcmp(outputs, read_line.outputs, sizeof outputs) == 0, "a line that was written back has the same outputs");
         holds(!words_again.out || are_same(&words_again, &words), "a line that was written back is written so again");
         release(said_again);
