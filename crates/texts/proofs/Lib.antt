@@ -1,6 +1,5 @@
 pub mod CutLemmas
 pub mod EqualityLemmas
-pub mod ExtensionLemmas
 pub mod ListLemmas
 pub mod NumeralLemmas
 pub mod PathLaw
@@ -9,7 +8,6 @@ pub mod PosixLemmas
 pub mod PushedLemmas
 pub mod RestLemmas
 pub mod ShellCompleteLemmas
-pub mod ShellLawLemmas
 pub mod ShellQuotingLemmas
 pub mod ShellSoundLemmas
 pub mod ShellSpanLemmas

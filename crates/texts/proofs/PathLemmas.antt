@@ -1,11 +1,14 @@
 -- Facts about the ends of texts, which are read backwards.
-use Rattle.std.proofs.Common.{◌≡◌, ◌≢◌, ℕ, ◌<◌, ◌-◌, suc, Bool, true, false, not, ◌&&◌, eqb, eq-eqb, eqb-true, ne_eqb, List, [], ◌∷◌, ◌++◌, Option, Some, None, MatchOption, refl, ap, sym, ◌∙◌, subst, get_or, length, reverse, nat_eq, arith, append_assoc, append-nil}
+use Rattle.std.proofs.Common.{◌≡◌, ◌≢◌, ℕ, ◌<◌, ◌-◌, suc, Bool, true, false, not, ◌&&◌, eqb, eq-eqb, eqb-true, ne_eqb, List, [], ◌∷◌, ◌++◌, Option, Some, None, MatchOption}
+use Rattle.std.proofs.Common.{Bor, refl, ap, sym, ◌∙◌, subst, get_or, length, take, drop, reverse, nat_eq, arith, append_assoc, append-nil, take-append-drop, option_map}
 use Rattle.std.specs.List.{ends_with, list_any}
+use Rattle.std.specs.Str.Pattern.{RFindsChar, SplitsAroundMatch}
+use Rattle.std.proofs.lemmas.Str.Pattern.{NoCharPasses-char, drop_at_char}
 use Rattle.std.proofs.lemmas.List.{reverse-append, reverse-reverse, length-append}
 use Rattle.std.proofs.lemmas.Grind.{reverse_onto}
 use Rattle.std.proofs.lemmas.Bool.{false≢true, and_parts}
 use Rattle.std.proofs.Math.Seq.{drop-append_seam}
-use Rattle.texts.specs.Extension.{split_at_last}
+use Rattle.texts.specs.Extension.{parts_of, split_at_last}
 use Rattle.texts.specs.Path.{is_absolute_path, lacks, through_last_byte, trimmed, is_idle, folder_of}
 
 -- a test that isn't true is false
@@ -45,10 +48,6 @@ ends_slash text = ap (λ t. ends_with nat_eq t (47 ∷ [])) (sym (reverse-revers
 -- a `/` at the end goes, unless it is the root that is kept
 trimmed-slash_before : (keeps_root : Bool) (before : List ℕ) → (keeps_root ≡ true → before ≢ []) → trimmed (is_idle keeps_root) (47 ∷ before) ≡ trimmed (is_idle keeps_root) before
 trimmed-slash_before keeps_root before some = grind arith
-
--- a `.` right after a `/` goes
-trimmed-dot_before : (keeps_root : Bool) (before : List ℕ) → is_absolute_path before ≡ true → trimmed (is_idle keeps_root) (46 ∷ before) ≡ trimmed (is_idle keeps_root) before
-trimmed-dot_before keeps_root before e = grind (arith, false≢true)
 
 -- a text that ends in neither stays
 pub trimmed-stays_before : (keeps_root : Bool) (c : ℕ) (before : List ℕ) → eqb c 47 ≡ false → (eqb c 46 && is_absolute_path before) ≡ false → trimmed (is_idle keeps_root) (c ∷ before) ≡ c ∷ before
@@ -98,6 +97,14 @@ split-bare byte (c ∷ cs) h = let parts = and_parts (not (eqb c byte)) (lacks b
 pub split-at : (byte : ℕ) (front back : List ℕ) → lacks byte back ≡ true → split_at_last byte (front ++ byte ∷ back) ≡ Some (front, back)
 split-at byte [] back h = rw (split-bare byte back h, eq-eqb byte byte refl) refl
 split-at byte (c ∷ cs) back h = rw (split-at byte cs back h) refl
+
+-- what splitting a text at the last place of an ASCII character answers
+pub split_at_last-split : (mark : ℕ) (s : List ℕ) (r : Option (Bor (List ℕ) × Bor (List ℕ))) → MatchOption r (RFindsChar mark s None) (λ x. SplitsAroundMatch (RFindsChar mark) s x.0.now x.1.now) → mark < 128 → option_map parts_of r ≡ split_at_last mark s
+split_at_last-split mark s None h low = sym (split-bare mark s (lacks-places mark s (λ i l. NoCharPasses-char mark s i h low l)))
+split_at_last-split mark s (Some x) h low =
+    let after : lacks mark (drop h.1 s) ≡ true = lacks-places mark (drop h.1 s) (λ i l. NoCharPasses-char mark (drop h.1 s) i h.2.0 low l) in
+    let whole : s ≡ take h.0 s ++ mark ∷ drop h.1 s = sym (take-append-drop h.0 s) ∙ ap (λ l. take h.0 s ++ l) (drop_at_char mark s h.0 h.1 h.2.1 low) in
+    grind (arith, split-at)
 
 -- what the two parts of a text are
 abbrev Parts : ℕ → List ℕ → Option (List ℕ × List ℕ) → Type 0

@@ -1,5 +1,5 @@
 -- A text that was pushed to, one part after the other.
-use Rattle.std.proofs.Common.{◌≡◌, ℕ, suc, ◌+◌, ◌<◌, List, [], ◌∷◌, ◌++◌, map, length, drop, drop-cons, get_or, add-one, append_assoc, arith, refl, ap, sym, ◌∙◌, Result, Ok, Err, OnOk, is_ok, if◌then◌else◌}
+use Rattle.std.proofs.Common.{◌≡◌, ℕ, suc, ◌+◌, ◌<◌, List, ◌∷◌, ◌++◌, length, drop, drop-cons, get_or, add-one, append_assoc, arith, refl, ap, sym, ◌∙◌, Result, Ok, Err, OnOk, is_ok, if◌then◌else◌}
 
 -- what stands behind a pushed part stands behind that part and the text before it
 pub pushed : (before part after rest : List ℕ) → after ≡ before ++ part → after ++ rest ≡ before ++ (part ++ rest)
@@ -17,18 +17,6 @@ on-ok r new long short e = grind arith
 -- what stands behind pushed items, as for texts
 pub pushed-items : {X : Type 0} (before part after rest : List X) → after ≡ before ++ part → after ++ rest ≡ before ++ (part ++ rest)
 pushed-items before part after rest e = ap (λ t. t ++ rest) e ∙ append_assoc before part rest
-
-mapped-length : {X Y : Type 0} (f : X → Y) (xs : List X) → length (map f xs) ≡ length xs
-mapped-length f [] = refl
-mapped-length f (x ∷ xs) = ap suc (mapped-length f xs)
-
-pushed-length : {Y : Type 0} (ys : List Y) (y : Y) → length (ys ++ y ∷ []) ≡ length ys + 1
-pushed-length [] y = omega arith
-pushed-length (x ∷ ys) y = omega (arith, pushed-length ys y)
-
--- a list, seen item by item, is one longer once one item is pushed
-pub one-longer : {X Y : Type 0} (f : X → Y) (before after : List X) (item : Y) → map f after ≡ map f before ++ item ∷ [] → length after ≡ length before + 1
-one-longer f before after item e = grind (arith, mapped-length, pushed-length)
 
 -- what is left at an element is that element and what is left behind it
 pub next-left : {X : Type 0} (xs : List X) (i : ℕ) (item : X) → i < length xs → item ≡ get_or xs i item → drop i xs ≡ item ∷ drop (i + 1) xs

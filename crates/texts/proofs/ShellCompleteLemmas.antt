@@ -1,11 +1,12 @@
--- The words that a text is split into are those that the grammar gives it.
-use Rattle.std.proofs.Common.{ℕ, List, [], ◌∷◌, ◌++◌, ◌≡◌, ◌≢◌, refl, sym, ap, ◌∙◌, subst, append-nil, append_assoc, Some, true, false, ◌==◌, arith}
+-- The words that a text is split into are those that the grammar gives it, and a text has no other ones.
+use Rattle.std.proofs.Common.{ℕ, List, [], ◌∷◌, ◌++◌, ◌≡◌, ◌≢◌, refl, sym, ap, ◌∙◌, subst, append-nil, append_assoc, map, Option, Some, None, MatchOption, option_map, true, false, ◌==◌, arith, encode_utf8_all, chars}
 use Rattle.std.proofs.lemmas.Bool.{cond_both, eqb-true, eqb-false}
 use Rattle.texts.specs.declared.shell.splitting.State.{State}
 use Rattle.texts.specs.declared.shell.splitting.State.TheVariants.{Between, Comment, Word, Escaped, SingleQuoted, DoubleQuoted, EscapedInQuotes}
-use Rattle.texts.specs.Shell.{newline, hash, backslash, single_quote, double_quote, is_blank, is_escapable, HasNone, blank, comment, IsInnerPiece, inner_bare, inner_escaped, inner_joined, inner_kept, IsInside, inside_end, inside_more, IsPiece, bare, escaped, joined, single_quoted, double_quoted, IsPieces, pieces_end, pieces_more, IsWord, word, IsText, text_end, text_gap, text_comment, text_word, text_words}
+use Rattle.texts.specs.Shell.{newline, hash, backslash, single_quote, double_quote, is_blank, is_escapable, HasNone, blank, comment, IsInnerPiece, inner_bare, inner_escaped, inner_joined, inner_kept, IsInside, inside_end, inside_more, IsPiece, bare, escaped, joined, single_quoted, double_quoted, IsPieces, pieces_end, pieces_more, IsWord, word, IsText, HasWords, HasNoWords, text_end, text_gap, text_comment, text_word, text_words}
 use Rattle.texts.specs.Shell.Splitting.{Effect, begins_piece, reads_between, reads_comment, reads_word, reads_escaped, reads_single_quoted, reads_double_quoted, reads_escaped_in_quotes, reads, prepend, with_effect, words_at_end, words_from, split_chars}
 use Rattle.texts.proofs.ShellSplittingLemmas.{prepend-nil}
+use Rattle.texts.proofs.ShellSoundLemmas.{words_of_text}
 
 -- ---- what the rest of a text is, in each state
 
@@ -286,3 +287,18 @@ rest_is (c ∷ cs) state words is = grind (arith, step, (rest_is cs (reads state
 
 pub text_of_words : (cs : List ℕ) (words : List (List ℕ)) → split_chars cs ≡ Some words → IsText cs words
 text_of_words cs words is = rest_is cs Between words is
+
+-- ---- the laws
+
+pub one_list_lem : (cs : List ℕ) (first second : List (List ℕ)) → IsText cs first → IsText cs second → first ≡ second
+one_list_lem cs first second is also = grind (arith, words_of_text)
+
+no_text : (cs : List ℕ) (words : List (List ℕ)) → split_chars cs ≡ None → ¬ IsText cs words
+no_text cs words none is = let both : None ≡ Some words = sym none ∙ words_of_text cs words is in absurd cc
+
+pub computed_words_lem : (cs : List ℕ) → MatchOption (split_chars cs) ((words : List (List ℕ)) → ¬ IsText cs words) (IsText cs)
+computed_words_lem cs = grind (arith, no_text, text_of_words)
+
+-- what was found is what the grammar says
+pub words_from_value : {V : Type 0} (bytes : V → List (List ℕ)) (text : List ℕ) (found : Option V) → option_map bytes found ≡ option_map (map encode_utf8_all) (split_chars (chars text)) → MatchOption found (HasNoWords text) (λ v. HasWords text (bytes v))
+words_from_value bytes text found same = grind (arith, no_text, text_of_words)

@@ -1,5 +1,6 @@
 -- What the number that Unix says of a process tells: an exit code or a signal.
-use Rattle.std.proofs.Common.{◌≡◌, ℕ, ◌-◌, ◌/◌, ◌%◌, ◌==◌, Bool, false, ◌||◌, if◌then◌else◌, Option, Some, None, ℤ, pos, negsuc, refl}
+use Rattle.std.proofs.Common.{ℕ, [], ◌∷◌, ◌-◌, ◌/◌, ◌%◌, ◌==◌, Bool, false, ◌||◌, if◌then◌else◌, Option, Some, None, ℤ, pos, negsuc, refl}
+use Rattle.texts.specs.Rows.{Gives}
 use Rattle.texts.specs.Status.{status_of_code}
 
 -- the number of a process that a signal ended: the signal's own
@@ -29,31 +30,21 @@ code_of_status status = if low_bits status == 0 then Some (pos (code_bits status
 abbrev pub signal_of_status : ℤ → Option ℤ
 signal_of_status status = if (low_bits status == 0) || (low_bits status == 127) then None else Some (pos (low_bits status))
 
--- examples: an exit code below 0 counts by its low byte; a signal, with the bit of a core dump too, leaves no code; a
--- stopped process has neither
-pub code_of_minus_two : code_of_status (status_of_code (negsuc 1)) ≡ Some (pos 254)
-code_of_minus_two = refl
+-- examples: an exit code below 0 counts by its low byte; a signal leaves no code; a stopped process has none
+pub codes_of_statuses : Gives code_of_status (
+    (status_of_code (negsuc 1), Some (pos 254))
+    ∷ (status_of_signal (pos 9), None)
+    ∷ (pos 4991, None)
+    ∷ (negsuc 127, Some (pos 255))
+    ∷ [])
+codes_of_statuses = refl
 
-pub no_signal_of_minus_two : signal_of_status (status_of_code (negsuc 1)) ≡ None
-no_signal_of_minus_two = refl
-
-pub signal_of_nine : signal_of_status (status_of_signal (pos 9)) ≡ Some (pos 9)
-signal_of_nine = refl
-
-pub no_code_of_nine : code_of_status (status_of_signal (pos 9)) ≡ None
-no_code_of_nine = refl
-
-pub signal_of_a_core_dump : signal_of_status (pos 139) ≡ Some (pos 11)
-signal_of_a_core_dump = refl
-
-pub no_signal_of_a_stopped_process : signal_of_status (pos 4991) ≡ None
-no_signal_of_a_stopped_process = refl
-
-pub no_code_of_a_stopped_process : code_of_status (pos 4991) ≡ None
-no_code_of_a_stopped_process = refl
-
-pub signal_below_nothing : signal_of_status (negsuc 120) ≡ Some (pos 7)
-signal_below_nothing = refl
-
-pub code_below_nothing : code_of_status (negsuc 127) ≡ Some (pos 255)
-code_below_nothing = refl
+-- examples: an exit code has no signal, nor has a stopped process; the bit of a core dump doesn't count
+pub signals_of_statuses : Gives signal_of_status (
+    (status_of_code (negsuc 1), None)
+    ∷ (status_of_signal (pos 9), Some (pos 9))
+    ∷ (pos 139, Some (pos 11))
+    ∷ (pos 4991, None)
+    ∷ (negsuc 120, Some (pos 7))
+    ∷ [])
+signals_of_statuses = refl

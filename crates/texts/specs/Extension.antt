@@ -1,6 +1,7 @@
 -- The extension of a text that is a path. The bytes 46 and 47 are `.` and `/`.
-use Rattle.std.specs.Prelude.{◌≡◌, ℕ, List, [], ◌∷◌, ◌++◌, ◌==◌, if◌then◌else◌, Option, Some, None, refl, codes}
+use Rattle.std.specs.Prelude.{ℕ, List, [], ◌∷◌, ◌++◌, ◌==◌, if◌then◌else◌, Option, Some, None, refl, codes}
 use Rattle.std.specs.Option.{option_map_or}
+use Rattle.texts.specs.Rows.{Gives}
 use denote.Ref.{Bor}
 
 -- the texts of two parts
@@ -49,26 +50,14 @@ abbrev pub with_extension : List ℕ → List ℕ → List ℕ
 with_extension path extension = ((front_of path ++ stem_of (last_part path)) ++ 46 ∷ []) ++ extension
 
 -- examples: the last `.` of the last part counts, a `.` that comes first doesn't, and a folder's doesn't
-pub replaces_the_last_extension : with_extension (codes "a/b.tar.c") (codes "o") ≡ codes "a/b.tar.o"
-replaces_the_last_extension = refl
+pub paths_with_extension : Gives (λ (p : List ℕ × List ℕ). with_extension p.0 p.1) (
+    ((codes "a/b.tar.c", codes "o"), codes "a/b.tar.o")
+    ∷ ((codes "w/.c", codes "o"), codes "w/.c.o")
+    ∷ ((codes "a.b/c", codes "o"), codes "a.b/c.o")
+    ∷ ((codes "..c", codes "o"), codes "..o")
+    ∷ ((codes "a/", codes "d"), codes "a/.d")
+    ∷ [])
+paths_with_extension = refl
 
-pub keeps_a_leading_dot : with_extension (codes "w/.c") (codes "o") ≡ codes "w/.c.o"
-keeps_a_leading_dot = refl
-
-pub keeps_a_folder_with_a_dot : with_extension (codes "a.b/c") (codes "o") ≡ codes "a.b/c.o"
-keeps_a_folder_with_a_dot = refl
-
-pub cuts_a_second_dot : with_extension (codes "..c") (codes "o") ≡ codes "..o"
-cuts_a_second_dot = refl
-
-pub adds_to_nothing : with_extension (codes "a/") (codes "d") ≡ codes "a/.d"
-adds_to_nothing = refl
-
-pub has_the_last_extension : extension_of (codes "a/b.tar.c") ≡ Some (codes "c")
-has_the_last_extension = refl
-
-pub has_an_empty_extension : extension_of (codes "b.") ≡ Some []
-has_an_empty_extension = refl
-
-pub has_no_extension : extension_of (codes "a.b/.c") ≡ None
-has_no_extension = refl
+pub extensions : Gives extension_of ((codes "a/b.tar.c", Some (codes "c")) ∷ (codes "b.", Some []) ∷ (codes "a.b/.c", None) ∷ [])
+extensions = refl

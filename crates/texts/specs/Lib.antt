@@ -15,4 +15,3 @@ pub mod Rows
 pub mod Shell
 pub mod Status
 pub mod Variables
-pub mod VariablesView

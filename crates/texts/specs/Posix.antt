@@ -27,28 +27,20 @@ pub data Role : Type 0 where
   Equals : Role
   Plain : Role
 
--- `&`, `|`, `;` or `(`
-abbrev pub is_opening : ℕ → Bool
-is_opening c = (c == 38) || (c == 124) || (c == 59) || (c == 40)
-
 -- `$` or a backtick
 abbrev pub is_expanding : ℕ → Bool
 is_expanding c = (c == 36) || (c == 96)
-
--- `*`, `?`, `[`, `{`, `}`, `<` or `>`
-abbrev pub is_pattern_or_redirection : ℕ → Bool
-is_pattern_or_redirection c = (c == 42) || (c == 63) || (c == 91) || (c == 123) || (c == 125) || (c == 60) || (c == 62)
 
 abbrev pub role_of : ℕ → Role
 role_of c =
     if (c == 32) || (c == 9) then Blank else
     if (c == newline) || (c == 41) then Lone else
-    if is_opening c then Opening else
+    if (c == 38) || (c == 124) || (c == 59) || (c == 40) then Opening else
     if c == backslash then Backslash else
     if c == single_quote then SingleQuote else
     if c == double_quote then DoubleQuote else
     if is_expanding c then Acting else
-    if is_pattern_or_redirection c then Acting else
+    if (c == 42) || (c == 63) || (c == 91) || (c == 123) || (c == 125) || (c == 60) || (c == 62) then Acting else
     if (c == hash) || (c == 126) then Leading else
     if c == 61 then Equals else Plain
 

@@ -1,7 +1,9 @@
 //! Bytes that a process writes.
 
-ghost use Rattle.std.specs.Prelude.{◌≡◌, ◌==◌, [], length, IfOk};
+ghost use Rattle.std.specs.Prelude.{◌≡◌, ◌==◌, [], List, ℕ, length, IfOk};
 ghost use Rattle.std.specs.Slice.Iter.{iter_rest};
+ghost use Rattle.std.specs.Str.{bytes_eq};
+ghost use Rattle.texts.specs.Equality.{bytes_law};
 
 use std::alloc::{AllocError, Global};
 use std::marker::Model;
@@ -16,8 +18,6 @@ pub struct Bytes {
 }
 
 impl Model for Bytes {
-    ghost use Rattle.std.specs.Prelude.{List, ℕ};
-
     ghost Value = { List ℕ };
 
     ghost view = { λ b. b.bytes.items };
@@ -105,9 +105,6 @@ impl<'a> IntoIterator for &'a Bytes {
 }
 
 impl PartialEq for Bytes {
-    ghost use Rattle.std.specs.Str.{bytes_eq};
-    ghost use Rattle.texts.specs.Equality.{bytes_law};
-
     ghost eq = { bytes_eq };
 
     ghost laws = { bytes_law };

@@ -1,6 +1,6 @@
 //! What can go wrong with a line, a plan or a run of it.
 
-ghost use Rattle.std.specs.Prelude.{◌≡◌, IfOk, MatchResult, string_bytes, Some};
+ghost use Rattle.std.specs.Prelude.{◌≡◌, IfOk, string_bytes, Some};
 ghost use Rattle.texts.specs.declared.fault.Fault.TheVariants.{Memory};
 ghost use Rattle.texts.specs.Fault.{message_of};
 
@@ -73,9 +73,6 @@ pub enum Fault {
 }
 
 impl fmt::Display for Fault {
-    ghost use Rattle.std.specs.Prelude.{Some};
-    ghost use Rattle.texts.specs.Fault.{message_of};
-
     ghost output = { λ f. Some (message_of f) };
 
     fn fmt<W: fmt::Write>(&self, f: &mut fmt::Formatter<W>) -> fmt::Result {
@@ -84,13 +81,9 @@ impl fmt::Display for Fault {
             Fault::BadShell { .. } => f.write_str("Could not parse shell line"),
             Fault::EmptyCommand { .. } => f.write_str("Could not split shell line"),
             Fault::NoPath { run, line } => write!(f, "run {run} line {line}: no PATH"),
-            Fault::NotFound { program } => {
-                let program = program.as_str();
-                write!(f, "{program}: not found")
-            }
+            Fault::NotFound { program } => write!(f, "{program}: not found"),
             Fault::MissingOutput { language } => {
-                let language = language.as_str();
-                write!(f, "Missing \"{language}\" file output")
+                write!(f, "Missing \"{}\" file output", language.as_str())
             }
             Fault::NoFileName => f.write_str("output has no file name"),
             Fault::KeepDirValue => f.write_str("keep directory without a value"),
@@ -108,9 +101,6 @@ impl fmt::Display for Fault {
 impl Error for Fault {}
 
 impl From<AllocError> for Fault {
-    ghost use Rattle.std.specs.Prelude.{◌≡◌};
-    ghost use Rattle.texts.specs.declared.fault.Fault.TheVariants.{Memory};
-
     ghost from_gives = { λ _ e. e ≡ Memory };
 
     fn from(_error: AllocError) -> Fault {
@@ -119,9 +109,6 @@ impl From<AllocError> for Fault {
 }
 
 impl<T: Drop> From<AllocFailed<T>> for Fault {
-    ghost use Rattle.std.specs.Prelude.{◌≡◌};
-    ghost use Rattle.texts.specs.declared.fault.Fault.TheVariants.{Memory};
-
     ghost from_gives = { λ _ e. e ≡ Memory };
 
     fn from(_error: AllocFailed<T>) -> Fault {
@@ -142,28 +129,14 @@ impl Fault {
         ensures { IfOk result (λ f. f ≡ self.now) }
     {
         Ok(match self {
-            Fault::NotUtf8 { run, line } => Fault::NotUtf8 {
-                run: *run,
-                line: *line,
-            },
-            Fault::BadShell { run, line } => Fault::BadShell {
-                run: *run,
-                line: *line,
-            },
-            Fault::EmptyCommand { run, line } => Fault::EmptyCommand {
-                run: *run,
-                line: *line,
-            },
-            Fault::NoPath { run, line } => Fault::NoPath {
-                run: *run,
-                line: *line,
-            },
+            &Fault::NotUtf8 { run, line } => Fault::NotUtf8 { run, line },
+            &Fault::BadShell { run, line } => Fault::BadShell { run, line },
+            &Fault::EmptyCommand { run, line } => Fault::EmptyCommand { run, line },
+            &Fault::NoPath { run, line } => Fault::NoPath { run, line },
             Fault::NotFound { program } => Fault::NotFound {
                 program: program.try_clone(alloc)?,
             },
-            Fault::MissingOutput { language } => Fault::MissingOutput {
-                language: *language,
-            },
+            &Fault::MissingOutput { language } => Fault::MissingOutput { language },
             Fault::NoFileName => Fault::NoFileName,
             Fault::KeepDirValue => Fault::KeepDirValue,
             Fault::ThreadsValue => Fault::ThreadsValue,

@@ -20,7 +20,7 @@ pub fn computed_words()
 {}
 
 /// Words written by the rule of `quote` read back as themselves, whatever they contain. This is about the reading of
-/// [`split`](crate::split); `shell_reading` is about a POSIX shell.
+/// [`split`](crate::shell::split); `shell_reading` is about a POSIX shell.
 pub fn quoted_words()
     ensures grammar { (words : List (List ℕ)) → IsText (quoted words) words }
     ensures computed { (words : List (List ℕ)) → split_chars (quoted words) ≡ Some words }

@@ -1,6 +1,6 @@
 //! How a process ended, and what it wrote.
 
-ghost use Rattle.std.specs.Prelude.{◌≡◌, ◌*ℤ◌, pos, IsTrue, ◌↔◌, IfOk};
+ghost use Rattle.std.specs.Prelude.{◌≡◌, ℤ, pos, IsTrue, ◌↔◌, IfOk};
 ghost use Rattle.texts.specs.Status.{status_of_code};
 ghost use Rattle.texts.specs.Endings.{status_of_signal, code_of_status, signal_of_status};
 
@@ -16,8 +16,6 @@ pub struct ExitStatus {
 }
 
 impl Model for ExitStatus {
-    ghost use Rattle.std.specs.Prelude.{ℤ};
-
     ghost Value = { ℤ };
 
     ghost view = { λ s. s.raw };

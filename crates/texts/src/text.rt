@@ -1,9 +1,11 @@
 //! Texts, and the texts that are paths.
 
-ghost use Rattle.std.specs.Prelude.{◌≡◌, ◌==◌, ◌↔◌, ◌<◌, length, reverse, IsTrue, IfOk, OnOk, OnErr, Some, MatchOption, string_bytes, option_copied};
+ghost use Rattle.std.specs.Prelude.{◌≡◌, ◌==◌, ◌↔◌, ◌<◌, List, ℕ, length, reverse, IsTrue, IfOk, OnOk, OnErr, Some, MatchOption, string_bytes, option_copied};
+ghost use Rattle.std.specs.Str.{bytes_eq};
 ghost use Rattle.std.specs.Str.Iter.{chars_rest};
+ghost use Rattle.texts.specs.Equality.{bytes_law};
 ghost use Rattle.texts.specs.Path as spec;
-ghost use Rattle.texts.specs.Path.{is_absolute_path, separator_after, joined, trimmed_backwards, folder_of, proper_name, file_name_of, file_stem_of, JoinedKeepsFolder, JoinedHasName, FolderBegins, JoinedCancels, FoldersCancel};
+ghost use Rattle.texts.specs.Path.{is_absolute_path, joined, trimmed_backwards, folder_of, file_name_of, file_stem_of, JoinedKeepsFolder, JoinedHasName, FolderBegins, JoinedCancels, FoldersCancel};
 
 use crate::extension::{last, split_last, stem};
 use std::alloc::{AllocError, Global};
@@ -20,8 +22,6 @@ pub struct Text {
 }
 
 impl Model for Text {
-    ghost use Rattle.std.specs.Prelude.{List, ℕ, string_bytes};
-
     ghost Value = { List ℕ };
 
     ghost view = { λ t. string_bytes t.string };
@@ -122,9 +122,6 @@ impl fmt::Display for Text {
 }
 
 impl PartialEq for Text {
-    ghost use Rattle.std.specs.Str.{bytes_eq};
-    ghost use Rattle.texts.specs.Equality.{bytes_law};
-
     ghost eq = { bytes_eq };
 
     ghost laws = { bytes_law };
@@ -148,17 +145,6 @@ pub fn is_bare(name: &str) -> bool
     !name.as_bytes().contains(&b'/')
 }
 
-// What `join` puts between a folder and a name.
-fn separator(base: &str) -> &'static str
-    ensures { result.now ≡ separator_after base.now }
-{
-    if base.is_empty() || base.as_bytes().ends_with(b"/") {
-        ""
-    } else {
-        "/"
-    }
-}
-
 /// The path that `path` names when it is looked up from the folder `base`.
 ///
 /// An absolute `path` is itself. Any other is appended to `base`, with one `/` between them if `base`
@@ -172,7 +158,9 @@ pub fn join(alloc: Global, base: &str, path: &str) -> Result<String, AllocError>
     let room = base.len().saturating_add(path.len()).saturating_add(1);
     let mut whole = String::with_capacity(alloc, room)?;
     whole.push_str(base)?;
-    whole.push_str(separator(base))?;
+    if !base.is_empty() && !base.as_bytes().ends_with(b"/") {
+        whole.push('/')?;
+    }
     whole.push_str(path)?;
     Ok(whole)
 }
@@ -210,17 +198,6 @@ fn trim(text: &str, keeps_root: bool) -> &str
     rest
 }
 
-// `name` as a file name, which is neither empty nor `.` nor `..`.
-fn proper(name: &str) -> Option<&str>
-    ensures { option_copied result ≡ proper_name name.now }
-{
-    if name.is_empty() || name == "." || name == ".." {
-        None
-    } else {
-        Some(name)
-    }
-}
-
 /// The folder of the name `path`: the text up to and including the last `/`, with trailing `/` and
 /// `/.` removed (a lone `/` stays). Empty if there is no `/`.
 ///
@@ -243,7 +220,10 @@ pub fn folder(path: &str) -> &str
 pub fn file_name(path: &str) -> Option<&str>
     ensures { option_copied result ≡ file_name_of path.now }
 {
-    proper(last(trim(path, false)))
+    match last(trim(path, false)) {
+        "" | "." | ".." => None,
+        name => Some(name),
+    }
 }
 
 /// The file name of `path` before its last `.`; all of it if it has no `.`, or if its only `.` comes

@@ -1,11 +1,10 @@
 //! The environment that a command runs in.
 
-ghost use Rattle.std.specs.Prelude.{◌≡◌, ◌∷◌, [], ◌++◌, ◌==◌, map, length, IfOk, OnOk, OnErr, string_bytes, option_copied};
+ghost use Rattle.std.specs.Prelude.{◌≡◌, ◌∷◌, [], ◌++◌, ◌==◌, List, ℕ, map, length, IfOk, OnOk, OnErr, string_bytes, option_copied};
 ghost use Rattle.std.specs.Arc.{arc_value};
 ghost use Rattle.std.specs.Slice.Iter.{iter_rest};
 ghost use Rattle.texts.specs.Variables as spec;
-ghost use Rattle.texts.specs.Variables.{pair_of};
-ghost use Rattle.texts.specs.VariablesView.{held_pairs};
+ghost use Rattle.texts.specs.Variables.{pair_of, held_pairs};
 
 use std::alloc::{AllocError, Global};
 use std::marker::Model;
@@ -19,17 +18,6 @@ enum Pairs {
     Own(Vec<(String, String)>),
     // Held by a list and its copies together.
     Shared(Arc<Vec<(String, String)>>),
-}
-
-impl Pairs {
-    fn as_slice(&self) -> &[(String, String)]
-        ensures { result.now ≡ held_pairs self.now }
-    {
-        match self {
-            Pairs::Own(pairs) => pairs.as_slice(),
-            Pairs::Shared(pairs) => pairs.as_slice(),
-        }
-    }
 }
 
 // Pairs that several lists may share, or a copy of them if another one does.
@@ -63,10 +51,6 @@ pub struct Variables {
 }
 
 impl Model for Variables {
-    ghost use Rattle.std.specs.Prelude.{List, ℕ, map};
-    ghost use Rattle.texts.specs.Variables.{pair_of};
-    ghost use Rattle.texts.specs.VariablesView.{held_pairs};
-
     ghost Value = { List (List ℕ × List ℕ) };
 
     ghost view = { λ v. map pair_of (held_pairs v.pairs) };
@@ -93,7 +77,10 @@ impl Variables {
     pub fn as_slice(&self) -> &[(String, String)]
         ensures { map pair_of result.now ≡ self.now }
     {
-        self.pairs.as_slice()
+        match &self.pairs {
+            Pairs::Own(pairs) => pairs.as_slice(),
+            Pairs::Shared(pairs) => pairs.as_slice(),
+        }
     }
 
     /// The pairs as a `Vec`. It copies pairs that another list shares, which may fail. Otherwise it doesn't allocate and

@@ -1,7 +1,8 @@
 //! The words of a command line.
 
-ghost use Rattle.std.specs.Prelude.{◌≡◌, ◌∷◌, [], ◌++◌, map, length, IfOk, OnOk, ◌==◌, OnErr, string_bytes, option_copied};
+ghost use Rattle.std.specs.Prelude.{◌≡◌, ◌∷◌, [], ◌++◌, List, ℕ, map, length, IfOk, OnOk, ◌==◌, OnErr, string_bytes, option_copied};
 ghost use Rattle.std.specs.Slice.Iter.{iter_rest};
+ghost use Rattle.texts.specs.Equality.{words_eq, words_law};
 ghost use Rattle.texts.specs.Lists as lists;
 
 use std::alloc::{AllocError, Global};
@@ -17,8 +18,6 @@ pub struct Words {
 }
 
 impl Model for Words {
-    ghost use Rattle.std.specs.Prelude.{List, ℕ, map, string_bytes};
-
     ghost Value = { List (List ℕ) };
 
     ghost view = { λ w. map string_bytes w.words.items };
@@ -196,8 +195,6 @@ impl<'a> IntoIterator for &'a Words {
 }
 
 impl PartialEq for Words {
-    ghost use Rattle.texts.specs.Equality.{words_eq, words_law};
-
     ghost eq = { words_eq };
 
     ghost laws = { words_law };

@@ -1,7 +1,8 @@
 -- How the words of a command are quoted, so that they read back as themselves.
-use Rattle.std.specs.Prelude.{ℕ, Bool, false, ◌||◌, ◌&&◌, ◌==◌, ◌≡◌, refl, if◌then◌else◌, List, [], ◌∷◌, ◌++◌, map, codes, encode_utf8_all, chars}
+use Rattle.std.specs.Prelude.{ℕ, Bool, false, ◌||◌, ◌&&◌, ◌==◌, refl, if◌then◌else◌, List, [], ◌∷◌, ◌++◌, map, codes, encode_utf8_all, chars}
 use Rattle.std.specs.Char.{is_ascii_alphanumeric}
 use Rattle.std.specs.List.{list_all, flat_map}
+use Rattle.texts.specs.Rows.{Gives}
 use Rattle.texts.specs.Shell.{backslash, single_quote}
 
 -- a letter or a digit of ASCII, or one of `_ - . / : , + @ %`
@@ -37,12 +38,9 @@ quoted (word ∷ words) = quoted_word word ++ further words
 abbrev pub written : List (List ℕ) → List ℕ
 written words = encode_utf8_all (quoted (map chars words))
 
--- Examples.
-pub plain_words : quoted (codes "-std=c++17" ∷ codes "a/b.cu" ∷ []) ≡ codes "-std=c++17 a/b.cu"
-plain_words = refl
-
-pub words_in_quotes : quoted (codes "a b" ∷ [] ∷ codes "it's" ∷ codes "A=1" ∷ []) ≡ codes "'a b' '' 'it'\\''s' 'A=1'"
-words_in_quotes = refl
-
-pub no_words : quoted [] ≡ []
-no_words = refl
+pub quoted_lists : Gives quoted (
+    (codes "-std=c++17" ∷ codes "a/b.cu" ∷ [], codes "-std=c++17 a/b.cu")
+    ∷ (codes "a b" ∷ [] ∷ codes "it's" ∷ codes "A=1" ∷ [], codes "'a b' '' 'it'\\''s' 'A=1'")
+    ∷ ([], [])
+    ∷ [])
+quoted_lists = refl

@@ -132,20 +132,6 @@ abbrev pub shell_words : List ℕ → Option (List (List ℕ))
 shell_words text = option_map (map encode_utf8_all) (split_chars (chars text))
 
 -- Examples. The first is the text  a\ b "c$d\e" '' # x
-pub quotes_and_escapes : split_chars (codes "a\\ b \"c$d\\e\" '' # x") ≡ Some (codes "a b" ∷ codes "c$d\\e" ∷ [] ∷ [])
-quotes_and_escapes = refl
-
-pub last_backslash : split_chars (codes "a\\") ≡ None
-last_backslash = refl
-
-pub empty_text : split_chars [] ≡ Some []
-empty_text = refl
-
-pub quotes_inside_a_word : split_chars (codes "a'b c'\"d\"") ≡ Some (codes "ab cd" ∷ [])
-quotes_inside_a_word = refl
-
-pub hash_inside_a_word : split_chars (codes "a#b #c") ≡ Some (codes "a#b" ∷ [])
-hash_inside_a_word = refl
-
-pub unclosed_quote : split_chars (codes "\"a") ≡ None
-unclosed_quote = refl
+pub split_texts : map split_chars (codes "a\\ b \"c$d\\e\" '' # x" ∷ codes "a\\" ∷ [] ∷ codes "a'b c'\"d\"" ∷ codes "a#b #c" ∷ codes "\"a" ∷ [])
+    ≡ Some (codes "a b" ∷ codes "c$d\\e" ∷ [] ∷ []) ∷ None ∷ Some [] ∷ Some (codes "ab cd" ∷ []) ∷ Some (codes "a#b" ∷ []) ∷ None ∷ []
+split_texts = refl

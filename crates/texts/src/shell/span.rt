@@ -17,10 +17,7 @@ pub(crate) fn ends_span(state: State, c: char) -> bool
     ensures { result ≡ spec.ends_span state c }
 {
     match state {
-        State::Word => match c {
-            ' ' | '\t' | '\n' | '\'' | '"' | '\\' => true,
-            _ => false,
-        },
+        State::Word => matches!(c, ' ' | '\t' | '\n' | '\'' | '"' | '\\'),
         State::SingleQuoted => c == '\'',
         State::DoubleQuoted => c == '"' || c == '\\',
         _ => true,

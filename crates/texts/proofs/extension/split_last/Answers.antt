@@ -1,4 +1,4 @@
-use Rattle.texts.proofs.ExtensionLemmas.{split_at_last-split}
+use Rattle.texts.proofs.PathLemmas.{split_at_last-split}
 use Rattle.texts.proofs.extension.split_last.Goals as goal
 
 pub returns : goal.returns

@@ -1,4 +1,4 @@
-use Rattle.texts.proofs.ShellLawLemmas.{one_list_lem}
+use Rattle.texts.proofs.ShellCompleteLemmas.{one_list_lem}
 use Rattle.texts.proofs.shell_laws.one_list.Goals as goal
 
 pub returns : goal.returns

@@ -5,7 +5,7 @@ use Rattle.std.proofs.lemmas.Grind.{common_steps}
 use Rattle.texts.specs.Shell.Splitting.{split_chars, finished}
 use Rattle.texts.proofs.ShellSplittingLemmas.{finished_is}
 use Rattle.texts.proofs.ShellSpanLemmas.{empty_chars}
-use Rattle.texts.proofs.ShellLawLemmas.{words_from_value}
+use Rattle.texts.proofs.ShellCompleteLemmas.{words_from_value}
 use Rattle.texts.proofs.shell.splitting.split.Goals as goal
 use Rattle.texts.proofs.shell.splitting.split.Goals.{After-finish}
 
