@@ -1,5 +1,5 @@
 -- A text that was pushed to, one part after the other.
-use Rattle.std.proofs.Common.{◌≡◌, ℕ, suc, ◌+◌, ◌<◌, List, ◌∷◌, ◌++◌, length, drop, drop-cons, get_or, add-one, append_assoc, arith, refl, ap, sym, ◌∙◌, Result, Ok, Err, OnOk, is_ok, if◌then◌else◌}
+use Rattle.std.proofs.Common.{◌≡◌, ℕ, suc, ◌+◌, ◌<◌, List, ◌∷◌, ◌++◌, length, drop, drop-cons, get_or, add-one, append_assoc, arith, ap, sym, ◌∙◌, Result, OnOk, is_ok, if◌then◌else◌}
 
 -- what stands behind a pushed part stands behind that part and the text before it
 pub pushed : (before part after rest : List ℕ) → after ≡ before ++ part → after ++ rest ≡ before ++ (part ++ rest)

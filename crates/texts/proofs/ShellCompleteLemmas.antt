@@ -4,7 +4,7 @@ use Rattle.std.proofs.lemmas.Bool.{cond_both, eqb-true, eqb-false}
 use Rattle.texts.specs.declared.shell.splitting.State.{State}
 use Rattle.texts.specs.declared.shell.splitting.State.TheVariants.{Between, Comment, Word, Escaped, SingleQuoted, DoubleQuoted, EscapedInQuotes}
 use Rattle.texts.specs.Shell.{newline, hash, backslash, single_quote, double_quote, is_blank, is_escapable, HasNone, blank, comment, IsInnerPiece, inner_bare, inner_escaped, inner_joined, inner_kept, IsInside, inside_end, inside_more, IsPiece, bare, escaped, joined, single_quoted, double_quoted, IsPieces, pieces_end, pieces_more, IsWord, word, IsText, HasWords, HasNoWords, text_end, text_gap, text_comment, text_word, text_words}
-use Rattle.texts.specs.Shell.Splitting.{Effect, begins_piece, reads_between, reads_comment, reads_word, reads_escaped, reads_single_quoted, reads_double_quoted, reads_escaped_in_quotes, reads, prepend, with_effect, words_at_end, words_from, split_chars}
+use Rattle.texts.specs.Shell.Splitting.{Effect, begins_piece, reads, prepend, with_effect, words_at_end, words_from, split_chars}
 use Rattle.texts.proofs.ShellSplittingLemmas.{prepend-nil}
 use Rattle.texts.proofs.ShellSoundLemmas.{words_of_text}
 
@@ -110,32 +110,20 @@ more_inside piece given cs words is d = record {
   are_words = prepend-prepend given d.given d.later ∙ ap (prepend given) d.are_words;
 }
 
-begins_single : (cs : List ℕ) (words : List (List ℕ)) → InSingle cs words → Begins (single_quote ∷ cs) words
-begins_single cs words s = record {
-  first = single_quote ∷ s.inside ++ single_quote ∷ [];
-  rest = s.rest;
-  given = s.inside;
-  later = s.later;
-  is_first = single_quoted s.inside s.none;
-  is_rest = s.tail;
-  is_text = ap (λ t. single_quote ∷ t) (append_assoc s.inside (single_quote ∷ []) s.rest ∙ s.is_text);
-  are_words = s.are_words;
-}
-
-begins_double : (cs : List ℕ) (words : List (List ℕ)) → InDouble cs words → Begins (double_quote ∷ cs) words
-begins_double cs words d = record {
-  first = double_quote ∷ d.inside ++ double_quote ∷ [];
-  rest = d.rest;
-  given = d.given;
-  later = d.later;
-  is_first = double_quoted d.inside d.given d.is_inside;
-  is_rest = d.tail;
-  is_text = ap (λ t. double_quote ∷ t) (append_assoc d.inside (double_quote ∷ []) d.rest ∙ d.is_text);
-  are_words = d.are_words;
-}
-
 begins_with : (piece given cs : List ℕ) (words : List (List ℕ)) → IsPiece piece given → Tail cs words → Begins (piece ++ cs) (prepend given words)
 begins_with piece given cs words is tail = grind arith
+
+begins_single : (cs : List ℕ) (words : List (List ℕ)) → InSingle cs words → Begins (single_quote ∷ cs) words
+begins_single cs words s =
+    subst (λ t. Begins (single_quote ∷ t) words) (append_assoc s.inside (single_quote ∷ []) s.rest ∙ s.is_text)
+    (subst (Begins (single_quote ∷ (s.inside ++ single_quote ∷ []) ++ s.rest)) s.are_words
+    (begins_with (single_quote ∷ s.inside ++ single_quote ∷ []) s.inside s.rest s.later (single_quoted s.inside s.none) s.tail))
+
+begins_double : (cs : List ℕ) (words : List (List ℕ)) → InDouble cs words → Begins (double_quote ∷ cs) words
+begins_double cs words d =
+    subst (λ t. Begins (double_quote ∷ t) words) (append_assoc d.inside (double_quote ∷ []) d.rest ∙ d.is_text)
+    (subst (Begins (double_quote ∷ (d.inside ++ double_quote ∷ []) ++ d.rest)) d.are_words
+    (begins_with (double_quote ∷ d.inside ++ double_quote ∷ []) d.given d.rest d.later (double_quoted d.inside d.given d.is_inside) d.tail))
 
 more_comment : (c : ℕ) (cs : List ℕ) (words : List (List ℕ)) → c ≢ newline → InComment cs words → InComment (c ∷ cs) words
 more_comment c cs words differs (comment_ends inside none) = comment_ends (c ∷ inside) (differs, none)
@@ -173,7 +161,7 @@ no_bare_hash c cs words b differs is = grind arith
 abbrev Reads : (state : State) → ℕ → List ℕ → List (List ℕ) → State × Effect → Type 0
 Reads state c cs later read = Rest read.0 cs later → Rest state (c ∷ cs) (with_effect read.1 later)
 
-between_step : (c : ℕ) (cs : List ℕ) (later : List (List ℕ)) → Reads Between c cs later (reads_between c)
+between_step : (c : ℕ) (cs : List ℕ) (later : List (List ℕ)) → Reads Between c cs later (reads Between c)
 between_step c cs later =
     cond_both (is_blank c) _ _ (Reads Between c cs later) (λ is text. text_gap (c ∷ []) cs later (blank c is) text)
     (λ not_blank. cond_both (c == hash) _ _ (Reads Between c cs later)
@@ -182,13 +170,13 @@ between_step c cs later =
     let b : Begins (c ∷ cs) (with_effect (begins_piece c).1 later) = piece_step c cs later not_blank h in
     text_of_begins (c ∷ cs) (with_effect (begins_piece c).1 later) b (no_bare_hash c cs _ b (eqb-false c hash not_hash))))
 
-comment_step : (c : ℕ) (cs : List ℕ) (later : List (List ℕ)) → Reads Comment c cs later (reads_comment c)
+comment_step : (c : ℕ) (cs : List ℕ) (later : List (List ℕ)) → Reads Comment c cs later (reads Comment c)
 comment_step c cs later =
     cond_both (c == newline) _ _ (Reads Comment c cs later)
     (λ is text. subst (λ x. InComment (x ∷ cs) later) (sym (eqb-true c newline is)) (comment_stops [] cs later tt text))
     (λ is_not h. more_comment c cs later (eqb-false c newline is_not) h)
 
-word_step : (c : ℕ) (cs : List ℕ) (later : List (List ℕ)) → Reads Word c cs later (reads_word c)
+word_step : (c : ℕ) (cs : List ℕ) (later : List (List ℕ)) → Reads Word c cs later (reads Word c)
 word_step c cs later =
     cond_both (is_blank c) _ _ (Reads Word c cs later)
     (λ is text. record {
@@ -203,14 +191,14 @@ word_step c cs later =
     })
     (λ not_blank h. tail_of_begins (c ∷ cs) (with_effect (begins_piece c).1 later) (piece_step c cs later not_blank h))
 
-escaped_step : (c : ℕ) (cs : List ℕ) (later : List (List ℕ)) → Reads Escaped c cs later (reads_escaped c)
+escaped_step : (c : ℕ) (cs : List ℕ) (later : List (List ℕ)) → Reads Escaped c cs later (reads Escaped c)
 escaped_step c cs later =
     cond_both (c == newline) _ _ (Reads Escaped c cs later)
     (λ is tail. subst (λ x. Begins (backslash ∷ x ∷ cs) (prepend [] later)) (sym (eqb-true c newline is))
     (begins_with (backslash ∷ newline ∷ []) [] cs later joined tail))
     (λ is_not tail. begins_with (backslash ∷ c ∷ []) (c ∷ []) cs later (escaped c (eqb-false c newline is_not)) tail)
 
-single_step : (c : ℕ) (cs : List ℕ) (later : List (List ℕ)) → Reads SingleQuoted c cs later (reads_single_quoted c)
+single_step : (c : ℕ) (cs : List ℕ) (later : List (List ℕ)) → Reads SingleQuoted c cs later (reads SingleQuoted c)
 single_step c cs later =
     cond_both (c == single_quote) _ _ (Reads SingleQuoted c cs later)
     (λ is tail. record {
@@ -232,7 +220,7 @@ single_step c cs later =
       are_words = prepend-prepend (c ∷ []) s.inside s.later ∙ ap (prepend (c ∷ [])) s.are_words;
     })
 
-double_step : (c : ℕ) (cs : List ℕ) (later : List (List ℕ)) → Reads DoubleQuoted c cs later (reads_double_quoted c)
+double_step : (c : ℕ) (cs : List ℕ) (later : List (List ℕ)) → Reads DoubleQuoted c cs later (reads DoubleQuoted c)
 double_step c cs later =
     cond_both (c == double_quote) _ _ (Reads DoubleQuoted c cs later)
     (λ is tail. record {
@@ -249,7 +237,7 @@ double_step c cs later =
     (λ is d. subst (λ x. InDouble (x ∷ cs) (prepend [] later)) (sym (eqb-true c backslash is)) (subst (InDouble (backslash ∷ cs)) (sym (prepend-nil later)) d))
     (λ not_backslash d. more_inside (c ∷ []) (c ∷ []) cs later (inner_bare c (eqb-false c double_quote not_quote) (eqb-false c backslash not_backslash)) d))
 
-escaped_in_quotes_step : (c : ℕ) (cs : List ℕ) (later : List (List ℕ)) → Reads EscapedInQuotes c cs later (reads_escaped_in_quotes c)
+escaped_in_quotes_step : (c : ℕ) (cs : List ℕ) (later : List (List ℕ)) → Reads EscapedInQuotes c cs later (reads EscapedInQuotes c)
 escaped_in_quotes_step c cs later =
     cond_both (is_escapable c) _ _ (Reads EscapedInQuotes c cs later)
     (λ is d. more_inside (backslash ∷ c ∷ []) (c ∷ []) cs later (inner_escaped c is) d)

@@ -61,16 +61,11 @@ further_read [] rest more found = found
 further_read (word ∷ words) rest more found =
     grind (arith, reading, append_assoc, word_reads, (further_read words rest more found))
 
--- quoted words, before a text that ends the last one
-pub quoted_then : (word : List ℕ) (words : List (List ℕ)) (rest : List ℕ) (more : List (List ℕ)) → words_from Word rest ≡ Some ([] ∷ more) → words_from Between (quoted (word ∷ words) ++ rest) ≡ Some (word ∷ (words ++ more))
-quoted_then word words rest more found =
-    ap (words_from Between) (append_assoc (quoted_word word) (further words) rest)
-    ∙ word_reads word (further words ++ rest) (words ++ more) (further_read words rest more found)
-
 pub quoted_reads : (words : List (List ℕ)) → split_chars (quoted words) ≡ Some words
 quoted_reads [] = refl
 quoted_reads (word ∷ words) =
-    ap (words_from Between) (sym (append-nil (quoted (word ∷ words)))) ∙ quoted_then word words [] [] refl
+    ap (words_from Between) (sym (append-nil (quoted (word ∷ words))) ∙ append_assoc (quoted_word word) (further words) [])
+    ∙ word_reads word (further words ++ []) (words ++ []) (further_read words [] [] refl)
     ∙ ap (λ ws. Some (word ∷ ws)) (append-nil words)
 
 pub quoted_text : (words : List (List ℕ)) → IsText (quoted words) words

@@ -28,19 +28,6 @@ fn taken(pairs: Arc<Vec<(String, String)>>) -> Result<Vec<(String, String)>, All
     Ok(own)
 }
 
-// Puts a pair last in pairs that several lists may share: the other lists keep theirs.
-fn push_shared(
-    pairs: &mut Arc<Vec<(String, String)>>,
-    pair: (String, String),
-) -> Result<(), AllocError>
-    ensures ok { OnOk result (map pair_of (arc_value pairs.new).items ≡ map pair_of (arc_value pairs.old).items ++ pair_of pair ∷ []) }
-    ensures err { OnErr result (map pair_of (arc_value pairs.new).items ≡ map pair_of (arc_value pairs.old).items) }
-{
-    let own = Arc::make_mut(pairs)?;
-    own.push(pair)?;
-    Ok(())
-}
-
 /// A list of environment variables that a record holds, each a name and its value, in order. A name
 /// may occur twice. Contracts see the list of pairs of texts.
 ///
@@ -137,7 +124,8 @@ impl Variables {
         let pair = (name, value);
         match &mut self.pairs {
             Pairs::Own(pairs) => pairs.push(pair)?,
-            Pairs::Shared(pairs) => push_shared(pairs, pair)?,
+            // The other lists keep their pairs.
+            Pairs::Shared(pairs) => Arc::make_mut(pairs)?.push(pair)?,
         }
         Ok(())
     }

@@ -17,27 +17,11 @@ begins_piece c =
     if c == single_quote then (SingleQuoted, Gives []) else
     if c == double_quote then (DoubleQuoted, Gives []) else (Word, Gives (c ∷ []))
 
-abbrev pub reads_between : ℕ → State × Effect
-reads_between c =
-    if is_blank c then (Between, Skips) else
-    if c == hash then (Comment, Skips) else begins_piece c
-
 abbrev pub reads_comment : ℕ → State × Effect
 reads_comment c = if c == newline then (Between, Skips) else (Comment, Skips)
 
 abbrev pub reads_word : ℕ → State × Effect
 reads_word c = if is_blank c then (Between, EndsWord) else begins_piece c
-
-abbrev pub reads_escaped : ℕ → State × Effect
-reads_escaped c = if c == newline then (Word, Gives []) else (Word, Gives (c ∷ []))
-
-abbrev pub reads_single_quoted : ℕ → State × Effect
-reads_single_quoted c = if c == single_quote then (Word, Gives []) else (SingleQuoted, Gives (c ∷ []))
-
-abbrev pub reads_double_quoted : ℕ → State × Effect
-reads_double_quoted c =
-    if c == double_quote then (Word, Gives []) else
-    if c == backslash then (EscapedInQuotes, Gives []) else (DoubleQuoted, Gives (c ∷ []))
 
 abbrev pub reads_escaped_in_quotes : ℕ → State × Effect
 reads_escaped_in_quotes c =
@@ -46,12 +30,16 @@ reads_escaped_in_quotes c =
 
 -- what a character does in a state, and the state after it
 abbrev pub reads : State → ℕ → State × Effect
-reads Between c = reads_between c
+reads Between c =
+    if is_blank c then (Between, Skips) else
+    if c == hash then (Comment, Skips) else begins_piece c
 reads Comment c = reads_comment c
 reads Word c = reads_word c
-reads Escaped c = reads_escaped c
-reads SingleQuoted c = reads_single_quoted c
-reads DoubleQuoted c = reads_double_quoted c
+reads Escaped c = if c == newline then (Word, Gives []) else (Word, Gives (c ∷ []))
+reads SingleQuoted c = if c == single_quote then (Word, Gives []) else (SingleQuoted, Gives (c ∷ []))
+reads DoubleQuoted c =
+    if c == double_quote then (Word, Gives []) else
+    if c == backslash then (EscapedInQuotes, Gives []) else (DoubleQuoted, Gives (c ∷ []))
 reads EscapedInQuotes c = reads_escaped_in_quotes c
 
 -- Whether a character ends a span in this state. The characters of a span stand for themselves and keep the

@@ -97,8 +97,5 @@ fn is_plain(word: &str) -> bool
 fn is_safe(c: char) -> bool
     ensures { result ≡ is_safe c }
 {
-    match c {
-        '_' | '-' | '.' | '/' | ':' | ',' | '+' | '@' | '%' => true,
-        _ => c.is_ascii_alphanumeric(),
-    }
+    matches!(c, '_' | '-' | '.' | '/' | ':' | ',' | '+' | '@' | '%') || c.is_ascii_alphanumeric()
 }

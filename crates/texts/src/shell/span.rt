@@ -60,46 +60,24 @@ fn run_at(state: State, text: &[u8], at: usize) -> usize
     requires { at + LANES ≤ length text.now }
     ensures { result ≡ position_or_len (spec.ends_span state) (take LANES (drop at text.now)) }
 {
+    let bytes = u8x16::from_slice(&text[at..]);
     match state {
-        State::Word => bare_run(text, at),
-        State::SingleQuoted => single_quoted_run(text, at),
-        State::DoubleQuoted => double_quoted_run(text, at),
+        State::Word => {
+            let ends = bytes.simd_eq(u8x16::splat(b' '))
+                | bytes.simd_eq(u8x16::splat(b'\t'))
+                | bytes.simd_eq(u8x16::splat(b'\n'))
+                | bytes.simd_eq(u8x16::splat(b'\''))
+                | bytes.simd_eq(u8x16::splat(b'"'))
+                | bytes.simd_eq(u8x16::splat(b'\\'));
+            first_set(ends.to_bitmask())
+        }
+        State::SingleQuoted => first_set(bytes.simd_eq(u8x16::splat(b'\'')).to_bitmask()),
+        State::DoubleQuoted => {
+            let ends = bytes.simd_eq(u8x16::splat(b'"')) | bytes.simd_eq(u8x16::splat(b'\\'));
+            first_set(ends.to_bitmask())
+        }
         _ => 0,
     }
-}
-
-#[inline(always)]
-fn bare_run(text: &[u8], at: usize) -> usize
-    requires { at + LANES ≤ length text.now }
-    ensures { result ≡ position_or_len (spec.ends_span State.Word) (take LANES (drop at text.now)) }
-{
-    let bytes = u8x16::from_slice(&text[at..]);
-    let ends = bytes.simd_eq(u8x16::splat(b' '))
-        | bytes.simd_eq(u8x16::splat(b'\t'))
-        | bytes.simd_eq(u8x16::splat(b'\n'))
-        | bytes.simd_eq(u8x16::splat(b'\''))
-        | bytes.simd_eq(u8x16::splat(b'"'))
-        | bytes.simd_eq(u8x16::splat(b'\\'));
-    first_set(ends.to_bitmask())
-}
-
-#[inline(always)]
-fn single_quoted_run(text: &[u8], at: usize) -> usize
-    requires { at + LANES ≤ length text.now }
-    ensures { result ≡ position_or_len (spec.ends_span State.SingleQuoted) (take LANES (drop at text.now)) }
-{
-    let bytes = u8x16::from_slice(&text[at..]);
-    first_set(bytes.simd_eq(u8x16::splat(b'\'')).to_bitmask())
-}
-
-#[inline(always)]
-fn double_quoted_run(text: &[u8], at: usize) -> usize
-    requires { at + LANES ≤ length text.now }
-    ensures { result ≡ position_or_len (spec.ends_span State.DoubleQuoted) (take LANES (drop at text.now)) }
-{
-    let bytes = u8x16::from_slice(&text[at..]);
-    let ends = bytes.simd_eq(u8x16::splat(b'"')) | bytes.simd_eq(u8x16::splat(b'\\'));
-    first_set(ends.to_bitmask())
 }
 
 // The index of the lowest bit that is set, or the number of bits if none is.

@@ -24,7 +24,12 @@ pub fn split(alloc: Global, text: &str) -> Result<Option<Vec<String>>, AllocErro
         option_map (λ v. map string_bytes v.items) found
         ≡ option_map (map encode_utf8_all) (split_chars (chars text.now))) }
 {
-    let mut splitter = Splitter::new(alloc);
+    let mut splitter = Splitter {
+        alloc,
+        state: State::Between,
+        words: Vec::new(alloc),
+        word: String::new(alloc),
+    };
     let mut rest = text;
     while !rest.is_empty() {
         rest = splitter.read_some(rest)?;
@@ -81,17 +86,6 @@ impl Model for Splitter {
 
 impl Splitter {
     ghost use Rattle.texts.specs.Shell.Splitting as spec;
-
-    fn new(alloc: Global) -> Self
-        ensures { result ≡ spec.start }
-    {
-        Splitter {
-            alloc,
-            state: State::Between,
-            words: Vec::new(alloc),
-            word: String::new(alloc),
-        }
-    }
 
     // Reads a span and what ends it, or a character outside any span. Returns what is left to read.
     #[inline(always)]
@@ -159,45 +153,38 @@ impl Splitter {
         ensures { OnOk result (self.new ≡ spec.after self.old c) }
     {
         match self.state {
-            State::Between => self.read_between(c),
-            State::Comment => self.read_comment(c),
-            State::Word => self.read_word(c),
-            State::Escaped => self.read_escaped(c),
-            State::SingleQuoted => self.read_single_quoted(c),
-            State::DoubleQuoted => self.read_double_quoted(c),
-            State::EscapedInQuotes => self.read_escaped_in_quotes(c),
-        }
-    }
-
-    fn read_between(&mut self, c: char) -> Result<(), AllocError>
-        ensures { OnOk result (self.new ≡ spec.applied (spec.reads_between c) self.old) }
-    {
-        match c {
-            ' ' | '\t' | '\n' => self.state = State::Between,
-            '#' => self.state = State::Comment,
-            _ => self.begin_piece(c)?,
+            State::Between => match c {
+                ' ' | '\t' | '\n' => {}
+                '#' => self.state = State::Comment,
+                _ => self.begin_piece(c)?,
+            },
+            State::Comment => {
+                if c == '\n' {
+                    self.state = State::Between;
+                }
+            }
+            State::Word => match c {
+                ' ' | '\t' | '\n' => self.end_word()?,
+                _ => self.begin_piece(c)?,
+            },
+            State::Escaped => {
+                if c != '\n' {
+                    self.word.push(c)?;
+                }
+                self.state = State::Word;
+            }
+            State::SingleQuoted => match c {
+                '\'' => self.state = State::Word,
+                _ => self.word.push(c)?,
+            },
+            State::DoubleQuoted => match c {
+                '"' => self.state = State::Word,
+                '\\' => self.state = State::EscapedInQuotes,
+                _ => self.word.push(c)?,
+            },
+            State::EscapedInQuotes => self.read_escaped_in_quotes(c)?,
         }
         Ok(())
-    }
-
-    fn read_comment(&mut self, c: char) -> Result<(), AllocError>
-        ensures { OnOk result (self.new ≡ spec.applied (spec.reads_comment c) self.old) }
-    {
-        self.state = if c == '\n' {
-            State::Between
-        } else {
-            State::Comment
-        };
-        Ok(())
-    }
-
-    fn read_word(&mut self, c: char) -> Result<(), AllocError>
-        ensures { OnOk result (self.new ≡ spec.applied (spec.reads_word c) self.old) }
-    {
-        match c {
-            ' ' | '\t' | '\n' => self.end_word(),
-            _ => self.begin_piece(c),
-        }
     }
 
     fn end_word(&mut self) -> Result<(), AllocError>
@@ -219,42 +206,6 @@ impl Splitter {
             _ => {
                 self.word.push(c)?;
                 self.state = State::Word;
-            }
-        }
-        Ok(())
-    }
-
-    fn read_escaped(&mut self, c: char) -> Result<(), AllocError>
-        ensures { OnOk result (self.new ≡ spec.applied (spec.reads_escaped c) self.old) }
-    {
-        if c != '\n' {
-            self.word.push(c)?;
-        }
-        self.state = State::Word;
-        Ok(())
-    }
-
-    fn read_single_quoted(&mut self, c: char) -> Result<(), AllocError>
-        ensures { OnOk result (self.new ≡ spec.applied (spec.reads_single_quoted c) self.old) }
-    {
-        if c == '\'' {
-            self.state = State::Word;
-        } else {
-            self.word.push(c)?;
-            self.state = State::SingleQuoted;
-        }
-        Ok(())
-    }
-
-    fn read_double_quoted(&mut self, c: char) -> Result<(), AllocError>
-        ensures { OnOk result (self.new ≡ spec.applied (spec.reads_double_quoted c) self.old) }
-    {
-        match c {
-            '"' => self.state = State::Word,
-            '\\' => self.state = State::EscapedInQuotes,
-            _ => {
-                self.word.push(c)?;
-                self.state = State::DoubleQuoted;
             }
         }
         Ok(())
