@@ -75,16 +75,7 @@ prepend-prepend : (first second : List ℕ) (words : List (List ℕ)) → prepen
 prepend-prepend first second words = grind (arith, append_assoc)
 
 tail_of_begins : (cs : List ℕ) (words : List (List ℕ)) → Begins cs words → Tail cs words
-tail_of_begins cs words b = record {
-  first = b.first ++ b.is_rest.first;
-  rest = b.is_rest.rest;
-  given = b.given ++ b.is_rest.given;
-  later = b.is_rest.later;
-  is_first = pieces_more b.first b.is_rest.first b.given b.is_rest.given b.is_first b.is_rest.is_first;
-  is_rest = b.is_rest.is_rest;
-  is_text = append_assoc b.first b.is_rest.first b.is_rest.rest ∙ ap (λ t. b.first ++ t) b.is_rest.is_text ∙ b.is_text;
-  are_words = ap (prepend b.given) b.is_rest.are_words ∙ b.are_words;
-}
+tail_of_begins cs words b = grind (arith, append_assoc, pieces_more)
 
 text_of_word : (written given rest : List ℕ) (later : List (List ℕ)) → IsWord written given → Follows rest later → IsText (written ++ rest) (given ∷ later)
 text_of_word written given rest later is follows_end = subst (λ t. IsText t (given ∷ [])) (sym (append-nil written)) (text_word written given is)
@@ -254,16 +245,7 @@ step state = grind (arith, between_step, comment_step, word_step, escaped_step, 
 at_end : (state : State) (words : List (List ℕ)) → words_at_end state ≡ Some words → Rest state [] words
 at_end Between words is = let e : [] ≡ words = cc in subst (IsText []) e text_end
 at_end Comment words is = let e : [] ≡ words = cc in subst (InComment []) e (comment_ends [] tt)
-at_end Word words is = record {
-  first = [];
-  rest = [];
-  given = [];
-  later = [];
-  is_first = pieces_end;
-  is_rest = follows_end;
-  is_text = refl;
-  are_words = cc;
-}
+at_end Word words is = grind (arith, pieces_end, follows_end)
 at_end Escaped words is = absurd cc
 at_end SingleQuoted words is = absurd cc
 at_end DoubleQuoted words is = absurd cc

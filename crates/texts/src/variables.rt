@@ -1,7 +1,6 @@
 //! The environment that a command runs in.
 
 ghost use Rattle.std.specs.Prelude.{◌≡◌, ◌∷◌, [], ◌++◌, ◌==◌, List, ℕ, map, length, IfOk, OnOk, OnErr, string_bytes, option_copied};
-ghost use Rattle.std.specs.Arc.{arc_value};
 ghost use Rattle.std.specs.Slice.Iter.{iter_rest};
 ghost use Rattle.texts.specs.Variables as spec;
 ghost use Rattle.texts.specs.Variables.{pair_of, held_pairs};
@@ -18,14 +17,6 @@ enum Pairs {
     Own(Vec<(String, String)>),
     // Held by a list and its copies together.
     Shared(Arc<Vec<(String, String)>>),
-}
-
-// Pairs that several lists may share, or a copy of them if another one does.
-fn taken(pairs: Arc<Vec<(String, String)>>) -> Result<Vec<(String, String)>, AllocError>
-    ensures { IfOk result (λ own. map pair_of own.items ≡ map pair_of (arc_value pairs).items) }
-{
-    let own = Arc::unwrap_or_clone(pairs)?;
-    Ok(own)
 }
 
 /// A list of environment variables that a record holds, each a name and its value, in order. A name
@@ -77,7 +68,10 @@ impl Variables {
     {
         match self.pairs {
             Pairs::Own(pairs) => Ok(pairs),
-            Pairs::Shared(pairs) => taken(pairs),
+            Pairs::Shared(pairs) => {
+                let own = Arc::unwrap_or_clone(pairs)?;
+                Ok(own)
+            }
         }
     }
 

@@ -23,7 +23,9 @@ pub fn quote(alloc: Global, words: &[String]) -> Result<String, AllocError>
         split_chars (chars (string_bytes t)) ≡ Some (map chars (map string_bytes words.now))) }
 {
     let mut text = String::new(alloc);
-    push_words(&mut text, words)?;
+    if let [first, rest @ ..] = words {
+        push_quoted(&mut text, first, rest)?;
+    }
     Ok(text)
 }
 
@@ -35,16 +37,6 @@ pub fn push_quoted(text: &mut String, first: &str, rest: &[String]) -> Result<()
 {
     push_word(text, first)?;
     push_further(text, rest)
-}
-
-/// Appends words, with a space between two.
-fn push_words(text: &mut String, words: &[String]) -> Result<(), AllocError>
-    ensures { OnOk result (string_bytes text.new ≡ string_bytes text.old ++ written (map string_bytes words.now)) }
-{
-    match words {
-        [] => Ok(()),
-        [first, rest @ ..] => push_quoted(text, first, rest),
-    }
 }
 
 /// Appends words, each after a space.
