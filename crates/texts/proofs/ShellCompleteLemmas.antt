@@ -170,16 +170,7 @@ comment_step c cs later =
 word_step : (c : ℕ) (cs : List ℕ) (later : List (List ℕ)) → Reads Word c cs later (reads Word c)
 word_step c cs later =
     cond_both (is_blank c) _ _ (Reads Word c cs later)
-    (λ is text. record {
-      first = [];
-      rest = c ∷ cs;
-      given = [];
-      later = later;
-      is_first = pieces_end;
-      is_rest = follows_text c cs later is text;
-      is_text = refl;
-      are_words = refl;
-    })
+    (λ is text. grind (arith, pieces_end, follows_text))
     (λ not_blank h. tail_of_begins (c ∷ cs) (with_effect (begins_piece c).1 later) (piece_step c cs later not_blank h))
 
 escaped_step : (c : ℕ) (cs : List ℕ) (later : List (List ℕ)) → Reads Escaped c cs later (reads Escaped c)
@@ -192,15 +183,7 @@ escaped_step c cs later =
 single_step : (c : ℕ) (cs : List ℕ) (later : List (List ℕ)) → Reads SingleQuoted c cs later (reads SingleQuoted c)
 single_step c cs later =
     cond_both (c == single_quote) _ _ (Reads SingleQuoted c cs later)
-    (λ is tail. record {
-      inside = [];
-      rest = cs;
-      later = later;
-      none = tt;
-      tail = tail;
-      is_text = ap (λ x. x ∷ cs) (sym (eqb-true c single_quote is));
-      are_words = refl;
-    })
+    (λ is tail. grind (arith, eqb-true))
     (λ is_not s. record {
       inside = c ∷ s.inside;
       rest = s.rest;
@@ -214,16 +197,7 @@ single_step c cs later =
 double_step : (c : ℕ) (cs : List ℕ) (later : List (List ℕ)) → Reads DoubleQuoted c cs later (reads DoubleQuoted c)
 double_step c cs later =
     cond_both (c == double_quote) _ _ (Reads DoubleQuoted c cs later)
-    (λ is tail. record {
-      inside = [];
-      rest = cs;
-      given = [];
-      later = later;
-      is_inside = inside_end;
-      tail = tail;
-      is_text = ap (λ x. x ∷ cs) (sym (eqb-true c double_quote is));
-      are_words = refl;
-    })
+    (λ is tail. grind (arith, eqb-true, inside_end))
     (λ not_quote. cond_both (c == backslash) _ _ (Reads DoubleQuoted c cs later)
     (λ is d. subst (λ x. InDouble (x ∷ cs) (prepend [] later)) (sym (eqb-true c backslash is)) (subst (InDouble (backslash ∷ cs)) (sym (prepend-nil later)) d))
     (λ not_backslash d. more_inside (c ∷ []) (c ∷ []) cs later (inner_bare c (eqb-false c double_quote not_quote) (eqb-false c backslash not_backslash)) d))
