@@ -1,5 +1,5 @@
 -- `==` on the records says whether they are equal.
-use Rattle.std.proofs.Common.{◌≡◌, ℕ, Bool, ◌&&◌, List, nat_eq, ap, rules, arith}
+use Rattle.std.proofs.Common.{◌≡◌, ℕ, Bool, ◌&&◌, List, [], ◌∷◌, Vec, String, Global, map, refl, string_bytes, nat_eq, ap, eqb-true, eq-eqb, rules, arith}
 use Rattle.std.specs.Option.{option_eq}
 use Rattle.std.specs.Bool.{Decides, beq}
 use Rattle.std.specs.Cmp.Lexicographic.{pointwise}
@@ -8,14 +8,40 @@ use Rattle.std.proofs.lemmas.Bool.Decides.{Decides-and, Decides-like}
 use Rattle.std.proofs.lemmas.Slice.Eq.{bytes_eq-Decides}
 use denote.Enum.Bare.{sameb, same_true, true_same}
 use Rattle.texts.specs.contracts.language.Language as language
-use Rattle.compilers.specs.contracts.arguments.ColorMode as color
 use Rattle.texts.specs.declared.language.Language.{Language}
+use Rattle.texts.specs.Equality.{TellsEqual}
+use Rattle.texts.proofs.EqualityLemmas.{bools, lists, pairs, same_variables, variables, options}
+use Rattle.texts.proofs.ListLemmas.{pointwise-texts}
+use Rattle.compilers.specs.contracts.arguments.ColorMode as color
+use Rattle.compilers.specs.contracts.command.Cacheable as cacheable
+use Rattle.compilers.specs.contracts.plans.plan.Reason as reason
 use Rattle.compilers.specs.declared.arguments.ColorMode.{ColorMode}
 use Rattle.compilers.specs.declared.arguments.ParsedArguments.{ParsedArguments}
 use Rattle.compilers.specs.declared.outputs.ArtifactDescriptor.{ArtifactDescriptor}
+use Rattle.compilers.specs.declared.command.Cacheable.{Cacheable}
 use Rattle.compilers.specs.declared.command.SingleCompileCommand.{SingleCompileCommand}
-use Rattle.texts.specs.Equality.{TellsEqual}
-use Rattle.texts.proofs.EqualityLemmas.{bools, lists, pairs, same_variables, variables, options}
+use Rattle.compilers.specs.declared.dry_run.DryRun.{DryRun}
+use Rattle.compilers.specs.declared.plans.plan.Reason.{Reason}
+use Rattle.compilers.specs.declared.plans.plan.NvccGeneratedSubcommand.{NvccGeneratedSubcommand}
+use Rattle.compilers.specs.declared.plans.plan.Dropped.{Dropped}
+use Rattle.compilers.specs.declared.plans.plan.Plan.{Plan}
+use Rattle.compilers.specs.CommandLines.{CommandLine, line_seen}
+
+-- numbers, and enums without fields
+numbers : TellsEqual nat_eq
+numbers a b = (eqb-true a b, eq-eqb a b)
+
+languages : (a b : Language) → Decides (sameb language.the_type a b) (a ≡ b)
+languages a b = (same_true language.the_type (search rules) a b, true_same language.the_type a b)
+
+colors : (a b : ColorMode) → Decides (sameb color.the_type a b) (a ≡ b)
+colors a b = (same_true color.the_type (search rules) a b, true_same color.the_type a b)
+
+marks : (a b : Cacheable) → Decides (sameb cacheable.the_type a b) (a ≡ b)
+marks a b = (same_true cacheable.the_type (search rules) a b, true_same cacheable.the_type a b)
+
+pub reasons : (a b : Reason) → Decides (sameb reason.the_type a b) (a ≡ b)
+reasons a b = (same_true reason.the_type (search rules) a b, true_same reason.the_type a b)
 
 -- files that commands make
 pub artifacts : (a b : ArtifactDescriptor) → Decides (pointwise nat_eq a.path b.path && beq a.optional b.optional) (a ≡ b)
@@ -24,13 +50,6 @@ artifacts a b = grind (arith, Decides-like, Decides-and, bytes_eq-Decides, bools
 -- commands
 pub commands : (a b : SingleCompileCommand) → Decides (pointwise nat_eq a.executable b.executable && (pointwise (pointwise nat_eq) a.arguments b.arguments && (same_variables a.env_vars b.env_vars && (pointwise nat_eq a.cwd b.cwd && beq a.share_jobserver b.share_jobserver)))) (a ≡ b)
 commands a b = grind (arith, Decides-like, same_variables, Decides-and, bytes_eq-Decides, lists, variables, bools)
-
--- enums without fields
-languages : (a b : Language) → Decides (sameb language.the_type a b) (a ≡ b)
-languages a b = (same_true language.the_type (search rules) a b, true_same language.the_type a b)
-
-colors : (a b : ColorMode) → Decides (sameb color.the_type a b) (a ≡ b)
-colors a b = (same_true color.the_type (search rules) a b, true_same color.the_type a b)
 
 -- the test of outputs
 abbrev pub same_outputs : List (List ℕ × ArtifactDescriptor) → List (List ℕ × ArtifactDescriptor) → Bool
@@ -68,3 +87,50 @@ arguments a b =
     (Decides-and (sameb color.the_type a.color_mode b.color_mode) _ (colors a.color_mode b.color_mode)
     (Decides-and (beq a.suppress_rewrite_includes_only b.suppress_rewrite_includes_only) (option_eq (pointwise nat_eq) a.too_hard_for_preprocessor_cache_mode b.too_hard_for_preprocessor_cache_mode) (bools a.suppress_rewrite_includes_only b.suppress_rewrite_includes_only)
     (options (pointwise nat_eq) bytes_eq-Decides a.too_hard_for_preprocessor_cache_mode b.too_hard_for_preprocessor_cache_mode))))))))))))))))))))
+
+-- commands of groups
+abbrev same_command : NvccGeneratedSubcommand → NvccGeneratedSubcommand → Bool
+same_command a b = pointwise nat_eq a.exe b.exe && (pointwise (pointwise nat_eq) a.args b.args && (pointwise nat_eq a.cwd b.cwd && (same_variables a.env_vars b.env_vars && sameb cacheable.the_type a.cacheable b.cacheable)))
+
+pub subcommands : (a b : NvccGeneratedSubcommand) → Decides (same_command a b) (a ≡ b)
+subcommands a b = grind (arith, Decides-like, Decides-and, bytes_eq-Decides, lists, same_variables, variables, marks)
+
+-- dropped commands
+abbrev same_dropped : Dropped → Dropped → Bool
+same_dropped a b = nat_eq a.line b.line && (nat_eq a.run b.run && (pointwise nat_eq a.exe b.exe && (pointwise (pointwise nat_eq) a.args b.args && sameb reason.the_type a.reason b.reason)))
+
+pub dropped : (a b : Dropped) → Decides (same_dropped a b) (a ≡ b)
+dropped a b = grind (arith, Decides-like, Decides-and, numbers, bytes_eq-Decides, lists, reasons)
+
+-- groups and plans
+pub groups : TellsEqual (pointwise (pointwise same_command))
+groups = lists (pointwise same_command) (lists same_command subcommands)
+
+pub dropped_commands : TellsEqual (pointwise same_dropped)
+dropped_commands = lists same_dropped dropped
+
+pub plans : (a b : Plan) → Decides (pointwise (pointwise same_command) a.groups b.groups && pointwise same_dropped a.dropped b.dropped) (a ≡ b)
+plans a b = grind (arith, Decides-like, groups, dropped, Decides-and, dropped_commands)
+
+-- lists of command lines, as code compares them
+pub pointwise-lines : (xs ys : List (ℕ × String Global × Vec (String Global) Global)) →
+    pointwise (λ x y. (nat_eq x.0 y.0 && pointwise nat_eq (string_bytes x.1) (string_bytes y.1)) && pointwise (λ u v. pointwise nat_eq (string_bytes u) (string_bytes v)) x.2.items y.2.items) xs ys
+    ≡ pointwise (eq_of_both (eq_of_both (on (λ (c : CommandLine). c.0) nat_eq) (on (λ (c : CommandLine). c.1) (pointwise nat_eq))) (on (λ (c : CommandLine). c.2) (pointwise (pointwise nat_eq)))) (map line_seen xs) (map line_seen ys)
+pointwise-lines [] [] = refl
+pointwise-lines [] (y ∷ ys) = refl
+pointwise-lines (x ∷ xs) [] = refl
+pointwise-lines (x ∷ xs) (y ∷ ys) = simp (pointwise-texts, (pointwise-lines xs ys))
+
+-- the test of command lines
+abbrev same_line : CommandLine → CommandLine → Bool
+same_line = eq_of_both (eq_of_both (on (λ (c : CommandLine). c.0) nat_eq) (on (λ (c : CommandLine). c.1) (pointwise nat_eq))) (on (λ (c : CommandLine). c.2) (pointwise (pointwise nat_eq)))
+
+lines_told : TellsEqual same_line
+lines_told a b = grind (arith, Decides-like, Decides-and, bytes_eq-Decides, lists)
+
+-- the test of commands, and that of dry runs
+pub command_lines : TellsEqual (pointwise same_line)
+command_lines = lists same_line lines_told
+
+pub dry_runs : (a b : DryRun) → Decides (pointwise same_line a.commands b.commands && same_variables a.env b.env) (a ≡ b)
+dry_runs a b = grind (arith, Decides-like, same_variables, Decides-and, command_lines, variables)

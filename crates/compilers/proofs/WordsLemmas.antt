@@ -1,5 +1,5 @@
 -- The words that an item is written as are read as that item again.
-use Rattle.std.proofs.Common.{◌≡◌, ◌≢◌, ℕ, true, false, cond, not, ◌&&◌, eqb, eqb-true, List, [], ◌∷◌, ◌++◌, Option, Some, None, refl, ap, sym, ◌∙◌, subst, append_assoc, append-nil, option_map, bytes_eq, arith}
+use Rattle.std.proofs.Common.{◌≡◌, ◌≢◌, ℕ, true, false, cond, not, ◌&&◌, eqb, eqb-true, List, [], ◌∷◌, ◌++◌, Option, Some, None, refl, ap, sym, ◌∙◌, append_assoc, append-nil, option_map, bytes_eq, arith}
 use Rattle.std.specs.List.{AllByRecursion, flat_map}
 use Rattle.std.proofs.lemmas.Bool.{false≢true, and_parts, ltb-true}
 use Rattle.std.proofs.lemmas.Str.{encode_ascii}
@@ -14,9 +14,7 @@ use Rattle.compilers.proofs.ItemLemmas.{items-completed}
 rest_after-some : (p s rest : List ℕ) → rest_after p s ≡ Some rest → s ≡ p ++ rest
 rest_after-some [] s rest h = cc
 rest_after-some (c ∷ cs) [] rest h = cc
-rest_after-some (c ∷ cs) (d ∷ ds) rest h =
-    elim (eqb c d) as (λ b. eqb c d ≡ b → cond b (rest_after cs ds) None ≡ Some rest → d ∷ ds ≡ (c ∷ cs) ++ rest)
-    [ true ↦ λ e k. let same : c ≡ d = eqb-true c d e in let tail : ds ≡ cs ++ rest = rest_after-some cs ds rest k in cc | false ↦ λ e k. cc ] refl h
+rest_after-some (c ∷ cs) (d ∷ ds) rest h = grind (arith, eqb-true, (rest_after-some cs ds rest))
 
 -- a value that isn't empty, with what stands before it, is what followed the option's text
 value_after-some : (delimiter : Option ℕ) (rest value : List ℕ) → value_after delimiter rest ≡ Some value → value ≢ [] → delimiter_before value delimiter ++ value ≡ rest
@@ -63,13 +61,11 @@ module _ {T : Type 0} where
 
   -- an option that awaits its value is the word
   said_by-option : (e f : Entry T) (word : List ℕ) (m : Option Matched) → matched e word ≡ m → said_by e word m ≡ option f → f.text ≡ word
-  said_by-option e f word None at said = cc
-  said_by-option e f word (Some lone) at said = cc
-  said_by-option e f word (Some (joined value)) at said = cc
   said_by-option e f word (Some awaiting) at said =
       let same : f ≡ e = cc in
       let parts = matched-rest e word awaiting at in
       ap (λ (g : Entry T). g.text) same ∙ text-alone e.text parts.0 word parts.1 (rest-unjoined e.form parts.0 awaiting (λ value e. cc) parts.2)
+  said_by-option e f word _ at said = cc
 
   said-option : (word : List ℕ) (choice : Option (Entry T)) (f : Entry T) → said_of word choice ≡ option f → f.text ≡ word
   said-option word choice f said = grind (arith, said_by-option)
@@ -110,22 +106,21 @@ module _ {T : Type 0} (chosen : List ℕ → Option (Entry T)) where
       ap (items chosen) (append_assoc (words_of i) (flat_map words_of is) after) ∙ words-read_back i read.0 whole.0 (flat_map words_of is ++ after) ∙ ap (λ js. i ∷ js) (lists-read_back is read.1 whole.1 after)
 
   -- each item of a line is the first one of the words from where it begins
+  read-first : (w : List ℕ) (before : List (List ℕ)) (i : Item T) (after : List (List ℕ)) → Completes (said_of w (chosen w)) before i after → IsReadOver chosen i
+  read-first w before i after h = (w ∷ before, items chosen after, items-completed chosen w before i after h)
+
   pub lines-hold_read_items : LinesHoldReadItems chosen
   lines-hold_read_items [] = tt
   lines-hold_read_items (w ∷ []) =
       elim (said_of w (chosen w))
-      as (λ s. said_of w (chosen w) ≡ s → AllByRecursion (IsReadOver chosen) (elim s as (λ _. List (Item T)) [ item j ↦ j ∷ [] | option e ↦ last_item e ∷ [] ])) [
-        | item j ↦ λ said. ((w ∷ [], [], items-completed chosen w [] j [] (subst (λ s. Completes s [] j []) (sym said) (refl, refl))), tt)
-        | option e ↦ λ said. ((w ∷ [], [], items-completed chosen w [] (last_item e) [] (subst (λ s. Completes s [] (last_item e) []) (sym said) (refl, refl))), tt)
-      ] refl
+      as (λ s. ((i : Item T) (after : List (List ℕ)) → Completes s [] i after → IsReadOver chosen i) → AllByRecursion (IsReadOver chosen) (elim s as (λ _. List (Item T)) [ item j ↦ j ∷ [] | option e ↦ last_item e ∷ [] ]))
+      [ item j ↦ λ read. (read j [] (refl, refl), tt) | option e ↦ λ read. (read (last_item e) [] (refl, refl), tt) ] (read-first w [])
   lines-hold_read_items (w ∷ x ∷ rest) =
       let later = lines-hold_read_items (x ∷ rest) in
       let past = lines-hold_read_items rest in
       elim (said_of w (chosen w))
-      as (λ s. said_of w (chosen w) ≡ s → AllByRecursion (IsReadOver chosen) (elim s as (λ _. List (Item T)) [ item j ↦ j ∷ items chosen (x ∷ rest) | option e ↦ separate_item e x ∷ items chosen rest ])) [
-        | item j ↦ λ said. ((w ∷ x ∷ rest, items chosen (x ∷ rest), items-completed chosen w (x ∷ rest) j (x ∷ rest) (subst (λ s. Completes s (x ∷ rest) j (x ∷ rest)) (sym said) (refl, refl))), later)
-        | option e ↦ λ said. ((w ∷ x ∷ rest, items chosen rest, items-completed chosen w (x ∷ rest) (separate_item e x) rest (subst (λ s. Completes s (x ∷ rest) (separate_item e x) rest) (sym said) (refl, refl))), past)
-      ] refl
+      as (λ s. ((i : Item T) (after : List (List ℕ)) → Completes s (x ∷ rest) i after → IsReadOver chosen i) → AllByRecursion (IsReadOver chosen) (elim s as (λ _. List (Item T)) [ item j ↦ j ∷ items chosen (x ∷ rest) | option e ↦ separate_item e x ∷ items chosen rest ]))
+      [ item j ↦ λ read. (read j (x ∷ rest) (refl, refl), later) | option e ↦ λ read. (read (separate_item e x) rest (refl, refl), past) ] (read-first w (x ∷ rest))
 
   -- a line is its parts
   pub lines-are_their_parts : LinesAreTheirParts chosen

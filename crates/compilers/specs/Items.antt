@@ -21,28 +21,20 @@ pub data Item (T : Type 0) : Type 0 where
 -- the form of a value that is joined to its option
 abbrev pub joined_form : Option ArgDisposition → ArgDisposition
 joined_form None = Concatenated None
-joined_form (Some Separated) = Separated
-joined_form (Some (Concatenated delimiter)) = Concatenated delimiter
-joined_form (Some (CanBeSeparated delimiter)) = CanBeSeparated delimiter
 joined_form (Some (CanBeConcatenated delimiter)) = CanBeSeparated delimiter
+joined_form (Some form) = form
 
 -- the form of a value that is the next word
 abbrev pub separate_form : Option ArgDisposition → ArgDisposition
-separate_form None = Separated
-separate_form (Some Separated) = Separated
-separate_form (Some (Concatenated delimiter)) = Separated
 separate_form (Some (CanBeSeparated delimiter)) = CanBeConcatenated delimiter
 separate_form (Some (CanBeConcatenated delimiter)) = CanBeConcatenated delimiter
+separate_form _ = Separated
 
 -- whether an option that awaits its value may be the last word: it then has the empty value, joined to it
 abbrev pub may_stand_last : Option ArgDisposition → Bool
-may_stand_last None = false
-may_stand_last (Some Separated) = false
-may_stand_last (Some (Concatenated delimiter)) = false
 may_stand_last (Some (CanBeSeparated None)) = true
-may_stand_last (Some (CanBeSeparated (Some d))) = false
 may_stand_last (Some (CanBeConcatenated None)) = true
-may_stand_last (Some (CanBeConcatenated (Some d))) = false
+may_stand_last _ = false
 
 module _ {T : Type 0} where
   -- a word that no entry matches is an unknown flag if it begins with `-`, else a raw word
@@ -115,11 +107,8 @@ normal_form normal.Concatenated (CanBeConcatenated delimiter) = Concatenated del
 module _ {T : Type 0} where
   -- an item in the form to write it in
   abbrev pub normalized : NormalizedDisposition → Item T → Item T
-  normalized disposition (raw word) = raw word
-  normalized disposition (unknown_flag word) = unknown_flag word
-  normalized disposition (flag text kind) = flag text kind
   normalized disposition (with_value text kind value form) = with_value text kind value (normal_form disposition form)
-  normalized disposition faulty = faulty
+  normalized disposition i = i
 
   -- the words that an item is written as; a faulty one has none
   abbrev pub words_of : Item T → List (List ℕ)
@@ -131,27 +120,20 @@ module _ {T : Type 0} where
 
   -- the kind of the option that an item is
   abbrev pub kind_of : Item T → Option T
-  kind_of (raw word) = None
-  kind_of (unknown_flag word) = None
   kind_of (flag text kind) = Some kind
   kind_of (with_value text kind value form) = Some kind
-  kind_of faulty = None
+  kind_of _ = None
 
   -- the text of the option that an item is
   abbrev pub text_of : Item T → Option (List ℕ)
-  text_of (raw word) = None
-  text_of (unknown_flag word) = None
   text_of (flag text kind) = Some text
   text_of (with_value text kind value form) = Some text
-  text_of faulty = None
+  text_of _ = None
 
   -- the value that an item has, and the empty text if it has none
   abbrev pub value_of : Item T → List ℕ
-  value_of (raw word) = []
-  value_of (unknown_flag word) = []
-  value_of (flag text kind) = []
   value_of (with_value text kind value form) = value
-  value_of faulty = []
+  value_of _ = []
 
   -- the item that an argument is
   abbrev pub item_of : Argument T → Item T
@@ -167,9 +149,8 @@ module _ {T : Type 0} where
 
 -- the words left after an item, of the words after its first: an option takes the next one
 abbrev pub words_past : {T : Type 0} → Said T → List (List ℕ) → List (List ℕ)
-words_past (item j) before = before
-words_past (option e) [] = []
 words_past (option e) (x ∷ rest) = rest
+words_past _ before = before
 
 -- the words of a line that are left after its first item
 abbrev pub words_after : {T : Type 0} → (List ℕ → Option (Entry T)) → List (List ℕ) → List (List ℕ)

@@ -1,10 +1,10 @@
 -- The entry that a list chooses is a longest match, and so is the longer one of two tables' choices.
-use Rattle.std.specs.Prelude.{◌≡◌, ℕ, ◌≤◌, true, false, cond, ◌&&◌, List, [], ◌∷◌, ◌++◌, Option, Some, None, length, All, fold, is_some, IsSome}
+use Rattle.std.specs.Prelude.{◌≡◌, ℕ, ◌≤◌, true, false, cond, ◌&&◌, List, [], ◌∷◌, ◌++◌, Option, Some, None, length, All, Contains, fold, is_some, IsSome}
 use Rattle.std.proofs.Common.{refl, sym, subst, arith, append_assoc, nat_lt, append-nil}
 use Rattle.std.proofs.lemmas.List.Elements.{All-nil, All-push, All-weaker, All-append, Contains-push, Contains-append_left, Contains-append_right}
 use Rattle.std.proofs.lemmas.Bool.{false≢true}
 use Rattle.std.proofs.lemmas.Bool.Decides.{nat_tests}
-use Rattle.compilers.specs.Table.{Entry, matched, is_longer, longer_match, longest_match, longer_choice, longest_of_two, IsLongestMatch}
+use Rattle.compilers.specs.Table.{Entry, matched, is_longer, longer_match, longest_match, longer_choice, IsLongestMatch}
 
 module _ {T : Type 0} (word : List ℕ) where
   -- an entry doesn't match
@@ -25,6 +25,17 @@ module _ {T : Type 0} (word : List ℕ) where
   all_wider : (m n : ℕ) (entries : List (Entry T)) → m ≤ n → All (Within m) entries → All (Within n) entries
   all_wider m n entries le = All-weaker (Within m) (Within n) (λ f bound some. let at : length f.text ≤ m = bound some in omega arith) entries
 
+  -- of two entries of a list that match, the longer one is a longest match if no other is longer than both
+  longer-longest : (es : List (Entry T)) (a b : Entry T) → Contains es a → Contains es b → IsSome (matched a word) → IsSome (matched b word)
+      → ((n : ℕ) → length a.text ≤ n → length b.text ≤ n → All (Within n) es)
+      → IsLongestMatch es word (cond (nat_lt (length b.text) (length a.text)) (Some a) (Some b))
+  longer-longest es a b in_a in_b some_a some_b within =
+      elim (nat_lt (length b.text) (length a.text))
+      as (λ t. nat_lt (length b.text) (length a.text) ≡ t → IsLongestMatch es word (cond t (Some a) (Some b))) [
+        | true ↦ λ lt. let longer : length b.text ≤ length a.text = grind (arith, nat_tests) in (in_a, some_a, within (length a.text) (omega arith) longer)
+        | false ↦ λ ge. let shorter : length a.text ≤ length b.text = grind (arith, nat_tests) in (in_b, some_b, within (length b.text) shorter (omega arith))
+      ] refl
+
   -- the choice so far stands if the next entry doesn't match
   after_unmatched : (seen : List (Entry T)) (best : Option (Entry T)) (e : Entry T)
       → NoMatch e → IsLongestMatch seen word best → IsLongestMatch (seen ++ e ∷ []) word best
@@ -38,17 +49,8 @@ module _ {T : Type 0} (word : List ℕ) where
   after_matched seen None e some h =
       (Contains-push seen e, some, All-push (Within (length e.text)) seen e (all_within (length e.text) seen h) (λ _. omega arith))
   after_matched seen (Some b) e some h =
-      elim (nat_lt (length b.text) (length e.text))
-      as (λ t. nat_lt (length b.text) (length e.text) ≡ t → IsLongestMatch (seen ++ e ∷ []) word (cond t (Some e) (Some b))) [
-        | true ↦ λ lt. let longer : length b.text ≤ length e.text = grind (arith, nat_tests) in (
-          Contains-push seen e,
-          some,
-          All-push (Within (length e.text)) seen e
-              (all_wider (length b.text) (length e.text) seen longer h.2) (λ _. omega arith),
-        )
-        | false ↦ λ ge. let shorter : length e.text ≤ length b.text = grind (arith, nat_tests) in
-            (Contains-append_left seen (e ∷ []) b h.0, h.1, All-push (Within (length b.text)) seen e h.2 (λ _. shorter))
-      ] refl
+      longer-longest (seen ++ e ∷ []) e b (Contains-push seen e) (Contains-append_left seen (e ∷ []) b h.0) some h.1
+      (λ n longer shorter. All-push (Within n) seen e (all_wider (length b.text) n seen shorter h.2) (λ _. longer))
 
   -- one more entry
   longer_match-longest : (seen : List (Entry T)) (best : Option (Entry T)) (e : Entry T)
@@ -77,23 +79,5 @@ module _ {T : Type 0} (word : List ℕ) where
   longer_choice-longest first second (Some a) None h k =
       (Contains-append_left first second a h.0, h.1, All-append (Within (length a.text)) first second h.2 (all_within (length a.text) second k))
   longer_choice-longest first second (Some a) (Some b) h k =
-      elim (nat_lt (length b.text) (length a.text))
-      as (λ t. nat_lt (length b.text) (length a.text) ≡ t → IsLongestMatch (first ++ second) word (cond t (Some a) (Some b))) [
-        | true ↦ λ lt. let longer : length b.text ≤ length a.text = grind (arith, nat_tests) in (
-          Contains-append_left first second a h.0,
-          h.1,
-          All-append (Within (length a.text)) first second h.2
-              (all_wider (length b.text) (length a.text) second longer k.2),
-        )
-        | false ↦ λ ge. let shorter : length a.text ≤ length b.text = grind (arith, nat_tests) in (
-          Contains-append_right first second b k.0,
-          k.1,
-          All-append (Within (length b.text)) first second
-              (all_wider (length a.text) (length b.text) first shorter h.2) k.2,
-        )
-      ] refl
-
-  -- two lists
-  pub longest_of_two-longest : (first second : List (Entry T)) → IsLongestMatch (first ++ second) word (longest_of_two first second word)
-  longest_of_two-longest first second =
-      longer_choice-longest first second (longest_match first word) (longest_match second word) (longest_match-longest first) (longest_match-longest second)
+      longer-longest (first ++ second) a b (Contains-append_left first second a h.0) (Contains-append_right first second b k.0) h.1 k.1
+      (λ n of_a of_b. All-append (Within n) first second (all_wider (length a.text) n first of_a h.2) (all_wider (length b.text) n second of_b k.2))

@@ -15,11 +15,8 @@ abbrev pub replaced : List ℕ → List ℕ → List ℕ → List ℕ
 replaced old new text = replaced_past 0 old new text
 
 -- examples: places that touch, places that overlap, and a new text that holds the old one
-abbrev pub PlacesThatTouch : Type 0
-PlacesThatTouch = replaced (codes "ab") (codes "x") (codes "ababc") ≡ codes "xxc"
-
-abbrev pub PlacesThatOverlap : Type 0
-PlacesThatOverlap = replaced (codes "aa") (codes "b") (codes "aaa") ≡ codes "ba"
-
-abbrev pub NewTextHoldsTheOld : Type 0
-NewTextHoldsTheOld = replaced (codes "a") (codes "aa") (codes "aba") ≡ codes "aabaa"
+abbrev pub PlacesAreReplaced : Type 0
+PlacesAreReplaced =
+    (replaced (codes "ab") (codes "x") (codes "ababc") ≡ codes "xxc")
+    × (replaced (codes "aa") (codes "b") (codes "aaa") ≡ codes "ba")
+    × (replaced (codes "a") (codes "aa") (codes "aba") ≡ codes "aabaa")

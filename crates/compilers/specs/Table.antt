@@ -47,12 +47,11 @@ matched_either delimiter (c ∷ cs) = option_map joined (value_after delimiter (
 -- how an entry of a form matches a word, by what follows its text
 abbrev pub matched_rest : Option ArgDisposition → List ℕ → Option Matched
 matched_rest None [] = Some lone
-matched_rest None (_ ∷ _) = None
 matched_rest (Some Separated) [] = Some awaiting
-matched_rest (Some Separated) (_ ∷ _) = None
 matched_rest (Some (Concatenated delimiter)) rest = option_map joined (value_after delimiter rest)
 matched_rest (Some (CanBeSeparated delimiter)) rest = matched_either delimiter rest
 matched_rest (Some (CanBeConcatenated delimiter)) rest = matched_either delimiter rest
+matched_rest _ _ = None
 
 module _ {T : Type 0} where
   -- how an entry matches a word; `None` if it doesn't

@@ -3,25 +3,22 @@
 use Rattle.std.specs.Prelude.{◌≡◌, ℕ, List, [], ◌∷◌, ◌++◌, Bool, true, false, not, ◌&&◌, map, Option, bytes_eq}
 use Rattle.std.specs.List.{AllByRecursion, flat_map}
 use Rattle.compilers.specs.declared.table.ArgDisposition.{ArgDisposition}
-use Rattle.compilers.specs.declared.table.ArgDisposition.TheVariants.{Separated, Concatenated, CanBeSeparated, CanBeConcatenated}
+use Rattle.compilers.specs.declared.table.ArgDisposition.TheVariants.{Concatenated, CanBeSeparated}
 use Rattle.compilers.specs.Table.{Entry}
-use Rattle.compilers.specs.Items.{Item, raw, unknown_flag, flag, with_value, faulty, item, option, said_of, last_item, separate_item, items, words_of}
+use Rattle.compilers.specs.Items.{Item, with_value, faulty, item, option, said_of, last_item, separate_item, items, words_of}
 
 -- whether a value of this form is written in its option's own word
 abbrev pub is_joined : ArgDisposition → Bool
-is_joined Separated = false
 is_joined (Concatenated delimiter) = true
 is_joined (CanBeSeparated delimiter) = true
-is_joined (CanBeConcatenated delimiter) = false
+is_joined _ = false
 
 module _ {T : Type 0} where
   -- whether an item is whole: it isn't faulty, and its value isn't both joined and empty
   abbrev pub is_whole : Item T → Bool
-  is_whole (raw word) = true
-  is_whole (unknown_flag word) = true
-  is_whole (flag text kind) = true
   is_whole (with_value text kind value form) = not (is_joined form && bytes_eq value [])
   is_whole faulty = false
+  is_whole _ = true
 
   -- all items of a list are whole
   abbrev pub AllWhole : List (Item T) → Type 0

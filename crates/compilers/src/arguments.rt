@@ -1,6 +1,6 @@
 //! What a reader makes of a command line.
 
-ghost use Rattle.std.specs.Prelude.{◌≡◌, ◌++◌, [], IfOk, OnOk, MatchResult, Ok, Err};
+ghost use Rattle.std.specs.Prelude.{◌≡◌, IfOk, OnOk, MatchResult, Ok, Err};
 ghost use Rattle.compilers.specs.Arguments as spec;
 
 use crate::outputs::{ArtifactDescriptor, OBJ, Outputs};
@@ -129,10 +129,16 @@ impl ParsedArguments {
         ensures { IfOk result (λ p. p ≡ self.now) }
     {
         let outputs = self.outputs.try_clone(alloc)?;
-        let texts = self.two_texts(alloc)?;
-        let optional = self.optional_texts(alloc)?;
-        let mut copy = self.without_words(alloc, outputs, texts, optional);
-        match copy.add_words(alloc, self) {
+        let input = self.input.try_clone(alloc)?;
+        let mut copy = ParsedArguments::of(alloc, input, self.language, outputs);
+        copy.double_dash_input = self.double_dash_input;
+        copy.uses_external_assembler = self.uses_external_assembler;
+        copy.msvc_show_includes = self.msvc_show_includes;
+        copy.msvc_explicit_language = self.msvc_explicit_language;
+        copy.profile_generate = self.profile_generate;
+        copy.color_mode = self.color_mode;
+        copy.suppress_rewrite_includes_only = self.suppress_rewrite_includes_only;
+        match copy.add_texts(alloc, self) {
             Ok(()) => Ok(copy),
             Err(refused) => {
                 // Dropped by a call: see "Explicit drops" in docs/ARCHITECTURE.md.
@@ -142,99 +148,34 @@ impl ParsedArguments {
         }
     }
 
-    // Copies of the input's path and of the option that asks for a compilation.
-    fn two_texts(&self, alloc: Global) -> Result<(Text, Text), AllocError>
-        ensures { IfOk result (λ t. t ≡ (self.now.input, self.now.compilation_flag)) }
-    {
-        Ok((
-            self.input.try_clone(alloc)?,
-            self.compilation_flag.try_clone(alloc)?,
-        ))
-    }
-
-    // Copies of the texts that may be missing.
-    fn optional_texts(&self, alloc: Global) -> Result<(Option<Text>, Option<Text>), AllocError>
-        ensures { IfOk result (λ t. t ≡ (self.now.depfile, self.now.too_hard_for_preprocessor_cache_mode)) }
-    {
-        Ok((
-            Text::clone_optional(alloc, &self.depfile)?,
-            Text::clone_optional(alloc, &self.too_hard_for_preprocessor_cache_mode)?,
-        ))
-    }
-
-    // Arguments of these outputs and texts, with the same choices and no words.
-    fn without_words(
-        &self,
-        alloc: Global,
-        outputs: Outputs,
-        texts: (Text, Text),
-        optional: (Option<Text>, Option<Text>),
-    ) -> ParsedArguments
-        ensures { result ≡ record self.now {
-          input = texts.0;
-          outputs = outputs;
-          compilation_flag = texts.1;
-          depfile = optional.0;
-          dependency_args = [];
-          preprocessor_args = [];
-          common_args = [];
-          arch_args = [];
-          unhashed_args = [];
-          extra_dist_files = [];
-          extra_hash_files = [];
-          too_hard_for_preprocessor_cache_mode = optional.1;
-        } }
-    {
-        let (input, compilation_flag) = texts;
-        let (depfile, too_hard_for_preprocessor_cache_mode) = optional;
-        ParsedArguments {
-            input,
-            outputs,
-            double_dash_input: self.double_dash_input,
-            language: self.language,
-            compilation_flag,
-            depfile,
-            dependency_args: Words::new(alloc),
-            preprocessor_args: Words::new(alloc),
-            common_args: Words::new(alloc),
-            arch_args: Words::new(alloc),
-            unhashed_args: Words::new(alloc),
-            extra_dist_files: Words::new(alloc),
-            extra_hash_files: Words::new(alloc),
-            uses_external_assembler: self.uses_external_assembler,
-            msvc_show_includes: self.msvc_show_includes,
-            msvc_explicit_language: self.msvc_explicit_language,
-            profile_generate: self.profile_generate,
-            color_mode: self.color_mode,
-            suppress_rewrite_includes_only: self.suppress_rewrite_includes_only,
-            too_hard_for_preprocessor_cache_mode,
-        }
-    }
-
-    // Puts copies of the words of `other` last.
-    fn add_words(&mut self, alloc: Global, other: &ParsedArguments) -> Result<(), AllocError>
+    // Takes copies of the flag, the optional texts and the words of `other`.
+    fn add_texts(&mut self, alloc: Global, other: &ParsedArguments) -> Result<(), AllocError>
         ensures { OnOk result (self.new ≡ record self.old {
-          dependency_args = self.old.dependency_args ++ other.now.dependency_args;
-          preprocessor_args = self.old.preprocessor_args ++ other.now.preprocessor_args;
-          common_args = self.old.common_args ++ other.now.common_args;
-          arch_args = self.old.arch_args ++ other.now.arch_args;
-          unhashed_args = self.old.unhashed_args ++ other.now.unhashed_args;
-          extra_dist_files = self.old.extra_dist_files ++ other.now.extra_dist_files;
-          extra_hash_files = self.old.extra_hash_files ++ other.now.extra_hash_files;
+          compilation_flag = other.now.compilation_flag;
+          depfile = other.now.depfile;
+          dependency_args = other.now.dependency_args;
+          preprocessor_args = other.now.preprocessor_args;
+          common_args = other.now.common_args;
+          arch_args = other.now.arch_args;
+          unhashed_args = other.now.unhashed_args;
+          extra_dist_files = other.now.extra_dist_files;
+          extra_hash_files = other.now.extra_hash_files;
+          too_hard_for_preprocessor_cache_mode = other.now.too_hard_for_preprocessor_cache_mode;
         }) }
     {
-        let dependencies = other.dependency_args.as_slice();
-        self.dependency_args.extend(alloc, dependencies)?;
-        let preprocessor = other.preprocessor_args.as_slice();
-        self.preprocessor_args.extend(alloc, preprocessor)?;
-        self.common_args
-            .extend(alloc, other.common_args.as_slice())?;
-        self.arch_args.extend(alloc, other.arch_args.as_slice())?;
-        let unhashed = other.unhashed_args.as_slice();
-        self.unhashed_args.extend(alloc, unhashed)?;
-        let dist_files = other.extra_dist_files.as_slice();
-        self.extra_dist_files.extend(alloc, dist_files)?;
-        let hash_files = other.extra_hash_files.as_slice();
-        self.extra_hash_files.extend(alloc, hash_files)
+        self.compilation_flag = other.compilation_flag.try_clone(alloc)?;
+        self.depfile = Text::clone_optional(alloc, &other.depfile)?;
+        self.too_hard_for_preprocessor_cache_mode = Text::clone_optional(
+            alloc,
+            &other.too_hard_for_preprocessor_cache_mode,
+        )?;
+        self.dependency_args = other.dependency_args.try_clone(alloc)?;
+        self.preprocessor_args = other.preprocessor_args.try_clone(alloc)?;
+        self.common_args = other.common_args.try_clone(alloc)?;
+        self.arch_args = other.arch_args.try_clone(alloc)?;
+        self.unhashed_args = other.unhashed_args.try_clone(alloc)?;
+        self.extra_dist_files = other.extra_dist_files.try_clone(alloc)?;
+        self.extra_hash_files = other.extra_hash_files.try_clone(alloc)?;
+        Ok(())
     }
 }

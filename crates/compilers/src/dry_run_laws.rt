@@ -2,7 +2,7 @@
 
 ghost use Rattle.texts.specs.Equality.{TellsEqual};
 ghost use Rattle.compilers.specs.OneKernel.{WordsOfACommand};
-ghost use Rattle.compilers.specs.Replacing.{PlacesThatTouch, PlacesThatOverlap, NewTextHoldsTheOld};
+ghost use Rattle.compilers.specs.Replacing.{PlacesAreReplaced};
 
 use crate::dry_run::{Commands, DryRun};
 
@@ -12,15 +12,9 @@ pub fn equality()
     ensures dry_run { TellsEqual ⟦<DryRun as PartialEq>⟧.eq }
 {}
 
-/// How a command of the one-kernel dry run is cut into words, by the definitions.
-pub fn worked_commands()
-    ensures { WordsOfACommand }
-{}
-
-/// How the places of a text in another are replaced, by the definitions: places that touch (`touching`) and places that
-/// overlap (`overlapping`), and a new text that contains the old one (`repeating`).
-pub fn worked_replacements()
-    ensures touching { PlacesThatTouch }
-    ensures overlapping { PlacesThatOverlap }
-    ensures repeating { NewTextHoldsTheOld }
+/// How a command of the one-kernel dry run is cut into words (`words`), and how the places of a text in another are
+/// replaced (`replaced`): places that touch, places that overlap, and a new text that contains the old one.
+pub fn worked_examples()
+    ensures words { WordsOfACommand }
+    ensures replaced { PlacesAreReplaced }
 {}

@@ -3,7 +3,6 @@
 ghost use Rattle.std.specs.Prelude.{◌≡◌, ◌∷◌, [], ◌++◌, ◌<◌, length, map, Some, MatchOption, IfOk, OnOk, OnErr, string_bytes, option_map, option_copied, remove};
 ghost use Rattle.compilers.specs.Table.{entry_of};
 ghost use Rattle.compilers.specs.Items.{item_of, item_read};
-ghost use Rattle.compilers.specs.Views.{item_seen};
 ghost use Rattle.compilers.specs.Items as spec;
 ghost use Rattle.compilers.specs.WordsLaw as law;
 
@@ -110,8 +109,7 @@ impl<T: Copy> Argument<T> {
     {
         match self {
             Argument::Raw(_) | Argument::UnknownFlag(_) => None,
-            Argument::Flag(_, kind) => Some(kind),
-            Argument::WithValue(_, kind, _, _) => Some(kind),
+            Argument::Flag(_, kind) | Argument::WithValue(_, kind, _, _) => Some(kind),
         }
     }
 
@@ -121,8 +119,7 @@ impl<T: Copy> Argument<T> {
     {
         match self {
             Argument::Raw(_) | Argument::UnknownFlag(_) => None,
-            Argument::Flag(text, _) => Some(text),
-            Argument::WithValue(text, _, _, _) => Some(text),
+            Argument::Flag(text, _) | Argument::WithValue(text, _, _, _) => Some(text),
         }
     }
 
@@ -143,7 +140,19 @@ impl<T: Copy> Argument<T> {
     {
         match self {
             Argument::WithValue(text, kind, value, form) => {
-                Argument::WithValue(text, kind, value, form.normalize(disposition))
+                let form = match (form, disposition) {
+                    (
+                        ArgDisposition::CanBeSeparated(_) | ArgDisposition::CanBeConcatenated(_),
+                        NormalizedDisposition::Separated,
+                    ) => ArgDisposition::Separated,
+                    (
+                        ArgDisposition::CanBeSeparated(delimiter)
+                        | ArgDisposition::CanBeConcatenated(delimiter),
+                        NormalizedDisposition::Concatenated,
+                    ) => ArgDisposition::Concatenated(delimiter),
+                    (form, _) => form,
+                };
+                Argument::WithValue(text, kind, value, form)
             }
             item => item,
         }
@@ -153,23 +162,17 @@ impl<T: Copy> Argument<T> {
     pub fn words(&self, alloc: Global) -> Result<Words, AllocError>
         ensures { IfOk result (λ words. words ≡ spec.words_of (item_of self.now)) }
     {
-        let mut words = Words::new(alloc);
-        self.view().write(alloc, &mut words)?;
-        Ok(words)
-    }
-
-    // The same item, borrowing this one's texts.
-    fn view(&self) -> ArgumentView<'_, T>
-        ensures { item_seen result ≡ item_of self.now }
-    {
-        match self {
+        let view = match self {
             Argument::Raw(word) => ArgumentView::Raw(word.as_str()),
             Argument::UnknownFlag(word) => ArgumentView::UnknownFlag(word.as_str()),
             Argument::Flag(text, kind) => ArgumentView::Flag(text, *kind),
             Argument::WithValue(text, kind, value, form) => {
                 ArgumentView::WithValue(text, *kind, value.as_str(), *form)
             }
-        }
+        };
+        let mut words = Words::new(alloc);
+        view.write(alloc, &mut words)?;
+        Ok(words)
     }
 
     /// Appends the item's words to `words`, and moves its texts there. An option and its value are two
@@ -182,46 +185,15 @@ impl<T: Copy> Argument<T> {
         match self {
             Argument::Raw(word) | Argument::UnknownFlag(word) => words.push(word),
             Argument::Flag(text, _) => words.push(String::from_str(alloc, text)?),
-            Argument::WithValue(text, _, value, form) => {
-                write_value(alloc, text, value, form, words)
-            }
-        }
-    }
-}
-
-impl ArgDisposition {
-    // How to write a value that was read in this form.
-    fn normalize(self, disposition: NormalizedDisposition) -> ArgDisposition
-        ensures { result ≡ spec.normal_form disposition self }
-    {
-        match self {
-            ArgDisposition::CanBeSeparated(delimiter)
-            | ArgDisposition::CanBeConcatenated(delimiter) => match disposition {
-                NormalizedDisposition::Separated => ArgDisposition::Separated,
-                NormalizedDisposition::Concatenated => ArgDisposition::Concatenated(delimiter),
+            Argument::WithValue(text, _, value, form) => match form {
+                ArgDisposition::Separated | ArgDisposition::CanBeConcatenated(_) => {
+                    words.push_two(String::from_str(alloc, text)?, value)
+                }
+                ArgDisposition::Concatenated(delimiter)
+                | ArgDisposition::CanBeSeparated(delimiter) => {
+                    words.push(joined_word(alloc, text, delimiter, value.as_str())?)
+                }
             },
-            ArgDisposition::Separated | ArgDisposition::Concatenated(_) => self,
-        }
-    }
-}
-
-// The words of an option with its value.
-fn write_value(
-    alloc: Global,
-    text: &str,
-    value: String,
-    form: ArgDisposition,
-    words: &mut Words,
-) -> Result<(), AllocError>
-    ensures ok { OnOk result (words.new ≡ words.old ++ spec.value_words text.now (string_bytes value) form) }
-    ensures err { OnErr result (words.new ≡ words.old) }
-{
-    match form {
-        ArgDisposition::Separated | ArgDisposition::CanBeConcatenated(_) => {
-            words.push_two(String::from_str(alloc, text)?, value)
-        }
-        ArgDisposition::Concatenated(delimiter) | ArgDisposition::CanBeSeparated(delimiter) => {
-            words.push(joined_word(alloc, text, delimiter, value.as_str())?)
         }
     }
 }

@@ -83,26 +83,16 @@ fn rest_of<'a>(text: &str, word: &'a str) -> Option<&'a str>
     word.strip_prefix(text)
 }
 
-// What follows the delimiter `byte`, or nothing if nothing follows the option's text.
-fn value_past<'a>(byte: u8, rest: &'a str) -> Option<&'a str>
-    ensures { option_copied result ≡ spec.value_after (Some byte) rest.now }
-{
-    if !byte.is_ascii() {
-        None
-    } else if rest.is_empty() {
-        Some(rest)
-    } else {
-        rest.strip_prefix(char::from(byte))
-    }
-}
-
-// The value in the option's own word, by what follows the option's text there.
+// The value in the option's own word, by what follows the option's text there: it is empty, or comes after the
+// delimiter if there is one.
 fn joined_value<'a>(delimiter: Option<u8>, rest: &'a str) -> Option<&'a str>
     ensures { option_copied result ≡ spec.value_after delimiter rest.now }
 {
     match delimiter {
         None => Some(rest),
-        Some(byte) => value_past(byte, rest),
+        Some(byte) if !byte.is_ascii() => None,
+        Some(_) if rest.is_empty() => Some(rest),
+        Some(byte) => rest.strip_prefix(char::from(byte)),
     }
 }
 
@@ -122,8 +112,7 @@ impl<T: Copy> ArgInfo<T> {
         ensures { result.now ≡ (entry_of self.now).text }
     {
         match self {
-            ArgInfo::Flag(text, _) => text,
-            ArgInfo::TakeArg(text, _, _) => text,
+            ArgInfo::Flag(text, _) | ArgInfo::TakeArg(text, _, _) => text,
         }
     }
 
@@ -132,8 +121,7 @@ impl<T: Copy> ArgInfo<T> {
         ensures { result ≡ (entry_of self.now).kind }
     {
         match self {
-            ArgInfo::Flag(_, kind) => *kind,
-            ArgInfo::TakeArg(_, kind, _) => *kind,
+            ArgInfo::Flag(_, kind) | ArgInfo::TakeArg(_, kind, _) => *kind,
         }
     }
 
@@ -280,13 +268,14 @@ pub struct Pair<'a, T: Copy> {
 }
 
 impl<'a, T: Copy> SearchableArgInfo<T> for Pair<'a, T> {
-    ghost use Rattle.compilers.specs.LongestMatch.{longest_of_two-longest};
+    ghost use Rattle.compilers.specs.LongestMatch.{longer_choice-longest, longest_match-longest};
 
     ghost entries = { λ t. map entry_of t.first.rows.now ++ map entry_of t.second.rows.now };
 
     ghost chosen = { λ t. spec.longest_of_two (map entry_of t.first.rows.now) (map entry_of t.second.rows.now) };
 
-    ghost longest = { λ t word. longest_of_two-longest word (map entry_of t.first.rows.now) (map entry_of t.second.rows.now) };
+    ghost longest = { λ t word. longer_choice-longest word _ _ _ _
+        (longest_match-longest word (map entry_of t.first.rows.now)) (longest_match-longest word (map entry_of t.second.rows.now)) };
 
     fn search(&self, word: &str) -> Option<&ArgInfo<T>> {
         longer(self.first.search(word), self.second.search(word))

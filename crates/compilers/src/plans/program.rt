@@ -23,10 +23,13 @@ pub enum Program {
 }
 
 impl Program {
-    // The program of a stem.
-    fn of_stem(stem: &str) -> Program
-        ensures { result ≡ spec.program_of_stem stem.now }
+    /// The program at a path.
+    pub fn at(path: &str) -> Program
+        ensures { result ≡ spec.program_at path.now }
     {
+        let Some(stem) = file_stem(path) else {
+            return Program::Other;
+        };
         match stem {
             "fatbinary" => Program::Fatbinary,
             "nvlink" => Program::Nvlink,
@@ -34,16 +37,6 @@ impl Program {
             "cicc" => Program::Cicc,
             "ptxas" => Program::Ptxas,
             _ => Program::Other,
-        }
-    }
-
-    /// The program at a path.
-    pub fn at(path: &str) -> Program
-        ensures { result ≡ spec.program_at path.now }
-    {
-        match file_stem(path) {
-            None => Program::Other,
-            Some(stem) => Program::of_stem(stem),
         }
     }
 }

@@ -1,9 +1,9 @@
-use Rattle.compilers.proofs.SameLemmas.{commands, reasons, dropped, groups, dropped_commands, plans}
+use Rattle.compilers.proofs.RecordLemmas.{subcommands, reasons, dropped, groups, dropped_commands, plans}
 use Rattle.compilers.proofs.plan_laws.equality.Goals as goal
 
 pub returns : goal.returns
 returns c = record {
-  command = commands;
+  command = subcommands;
   reason = reasons;
   dropped_command = dropped;
   groups = groups;

@@ -1,5 +1,5 @@
 use Rattle.std.proofs.Common.{◌∙◌}
-use Rattle.compilers.proofs.CommandLemmas.{pointwise-lines}
+use Rattle.compilers.proofs.RecordLemmas.{pointwise-lines}
 use Rattle.compilers.proofs.dry_run.CommandsPartialEq.eq.Goals as goal
 
 pub returns : goal.returns
