@@ -1,6 +1,6 @@
 //! The commands that a plan or a compiler is made of.
 
-ghost use Rattle.std.specs.Prelude.{◌≡◌, IfOk, map, string_bytes};
+ghost use Rattle.std.specs.Prelude.{◌≡◌, List, ℕ, IfOk, map, string_bytes};
 ghost use Rattle.texts.specs.Variables.{pair_of};
 ghost use Rattle.compilers.specs.Command.{single_command};
 
@@ -35,8 +35,6 @@ pub struct SingleCompileCommand {
 
 /// A command whose parts can be read.
 pub trait CompileCommandImpl {
-    ghost use Rattle.std.specs.Prelude.{List, ℕ};
-
     ghost executable: { Self → List ℕ };
 
     ghost arguments: { Self → List (List ℕ) };

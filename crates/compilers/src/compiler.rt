@@ -1,9 +1,9 @@
 //! What a compiler is to the layers above.
 
-ghost use Rattle.std.specs.Prelude.{◌≡◌, [], IfOk, map, string_bytes, option_map};
+ghost use Rattle.std.specs.Prelude.{◌≡◌, ℕ, Bool, List, [], Option, Result, IfOk, map, string_bytes, option_map};
 ghost use Rattle.texts.specs.Variables.{pair_of};
 ghost use Rattle.texts.specs.Fault.{UnlessMemory};
-ghost use Rattle.compilers.specs.Compiler.{reading_of};
+ghost use Rattle.compilers.specs.Compiler.{Reading, reading_of};
 
 use crate::arguments::{CompilerArguments, ParsedArguments};
 use crate::command::{Cacheable, CompileCommandImpl};
@@ -63,13 +63,11 @@ impl Places {
 /// A compiler whose command lines can be read and written back. Its members `reading` and `writing` say what
 /// they give, so that contracts of generic callers can cite them.
 pub trait CCompilerImpl {
-    ghost use Rattle.std.specs.Prelude.{List, ℕ, Bool, Option, Result};
     ghost use Rattle.compilers.specs.declared.compiler.CCompilerKind.{CCompilerKind};
     ghost use Rattle.compilers.specs.declared.compiler.Places.{Places};
     ghost use Rattle.compilers.specs.declared.arguments.ParsedArguments.{ParsedArguments};
     ghost use Rattle.compilers.specs.declared.command.Cacheable.{Cacheable};
     ghost use Rattle.texts.specs.declared.fault.Fault.{Fault};
-    ghost use Rattle.compilers.specs.Compiler.{Reading};
 
     /// What the compiler's command is.
     type Command: CompileCommandImpl;

@@ -1,6 +1,6 @@
 //! What a dry run says: its commands and its environment.
 
-ghost use Rattle.std.specs.Prelude.{◌≡◌, ◌∷◌, ◌++◌, [], map, OnErr, OnOk, string_bytes};
+ghost use Rattle.std.specs.Prelude.{◌≡◌, ◌∷◌, ◌++◌, [], map, OnErr, OnOk, nat_eq, string_bytes};
 ghost use Rattle.compilers.specs.CommandLines.{line_seen};
 
 use std::alloc::{AllocError, Global};
@@ -73,7 +73,6 @@ impl Commands {
 }
 
 impl PartialEq for Commands {
-    ghost use Rattle.std.specs.Prelude.{nat_eq};
     ghost use Rattle.std.specs.Cmp.Lexicographic.{pointwise};
     ghost use Rattle.std.specs.Cmp.Rules.{comparing};
     ghost use Rattle.std.specs.Ordering.{on, eq_of_both};

@@ -1,6 +1,6 @@
 //! The items of a command line, read word by word over an option table.
 
-ghost use Rattle.std.specs.Prelude.{◌≡◌, ◌∷◌, [], ◌++◌, ◌<◌, length, map, Some, MatchOption, IfOk, OnOk, OnErr, string_bytes, option_map, option_copied, remove};
+ghost use Rattle.std.specs.Prelude.{◌≡◌, ◌∷◌, [], ◌++◌, ◌<◌, length, map, Some, MatchOption, IfOk, OnOk, OnErr, string_bytes, option_map, option_copied, remove, false};
 ghost use Rattle.compilers.specs.Table.{entry_of};
 ghost use Rattle.compilers.specs.Items.{item_of, item_read};
 ghost use Rattle.compilers.specs.Items as spec;
@@ -234,7 +234,6 @@ pub struct ArgsIter<'a, S: SearchableArgInfo<T> + Drop, T: Copy> {
 }
 
 impl<'a, S: SearchableArgInfo<T> + Drop, T: Copy> ArgsIter<'a, S, T> {
-    ghost use Rattle.std.specs.Prelude.{false, true};
     ghost use Rattle.compilers.specs.ArgsIter.{words_left, is_refused, table_of};
 
     /// The items of `words`.
@@ -270,9 +269,7 @@ impl<'a, S: SearchableArgInfo<T> + Drop, T: Copy> ArgsIter<'a, S, T> {
 }
 
 impl<'a, S: SearchableArgInfo<T> + Drop, T: Copy> Iterator for ArgsIter<'a, S, T> {
-    ghost use Rattle.std.specs.Prelude.{◌≡◌, length};
     ghost use Rattle.std.specs.Iterator.{at_most};
-    ghost use Rattle.std.specs.Option.{option_map};
 
     type Item = Result<Argument<T>, ArgParseError>;
 

@@ -1,6 +1,6 @@
 //! The files that a command makes.
 
-ghost use Rattle.std.specs.Prelude.{◌≡◌, ◌==◌, [], ◌∷◌, map, length, IfOk, OnOk, OnErr, option_copied};
+ghost use Rattle.std.specs.Prelude.{◌≡◌, ◌==◌, [], map, length, nat_eq, IfOk, OnOk, OnErr, option_copied};
 
 use std::alloc::{AllocError, Global};
 use std::collections::{BTreeMap, btree_map};
@@ -176,7 +176,6 @@ impl<'a> Iterator for Iter<'a> {
 }
 
 impl PartialEq for Outputs {
-    ghost use Rattle.std.specs.Prelude.{nat_eq};
     ghost use Rattle.std.specs.Bool.{beq};
     ghost use Rattle.std.specs.Ordering.{on, eq_of_both};
     ghost use Rattle.std.specs.Cmp.Lexicographic.{pointwise};

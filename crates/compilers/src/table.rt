@@ -3,6 +3,7 @@
 ghost use Rattle.std.specs.Prelude.{◌≡◌, ◌++◌, ℕ, List, Option, map, Some, None, false, option_map, option_copied};
 ghost use Rattle.compilers.specs.Table.{Entry, entry_of};
 ghost use Rattle.compilers.specs.Table as spec;
+ghost use Rattle.compilers.specs.LongestMatch.{longer_choice-longest, longest_match-longest};
 ghost use Rattle.texts.specs.Lists.{rest_after};
 
 /// How an option takes its value. The number is the delimiter between the option's text and a joined
@@ -196,8 +197,6 @@ pub struct Table<'a, T: Copy> {
 }
 
 impl<'a, T: Copy> SearchableArgInfo<T> for Table<'a, T> {
-    ghost use Rattle.compilers.specs.LongestMatch.{longest_match-longest};
-
     ghost entries = { λ t. map entry_of t.rows.now };
 
     ghost chosen = { λ t. spec.longest_match (map entry_of t.rows.now) };
@@ -244,8 +243,6 @@ fn longer<'a, T: Copy>(
 /// Two tables searched as one: the longer of their choices wins, and the second's if both are equally
 /// long. An entry of the second table replaces one of the same text only for words that it matches.
 impl<T: Copy, A: SearchableArgInfo<T>, B: SearchableArgInfo<T>> SearchableArgInfo<T> for (A, B) {
-    ghost use Rattle.compilers.specs.LongestMatch.{longer_choice-longest};
-
     ghost entries = { λ t. A.entries t.0 ++ B.entries t.1 };
 
     ghost chosen = { λ t word. spec.longer_choice (A.chosen t.0 word) (B.chosen t.1 word) };
@@ -268,8 +265,6 @@ pub struct Pair<'a, T: Copy> {
 }
 
 impl<'a, T: Copy> SearchableArgInfo<T> for Pair<'a, T> {
-    ghost use Rattle.compilers.specs.LongestMatch.{longer_choice-longest, longest_match-longest};
-
     ghost entries = { λ t. map entry_of t.first.rows.now ++ map entry_of t.second.rows.now };
 
     ghost chosen = { λ t. spec.longest_of_two (map entry_of t.first.rows.now) (map entry_of t.second.rows.now) };

@@ -1,6 +1,7 @@
 //! A plan: the commands that one `nvcc` call runs, in groups, and those that it doesn't run.
 
 ghost use Rattle.std.specs.Prelude.{◌≡◌, map, vec_items, IfOk};
+ghost use Rattle.std.specs.Cmp.Lexicographic.{pointwise, lists_per};
 ghost use Rattle.compilers.specs.Reasons.{reason_name};
 
 use crate::command::Cacheable;
@@ -123,7 +124,6 @@ impl Groups {
 }
 
 impl PartialEq for Groups {
-    ghost use Rattle.std.specs.Cmp.Lexicographic.{pointwise, lists_per};
     ghost use Rattle.compilers.specs.contracts.plans.plan.NvccGeneratedSubcommandPartialEq.TheImpl.Laws.{laws-law};
 
     ghost eq = { pointwise (pointwise ⟦<NvccGeneratedSubcommand as PartialEq>⟧.eq) };
@@ -176,7 +176,6 @@ impl DroppedCommands {
 }
 
 impl PartialEq for DroppedCommands {
-    ghost use Rattle.std.specs.Cmp.Lexicographic.{pointwise, lists_per};
     ghost use Rattle.compilers.specs.contracts.plans.plan.DroppedPartialEq.TheImpl.Laws.{laws-law};
 
     ghost eq = { pointwise ⟦<Dropped as PartialEq>⟧.eq };
