@@ -1,5 +1,5 @@
 -- Facts about what follows an option's text, and its delimiter, in a word.
-use Rattle.std.proofs.Common.{◌≡◌, ◌≢◌, ℕ, ◌<◌, ◌+◌, true, false, cond, eqb, List, [], ◌∷◌, Option, Some, None, MatchOption, Bor, refl, ap, sym, ◌∙◌, length, nat_lt, nat_le, nat_eq, slice_index_or, ◌&&◌, arith, option_copied}
+use Rattle.std.proofs.Common.{◌≡◌, ◌≢◌, ℕ, ◌<◌, true, false, List, ◌∷◌, Option, Some, None, MatchOption, Bor, length, nat_le, nat_eq, slice_index_or, arith, option_copied}
 use Rattle.std.proofs.lemmas.Bool.{false≢true}
 use Rattle.std.proofs.lemmas.Bool.Decides.{Decides-eqb, Decides-ltb, nat_tests}
 use Rattle.std.proofs.lemmas.List.{length-append, get_or_append_left}

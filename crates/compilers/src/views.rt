@@ -1,6 +1,6 @@
 //! Items that borrow their texts from the words of their line. Reading them allocates nothing.
 
-ghost use Rattle.std.specs.Prelude.{◌≡◌, ◌++◌, map, IfOk, OnOk, OnErr, option_map, option_copied};
+ghost use Rattle.std.specs.Prelude.{◌≡◌, ◌++◌, IfOk, OnOk, OnErr, option_map, option_copied};
 ghost use Rattle.compilers.specs.Table.{entry_of};
 ghost use Rattle.compilers.specs.Items.{item_of};
 ghost use Rattle.compilers.specs.Items as spec;
