@@ -1,5 +1,4 @@
 pub mod ItemLemmas
 pub mod RecordLemmas
 pub mod Sorted
-pub mod TableLemmas
 pub mod WordsLemmas
