@@ -110,7 +110,12 @@ impl Environments {
     {
         match stage {
             Stage::HostCompiling => self.marked.try_clone(alloc),
-            _ => self.plain.try_clone(alloc),
+            Stage::Linking
+            | Stage::Splitting
+            | Stage::DeviceCompiling
+            | Stage::Assembling
+            | Stage::Preprocessing
+            | Stage::Foreign => self.plain.try_clone(alloc),
         }
     }
 }
