@@ -1,6 +1,7 @@
 //! The items of a command line, read word by word over an option table.
 
-ghost use Rattle.std.specs.Prelude.{◌≡◌, ◌∷◌, [], ◌++◌, ◌<◌, length, map, Some, MatchOption, IfOk, OnOk, OnErr, string_bytes, option_map, option_copied, remove, false};
+ghost use Rattle.std.specs.Prelude.{◌≡◌, ◌∷◌, [], ◌++◌, ◌<◌, length, map, Some, MatchOption, IfOk, OnOk, OnErr};
+ghost use Rattle.std.specs.Prelude.{false, string_bytes, option_map, option_copied, remove};
 ghost use Rattle.compilers.specs.Table.{entry_of};
 ghost use Rattle.compilers.specs.Items.{item_of, item_read};
 ghost use Rattle.compilers.specs.Items as spec;
