@@ -4,10 +4,9 @@ use Rattle.std.specs.List.{list_any}
 use Rattle.std.specs.Option.{option_or}
 use Rattle.std.proofs.Math.Bool.{or-false, or-true}
 use Rattle.host_lines.specs.declared.gcc.options.ArgData.{ArgData}
-use Rattle.compilers.specs.declared.table.ArgDisposition.{ArgDisposition}
 use Rattle.compilers.specs.Table.{Entry}
-use Rattle.compilers.specs.Items.{Item, raw, Said, item, option, said_of, separate_item, Completes, normal_form, value_words}
-use Rattle.host_lines.specs.GccItems.{Asked, is_double_dash, items_to_dashes, has_double_dash, first_refusal, refusal_of, words_to, inputs, common, preprocessor, unhashed, architectures, dependencies, hash_files, language_said, flag_said, output_said, dependency_file_said, target_said, needs_target_item, written_form}
+use Rattle.compilers.specs.Items.{Item, raw, Said, item, option, said_of, separate_item, Completes}
+use Rattle.host_lines.specs.GccItems.{Asked, is_double_dash, items_to_dashes, has_double_dash, first_refusal, refusal_of, words_to, inputs, common, preprocessor, unhashed, architectures, dependencies, hash_files, language_said, flag_said, output_said, dependency_file_said, target_said, needs_target_item}
 use Rattle.host_lines.specs.GccSteps.{with_item}
 use Rattle.host_lines.specs.Gcc.{unless_refused}
 use Rattle.compilers.proofs.ItemLemmas.{items-completed}
@@ -35,14 +34,9 @@ added cwd g dashes is = record {
   extra_hash_files = g.extra_hash_files ++ hash_files cwd is;
 }
 
-module _ (cwd : List ℕ) where
-  -- the words of an option as it is written
-  abbrev option_words : List ℕ → List ℕ → ArgDisposition → List (List ℕ)
-  option_words text value form = value_words text value (normal_form (written_form (Some text)) form)
-
-  -- one more item
-  item-added : (g : Asked) (dashes : Bool) (i : Item ArgData) (is : List (Item ArgData)) → added cwd (with_item cwd g i) dashes is ≡ added cwd g dashes (i ∷ is)
-  item-added g dashes i is = grind (arith, append_assoc)
+-- one more item
+item-added : (cwd : List ℕ) (g : Asked) (dashes : Bool) (i : Item ArgData) (is : List (Item ArgData)) → added cwd (with_item cwd g i) dashes is ≡ added cwd g dashes (i ∷ is)
+item-added cwd g dashes i is = grind (arith, append_assoc)
 
 -- what a line asks for whose first items asked for this, of the words that are left
 abbrev pub gathering_after : (List ℕ → Option (Entry ArgData)) → List ℕ → Asked → List (List ℕ) → Result Asked (List ℕ)

@@ -2,5 +2,4 @@ pub mod FirstLemmas
 pub mod GccLemmas
 pub mod NumberLemmas
 pub mod NvccEqualityLemmas
-pub mod PreprocessLemmas
 pub mod TakingLemmas

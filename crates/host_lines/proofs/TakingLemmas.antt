@@ -1,11 +1,10 @@
 -- What a loop over the words gathers is what the filters say.
-use Rattle.std.proofs.Common.{◌≡◌, ◌∙◌, ℕ, List, [], ◌∷◌, ◌++◌, Bool, false, ◌||◌, cond, Option, Some, None, filter, refl, sym, append_assoc, append-nil, arith}
+use Rattle.std.proofs.Common.{◌≡◌, ◌∙◌, ℕ, List, [], ◌∷◌, ◌++◌, Bool, false, ◌||◌, if◌then◌else◌, cond, Option, Some, None, Result, filter, refl, sym, append_assoc, append-nil, arith}
 use Rattle.std.specs.List.{filter_map, cons_option, list_any, fold}
 use Rattle.host_lines.specs.declared.nvcc.taking.KeepWords.{KeepWords}
-use Rattle.host_lines.specs.declared.nvcc.taking.ThreadWords.{ThreadWords}
+use Rattle.texts.specs.declared.fault.Fault.{Fault}
 use Rattle.texts.specs.Lists.{latest}
-use Rattle.host_lines.specs.KeepThreads.{valued, is_unfinished, words_alone, is_keep_dir, sets_keep, is_no_keep_word, keep_of, is_threads, is_no_thread_word, number_given, threads_of}
-use Rattle.host_lines.specs.Taken.{nothing_kept, with_keep_word, keep_of_gathered, no_threads, with_thread_word, threads_of_gathered}
+use Rattle.host_lines.specs.KeepThreads.{takes_value, valued, is_unfinished, words_alone, is_keep_dir, sets_keep, is_no_keep_word, keep_of, is_threads, is_no_thread_word, number_given, threads_answer, threads_of, nothing_kept, with_keep_word, keep_of_gathered}
 
 -- a word put after those so far, where a test says so
 kept_word : (b : Bool) (so_far : List (List ℕ)) (p : Bool × List ℕ) (rest : List (Bool × List ℕ)) → cond b (so_far ++ p.1 ∷ []) so_far ++ words_alone rest ≡ so_far ++ words_alone (cond b (p ∷ rest) rest)
@@ -41,18 +40,21 @@ pub keep_gathered : (cwd : List ℕ) (words : List (List ℕ)) → keep_of_gathe
 keep_gathered cwd words =
     rw (stay_kept words nothing_kept, directory_kept words nothing_kept, is_kept_kept words nothing_kept, awaits_kept words nothing_kept None refl) refl
 
-stay_threads : (words : List (List ℕ)) (t : ThreadWords) → (fold with_thread_word t words).stay ≡ t.stay ++ words_alone (filter is_no_thread_word (valued is_threads t.awaits_number words))
-stay_threads [] t = sym (append-nil t.stay)
-stay_threads (word ∷ words) t = grind (arith, kept_word, (stay_threads words (with_thread_word t word)))
+-- the answer, of the words for threads so far and those that are left: the words that stay, the last number, and whether
+-- the last word takes the next one as the number
+abbrev pub threads_after : List (List ℕ) → Option ℕ → Bool → List (List ℕ) → Result (List (List ℕ) × ℕ) Fault
+threads_after stay number awaits [] = threads_answer awaits stay number
+threads_after stay number awaits (word ∷ words) =
+    threads_after (if is_no_thread_word (awaits, word) then stay ++ word ∷ [] else stay) (latest number (number_given (awaits, word)))
+    (takes_value is_threads (awaits, word)) words
 
-number_threads : (words : List (List ℕ)) (t : ThreadWords) → (fold with_thread_word t words).number ≡ fold (λ _ n. Some n) t.number (filter_map number_given (valued is_threads t.awaits_number words))
-number_threads [] t = refl
-number_threads (word ∷ words) t = simp (last_given, (number_threads words (with_thread_word t word)))
+thread_words_after : (words stay : List (List ℕ)) (number : Option ℕ) (awaits : Bool) (before : Option (Bool × List ℕ)) → awaits ≡ is_unfinished is_threads before →
+    threads_after stay number awaits words ≡ threads_answer (is_unfinished is_threads (fold (λ _ p. Some p) before (valued is_threads awaits words)))
+    (stay ++ words_alone (filter is_no_thread_word (valued is_threads awaits words))) (fold (λ _ n. Some n) number (filter_map number_given (valued is_threads awaits words)))
+thread_words_after [] stay number awaits before h = rw (append-nil stay, h) refl
+thread_words_after (word ∷ words) stay number awaits before h =
+    rw (← last_given number (number_given (awaits, word)) (filter_map number_given (valued is_threads (takes_value is_threads (awaits, word)) words)), ← kept_word (is_no_thread_word (awaits, word)) stay (awaits, word) (filter is_no_thread_word (valued is_threads (takes_value is_threads (awaits, word)) words)))
+    (thread_words_after words (cond (is_no_thread_word (awaits, word)) (stay ++ word ∷ []) stay) (latest number (number_given (awaits, word))) (takes_value is_threads (awaits, word)) (Some (awaits, word)) refl)
 
-awaits_threads : (words : List (List ℕ)) (t : ThreadWords) (before : Option (Bool × List ℕ)) → t.awaits_number ≡ is_unfinished is_threads before → (fold with_thread_word t words).awaits_number ≡ is_unfinished is_threads (fold (λ _ p. Some p) before (valued is_threads t.awaits_number words))
-awaits_threads [] t before h = h
-awaits_threads (word ∷ words) t before h = awaits_threads words (with_thread_word t word) (Some (t.awaits_number, word)) refl
-
-pub threads_gathered : (words : List (List ℕ)) → threads_of_gathered (fold with_thread_word no_threads words) ≡ threads_of words
-threads_gathered words =
-    rw (stay_threads words no_threads, number_threads words no_threads, awaits_threads words no_threads None refl) refl
+pub threads_gathered : (words : List (List ℕ)) → threads_after [] None false words ≡ threads_of words
+threads_gathered words = thread_words_after words [] None false None refl

@@ -66,12 +66,12 @@ abbrev pub outputs_of : List ℕ → Option (List ℕ) → List (List ℕ × Art
 outputs_of obj None = with_entry [] (codes "obj", made_file obj)
 outputs_of obj (Some path) = with_entry (with_entry [] (codes "obj", made_file obj)) (codes "d", made_file path)
 
--- the arguments of a line whose input, language and outputs are known
-abbrev pub arguments_with : Asked → List ℕ → Language → List (List ℕ × ArtifactDescriptor) → ParsedArguments
-arguments_with a input language outputs = record (plain_arguments input language outputs) {
+-- the arguments of a line whose input, language and object are known
+abbrev pub arguments_of : Asked → List ℕ → Language → List ℕ → ParsedArguments
+arguments_of a input language obj = record (plain_arguments input language (outputs_of obj (dependency_file_of a obj))) {
   double_dash_input = a.double_dash_input;
   compilation_flag = unwrap_or a.compilation_flag [];
-  dependency_args = a.dependency_args;
+  dependency_args = (a.dependency_args ++ target_words a obj) ++ dependency_file_words a obj;
   preprocessor_args = a.preprocessor_args;
   common_args = a.common_args;
   arch_args = a.arch_args;
@@ -79,13 +79,6 @@ arguments_with a input language outputs = record (plain_arguments input language
   extra_hash_files = a.extra_hash_files;
   color_mode = Auto;
 }
-
--- the arguments of a line whose input, language and object are known
-abbrev pub arguments_of : Asked → List ℕ → Language → List ℕ → ParsedArguments
-arguments_of a input language obj =
-    record (arguments_with a input language (outputs_of obj (dependency_file_of a obj))) {
-      dependency_args = (a.dependency_args ++ target_words a obj) ++ dependency_file_words a obj;
-    }
 
 -- the input of a line and its language, or the text that the line is refused with
 abbrev pub sole_input : Option Language → List (List ℕ) → Result (List ℕ × Language) (List ℕ)

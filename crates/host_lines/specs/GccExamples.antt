@@ -29,9 +29,6 @@ chosen_alone word = longer_choice (longest_match gcc_entries word) (longest_matc
 abbrev pub read_by : Bool → CCompilerKind → List (List ℕ) → Reading
 read_by plusplus kind line = profile_reading chosen_alone (codes "/w") plusplus kind line
 
-abbrev pub read : List (List ℕ) → Reading
-read = read_by false Nvhpc
-
 -- the arguments of a line that compiles one file by `-c`, and has no other words
 abbrev pub compiled : List ℕ → Language → List ℕ → ParsedArguments
 compiled input language obj =
@@ -47,7 +44,7 @@ with_dependency_file dependency_file obj =
 
 -- what nvhpc reads worked lines as
 abbrev pub LinesOfNvhpc : Type 0
-LinesOfNvhpc = Gives read (
+LinesOfNvhpc = Gives (read_by false Nvhpc) (
     -- the object is the named one, or stands beside the input
     (spaced "-c a/foo.c", accepted (compiled (codes "a/foo.c") C (codes "a/foo.o")))
     ∷ (spaced "-c foo.cxx -o foo.o", accepted (compiled (codes "foo.cxx") Cxx (codes "foo.o")))
@@ -103,11 +100,12 @@ LinesOfNvhpc = Gives read (
     ∷ (spaced "-c a.c -isystem", accepted (record (compiled (codes "a.c") C (codes "a.o")) { preprocessor_args = codes "-isystem" ∷ [] ∷ [] }))
     ∷ [])
 
--- what compilers for C++ and nvcc read worked lines as, where they differ
-abbrev pub LinesOfOthers : Type 0
-LinesOfOthers =
+-- what gcc's options make of worked lines: of nvhpc's, and of those that compilers for C++ and nvcc read otherwise
+abbrev pub LinesRead : Type 0
+LinesRead =
+    LinesOfNvhpc
     -- a compiler for C++ takes C files for C++, but not the language that an option names
-    Gives (read_by true Nvhpc) (
+    × Gives (read_by true Nvhpc) (
     (spaced "-c a.c", accepted (compiled (codes "a.c") Cxx (codes "a.o")))
     ∷ (spaced "-x c -c a.cu", accepted (compiled (codes "a.cu") C (codes "a.o")))
     ∷ [])
@@ -116,9 +114,6 @@ LinesOfOthers =
     (spaced "foo.cu", accepted (record (compiled (codes "foo.cu") Cuda (codes "foo.o")) { compilation_flag = [] }))
     ∷ (spaced "a.cu b.cu", not_compilation)
     ∷ [])
-
-abbrev pub LinesRead : Type 0
-LinesRead = LinesOfNvhpc × LinesOfOthers
 
 -- what worked arguments are written as
 pub record LinesWritten : Type 0 where

@@ -34,14 +34,11 @@ module _ {T : Type 0} (chosen : List ℕ → Option (Entry T)) where
   abbrev pub has_double_dash : List (List ℕ) → Bool
   has_double_dash line = list_any is_double_dash (items chosen line)
 
--- the languages that the option for the language names
-abbrev pub language_names : List (List ℕ × Language)
-language_names =
-    (codes "c", C) ∷ (codes "c++", Cxx) ∷ (codes "objective-c", ObjectiveC) ∷ (codes "objective-c++", ObjectiveCxx)
-    ∷ (codes "cu", Cuda) ∷ (codes "cuda", Cuda) ∷ []
-
+-- the language that the option for it names
 abbrev pub language_named : List ℕ → Option Language
-language_named name = lookup (bytes_eq name) language_names
+language_named name = lookup (bytes_eq name) (
+    (codes "c", C) ∷ (codes "c++", Cxx) ∷ (codes "objective-c", ObjectiveC) ∷ (codes "objective-c++", ObjectiveCxx)
+    ∷ (codes "cu", Cuda) ∷ (codes "cuda", Cuda) ∷ [])
 
 -- the name that the option for the language has for it
 abbrev pub name_of_language : Language → Option (List ℕ)
@@ -120,12 +117,9 @@ abbrev pub written_form : Option (List ℕ) → NormalizedDisposition
 written_form None = normal.Separated
 written_form (Some text) = if length text == 2 then normal.Concatenated else normal.Separated
 
-abbrev pub written_item : Item ArgData → Item ArgData
-written_item i = normalized (written_form (text_of i)) i
-
 -- the words of the items that go to a list, in the order of the items
 abbrev pub words_to : Destination → List (Item ArgData) → List (List ℕ)
-words_to list is = flat_map (λ i. words_of (written_item i)) (filter (λ i. same_list list (destination_of i)) is)
+words_to list is = flat_map (λ i. words_of (normalized (written_form (text_of i)) i)) (filter (λ i. same_list list (destination_of i)) is)
 
 -- whether a kind is this one, of the kinds whose items say something besides their words
 abbrev pub is_kind : ArgData → ArgData → Bool

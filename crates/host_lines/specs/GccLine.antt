@@ -1,16 +1,12 @@
 -- The words that gcc's arguments are written back as.
-use Rattle.std.specs.Prelude.{ℕ, List, [], ◌∷◌, ◌++◌, if◌then◌else◌, Option, Some, None, codes}
+use Rattle.std.specs.Prelude.{ℕ, List, [], ◌∷◌, ◌++◌, if◌then◌else◌, Some, None, codes}
 use Rattle.texts.specs.declared.language.Language.{Language}
 use Rattle.compilers.specs.declared.arguments.ParsedArguments.{ParsedArguments}
 use Rattle.host_lines.specs.GccItems.{name_of_language}
 
 -- the option for the language and its name, if it has one
-abbrev pub named_words : Option (List ℕ) → List (List ℕ)
-named_words None = []
-named_words (Some name) = codes "-x" ∷ name ∷ []
-
 abbrev pub language_words : Language → List (List ℕ)
-language_words language = named_words (name_of_language language)
+language_words language = elim (name_of_language language) [ None ↦ [] | Some name ↦ codes "-x" ∷ name ∷ [] ]
 
 -- the flag that asks for a compilation, if there is one
 abbrev pub flag_words : List ℕ → List (List ℕ)

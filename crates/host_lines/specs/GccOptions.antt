@@ -1,5 +1,5 @@
 -- The options that the gcc reader knows: this project's profile of gcc's options.
-use Rattle.std.specs.Prelude.{◌≡◌, ℕ, List, [], ◌∷◌, ◌++◌, Bool, true, not, ◌&&◌, map, Some, None, refl, bytes_eq}
+use Rattle.std.specs.Prelude.{ℕ, List, [], ◌∷◌, ◌++◌, Bool, true, not, ◌&&◌, map, Some, None, bytes_eq}
 use Rattle.std.specs.List.{list_any}
 use Rattle.compilers.specs.declared.table.ArgDisposition.{ArgDisposition}
 use Rattle.compilers.specs.declared.table.ArgDisposition.TheVariants.{Separated, Concatenated, CanBeSeparated}
@@ -55,6 +55,3 @@ gcc_entries =
 abbrev pub differ : {T : Type 0} → List (Entry T) → Bool
 differ [] = true
 differ (e ∷ es) = not (list_any (λ other. bytes_eq e.text other.text) es) && differ es
-
-pub gcc_texts_differ : differ gcc_entries ≡ true
-gcc_texts_differ = refl

@@ -1,11 +1,12 @@
 -- The words of an nvcc line for kept files and for threads: which folder keeps intermediate files, how many commands run at
 -- once, and the words without these. Each answer filters the words.
-use Rattle.std.specs.Prelude.{ℕ, ◌+◌, ◌*◌, ◌-◌, ◌^◌, List, [], ◌∷◌, Bool, true, false, not, ◌&&◌, ◌||◌, ◌==◌, nat_eq, nat_lt, if◌then◌else◌, Option, Some, None, unwrap_or, Result, Ok, Err, Vec, String, string_bytes, map, filter, drop, codes, option_and_then, option_map}
+use Rattle.std.specs.Prelude.{ℕ, ◌++◌, ◌+◌, ◌*◌, ◌-◌, ◌^◌, List, [], ◌∷◌, Bool, true, false, not, ◌&&◌, ◌||◌, ◌==◌, nat_eq, nat_lt, if◌then◌else◌, Option, Some, None, unwrap_or, Result, Ok, Err, Vec, String, string_bytes, map, filter, drop, codes, option_map}
 use Rattle.std.specs.List.{filter_map, list_any, starts_with}
 use Rattle.std.specs.declared.alloc.Global.{Global}
 use Rattle.std.specs.Str.{bytes_eq, all_ascii_digits}
 use Rattle.texts.specs.declared.fault.Fault.{Fault}
 use Rattle.texts.specs.declared.fault.Fault.TheVariants.{KeepDirValue, ThreadsValue}
+use Rattle.host_lines.specs.declared.nvcc.taking.KeepWords.{KeepWords}
 use Rattle.texts.specs.Path.{joined}
 use Rattle.texts.specs.Lists.{last_of}
 
@@ -68,6 +69,23 @@ keep_of cwd words =
     let ps = valued is_keep_dir false words in
     keep_answer cwd (lacks_value is_keep_dir ps) (words_alone (filter is_no_keep_word ps)) (list_any sets_keep ps) (last_of (words_alone (filter (λ p. p.0) ps)))
 
+-- what the reader has gathered: no words for kept files yet
+abbrev pub nothing_kept : KeepWords
+nothing_kept = record { stay = []; directory = None; is_kept = false; awaits_directory = false }
+
+-- one more word
+abbrev pub with_keep_word : KeepWords → List ℕ → KeepWords
+with_keep_word k word = record {
+  stay = if is_no_keep_word (k.awaits_directory, word) then k.stay ++ word ∷ [] else k.stay;
+  directory = if k.awaits_directory then Some word else k.directory;
+  is_kept = k.is_kept || sets_keep (k.awaits_directory, word);
+  awaits_directory = takes_value is_keep_dir (k.awaits_directory, word);
+}
+
+-- what has been gathered of all words, as an answer
+abbrev pub keep_of_gathered : List ℕ → KeepWords → Result (List (List ℕ) × Option (List ℕ)) Fault
+keep_of_gathered cwd k = keep_answer cwd k.awaits_directory k.stay k.is_kept k.directory
+
 -- Numbers.
 
 -- a text without the `+` that it may begin with
@@ -103,14 +121,10 @@ begins_with_t word = starts_with nat_eq word (codes "-t")
 abbrev pub joined_number : List ℕ → List ℕ
 joined_number word = drop (if list_any (λ c. c == 61) word then 3 else 2) word
 
--- the text that a word gives as the number of threads: a value is one, and so is what follows `-t`
-abbrev pub number_text : Bool × List ℕ → Option (List ℕ)
-number_text (true, word) = Some word
-number_text (false, word) = if begins_with_t word then Some (joined_number word) else None
-
--- the number that a word gives, if it is one
+-- the number of threads that a word gives, if it is one: that in a value, or in what follows `-t`
 abbrev pub number_given : Bool × List ℕ → Option ℕ
-number_given p = option_and_then number_of (number_text p)
+number_given (true, word) = number_of word
+number_given (false, word) = if begins_with_t word then number_of (joined_number word) else None
 
 -- whether a word stays: it is neither a value nor a word for threads
 abbrev pub is_no_thread_word : Bool × List ℕ → Bool

@@ -4,13 +4,11 @@ pub mod GccItems
 pub mod GccLine
 pub mod GccOptions
 pub mod GccSteps
-pub mod HostExamples
 pub mod KeepThreads
+pub mod LineExamples
 pub mod Nvcc
 pub mod NvccCommand
 pub mod NvccEnvironment
-pub mod NvccExamples
 pub mod NvccOptions
 pub mod Nvhpc
 pub mod Preprocess
-pub mod Taken

@@ -12,8 +12,6 @@ use Rattle.host_lines.specs.declared.nvcc.compiler.Nvcc.{Nvcc}
 use Rattle.host_lines.specs.NvccOptions.{nvcc_options}
 use Rattle.host_lines.specs.NvccEnvironment.{with_added_words}
 
--- Reading.
-
 -- the entry that a word chooses: that of the gcc profile if its text is longer, else nvcc's own
 abbrev pub nvcc_chosen : List ℕ → Option (Entry ArgData)
 nvcc_chosen word = longer_choice (longest_match gcc_entries word) (longest_match nvcc_options word)
@@ -31,8 +29,6 @@ reading_with_flag_word not_compilation = not_compilation
 -- what words are read as, at a working directory and in an environment
 abbrev pub nvcc_reading : List (List ℕ) → List ℕ → List (List ℕ × List ℕ) → Reading
 nvcc_reading words cwd env_vars = reading_with_flag_word (profile_reading nvcc_chosen cwd false kinds.Nvcc (with_added_words env_vars words))
-
--- The version.
 
 -- a version's text, if it is known and not empty
 abbrev pub known_version : Option (List ℕ) → Option (List ℕ)

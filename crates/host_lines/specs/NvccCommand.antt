@@ -1,5 +1,5 @@
 -- What nvcc arguments are written back as, and the two dry runs of that command.
-use Rattle.std.specs.Prelude.{ℕ, List, [], ◌∷◌, ◌++◌, Bool, true, false, if◌then◌else◌, Option, Result, Ok, codes, ok_or}
+use Rattle.std.specs.Prelude.{ℕ, List, [], ◌∷◌, ◌++◌, if◌then◌else◌, Option, Result, Ok, codes, ok_or}
 use Rattle.compilers.specs.declared.arguments.ParsedArguments.{ParsedArguments}
 use Rattle.compilers.specs.declared.command.SingleCompileCommand.{SingleCompileCommand}
 use Rattle.compilers.specs.declared.command.Cacheable.{Cacheable}
@@ -8,6 +8,7 @@ use Rattle.compilers.specs.declared.compiler.Places.{Places}
 use Rattle.texts.specs.declared.fault.Fault.{Fault}
 use Rattle.texts.specs.declared.fault.Fault.TheVariants.{NoFileName}
 use Rattle.compilers.specs.Arguments.{obj_of}
+use Rattle.compilers.specs.Command.{single_command}
 use Rattle.host_lines.specs.GccLine.{language_words}
 use Rattle.texts.specs.Path.{is_absolute_path, joined, file_name_of}
 use Rattle.compilers.specs.declared.compiler.NvccHostCompiler.{NvccHostCompiler}
@@ -17,33 +18,19 @@ use Rattle.host_lines.specs.NvccEnvironment.{without_flags}
 use Rattle.texts.specs.ObjectFlags.{makes_objects}
 pub use Rattle.texts.specs.Results.{and_then}
 
--- the output's path as it is written: as given under a flag that asks for an object file, else joined to the working
--- directory
-abbrev pub output_word : List ℕ → List ℕ → List ℕ → List ℕ
-output_word cwd flag obj = if makes_objects flag then obj else joined cwd obj
-
--- `--`, if the input stood after it
-abbrev pub dashes_words : Bool → List (List ℕ)
-dashes_words true = codes "--" ∷ []
-dashes_words false = []
-
--- the input as it is written: an absolute path as given, else the canonical one
-abbrev pub input_word : List ℕ → List ℕ → List ℕ
-input_word input canonical = if is_absolute_path input then input else canonical
-
--- the words that stand before the preprocessor words: the language and the output's path
-abbrev pub first_words : List ℕ → ParsedArguments → List ℕ → List (List ℕ)
-first_words cwd p obj = language_words p.language ++ codes "-o" ∷ output_word cwd p.compilation_flag obj ∷ []
-
--- the words that stand after the architecture words
-abbrev pub last_words : ParsedArguments → List ℕ → List (List ℕ)
-last_words p canonical = dashes_words p.double_dash_input ++ input_word p.input canonical ∷ []
-
 -- the words of an nvcc line: of the working directory, the arguments, the output's path, what keep words and thread
--- words leave of the unhashed words, and the canonical input
+-- words leave of the unhashed words, and the canonical input. The output is written as given under a flag that asks for
+-- an object file, else joined to the working directory; and the input as given if it's absolute, else the canonical one
 abbrev pub nvcc_words : List ℕ → ParsedArguments → List ℕ → List (List ℕ) → List ℕ → List (List ℕ)
 nvcc_words cwd p obj unhashed canonical =
-    ((((first_words cwd p obj ++ p.preprocessor_args) ++ unhashed) ++ p.common_args) ++ p.arch_args) ++ last_words p canonical
+    language_words p.language
+    ++ (codes "-o" ∷ (if makes_objects p.compilation_flag then obj else joined cwd obj) ∷ [])
+    ++ p.preprocessor_args
+    ++ unhashed
+    ++ p.common_args
+    ++ p.arch_args
+    ++ (if p.double_dash_input then codes "--" ∷ [] else [])
+    ++ ((if is_absolute_path p.input then p.input else canonical) ∷ [])
 
 -- keep words, and after them thread words, removed from a line at a working directory: the words that stay, the keep
 -- directory, and how many commands may run at once
@@ -89,13 +76,7 @@ nvcc_written executable p cwd env_vars host_compiler places =
 
 -- the command with further words, which only says what it would run
 abbrev pub dry_run_with : NvccCompileCommand → List (List ℕ) → SingleCompileCommand
-dry_run_with c words = record {
-  executable = c.executable;
-  arguments = c.arguments ++ words;
-  env_vars = c.env_vars;
-  cwd = c.cwd;
-  share_jobserver = false;
-}
+dry_run_with c words = single_command c.executable (c.arguments ++ words) c.cwd c.env_vars
 
 -- the first dry run, and the second, whose files would be kept in the folder for temporary files
 abbrev pub dry_runs : NvccCompileCommand → SingleCompileCommand × SingleCompileCommand

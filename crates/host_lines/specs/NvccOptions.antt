@@ -1,9 +1,9 @@
 -- nvcc's options beside those of the gcc profile.
-use Rattle.std.specs.Prelude.{◌≡◌, List, ◌∷◌, ◌++◌, true, refl, codes}
+use Rattle.std.specs.Prelude.{List, ◌∷◌, ◌++◌, codes}
 use Rattle.compilers.specs.declared.table.ArgDisposition.TheVariants.{Separated}
 use Rattle.host_lines.specs.declared.gcc.options.ArgData.{ArgData}
 use Rattle.host_lines.specs.declared.gcc.options.ArgData.TheVariants.{TooHard, PassThrough, PreprocessorArgument, PreprocessorArgumentFlag, PreprocessorArgumentPath, DepArgumentPath, NeedDepTarget, DoCompilation, Language, ExtraHashFile, Unhashed, UnhashedFlag}
-use Rattle.host_lines.specs.GccOptions.{flags, options, joined, either_way, either_way_or_equals, differ}
+use Rattle.host_lines.specs.GccOptions.{flags, options, joined, either_way, either_way_or_equals}
 use Rattle.texts.specs.Rows.{spaced}
 use Rattle.compilers.specs.Table.{Entry}
 
@@ -32,6 +32,3 @@ nvcc_options =
     ++ options joined TooHard (spaced "--fdevice-time-trace= --time= -fdevice-time-trace= -time=")
     ++ options either_way Unhashed (spaced "-t")
     ++ options joined Unhashed (spaced "-t=")
-
-pub nvcc_texts_differ : differ nvcc_options ≡ true
-nvcc_texts_differ = refl

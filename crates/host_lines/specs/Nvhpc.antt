@@ -1,11 +1,11 @@
 -- nvhpc's options, and what its lines are read as.
-use Rattle.std.specs.Prelude.{◌≡◌, ℕ, List, ◌++◌, Bool, true, Option, refl}
+use Rattle.std.specs.Prelude.{ℕ, List, ◌++◌, Bool, Option}
 use Rattle.compilers.specs.declared.compiler.CCompilerKind.TheVariants.{Nvhpc}
 use Rattle.host_lines.specs.declared.gcc.options.ArgData.{ArgData}
 use Rattle.host_lines.specs.declared.gcc.options.ArgData.TheVariants.{PassThrough, PassThroughFlag, PreprocessorArgument, PreprocessorArgumentFlag, PreprocessorArgumentPath, Language, Standard}
 use Rattle.texts.specs.Rows.{spaced}
 use Rattle.compilers.specs.Table.{Entry, longest_match, longer_choice}
-use Rattle.host_lines.specs.GccOptions.{flags, options, joined, either_way, either_way_or_equals, gcc_entries, differ}
+use Rattle.host_lines.specs.GccOptions.{flags, options, joined, either_way, either_way_or_equals, gcc_entries}
 use Rattle.compilers.specs.Compiler.{Reading}
 use Rattle.host_lines.specs.Gcc.{profile_reading}
 
@@ -21,9 +21,6 @@ nvhpc_options =
     ++ flags PassThroughFlag (spaced "-acclibs -c++libs -cudaforlibs -fortranlibs -gopt -noswitcherror")
     ++ options joined Standard (spaced "-c++")
     ++ options either_way_or_equals Language (spaced "-x")
-
-pub nvhpc_texts_differ : differ nvhpc_options ≡ true
-nvhpc_texts_differ = refl
 
 -- what a word chooses of gcc's options and nvhpc's: the longer one, and nvhpc's if both are equally long
 abbrev pub nvhpc_chosen : List ℕ → Option (Entry ArgData)

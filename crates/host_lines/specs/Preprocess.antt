@@ -1,5 +1,5 @@
 -- The commands that preprocess the input of an nvcc or nvhpc line.
-use Rattle.std.specs.Prelude.{ℕ, List, [], ◌∷◌, ◌++◌, not, ◌||◌, if◌then◌else◌, Option, Some, None, Result, Ok, Err, Vec, map, filter, codes, bytes_eq}
+use Rattle.std.specs.Prelude.{ℕ, List, [], ◌∷◌, ◌++◌, ◌==◌, ◌||◌, if◌then◌else◌, Option, Some, None, Result, Ok, Err, Vec, map, fold, length, codes, bytes_eq}
 use Rattle.std.specs.declared.alloc.Global.{Global}
 use Rattle.texts.specs.declared.language.Language.{Language}
 use Rattle.texts.specs.declared.language.Language.TheVariants.{Cuda}
@@ -7,6 +7,7 @@ use Rattle.compilers.specs.declared.arguments.ParsedArguments.{ParsedArguments}
 use Rattle.compilers.specs.declared.command.SingleCompileCommand.{SingleCompileCommand}
 use Rattle.texts.specs.declared.fault.Fault.{Fault}
 use Rattle.texts.specs.declared.fault.Fault.TheVariants.{NoPreprocess}
+use Rattle.texts.specs.Lists.{with_name}
 use Rattle.compilers.specs.Command.{single_command}
 use Rattle.host_lines.specs.GccItems.{name_of_language}
 use Rattle.compilers.specs.declared.compiler.NvccHostCompiler.{NvccHostCompiler}
@@ -25,18 +26,13 @@ with_words c words = record c { arguments = c.arguments ++ words }
 -- the commands, from what both have, the words for the dependencies and those for the preprocessed code: the one for the
 -- dependencies comes first, and only if there are words for it
 abbrev pub preprocess_commands : SingleCompileCommand → List (List ℕ) → List (List ℕ) → List SingleCompileCommand
-preprocess_commands c [] preprocessor = with_words c preprocessor ∷ []
-preprocess_commands c (word ∷ words) preprocessor = with_words c (word ∷ words) ∷ with_words c preprocessor ∷ []
+preprocess_commands c dependency preprocessor =
+    if length dependency == 0 then with_words c preprocessor ∷ [] else with_words c dependency ∷ with_words c preprocessor ∷ []
 
 -- the commands by the language's name, or a refusal with this text if it has none
 abbrev pub unless_unnamed : List ℕ → (List ℕ → List SingleCompileCommand) → Option (List ℕ) → Result (List SingleCompileCommand) Fault
 unless_unnamed text commands None = Err (NoPreprocess text)
 unless_unnamed text commands (Some name) = Ok (commands name)
-
--- the words without repetitions, each at its first appearance
-abbrev pub first_appearances : List (List ℕ) → List (List ℕ)
-first_appearances [] = []
-first_appearances (word ∷ words) = word ∷ filter (λ later. not (bytes_eq word later)) (first_appearances words)
 
 -- nvcc's word for the dependencies without a compilation, in place of one for both
 abbrev pub nvcc_dependency_word : List ℕ → List ℕ
@@ -46,9 +42,9 @@ nvcc_dependency_word word =
     then codes "-MM"
     else word
 
--- the words for nvcc's dependencies, without repetitions, even of options' values
+-- the words for nvcc's dependencies, each at its first appearance, without repetitions, even of options' values
 abbrev pub nvcc_dependency_words : List (List ℕ) → List (List ℕ)
-nvcc_dependency_words words = first_appearances (map nvcc_dependency_word words)
+nvcc_dependency_words words = fold (λ seen word. with_name seen (Some word)) [] (map nvcc_dependency_word words)
 
 -- the words for nvcc's preprocessed code, without line numbers from the host compiler
 abbrev pub nvcc_preprocessor_words : NvccHostCompiler → List (List ℕ)

@@ -3,9 +3,7 @@
 #![tactic(auto)]
 
 pub mod gcc;
-pub mod gcc_laws;
 pub mod laws;
 pub mod nvcc;
-pub mod nvcc_laws;
 pub mod nvhpc;
 mod preprocess;

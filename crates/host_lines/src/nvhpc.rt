@@ -1,13 +1,15 @@
-//! The command lines of nvhpc, NVIDIA's compilers for C and C++.
+//! The command lines of nvhpc, NVIDIA's compilers for C and C++, and the commands that preprocess their input.
 
-ghost use Rattle.std.specs.Prelude.{◌≡◌, true, map, IfOk};
+ghost use Rattle.std.specs.Prelude.{◌≡◌, true, map, IfOk, string_bytes};
+ghost use Rattle.texts.specs.Variables.{pair_of};
+ghost use Rattle.texts.specs.Fault.{UnlessMemory};
 ghost use Rattle.compilers.specs.Table.{entry_of};
 ghost use Rattle.host_lines.specs.GccOptions.{differ};
 ghost use Rattle.host_lines.specs.Nvhpc as spec;
+ghost use Rattle.host_lines.specs.Preprocess as preprocessing;
 
-mod preprocessor;
-
-use crate::gcc::{self, ArgData};
+use crate::gcc::{self, ArgData, language_to_gcc_arg};
+use crate::preprocess::{commands, common_command, refused};
 use compilers::arguments::{CompilerArguments, ParsedArguments};
 use compilers::command::{Cacheable, SingleCompileCommand};
 use compilers::compiler::{CCompilerImpl, CCompilerKind, Places};
@@ -15,7 +17,10 @@ use compilers::entries;
 use compilers::table::{ArgInfo, EITHER_WAY, EITHER_WAY_OR_EQUALS, JOINED, Pair, Table};
 use std::alloc::{AllocError, Global};
 use texts::fault::Fault;
+use texts::language::Language;
 use texts::text::Text;
+use texts::variables::Variables;
+use texts::words::Words;
 
 /// nvhpc's options besides gcc's, as in sccache 0.19.0's table. No two have the same text.
 pub const ARGS: [ArgInfo<ArgData>; 29] = entries![
@@ -62,6 +67,41 @@ impl Nvhpc {
             nvcplusplus: self.nvcplusplus,
             version: Text::clone_optional(alloc, &self.version)?,
         })
+    }
+
+    /// The one or two commands that preprocess a line's input, as in sccache 0.19.0: like those of
+    /// [`Nvcc::preprocess`](crate::nvcc::Nvcc::preprocess), except for the words that they end in.
+    ///
+    /// The command for the dependency file adds the dependency words, with `-M` for `-MD` and `-MM` for `-MMD`. The
+    /// command for the code adds `-E`. Both get all of `env_vars`.
+    ///
+    /// Refuses a language that nvhpc can't preprocess, CUDA among them: `NoPreprocess`.
+    pub fn preprocess(
+        &self,
+        alloc: Global,
+        executable: &str,
+        parsed_args: &ParsedArguments,
+        cwd: &str,
+        env_vars: &[(String, String)],
+    ) -> Result<Vec<SingleCompileCommand>, Fault>
+        ensures { UnlessMemory (preprocessing.commands_seen result)
+            (preprocessing.nvhpc_preprocess executable.now parsed_args.now cwd.now (map pair_of env_vars.now)) }
+    {
+        if parsed_args.language == Language::Cuda {
+            return refused(alloc, "CUDA compilation not supported by nvhpc");
+        }
+        let Some(name) = language_to_gcc_arg(parsed_args.language) else {
+            return refused(alloc, "PCH not supported by nvhpc");
+        };
+        let dependency = dependency_words(alloc, parsed_args.dependency_args.as_slice())?;
+        let mut code = Words::new(alloc);
+        code.push_str(alloc, "-E")?;
+        let env_vars = Variables::copy_of(alloc, env_vars)?;
+        let common = common_command(alloc, executable, parsed_args, name, cwd, env_vars)?;
+        let commands = commands(alloc, &common, &dependency, &code);
+        // Dropped by a call: see "Explicit drops" in docs/ARCHITECTURE.md.
+        drop(common);
+        Ok(commands?)
     }
 }
 
@@ -120,5 +160,27 @@ impl CCompilerImpl for Nvhpc {
         _places: &Places,
     ) -> Result<(SingleCompileCommand, Cacheable), Fault> {
         gcc::generate_compile_commands(alloc, executable, parsed_args, cwd, env_vars)
+    }
+}
+
+// The words for nvhpc's dependency file: without a compilation, two are others.
+fn dependency_words(alloc: Global, words: &[String]) -> Result<Words, AllocError>
+    ensures { IfOk result (λ w. w ≡ map preprocessing.nvhpc_dependency_word (map string_bytes words.now)) }
+{
+    let mut replaced = Words::new(alloc);
+    for word in words {
+        replaced.push_str(alloc, nvhpc_dependency_word(word.as_str()))?;
+    }
+    Ok(replaced)
+}
+
+// nvhpc's word for the dependency file without a compilation.
+fn nvhpc_dependency_word<'a>(word: &'a str) -> &'a str
+    ensures { result.now ≡ preprocessing.nvhpc_dependency_word word.now }
+{
+    match word {
+        "-MD" => "-M",
+        "-MMD" => "-MM",
+        _ => word,
     }
 }

@@ -1,6 +1,6 @@
 //! What is answered to a gcc line, of what its items ask for.
 
-ghost use Rattle.std.specs.Prelude.{◌≡◌, ◌++◌, map, IfOk, OnOk, MatchResult, string_bytes};
+ghost use Rattle.std.specs.Prelude.{◌≡◌, ◌++◌, None, map, IfOk, OnOk, MatchResult, string_bytes};
 ghost use Rattle.compilers.specs.Compiler.{reading_of, accepted};
 ghost use Rattle.host_lines.specs.Gcc as spec;
 
@@ -40,52 +40,38 @@ impl Gathered {
                 && self.inputs.len() == 1
     }
 
-    // Puts the words that name the target and the dependency file last among the words that ask for
-    // dependencies.
-    fn add_target(&mut self, alloc: Global, obj: &str) -> Result<(), AllocError>
-        ensures { OnOk result (asked_by self.new ≡ record (asked_by self.old) {
-          dependency_args = (self.old.dependency_args ++ spec.target_words (asked_by self.old) obj.now)
-              ++ spec.dependency_file_words (asked_by self.old) obj.now;
-        }) }
-    {
-        if !self.target_needed {
-            return Ok(());
-        }
-        match &self.target {
-            Some(words) => self.dependency_args.extend(alloc, words.as_slice())?,
-            None => self.dependency_args.push_pair(alloc, "-MT", obj)?,
-        }
-        if self.dependency_file.is_some() {
-            return Ok(());
-        }
-        let path = with_extension(alloc, obj, "d")?;
-        self.dependency_args.push_pair(alloc, "-MF", path.as_str())
-    }
-
-    // The files that the command makes of `input`. Adds the words that name the target.
+    // The files that the command makes of `input`. Puts the words that name the target and the dependency file last
+    // among the words that ask for dependencies.
     fn make_outputs(&mut self, alloc: Global, input: &str) -> Result<Outputs, AllocError>
         ensures outputs { IfOk result (λ o. o ≡ spec.outputs_of (spec.obj_of (asked_by self.old) input.now)
             (spec.dependency_file_of (asked_by self.old) (spec.obj_of (asked_by self.old) input.now))) }
         ensures words { OnOk result (asked_by self.new ≡ record (asked_by self.old) {
           dependency_args = (self.old.dependency_args ++ spec.target_words (asked_by self.old) (spec.obj_of (asked_by self.old) input.now))
               ++ spec.dependency_file_words (asked_by self.old) (spec.obj_of (asked_by self.old) input.now);
+          dependency_file = None;
         }) }
     {
         let obj = match &self.obj {
             Some(path) => path.try_clone(alloc)?,
             None => Text::new(with_extension(alloc, input, "o")?),
         };
-        self.add_target(alloc, obj.as_str())?;
-        let dependency_file = match &self.dependency_file {
-            Some(path) => Some(path.try_clone(alloc)?),
-            None if self.target_needed => Some(Text::new(with_extension(
-                alloc,
-                obj.as_str(),
-                "d",
-            )?)),
-            None => None,
-        };
-        outputs(alloc, obj, dependency_file)
+        if self.target_needed {
+            match &self.target {
+                Some(words) => self.dependency_args.extend(alloc, words.as_slice())?,
+                None => self.dependency_args.push_pair(alloc, "-MT", obj.as_str())?,
+            }
+            if self.dependency_file.is_none() {
+                let path = Text::new(with_extension(alloc, obj.as_str(), "d")?);
+                self.dependency_args.push_pair(alloc, "-MF", path.as_str())?;
+                self.dependency_file = Some(path);
+            }
+        }
+        let mut outputs = Outputs::new(alloc);
+        outputs.insert("obj", made_file(obj))?;
+        if let Some(path) = self.dependency_file.take() {
+            outputs.insert("d", made_file(path))?;
+        }
+        Ok(outputs)
     }
 
     // What is answered to a line whose input and language are known.
@@ -100,7 +86,18 @@ impl Gathered {
     {
         match self.make_outputs(alloc, input.as_str()) {
             Ok(outputs) => {
-                let arguments = self.into_arguments(alloc, input, language, outputs);
+                let mut arguments = ParsedArguments::of(alloc, input, language, outputs);
+                arguments.double_dash_input = self.double_dash_input;
+                arguments.compilation_flag = self
+                    .compilation_flag
+                    .unwrap_or(Text::new(String::new(alloc)));
+                arguments.dependency_args = self.dependency_args;
+                arguments.preprocessor_args = self.preprocessor_args;
+                arguments.common_args = self.common_args;
+                arguments.arch_args = self.arch_args;
+                arguments.unhashed_args = self.unhashed_args;
+                arguments.extra_hash_files = self.extra_hash_files;
+                arguments.color_mode = ColorMode::Auto;
                 Ok(CompilerArguments::Ok(arguments))
             }
             Err(refused) => {
@@ -108,31 +105,6 @@ impl Gathered {
                 Err(refused)
             }
         }
-    }
-
-    // The arguments of a line, of what it asks for.
-    fn into_arguments(
-        self,
-        alloc: Global,
-        input: Text,
-        language: Language,
-        outputs: Outputs,
-    ) -> ParsedArguments
-        ensures { result ≡ spec.arguments_with (asked_by self) input language outputs }
-    {
-        let mut arguments = ParsedArguments::of(alloc, input, language, outputs);
-        arguments.double_dash_input = self.double_dash_input;
-        arguments.compilation_flag = self
-            .compilation_flag
-            .unwrap_or(Text::new(String::new(alloc)));
-        arguments.dependency_args = self.dependency_args;
-        arguments.preprocessor_args = self.preprocessor_args;
-        arguments.common_args = self.common_args;
-        arguments.arch_args = self.arch_args;
-        arguments.unhashed_args = self.unhashed_args;
-        arguments.extra_hash_files = self.extra_hash_files;
-        arguments.color_mode = ColorMode::Auto;
-        arguments
     }
 
     /// What is answered to a line that asks for this.
@@ -185,18 +157,6 @@ fn sole_input<'a>(
         Some(language) => Ok((input.as_str(), language)),
         None => Err("unknown source language"),
     }
-}
-
-// The files that a command makes.
-fn outputs(alloc: Global, obj: Text, dependency_file: Option<Text>) -> Result<Outputs, AllocError>
-    ensures { IfOk result (λ o. o ≡ spec.outputs_of obj dependency_file) }
-{
-    let mut outputs = Outputs::new(alloc);
-    outputs.insert("obj", made_file(obj))?;
-    if let Some(path) = dependency_file {
-        outputs.insert("d", made_file(path))?;
-    }
-    Ok(outputs)
 }
 
 // A file that is always made.

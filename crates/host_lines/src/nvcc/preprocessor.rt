@@ -52,29 +52,15 @@ impl Nvcc {
         let Some(name) = language_to_gcc_arg(parsed_args.language) else {
             return refused(alloc, "PCH not supported by nvcc");
         };
+        let dependency = nvcc_dependency_words(alloc, parsed_args.dependency_args.as_slice())?;
+        let code = nvcc_code_words(alloc, self.host_compiler)?;
         let env_vars = without_flags(alloc, env_vars)?;
         let common = common_command(alloc, executable, parsed_args, name, cwd, env_vars)?;
-        let dependency = parsed_args.dependency_args.as_slice();
-        let commands = nvcc_commands(alloc, self.host_compiler, &common, dependency);
+        let commands = commands(alloc, &common, &dependency, &code);
         // Dropped by a call: see "Explicit drops" in docs/ARCHITECTURE.md.
         drop(common);
         Ok(commands?)
     }
-}
-
-// The commands, from what both have and the line's dependency words.
-fn nvcc_commands(
-    alloc: Global,
-    host_compiler: NvccHostCompiler,
-    common: &SingleCompileCommand,
-    dependency: &[String],
-) -> Result<Vec<SingleCompileCommand>, AllocError>
-    ensures { IfOk result (λ c. c.items ≡ spec.preprocess_commands common.now
-        (spec.nvcc_dependency_words (map string_bytes dependency.now)) (spec.nvcc_preprocessor_words host_compiler)) }
-{
-    let dependency = nvcc_dependency_words(alloc, dependency)?;
-    let code = nvcc_code_words(alloc, host_compiler)?;
-    commands(alloc, common, &dependency, &code)
 }
 
 // nvcc's word for the dependency file without a compilation.

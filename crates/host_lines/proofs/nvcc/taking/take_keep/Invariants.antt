@@ -1,5 +1,5 @@
 use Rattle.std.proofs.Common.{◌≡◌, map, string_bytes, drop, fold}
-use Rattle.host_lines.specs.Taken.{nothing_kept, with_keep_word}
+use Rattle.host_lines.specs.KeepThreads.{nothing_kept, with_keep_word}
 use Rattle.host_lines.proofs.nvcc.taking.take_keep.Given as goal
 
 abbrev pub invariant-loop-word : goal.invariant-loop-word

@@ -1,8 +1,6 @@
-use Rattle.std.proofs.Common.{arith}
-use Rattle.std.proofs.lemmas.List.{at_drop_all}
-use Rattle.std.proofs.lemmas.Grind.{common_steps}
 use Rattle.host_lines.proofs.TakingLemmas.{threads_gathered}
+use Rattle.std.proofs.Common.{map, string_bytes}
 use Rattle.host_lines.proofs.nvcc.taking.take_threads.Goals as goal
 
-pub returns : goal.returns
-returns c = grind (arith, common_steps, at_drop_all, threads_gathered)
+pub loop-word-init : goal.loop-word-init
+loop-word-init c = rw c.new-stay.ensures (threads_gathered (map string_bytes c.args.words.now))

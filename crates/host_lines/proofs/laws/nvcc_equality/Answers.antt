@@ -1,5 +1,5 @@
 use Rattle.host_lines.proofs.NvccEqualityLemmas.{compilers, commands}
-use Rattle.host_lines.proofs.nvcc_laws.equality.Goals as goal
+use Rattle.host_lines.proofs.laws.nvcc_equality.Goals as goal
 
 pub returns : goal.returns
 returns c = record { compiler = compilers; command = commands }
