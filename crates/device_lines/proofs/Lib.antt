@@ -1,4 +1,3 @@
-pub mod PlaceLemmas
 pub mod ReadingLemmas
 pub mod RereadItems
 pub mod RereadLaw

@@ -1,6 +1,8 @@
--- What a loop over the items gathers is what the reading's filters say.
-use Rattle.std.proofs.Common.{◌≡◌, arith, ℕ, List, [], ◌∷◌, ◌++◌, Bool, true, false, cond, ◌||◌, Some, None, map, refl, sym, ◌∙◌, append_assoc, append-nil, filter}
-use Rattle.std.specs.List.{filter_map, cons_option, flat_map, list_any, fold}
+-- What a loop over the items gathers is what the reading's filters say, and where the input is in a line of strings.
+use Rattle.std.proofs.Common.{◌≡◌, arith, ℕ, List, [], ◌∷◌, ◌++◌, Bool, true, false, cond, not, ◌||◌, Some, None, map, length, refl, sym, ◌∙◌, append_assoc, append-nil, filter, String, Global, string_bytes, option_to_list}
+use Rattle.std.specs.List.{filter_map, cons_option, flat_map, list_any, fold, position, prefix_len}
+use Rattle.std.specs.Option.{option_or}
+use Rattle.std.proofs.lemmas.List.{length-map}
 use Rattle.std.proofs.lemmas.List.Sums.{fold-append}
 use Rattle.texts.specs.declared.language.Language.{Language}
 use Rattle.compilers.specs.Outputs.{with_entry}
@@ -8,8 +10,8 @@ use Rattle.compilers.specs.Items.{Item, words_of, kind_of}
 use Rattle.device_lines.specs.declared.options.ArgData.{ArgData}
 use Rattle.device_lines.specs.declared.reader.gathered.Gathered.{Gathered}
 use Rattle.device_lines.specs.declared.reader.named_files.NamedFiles.{NamedFiles}
-use Rattle.device_lines.specs.Reading.{is_common, beside, is_unhashed_kind, output_of, outputs_of, module_id, module_id_of, module_id_file, is_generating, reading_of_items}
-use Rattle.device_lines.specs.Gathered.{no_files, nothing_gathered, with_files_of, with_item, with_output, all_outputs, reading_of_gathered}
+use Rattle.device_lines.specs.Reading.{is_input_word, input_place, place_from_end, is_common, beside, is_unhashed_kind, output_of, outputs_of, module_id, module_id_of, module_id_file, is_generating, reading_of_items}
+use Rattle.device_lines.specs.Gathered.{no_files, nothing_gathered, with_files_of, with_item, all_outputs, reading_of_gathered}
 use Rattle.texts.specs.Lists.{latest}
 
 -- words put after those so far, where a test says so
@@ -39,7 +41,7 @@ module _ (cwd : List ℕ) where
 
   outputs-named : (is : List (Item ArgData)) (f : NamedFiles) → (fold (with_files_of cwd) f is).outputs ≡ fold with_entry f.outputs (filter_map (output_of cwd) is)
   outputs-named [] f = refl
-  outputs-named (i ∷ is) f = outputs-named is (with_files_of cwd f i) ∙ (elim (output_of cwd i) as (λ o. fold with_entry (with_output f.outputs o) (filter_map (output_of cwd) is) ≡ fold with_entry f.outputs (cons_option o (filter_map (output_of cwd) is))) [ None ↦ refl | Some e ↦ refl ])
+  outputs-named (i ∷ is) f = outputs-named is (with_files_of cwd f i) ∙ (elim (output_of cwd i) as (λ o. fold with_entry (fold with_entry f.outputs (option_to_list o)) (filter_map (output_of cwd) is) ≡ fold with_entry f.outputs (cons_option o (filter_map (output_of cwd) is))) [ None ↦ refl | Some e ↦ refl ])
 
   module_id-named : (is : List (Item ArgData)) (f : NamedFiles) → (fold (with_files_of cwd) f is).module_id ≡ fold (λ _ x. Some x) f.module_id (filter_map module_id_of is)
   module_id-named [] f = refl
@@ -59,3 +61,15 @@ module _ (cwd : List ℕ) where
 
   pub reading-gathered : (language : Language) (input : List ℕ) (is : List (Item ArgData)) → reading_of_gathered cwd language input (fold (with_item cwd) nothing_gathered is) ≡ reading_of_items cwd language input is
   reading-gathered language input is = grind (arith, files-gathered, files-named, common-gathered, unhashed-gathered)
+
+prefix_len-map : {A B : Type 0} (p : B → Bool) (f : A → B) (xs : List A) → prefix_len p (map f xs) ≡ prefix_len (λ x. p (f x)) xs
+prefix_len-map p f [] = refl
+prefix_len-map p f (x ∷ xs) = rw (prefix_len-map p f xs) refl
+
+-- the place of the first mapped element that passes
+pub position-map : {A B : Type 0} (p : B → Bool) (f : A → B) (xs : List A) → position p (map f xs) ≡ position (λ x. p (f x)) xs
+position-map p f xs = rw (prefix_len-map (λ x. not (p x)) f xs, length-map xs f) refl
+
+-- the place of the input, in a line of strings
+pub input_place-strings : (language : Language) (offset : ℕ) (words : List (String Global)) → input_place language offset (map string_bytes words) ≡ option_or (position (λ word. is_input_word language (string_bytes word)) words) (place_from_end offset (length words))
+input_place-strings language offset words = rw (position-map (is_input_word language) string_bytes words, length-map words string_bytes) refl

@@ -3,14 +3,14 @@ use Rattle.std.proofs.Common.{◌≡◌, ℕ, List, [], ◌∷◌, ◌++◌, Boo
 use Rattle.std.specs.List.{AllByRecursion, fold}
 use Rattle.std.proofs.lemmas.Bool.{false≢true}
 use Rattle.compilers.specs.declared.table.ArgDisposition.{ArgDisposition}
-use Rattle.compilers.specs.declared.table.ArgDisposition.TheVariants.{Separated, Concatenated, CanBeSeparated, CanBeConcatenated}
+use Rattle.compilers.specs.declared.table.ArgDisposition.TheVariants.{Separated}
 use Rattle.texts.specs.Lists.{rest_after}
 use Rattle.compilers.specs.Table.{Entry, Matched, lone, joined, awaiting, matched_rest, matched, is_longer, longer_match, longest_match}
 use Rattle.compilers.specs.Items.{Item, raw, unknown_flag, flag, with_value, faulty, Said, item, option, items, said_by, said_of, unmatched_item, last_item, separate_item, joined_form, separate_form, may_stand_last, words_of}
 use Rattle.compilers.specs.WordsLaw.{is_joined, is_whole}
 use Rattle.compilers.proofs.WordsLemmas.{words-are_those_read}
 use Rattle.device_lines.specs.declared.options.ArgData.{ArgData}
-use Rattle.device_lines.specs.declared.options.ArgData.TheVariants.{Output, PassThrough, UnhashedFlag, GenModuleIdFileFlag, ModuleIdFileName, UnhashedPassThrough, UnhashedOutput}
+use Rattle.device_lines.specs.declared.options.ArgData.TheVariants.{Output, UnhashedOutput}
 use Rattle.device_lines.specs.Reread.{is_filled, AllFilled}
 
 -- what all entries of a list pass, a chosen entry passes
@@ -51,18 +51,13 @@ unmatched-test test one other w = grind arith
 
 -- an option whose value is always the next word, and one that may also be a flag
 abbrev pub is_separated : Option ArgDisposition → Bool
-is_separated None = false
 is_separated (Some Separated) = true
-is_separated (Some (Concatenated d)) = false
-is_separated (Some (CanBeSeparated d)) = false
-is_separated (Some (CanBeConcatenated d)) = false
+is_separated _ = false
 
 abbrev pub is_plain : Option ArgDisposition → Bool
 is_plain None = true
 is_plain (Some Separated) = true
-is_plain (Some (Concatenated d)) = false
-is_plain (Some (CanBeSeparated d)) = false
-is_plain (Some (CanBeConcatenated d)) = false
+is_plain _ = false
 
 -- a value that is the next word is not joined
 separate-apart : (form : Option ArgDisposition) → is_joined (separate_form form) ≡ false
@@ -85,22 +80,16 @@ plain-filled chosen plain line = all-items chosen (λ i. is_filled i ≡ true) (
 -- the output's option has the next word as its value, and no option that names another output has the text `obj`
 abbrev pub fits : ArgData → List ℕ → Bool → Bool
 fits Output text apart = apart
-fits PassThrough text apart = true
-fits UnhashedFlag text apart = true
-fits GenModuleIdFileFlag text apart = true
-fits ModuleIdFileName text apart = true
-fits UnhashedPassThrough text apart = true
 fits UnhashedOutput text apart = not (bytes_eq (codes "obj") text)
+fits _ text apart = true
 
 abbrev pub entry_fits : Entry ArgData → Bool
 entry_fits e = fits e.kind e.text (is_separated e.form)
 
 abbrev pub item_fits : Item ArgData → Bool
-item_fits (raw word) = true
-item_fits (unknown_flag word) = true
 item_fits (flag text kind) = fits kind text true
 item_fits (with_value text kind value form) = fits kind text (not (is_joined form))
-item_fits faulty = true
+item_fits _ = true
 
 -- such an entry with another way to stand, where that is apart wherever the entry's is
 fits-wider : (kind : ArgData) (text : List ℕ) (a b : Bool) → (a ≡ true → b ≡ true) → fits kind text a ≡ true → fits kind text b ≡ true

@@ -1,5 +1,6 @@
 -- A line that is written back is read as the same arguments.
 use Rattle.std.proofs.Common.{◌≡◌, ℕ, List, [], ◌∷◌, ◌++◌, true, false, Some, None, Ok, refl, ap, sym, ◌∙◌, subst, append_assoc, append-nil, length, codes, IfSome, option_map, arith}
+use Rattle.std.proofs.Math.Bool.{or-false}
 use Rattle.std.specs.List.{AllByRecursion, filter_map, flat_map, list_any, remove, slice_index_or}
 use Rattle.std.proofs.lemmas.Grind.{flat_map-append}
 use Rattle.std.proofs.lemmas.List.Elements.{filter-append, filter_map-append}
@@ -25,7 +26,7 @@ use Rattle.compilers.specs.declared.command.Cacheable.TheVariants.{Yes}
 use Rattle.compilers.specs.Command.{single_command, written, written_to}
 use Rattle.device_lines.specs.DeviceWords.{cicc_words, cudafe_words}
 use Rattle.device_lines.specs.Reread.{is_filled, AllFilled, common_words, unhashed_words, Rereads, CiccLinesReread, PtxasLinesReread, CudaFELinesReread}
-use Rattle.device_lines.proofs.RereadWords.{or_false, all-append, Silent, common-kind, other-kind, unhashed-kind, common-again, all-unhashed_silent, kept-all, common-whole, unhashed-whole, kept-read, common-none_unhashed, unhashed-again}
+use Rattle.device_lines.proofs.RereadWords.{all-append, Silent, common-kind, other-kind, unhashed-kind, common-again, all-unhashed_silent, kept-all, common-whole, unhashed-whole, kept-read, common-none_unhashed, unhashed-again}
 use Rattle.device_lines.proofs.RereadOutputs.{is_other, value-from, same-entries}
 use Rattle.device_lines.proofs.RereadPlaces.{NonePass, rest-none, third-last, host-words, last-place, cut-word, cut-rest, joined-away, joined-twice}
 use Rattle.device_lines.proofs.RereadItems.{is_plain, entry_fits, item_fits, chosen-passes, plain-filled, all-fit, HasGoodWords, items-words}
@@ -52,7 +53,7 @@ module _ (cwd : List ℕ) (is : List (Item ArgData)) (text path : List ℕ) wher
   ids-same = grind (arith, filter_map-append, append-nil, picked-no_unhashed, unhashed-kind, picked-common, other-kind)
 
   generating-same : list_any is_generating again ≡ list_any is_generating is
-  generating-same = simp (list_any-append, or_false, generating-no_unhashed, generating-common)
+  generating-same = simp (list_any-append, or-false, generating-no_unhashed, generating-common)
 
   outputs-again : filter_map (output_of cwd) again ≡ filter_map (output_of cwd) (unhashed_items is) ++ (codes "obj", made_at false (joined cwd path)) ∷ []
   outputs-again = grind (arith, filter_map-append, picked-no_common, common-kind)

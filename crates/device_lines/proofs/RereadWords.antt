@@ -2,6 +2,7 @@
 -- kept again.
 use Rattle.std.proofs.Common.{◌≡◌, ℕ, List, [], ◌∷◌, ◌++◌, Bool, true, false, ◌||◌, Option, Some, None, map, refl, ap, sym, ◌∙◌, append-nil, filter, arith, cond, subst}
 use Rattle.std.specs.List.{AllByRecursion, flat_map}
+use Rattle.std.proofs.Math.Bool.{or-false}
 use Rattle.std.proofs.lemmas.Bool.{false≢true}
 use Rattle.std.proofs.lemmas.Grind.{flat_map-append}
 use Rattle.std.proofs.lemmas.List.Elements.{filter-append}
@@ -13,9 +14,6 @@ use Rattle.device_lines.specs.declared.options.ArgData.{ArgData}
 use Rattle.device_lines.specs.declared.options.ArgData.TheVariants.{Output, PassThrough, UnhashedFlag, GenModuleIdFileFlag, ModuleIdFileName, UnhashedPassThrough, UnhashedOutput}
 use Rattle.device_lines.specs.Reading.{is_unhashed_kind, is_unknown, beside, is_common, common_items, unhashed_items}
 use Rattle.device_lines.specs.Reread.{is_filled, AllFilled, common_words, unhashed_words, KeptWordsReadBack, KeptWordsStay}
-
-pub or_false : (b : Bool) → (b || false) ≡ b
-or_false b = grind arith
 
 -- what holds of all of two lists holds of all of both
 pub all-append : {X : Type 0} (P : X → Type 0) (xs ys : List X) → AllByRecursion P xs → AllByRecursion P ys → AllByRecursion P (xs ++ ys)
@@ -64,7 +62,7 @@ common-again b c (i ∷ is) tail none =
       | true ↦ λ e. ap (λ t. map (λ p. p.1) (cond t ((b || c, i) ∷ again) again)) (common-wider b c i e) ∙ ap (λ t. i ∷ t) (common-again false unknown is tail none)
       | false ↦ λ e.
           let known = not_common-known c i e in
-          let later = subst (λ d. common_after d (common_after false is ++ tail) ≡ common_after false is) (or_false (b || c)) (common-again (b || c) false is tail none) in
+          let later = subst (λ d. common_after d (common_after false is ++ tail) ≡ common_after false is) (or-false (b || c)) (common-again (b || c) false is tail none) in
           subst (λ u. common_after (b || c) (common_after u is ++ tail) ≡ common_after u is) (sym known) later
     ] refl
 

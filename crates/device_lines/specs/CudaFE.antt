@@ -6,8 +6,7 @@ use Rattle.compilers.specs.Compiler.{Reading}
 use Rattle.compilers.specs.Table.{Entry, longest_match}
 use Rattle.device_lines.specs.declared.options.ArgData.{ArgData}
 use Rattle.device_lines.specs.declared.options.ArgData.TheVariants.{Output, GenModuleIdFileFlag, UnhashedPassThrough, UnhashedOutput}
-use Rattle.device_lines.specs.Options.{plain_flag, separated}
-use Rattle.device_lines.specs.Reading.{reading, tool_reading}
+use Rattle.device_lines.specs.Reading.{plain_flag, separated, reading, tool_reading}
 
 -- cudafe++'s option table; its main output is the module id file
 abbrev pub cudafe_options : List (Entry ArgData)

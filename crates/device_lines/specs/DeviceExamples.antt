@@ -1,8 +1,7 @@
 -- Lines that are read and written back, worked out by hand.
-use Rattle.std.proofs.Common.{◌≡◌, ℕ, List, [], ◌∷◌, ◌++◌, false, Option, Some, None, Result, Ok, Err, codes}
+use Rattle.std.proofs.Common.{◌≡◌, ℕ, List, [], ◌∷◌, ◌++◌, false, Option, Some, None, Result, Ok, Err, codes, option_map}
+use Rattle.std.specs.Result.{result_map_both}
 use Rattle.texts.specs.declared.language.Language.TheVariants as languages
-use Rattle.compilers.specs.declared.command.SingleCompileCommand.{SingleCompileCommand}
-use Rattle.compilers.specs.declared.command.Cacheable.{Cacheable}
 use Rattle.texts.specs.declared.fault.Fault.{Fault}
 use Rattle.texts.specs.declared.fault.Fault.TheVariants.{MissingOutput}
 use Rattle.compilers.specs.declared.arguments.ParsedArguments.{ParsedArguments}
@@ -15,15 +14,9 @@ use Rattle.device_lines.specs.Ptxas.{ptxas_reading}
 use Rattle.device_lines.specs.Reading.{made_at}
 use Rattle.device_lines.specs.DeviceWords.{cicc_words, cudafe_words}
 
--- the words of a command, or why there is none
-abbrev pub words_written : Result (SingleCompileCommand × Cacheable) Fault → Result (List (List ℕ)) Fault
-words_written (Ok c) = Ok c.0.arguments
-words_written (Err fault) = Err fault
-
--- the words that arguments are written back as at a working directory; nothing if a line is no compilation
+-- the words that arguments are written back as at a working directory, or why there are none; nothing if a line is no compilation
 abbrev pub words_back : (ParsedArguments → List ℕ → List (List ℕ)) → List ℕ → Option ParsedArguments → Option (Result (List (List ℕ)) Fault)
-words_back words_to_write cwd None = None
-words_back words_to_write cwd (Some arguments) = Some (words_written (written words_to_write [] arguments cwd []))
+words_back words_to_write cwd read = option_map (λ p. result_map_both (λ c. c.0.arguments) (λ e. e) (written words_to_write [] p cwd [])) read
 
 -- a cicc line, read at a working directory and written back
 abbrev pub cicc_written_back : List ℕ → List (List ℕ) → Option (Result (List (List ℕ)) Fault)

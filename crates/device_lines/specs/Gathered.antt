@@ -1,5 +1,5 @@
 -- What the reader of device tools' lines has gathered, and how one more item changes it.
-use Rattle.std.specs.Prelude.{ℕ, List, [], ◌++◌, false, ◌||◌, if◌then◌else◌, Option, Some, None, fold}
+use Rattle.std.specs.Prelude.{ℕ, List, [], ◌++◌, false, ◌||◌, if◌then◌else◌, None, fold, option_to_list}
 use Rattle.compilers.specs.declared.arguments.ParsedArguments.{ParsedArguments}
 use Rattle.texts.specs.declared.language.Language.{Language}
 use Rattle.compilers.specs.declared.outputs.ArtifactDescriptor.{ArtifactDescriptor}
@@ -19,15 +19,10 @@ no_files = record { outputs = []; module_id = None; makes_module_id = false }
 abbrev pub nothing_gathered : Gathered
 nothing_gathered = record { common = []; unhashed = []; files = no_files; after_unknown = false }
 
--- one more output, if there is one
-abbrev pub with_output : List (List ℕ × ArtifactDescriptor) → Option (List ℕ × ArtifactDescriptor) → List (List ℕ × ArtifactDescriptor)
-with_output outputs None = outputs
-with_output outputs (Some e) = with_entry outputs e
-
 -- the files of one more item
 abbrev pub with_files_of : List ℕ → NamedFiles → Item ArgData → NamedFiles
 with_files_of cwd f i = record {
-  outputs = with_output f.outputs (output_of cwd i);
+  outputs = fold with_entry f.outputs (option_to_list (output_of cwd i));
   module_id = latest f.module_id (module_id_of i);
   makes_module_id = f.makes_module_id || is_generating i;
 }

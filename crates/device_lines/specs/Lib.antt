@@ -4,9 +4,7 @@ pub mod DeviceExamples
 pub mod DeviceWords
 pub mod Gathered
 pub mod Input
-pub mod InputStep
 pub mod LineFiles
-pub mod Options
 pub mod Ptxas
 pub mod Reading
 pub mod Reread

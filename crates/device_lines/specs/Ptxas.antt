@@ -7,8 +7,7 @@ use Rattle.compilers.specs.Compiler.{Reading}
 use Rattle.compilers.specs.Table.{Entry, longest_match}
 use Rattle.device_lines.specs.declared.options.ArgData.{ArgData}
 use Rattle.device_lines.specs.declared.options.ArgData.TheVariants.{Output, PassThrough}
-use Rattle.device_lines.specs.Options.{separated}
-use Rattle.device_lines.specs.Reading.{reading, tool_reading}
+use Rattle.device_lines.specs.Reading.{separated, reading, tool_reading}
 
 -- an option whose value is the next word, or joined to it by `=`, which is the byte 61
 abbrev pub separated_or_equals : List ℕ → ArgData → Entry ArgData

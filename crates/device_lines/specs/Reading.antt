@@ -5,6 +5,7 @@ use Rattle.std.specs.Option.{option_or}
 use Rattle.texts.specs.declared.language.Language.{Language}
 use Rattle.texts.specs.declared.language.Language.TheVariants.{Ptx, Cubin}
 use Rattle.compilers.specs.declared.outputs.ArtifactDescriptor.{ArtifactDescriptor}
+use Rattle.compilers.specs.declared.table.ArgDisposition.TheVariants.{Separated}
 use Rattle.compilers.specs.declared.arguments.ParsedArguments.{ParsedArguments}
 use Rattle.compilers.specs.Arguments.{plain_arguments}
 use Rattle.texts.specs.DeviceFiles.{is_cicc_word, is_ptxas_word}
@@ -16,6 +17,13 @@ use Rattle.compilers.specs.Table.{Entry, longest_match}
 use Rattle.compilers.specs.Items.{Item, raw, unknown_flag, items, words_of, kind_of, text_of, value_of}
 use Rattle.device_lines.specs.declared.options.ArgData.{ArgData}
 use Rattle.device_lines.specs.declared.options.ArgData.TheVariants.{Output, PassThrough, UnhashedFlag, GenModuleIdFileFlag, ModuleIdFileName, UnhashedPassThrough, UnhashedOutput}
+
+-- an option without a value, and one whose value is the next word
+abbrev pub plain_flag : List ℕ → ArgData → Entry ArgData
+plain_flag text kind = record { text = text; kind = kind; form = None }
+
+abbrev pub separated : List ℕ → ArgData → Entry ArgData
+separated text kind = record { text = text; kind = kind; form = Some Separated }
 
 -- whether a word ends like the input of the tool that writes this kind of file
 abbrev pub is_input_word : Language → List ℕ → Bool

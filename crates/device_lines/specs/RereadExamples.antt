@@ -1,6 +1,7 @@
 -- Lines that are written back and read again, worked out by hand: lines of the law, and for each tool and each of its
 -- premises a line without it that isn't read as the same.
 use Rattle.std.specs.Prelude.{◌≡◌, ℕ, List, ◌++◌, Option, Some, Ok, Err, codes, option_map}
+use Prim.Native.String.{String}
 use Rattle.texts.specs.declared.language.Language.TheVariants.{Cubin}
 use Rattle.texts.specs.declared.fault.Fault.TheVariants.{MissingOutput}
 use Rattle.compilers.specs.declared.arguments.ParsedArguments.{ParsedArguments}
@@ -60,43 +61,28 @@ EmptyValueIsLost =
     × (words_back cicc_words (codes "/w") (ptxas_reading (codes "/w") (spaced "-arch k.ptx -o /w/k.cubin")) ≡ Some (Err (MissingOutput Cubin)))
 
 -- a line is written back as other words, and another word of these is the input
-abbrev pub ChangesItsInput : (List (List ℕ) → Option ParsedArguments) → List (List ℕ) → List (List ℕ) → List ℕ → List ℕ → Type 0
+abbrev pub ChangesItsInput : (List (List ℕ) → Option ParsedArguments) → String → String → String → String → Type 0
 ChangesItsInput read words back input other =
-    (words_back cicc_words (codes "/w") (read words) ≡ Some (Ok back))
-    × (option_map (λ p. p.input) (read words) ≡ Some input)
-    × (option_map (λ p. p.input) (read back) ≡ Some other)
+    (words_back cicc_words (codes "/w") (read (spaced words)) ≡ Some (Ok (spaced back)))
+    × (option_map (λ p. p.input) (read (spaced words)) ≡ Some (codes input))
+    × (option_map (λ p. p.input) (read (spaced back)) ≡ Some (codes other))
 
 -- Of two words with the input's suffix the first is the input. The other one, kept after its flag, is written before it,
 -- so it is the first when the line is read again.
 abbrev pub SecondInputComesFirst : Type 0
 SecondInputComesFirst =
-    ChangesItsInput (ptxas_reading (codes "/w"))
-    (spaced "-x a.ptx b.ptx -o c")
-    (spaced "-x b.ptx a.ptx -o /w/c")
-    (codes "a.ptx") (codes "b.ptx")
-    × ChangesItsInput (cicc_reading (codes "/w"))
-    (spaced "-x a.cpp1.ii b.cpp1.ii -o c")
-    (spaced "-x b.cpp1.ii a.cpp1.ii -o /w/c")
-    (codes "a.cpp1.ii") (codes "b.cpp1.ii")
+    ChangesItsInput (ptxas_reading (codes "/w")) "-x a.ptx b.ptx -o c" "-x b.ptx a.ptx -o /w/c" "a.ptx" "b.ptx"
+    × ChangesItsInput (cicc_reading (codes "/w")) "-x a.cpp1.ii b.cpp1.ii -o c" "-x b.cpp1.ii a.cpp1.ii -o /w/c" "a.cpp1.ii" "b.cpp1.ii"
 
 -- a line at the working directory `.` is written back as other words, and these again as others
-abbrev pub ChangesTwice : (List (List ℕ) → Option ParsedArguments)
-    → (ParsedArguments → List ℕ → List (List ℕ)) → List (List ℕ) → List (List ℕ) → List (List ℕ) → Type 0
+abbrev pub ChangesTwice : (List (List ℕ) → Option ParsedArguments) → (ParsedArguments → List ℕ → List (List ℕ)) → String → String → String → Type 0
 ChangesTwice read words_to_write words back again =
-    (words_back words_to_write (codes ".") (read words) ≡ Some (Ok back)) × (words_back words_to_write (codes ".") (read back) ≡ Some (Ok again))
+    (words_back words_to_write (codes ".") (read (spaced words)) ≡ Some (Ok (spaced back)))
+    × (words_back words_to_write (codes ".") (read (spaced back)) ≡ Some (Ok (spaced again)))
 
 -- at a working directory that isn't absolute each reading joins the output to it once more
 abbrev pub RelativeFolderIsJoinedTwice : Type 0
 RelativeFolderIsJoinedTwice =
-    ChangesTwice (cicc_reading (codes ".")) cicc_words
-    (spaced "k.cpp1.ii -o p")
-    (spaced "k.cpp1.ii -o ./p")
-    (spaced "k.cpp1.ii -o ././p")
-    × ChangesTwice (ptxas_reading (codes ".")) cicc_words
-    (spaced "k.ptx -o p")
-    (spaced "k.ptx -o ./p")
-    (spaced "k.ptx -o ././p")
-    × ChangesTwice (cudafe_reading (codes ".")) cudafe_words
-    (spaced "--module_id_file_name p x")
-    (spaced "--module_id_file_name ./p x")
-    (spaced "--module_id_file_name ././p x")
+    ChangesTwice (cicc_reading (codes ".")) cicc_words "k.cpp1.ii -o p" "k.cpp1.ii -o ./p" "k.cpp1.ii -o ././p"
+    × ChangesTwice (ptxas_reading (codes ".")) cicc_words "k.ptx -o p" "k.ptx -o ./p" "k.ptx -o ././p"
+    × ChangesTwice (cudafe_reading (codes ".")) cudafe_words "--module_id_file_name p x" "--module_id_file_name ./p x" "--module_id_file_name ././p x"

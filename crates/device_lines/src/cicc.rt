@@ -1,6 +1,6 @@
 //! The command lines of cicc, which compiles preprocessed device code to PTX.
 
-ghost use Rattle.std.specs.Prelude.{◌≡◌, None, Err, map, codes};
+ghost use Rattle.std.specs.Prelude.{◌≡◌, ◌++◌, None, Err, map, codes, IfOk};
 ghost use Rattle.compilers.specs.Table.{entry_of};
 ghost use Rattle.texts.specs.Variables.{pair_of};
 ghost use Rattle.compilers.specs.Outputs.{entry_at};
@@ -13,16 +13,16 @@ ghost use Rattle.device_lines.specs.DeviceWords as words;
 pub use crate::input::{preprocess, read_bytes, read_file, read_input};
 pub use crate::options::ArgData;
 pub use crate::reader::parse_arguments;
-use crate::writer::option_words;
 use compilers::arguments::ParsedArguments;
 use compilers::command::{Cacheable, SingleCompileCommand};
 use compilers::table::{ArgInfo, SEPARATED, Table};
-use std::alloc::Global;
+use std::alloc::{AllocError, Global};
 pub use texts::device_files::{
     CICC_INPUT_SUFFIX, PTXAS_INPUT_SUFFIX, is_cicc_input, is_ptxas_input,
 };
 use texts::fault::Fault;
 use texts::text::Text;
+use texts::words::Words;
 
 /// cicc's options, as in sccache 0.19.0's table.
 pub const ARGS: [ArgInfo<ArgData>; 7] = [
@@ -44,6 +44,25 @@ pub fn table() -> Table<'static, ArgData>
     ensures { map entry_of result.rows.now ≡ spec.cicc_options }
 {
     Table { rows: &ARGS }
+}
+
+/// The words that every line of a device tool begins with when it is written back: the common ones and then the unhashed
+/// ones, with room for three more.
+pub(crate) fn option_words(
+    alloc: Global,
+    parsed_args: &ParsedArguments,
+) -> Result<Words, AllocError>
+    ensures { IfOk result (λ w. w ≡ parsed_args.now.common_args ++ parsed_args.now.unhashed_args) }
+{
+    let (common, unhashed) = (&parsed_args.common_args, &parsed_args.unhashed_args);
+    let room = common
+        .len()
+        .saturating_add(unhashed.len())
+        .saturating_add(3);
+    let mut words = Words::with_capacity(alloc, room)?;
+    words.push_copies(alloc, common.as_slice())?;
+    words.push_copies(alloc, unhashed.as_slice())?;
+    Ok(words)
 }
 
 /// Writes the arguments of a cicc or ptxas line back as a cacheable command. Its words are the common ones, the

@@ -10,8 +10,8 @@ ghost use Rattle.texts.specs.declared.fault.Fault.TheVariants.{MissingOutput};
 ghost use Rattle.device_lines.specs.CudaFE as spec;
 ghost use Rattle.device_lines.specs.DeviceWords as words;
 
+use crate::cicc::option_words;
 use crate::options::ArgData;
-use crate::writer::option_words;
 use compilers::arguments::ParsedArguments;
 use compilers::command::{Cacheable, SingleCompileCommand};
 use compilers::table::{ArgInfo, SEPARATED, Table};

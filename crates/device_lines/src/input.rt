@@ -1,9 +1,7 @@
 //! The bytes of a file, and a device tool's input, which a preprocessor wrote.
 
-ghost use Rattle.std.specs.Prelude.{◌≡◌, ◌<◌, length, None, IfOk, string_bytes};
-ghost use Rattle.texts.specs.Path.{joined};
-ghost use Rattle.device_lines.specs.Input.{ReadsBytes, ReadsToEnd};
-ghost use Rattle.device_lines.specs.InputStep.{ReadsOn};
+ghost use Rattle.std.specs.Prelude.{◌≡◌, ◌<◌, length, None};
+ghost use Rattle.device_lines.specs.Input.{ReadsBytes, ReadsOn, ReadsToEnd};
 ghost use Rattle.device_lines.specs.Input as spec;
 
 use compilers::arguments::ParsedArguments;
@@ -103,13 +101,6 @@ pub fn read_input<R: Read + Drop>(alloc: Global, reader: R) -> Result<Output, Fa
     Ok(printed(alloc, read_bytes(alloc, reader)?))
 }
 
-// The path of the arguments' input.
-fn input_path(alloc: Global, cwd: &str, parsed_args: &ParsedArguments) -> Result<String, AllocError>
-    ensures { IfOk result (λ path. string_bytes path ≡ joined cwd.now parsed_args.now.input) }
-{
-    join(alloc, cwd, parsed_args.input.as_str())
-}
-
 /// Reads the input of arguments that were read at the working directory `cwd`. There is nothing to preprocess:
 /// the inputs of cicc, ptxas and cudafe++ come from a preprocessor.
 ///
@@ -122,6 +113,6 @@ pub fn preprocess<R: Files>(
 ) -> Result<Output, Fault>
     ensures { ReadsToEnd None result }
 {
-    let path = input_path(alloc, cwd, parsed_args)?;
+    let path = join(alloc, cwd, parsed_args.input.as_str())?;
     Ok(printed(alloc, read_file(rt, alloc, path.as_str())?))
 }

@@ -3,14 +3,12 @@
 
 pub mod cicc;
 pub mod cudafe;
-mod files;
 mod input;
 pub mod laws;
 mod options;
 pub mod ptxas;
 mod reader;
 mod tools;
-mod writer;
 
-pub use files::{cicc_line_files, cudafe_line_files, ptxas_line_files};
 pub use reader::LineFiles;
+pub use tools::{cicc_line_files, cudafe_line_files, ptxas_line_files};

@@ -1,11 +1,18 @@
-//! cicc, cudafe++ and ptxas as compilers: they differ in their tables, languages and writers.
+//! cicc, cudafe++ and ptxas as compilers, and the files that their lines name: they differ in their tables, languages and writers.
 
-ghost use Rattle.std.specs.Prelude.{◌≡◌, IfOk};
+ghost use Rattle.std.specs.Prelude.{◌≡◌, true, map, IfOk, string_bytes, option_map};
+ghost use Rattle.compilers.specs.Command.{written};
+ghost use Rattle.compilers.specs.declared.compiler.CCompilerKind.TheVariants as kinds;
+ghost use Rattle.device_lines.specs.Cicc.{cicc_answer, cicc_reading};
+ghost use Rattle.device_lines.specs.CudaFE.{cudafe_answer, cudafe_reading};
+ghost use Rattle.device_lines.specs.DeviceWords as words;
+ghost use Rattle.device_lines.specs.LineFiles.{files_of};
+ghost use Rattle.device_lines.specs.Ptxas.{ptxas_answer, ptxas_reading};
 
 use crate::cicc::{self, Cicc};
 use crate::cudafe::{self, CudaFE};
 use crate::ptxas::{self, Ptxas};
-use crate::reader::parse_arguments;
+use crate::reader::{LineFiles, line_files_of, parse_arguments};
 use compilers::arguments::{CompilerArguments, ParsedArguments};
 use compilers::command::{Cacheable, SingleCompileCommand};
 use compilers::compiler::{CCompilerImpl, CCompilerKind, Places};
@@ -25,12 +32,6 @@ impl Cicc {
 }
 
 impl CCompilerImpl for Cicc {
-    ghost use Rattle.std.specs.Prelude.{true};
-    ghost use Rattle.compilers.specs.declared.compiler.CCompilerKind.TheVariants as kinds;
-    ghost use Rattle.device_lines.specs.Cicc as spec;
-    ghost use Rattle.device_lines.specs.DeviceWords as words;
-    ghost use Rattle.compilers.specs.Command.{written};
-
     type Command = SingleCompileCommand;
 
     ghost kind = { λ _. kinds.Cicc };
@@ -39,7 +40,7 @@ impl CCompilerImpl for Cicc {
 
     ghost version = { λ c. c.version };
 
-    ghost reading = { λ _ line cwd _. spec.cicc_answer cwd line };
+    ghost reading = { λ _ line cwd _. cicc_answer cwd line };
 
     ghost writing = { λ _ executable p cwd env_vars _. written words.cicc_words executable p cwd env_vars };
 
@@ -89,12 +90,6 @@ impl CudaFE {
 }
 
 impl CCompilerImpl for CudaFE {
-    ghost use Rattle.std.specs.Prelude.{true};
-    ghost use Rattle.compilers.specs.declared.compiler.CCompilerKind.TheVariants as kinds;
-    ghost use Rattle.device_lines.specs.CudaFE as spec;
-    ghost use Rattle.device_lines.specs.DeviceWords as words;
-    ghost use Rattle.compilers.specs.Command.{written};
-
     type Command = SingleCompileCommand;
 
     ghost kind = { λ _. kinds.CudaFE };
@@ -103,7 +98,7 @@ impl CCompilerImpl for CudaFE {
 
     ghost version = { λ c. c.version };
 
-    ghost reading = { λ _ line cwd _. spec.cudafe_answer cwd line };
+    ghost reading = { λ _ line cwd _. cudafe_answer cwd line };
 
     ghost writing = { λ _ executable p cwd env_vars _. written words.cudafe_words executable p cwd env_vars };
 
@@ -153,12 +148,6 @@ impl Ptxas {
 }
 
 impl CCompilerImpl for Ptxas {
-    ghost use Rattle.std.specs.Prelude.{true};
-    ghost use Rattle.compilers.specs.declared.compiler.CCompilerKind.TheVariants as kinds;
-    ghost use Rattle.device_lines.specs.Ptxas as spec;
-    ghost use Rattle.device_lines.specs.DeviceWords as words;
-    ghost use Rattle.compilers.specs.Command.{written};
-
     type Command = SingleCompileCommand;
 
     ghost kind = { λ _. kinds.Ptxas };
@@ -167,7 +156,7 @@ impl CCompilerImpl for Ptxas {
 
     ghost version = { λ c. c.version };
 
-    ghost reading = { λ _ line cwd _. spec.ptxas_answer cwd line };
+    ghost reading = { λ _ line cwd _. ptxas_answer cwd line };
 
     ghost writing = { λ _ executable p cwd env_vars _. written words.cicc_words executable p cwd env_vars };
 
@@ -204,4 +193,37 @@ impl CCompilerImpl for Ptxas {
     ) -> Result<(SingleCompileCommand, Cacheable), Fault> {
         cicc::generate_compile_commands(alloc, executable, parsed_args, cwd, env_vars)
     }
+}
+
+/// The files that a cicc line names, if it has an input.
+pub fn cicc_line_files(
+    alloc: Global,
+    words: &[String],
+    cwd: &str,
+) -> Result<Option<LineFiles>, AllocError>
+    ensures { IfOk result (λ f. f ≡ option_map (files_of cwd.now) (cicc_reading cwd.now (map string_bytes words.now))) }
+{
+    line_files_of(alloc, words, cwd, Language::Ptx, cicc::table(), 3)
+}
+
+/// The files that a cudafe++ line names, if it has an input.
+pub fn cudafe_line_files(
+    alloc: Global,
+    words: &[String],
+    cwd: &str,
+) -> Result<Option<LineFiles>, AllocError>
+    ensures { IfOk result (λ f. f ≡ option_map (files_of cwd.now) (cudafe_reading cwd.now (map string_bytes words.now))) }
+{
+    line_files_of(alloc, words, cwd, Language::CudaFE, cudafe::table(), 1)
+}
+
+/// The files that a ptxas line names, if it has an input.
+pub fn ptxas_line_files(
+    alloc: Global,
+    words: &[String],
+    cwd: &str,
+) -> Result<Option<LineFiles>, AllocError>
+    ensures { IfOk result (λ f. f ≡ option_map (files_of cwd.now) (ptxas_reading cwd.now (map string_bytes words.now))) }
+{
+    line_files_of(alloc, words, cwd, Language::Cubin, ptxas::table(), 3)
 }

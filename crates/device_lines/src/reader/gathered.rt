@@ -4,7 +4,6 @@ ghost use Rattle.std.specs.Prelude.{◌≡◌, IfOk, OnOk, fold};
 ghost use Rattle.compilers.specs.Items.{items};
 ghost use Rattle.compilers.specs.Views.{item_viewed};
 ghost use Rattle.compilers.specs.Compiler.{accepted, reading_of};
-ghost use Rattle.device_lines.specs.Reading as spec;
 
 use super::named_files::NamedFiles;
 use crate::options::ArgData;
@@ -28,7 +27,7 @@ pub struct Gathered<'a> {
 }
 
 impl<'a> Gathered<'a> {
-    ghost use Rattle.device_lines.specs.Gathered.{nothing_gathered, with_item, all_outputs, reading_of_gathered};
+    ghost use Rattle.device_lines.specs.Gathered.{nothing_gathered, with_item, reading_of_gathered};
 
     /// Nothing yet, with room for `count` common words.
     pub fn with_capacity(alloc: Global, count: usize) -> Result<Gathered<'a>, AllocError>
@@ -54,8 +53,7 @@ impl<'a> Gathered<'a> {
     {
         let mut line = line;
         while let Some(word) = line.next_word() {
-            let row = table.search(word);
-            let item = view_item(row, word, &mut line);
+            let item = view_item(table.search(word), word, &mut line);
             self.take(alloc, cwd, item)?;
         }
         Ok(())
@@ -96,24 +94,6 @@ impl<'a> Gathered<'a> {
         }
     }
 
-    // Counts the module id file among what the tool writes, if it makes it. Answers a copy of the input, and the module id
-    // file, if the tool reads it, in two lists.
-    fn finish(
-        &mut self,
-        alloc: Global,
-        cwd: &str,
-        input: &str,
-    ) -> Result<(Text, Words, Words), AllocError>
-        ensures now { OnOk result (self.new ≡ record self.old { files = record self.old.files { outputs = all_outputs cwd.now self.old.files } }) }
-        ensures answer { IfOk result (λ r. let file = spec.module_id_file cwd.now self.old.files.makes_module_id self.old.files.module_id in r ≡ (input.now, file, file)) }
-    {
-        self.files.record_module_id(alloc, cwd)?;
-        let input = Text::copy_of(alloc, input)?;
-        let first = self.files.module_id_file(alloc, cwd)?;
-        let second = first.try_clone(alloc)?;
-        Ok((input, first, second))
-    }
-
     /// The answer of a reader that has taken all items, with this input.
     pub fn into_answer(
         self,
@@ -124,22 +104,16 @@ impl<'a> Gathered<'a> {
     ) -> Result<CompilerArguments<ParsedArguments>, AllocError>
         ensures { IfOk result (λ r. reading_of r ≡ accepted (reading_of_gathered cwd.now language input.now self.entry)) }
     {
-        let mut gathered = self;
-        match gathered.finish(alloc, cwd, input) {
-            Ok((input, first, second)) => {
-                let outputs = gathered.files.outputs;
-                let mut arguments = ParsedArguments::of(alloc, input, language, outputs);
-                arguments.common_args = gathered.common;
-                arguments.unhashed_args = gathered.unhashed;
-                arguments.extra_dist_files = first;
-                arguments.extra_hash_files = second;
-                Ok(CompilerArguments::Ok(arguments))
-            }
-            Err(error) => {
-                // Dropped by a call: see "Explicit drops" in docs/ARCHITECTURE.md.
-                drop(gathered);
-                Err(error)
-            }
-        }
+        let mut files = self.files;
+        files.record_module_id(alloc, cwd)?;
+        let first = files.module_id_file(alloc, cwd)?;
+        let second = first.try_clone(alloc)?;
+        let input = Text::copy_of(alloc, input)?;
+        let mut arguments = ParsedArguments::of(alloc, input, language, files.outputs);
+        arguments.common_args = self.common;
+        arguments.unhashed_args = self.unhashed;
+        arguments.extra_dist_files = first;
+        arguments.extra_hash_files = second;
+        Ok(CompilerArguments::Ok(arguments))
     }
 }

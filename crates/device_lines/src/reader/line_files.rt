@@ -1,7 +1,6 @@
 //! The files that a device tool's line names, without the arguments that a cache needs.
 
-ghost use Rattle.std.specs.Prelude.{◌≡◌, ◌<◌, ◌∷◌, map, length, IfOk, string_bytes, option_map};
-ghost use Rattle.texts.specs.Path.{joined};
+ghost use Rattle.std.specs.Prelude.{◌≡◌, ◌<◌, map, length, IfOk, string_bytes, option_map};
 ghost use Rattle.device_lines.specs.LineFiles.{files_of};
 ghost use Rattle.device_lines.specs.Reading as spec;
 
@@ -25,22 +24,6 @@ pub struct LineFiles {
     pub outputs: Outputs,
 }
 
-// The files that the tool reads: the input, and the module id file, if the tool reads it.
-fn reads_of(
-    alloc: Global,
-    cwd: &str,
-    input: &str,
-    files: &NamedFiles<'_>,
-) -> Result<Words, AllocError>
-    ensures { IfOk result (λ reads. reads
-        ≡ joined cwd.now input.now ∷ spec.module_id_file cwd.now files.now.makes_module_id files.now.module_id) }
-{
-    let mut reads = Words::with_capacity(alloc, 2)?;
-    reads.push(join(alloc, cwd, input)?)?;
-    reads.append(files.module_id_file(alloc, cwd)?)?;
-    Ok(reads)
-}
-
 // The files of a line whose input is at `place`.
 fn files_around<S: SearchableArgInfo<ArgData>>(
     alloc: Global,
@@ -56,7 +39,9 @@ fn files_around<S: SearchableArgInfo<ArgData>>(
 {
     let mut files = NamedFiles::new(alloc);
     files.take_line(alloc, cwd, Line::without(arguments, place), arg_info)?;
-    let reads = reads_of(alloc, cwd, word_at(arguments, place), &files)?;
+    let mut reads = Words::with_capacity(alloc, 2)?;
+    reads.push(join(alloc, cwd, word_at(arguments, place))?)?;
+    reads.append(files.module_id_file(alloc, cwd)?)?;
     files.record_module_id(alloc, cwd)?;
     Ok(LineFiles {
         reads,

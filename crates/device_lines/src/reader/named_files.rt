@@ -114,9 +114,8 @@ impl<'a> NamedFiles<'a> {
     {
         let mut line = line;
         while let Some(word) = line.next_word() {
-            let row = table.search(word);
             // An item that can't be read names no file.
-            if let Ok(item) = view_item(row, word, &mut line) {
+            if let Ok(item) = view_item(table.search(word), word, &mut line) {
                 self.take(alloc, cwd, item)?;
             }
         }
@@ -129,14 +128,13 @@ impl<'a> NamedFiles<'a> {
           outputs = fold with_entry self.old.outputs (spec.module_id_output cwd.now self.old.makes_module_id self.old.module_id);
         }) }
     {
-        let Some(path) = &self.module_id else {
-            return Ok(());
-        };
-        if !self.makes_module_id {
-            return Ok(());
+        match &self.module_id {
+            Some(path) if self.makes_module_id => {
+                let path = path.text;
+                self.record(alloc, "--module_id_file_name", cwd, path, true)
+            }
+            _ => Ok(()),
         }
-        let path = path.text;
-        self.record(alloc, "--module_id_file_name", cwd, path, true)
     }
 
     /// The module id file, if the tool reads it.

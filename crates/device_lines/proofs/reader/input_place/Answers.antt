@@ -1,6 +1,6 @@
 use Rattle.std.proofs.Common.{arith}
 use Rattle.std.proofs.lemmas.Grind.{common_steps}
-use Rattle.device_lines.proofs.PlaceLemmas.{input_place-strings}
+use Rattle.device_lines.proofs.ReadingLemmas.{input_place-strings}
 use Rattle.device_lines.proofs.reader.input_place.Goals as goal
 
 pub returns-in-Some-clause-place : goal.returns-in-Some-clause-place

@@ -1,4 +1,4 @@
-use Rattle.device_lines.proofs.files.cudafe_line_files.Goals as goal
+use Rattle.device_lines.proofs.tools.ptxas_line_files.Goals as goal
 
 pub returns : goal.returns
 returns c = rw c.table.ensures at c.line_files_of.ensures
