@@ -1,4 +1,1 @@
-pub mod CompdbLemmas
-pub mod JsonLemmas
-pub mod OneToOneLemmas
 pub mod ValueLemmas

@@ -1,6 +1,6 @@
 //! What clang's tools read in place of a step in which nvcc's host compiler preprocesses CUDA.
 
-ghost use Rattle.std.specs.Prelude.{◌≡◌, ◌++◌, false, IfOk, OnOk, map, string_bytes, option_copied};
+ghost use Rattle.std.specs.Prelude.{◌≡◌, ◌++◌, IfOk, OnOk, map, string_bytes, option_copied};
 ghost use Rattle.plan_json.specs.ClangWords as spec;
 
 use command_files::has_word;
@@ -64,29 +64,21 @@ fn push_word(alloc: Global, line: &mut Words, after_x: bool, word: &str) -> Resu
     line.push_str(alloc, word)
 }
 
-// Adds the words in place of others.
-fn push_words(alloc: Global, line: &mut Words, words: &[String]) -> Result<(), AllocError>
-    ensures { OnOk result (line.new ≡ line.old ++ spec.clang_words false (map string_bytes words.now)) }
-{
-    let mut after_x = false;
-    for word in words {
-        push_word(alloc, line, after_x, word.as_str())?;
-        after_x = word.as_str() == "-x";
-    }
-    Ok(())
-}
-
 /// The line of a database's record, given a program and its words.
 pub(crate) fn line_for_clang(alloc: Global, exe: &str, args: &[String]) -> Result<Words, AllocError>
     ensures { IfOk result (λ line. line ≡ spec.line_for_clang exe.now (map string_bytes args.now)) }
 {
     let mut line = Words::new(alloc);
-    if has_word(args, "-D__CUDACC__") {
-        line.push_pair(alloc, "clang++", half_of(args))?;
-        push_words(alloc, &mut line, args)?;
-    } else {
+    if !has_word(args, "-D__CUDACC__") {
         line.push_str(alloc, exe)?;
         line.extend(alloc, args)?;
+        return Ok(line);
+    }
+    line.push_pair(alloc, "clang++", half_of(args))?;
+    let mut after_x = false;
+    for word in args {
+        push_word(alloc, &mut line, after_x, word.as_str())?;
+        after_x = word.as_str() == "-x";
     }
     Ok(line)
 }

@@ -11,10 +11,10 @@ ghost use Rattle.plan_json.specs.Values.{count_data};
 ghost use Rattle.plan_json.specs.Json as spec;
 ghost use Rattle.command_files.specs.Numbered.{numbered};
 
-use crate::{push_text, put_text, put_texts, texts_value};
+use crate::{push_text, put_text, put_texts};
 use command_files::{CommandFiles, files_of, needs};
 use compilers::command::Cacheable;
-use compilers::plans::{Dropped, ListedCommand, NvccGeneratedSubcommand, Origin, PlanWithOrigins};
+use compilers::plans::{Dropped, ListedCommand, Origin, PlanWithOrigins};
 use serde_json::{Map, Value, push, put};
 use std::alloc::{AllocError, Global};
 
@@ -66,14 +66,14 @@ fn put_origin(
 fn command_value(
     alloc: Global,
     id: usize,
-    group: usize,
     origin: Origin,
     needs: &[usize],
     files: &CommandFiles,
-    command: &NvccGeneratedSubcommand,
+    listed: &ListedCommand<'_>,
 ) -> Result<Value, AllocError>
-    ensures { IfOk result (λ v. view v ≡ spec.command_data id group origin needs.now files.now command.now) }
+    ensures { IfOk result (λ v. view v ≡ spec.command_data id listed.now.group origin needs.now files.now listed.now.command) }
 {
+    let command = listed.command;
     let is_cacheable = matches!(command.cacheable, Cacheable::Yes);
     let env = variables_value(alloc, command.env_vars.as_slice())?;
     let mut map = Map::new(alloc);
@@ -87,7 +87,7 @@ fn command_value(
     put_texts(alloc, &mut map, "may_write", files.may_write.as_slice())?;
     put(&mut map, alloc, "complete", Value::Bool(files.complete))?;
     put(&mut map, alloc, "id", Value::from(id))?;
-    put(&mut map, alloc, "group", Value::from(group))?;
+    put(&mut map, alloc, "group", Value::from(listed.group))?;
     put(&mut map, alloc, "needs", counts_value(alloc, needs)?)?;
     put_origin(alloc, &mut map, origin.line, origin.run)?;
     Ok(Value::Object(map))
@@ -111,29 +111,6 @@ fn needs_at(needs: &[Vec<usize>], id: usize) -> &[usize]
     }
 }
 
-// The object of the command with a number, given where each command comes from and what it needs.
-fn described_value(
-    alloc: Global,
-    id: usize,
-    origins: &[Origin],
-    needs: &[Vec<usize>],
-    listed: &ListedCommand<'_>,
-) -> Result<Value, AllocError>
-    ensures { IfOk result (λ v. view v
-        ≡ spec.command_at (record { origins = origins.now; needs = map vec_items needs.now }) id listed.now) }
-{
-    let files = files_of(alloc, listed.command)?;
-    command_value(
-        alloc,
-        id,
-        listed.group,
-        origin_at(origins, id),
-        needs_at(needs, id),
-        &files,
-        listed.command,
-    )
-}
-
 fn commands_value(
     alloc: Global,
     origins: &[Origin],
@@ -145,7 +122,9 @@ fn commands_value(
 {
     let mut list = Vec::new(alloc);
     for (id, listed) in commands.iter().enumerate() {
-        let value = described_value(alloc, id, origins, needs, listed)?;
+        let (origin, needs) = (origin_at(origins, id), needs_at(needs, id));
+        let files = files_of(alloc, listed.command)?;
+        let value = command_value(alloc, id, origin, needs, &files, listed)?;
         push(&mut list, value)?;
     }
     Ok(Value::Array(list))

@@ -1,4 +1,4 @@
-use Rattle.std.proofs.Common.{◌+◌, ◌++◌, [], ◌∷◌, map, vec_items, drop, sym, ap, ◌∙◌, append-nil, drop_of_length-le, arith}
+use Rattle.std.proofs.Common.{◌≡◌, ◌+◌, ◌++◌, [], ◌∷◌, map, vec_items, drop, sym, ap, ◌∙◌, append-nil, drop_of_length-le, arith}
 use Rattle.std.proofs.lemmas.Grind.{common_steps}
 use Rattle.serde_json.proofs.Views.{view-Array}
 use Rattle.serde_json.specs.View.{view}
@@ -14,10 +14,11 @@ loop-id-preserved c =
     let commands = c.args.commands.now in
     let described = command_at (record { origins = c.args.origins.now; needs = map vec_items c.args.needs.now }) in
     let item = c.index-commands-id.result in
+    let is : view c.in_ok-value.value ≡ described id item = grind (arith, common_steps) in
     let before = map view c.loop-id.list.items in
     let rest = numbered described (id + 1) (drop (id + 1) commands) in
     pushed-items before (described id item ∷ []) (map view c.push.new.list.items) rest
-    (pushed-data view c.loop-id.list.items c.push.new.list.items _ _ c.in_ok-value.ensures c.in_ok-push.ensures.ok)
+    (pushed-data view c.loop-id.list.items c.push.new.list.items _ _ is c.in_ok-push.ensures.ok)
     ∙ ap (λ cs. before ++ numbered described id cs) (sym (next-left commands id item c.loop-id-test.true c.index-commands-id.is))
     ∙ c.loop-id.invariant
 
