@@ -1,5 +1,5 @@
 -- What the items of a line have of the entries that its words choose, and of the line's words.
-use Rattle.std.proofs.Common.{◌≡◌, ℕ, List, [], ◌∷◌, ◌++◌, Bool, true, false, cond, not, ◌&&◌, Option, Some, None, refl, ap, subst, codes, is_some, option_and_then, bytes_eq, arith}
+use Rattle.std.proofs.Common.{◌≡◌, ℕ, List, [], ◌∷◌, ◌++◌, Bool, true, false, cond, not, ◌&&◌, Option, Some, None, map, flat_map, refl, ap, sym, subst, codes, is_some, option_and_then, bytes_eq, arith}
 use Rattle.std.specs.List.{AllByRecursion, fold}
 use Rattle.std.proofs.lemmas.Bool.{false≢true}
 use Rattle.compilers.specs.declared.table.ArgDisposition.{ArgDisposition}
@@ -7,8 +7,8 @@ use Rattle.compilers.specs.declared.table.ArgDisposition.TheVariants.{Separated}
 use Rattle.texts.specs.Lists.{rest_after}
 use Rattle.compilers.specs.Table.{Entry, Matched, lone, joined, awaiting, matched_rest, matched, is_longer, longer_match, longest_match}
 use Rattle.compilers.specs.Items.{Item, raw, unknown_flag, flag, with_value, faulty, Said, item, option, items, said_by, said_of, unmatched_item, last_item, separate_item, joined_form, separate_form, may_stand_last, words_of}
-use Rattle.compilers.specs.WordsLaw.{is_joined, is_whole}
-use Rattle.compilers.proofs.WordsLemmas.{words-are_those_read}
+use Rattle.compilers.specs.WordsLaw.{is_joined, is_whole, parts}
+use Rattle.compilers.proofs.WordsLemmas.{lines-are_their_parts, whole_items-are_their_parts}
 use Rattle.device_lines.specs.declared.options.ArgData.{ArgData}
 use Rattle.device_lines.specs.declared.options.ArgData.TheVariants.{Output, UnhashedOutput}
 use Rattle.device_lines.specs.Reread.{is_filled, AllFilled}
@@ -24,7 +24,7 @@ module _ (passes : Entry ArgData → Bool) (word : List ℕ) where
       [ true ↦ λ e is. let same : f ≡ e = cc in subst (λ g. passes g ≡ true) same all.0 | false ↦ before ]
       )
 
-  pub chosen-passes : (es : List (Entry ArgData)) → AllByRecursion (λ e. passes e ≡ true) es → (e : Entry ArgData) → longest_match es word ≡ Some e → passes e ≡ true
+  chosen-passes : (es : List (Entry ArgData)) → AllByRecursion (λ e. passes e ≡ true) es → (e : Entry ArgData) → longest_match es word ≡ Some e → passes e ≡ true
   chosen-passes es all e is = folded-passes es None all (λ f none. let never : None ≡ Some f = none in cc) e is
 
 -- what holds of what a word says
@@ -70,9 +70,12 @@ plain-joined form rest value h at = grind (arith, false≢true)
 plain-last : (text : List ℕ) (kind : ArgData) (form : Option ArgDisposition) → is_plain form ≡ true → is_filled (cond (may_stand_last form) (with_value text kind [] (joined_form form)) faulty) ≡ true
 plain-last text kind form h = grind (arith, false≢true)
 
-pub plain-filled : (chosen : List ℕ → Option (Entry ArgData)) → ((w : List ℕ) (e : Entry ArgData) → chosen w ≡ Some e → is_plain e.form ≡ true) → (line : List (List ℕ)) → AllFilled (items chosen line)
-plain-filled chosen plain line = all-items chosen (λ i. is_filled i ≡ true) (unmatched-test is_filled (λ _. refl) (λ _. refl)) says line where
-  says : (w : List ℕ) (e : Entry ArgData) → chosen w ≡ Some e → (m : Matched) → matched e w ≡ Some m → SaidHolds (λ i. is_filled i ≡ true) (said_by e w (Some m))
+pub plain-filled : (options : List (Entry ArgData)) → AllByRecursion (λ e. is_plain e.form ≡ true) options → (line : List (List ℕ)) → AllFilled (items (longest_match options) line)
+plain-filled options all line = all-items (longest_match options) (λ i. is_filled i ≡ true) (unmatched-test is_filled (λ _. refl) (λ _. refl)) says line where
+  plain : (w : List ℕ) (e : Entry ArgData) → longest_match options w ≡ Some e → is_plain e.form ≡ true
+  plain w e at = chosen-passes (λ f. is_plain f.form) w options all e at
+
+  says : (w : List ℕ) (e : Entry ArgData) → longest_match options w ≡ Some e → (m : Matched) → matched e w ≡ Some m → SaidHolds (λ i. is_filled i ≡ true) (said_by e w (Some m))
   says w e at lone is = refl
   says w e at (joined value) is = plain-joined e.form (rest_after e.text w) value (plain w e at) is
   says w e at awaiting is = (λ x. ap (λ b. not (b && bytes_eq x [])) (separate-apart e.form), plain-last e.text e.kind e.form (plain w e at))
@@ -98,8 +101,11 @@ fits-wider kind text a b wider h = grind arith
 separated-apart : (form : Option ArgDisposition) → is_separated form ≡ true → not (is_joined (joined_form form)) ≡ true
 separated-apart form h = grind (arith, false≢true)
 
-pub all-fit : (chosen : List ℕ → Option (Entry ArgData)) → ((w : List ℕ) (e : Entry ArgData) → chosen w ≡ Some e → entry_fits e ≡ true) → (line : List (List ℕ)) → AllByRecursion (λ i. item_fits i ≡ true) (items chosen line)
-all-fit chosen suit line = all-items chosen (λ i. item_fits i ≡ true) (unmatched-test item_fits (λ _. refl) (λ _. refl)) says line where
+pub all-fit : (options : List (Entry ArgData)) → AllByRecursion (λ e. entry_fits e ≡ true) options → (line : List (List ℕ)) → AllByRecursion (λ i. item_fits i ≡ true) (items (longest_match options) line)
+all-fit options all line = all-items (longest_match options) (λ i. item_fits i ≡ true) (unmatched-test item_fits (λ _. refl) (λ _. refl)) says line where
+  suit : (w : List ℕ) (e : Entry ArgData) → longest_match options w ≡ Some e → entry_fits e ≡ true
+  suit w e at = chosen-passes entry_fits w options all e at
+
   joined-fits : (e : Entry ArgData) (value : List ℕ) → entry_fits e ≡ true → item_fits (with_value e.text e.kind value (joined_form e.form)) ≡ true
   joined-fits e value h = fits-wider e.kind e.text (is_separated e.form) (not (is_joined (joined_form e.form))) (separated-apart e.form) h
 
@@ -107,37 +113,29 @@ all-fit chosen suit line = all-items chosen (λ i. item_fits i ≡ true) (unmatc
   last-fits e true h = joined-fits e [] h
   last-fits e false h = refl
 
-  says : (w : List ℕ) (e : Entry ArgData) → chosen w ≡ Some e → (m : Matched) → matched e w ≡ Some m → SaidHolds (λ i. item_fits i ≡ true) (said_by e w (Some m))
+  says : (w : List ℕ) (e : Entry ArgData) → longest_match options w ≡ Some e → (m : Matched) → matched e w ≡ Some m → SaidHolds (λ i. item_fits i ≡ true) (said_by e w (Some m))
   says w e at lone is = fits-wider e.kind e.text (is_separated e.form) true (λ _. refl) (suit w e at)
   says w e at (joined value) is = joined-fits e value (suit w e at)
   says w e at awaiting is =
       (λ x. fits-wider e.kind e.text (is_separated e.form) (not (is_joined (separate_form e.form))) (λ _. ap not (separate-apart e.form)) (suit w e at), last-fits e (may_stand_last e.form) (suit w e at))
 
--- what holds of all words of a line holds of all words of its whole items
-pub all-left : {X : Type 0} (P : X → Type 0) (xs ys : List X) → AllByRecursion P (xs ++ ys) → AllByRecursion P xs
-all-left P [] ys h = tt
-all-left P (x ∷ xs) ys h = (h.0, all-left P xs ys h.1)
+-- what holds of all of a list holds of all of both its parts
+all-parts : {X : Type 0} (P : X → Type 0) (xs ys : List X) → AllByRecursion P (xs ++ ys) → AllByRecursion P xs × AllByRecursion P ys
+all-parts P [] ys h = (tt, h)
+all-parts P (x ∷ xs) ys h = let rest = all-parts P xs ys h.1 in ((h.0, rest.0), rest.1)
 
+-- what holds of all words of a line holds of all words of its whole items
 module _ (chosen : List ℕ → Option (Entry ArgData)) (P : List ℕ → Type 0) where
   -- the words of an item are among those of which it holds
   abbrev pub HasGoodWords : Item ArgData → Type 0
   HasGoodWords i = is_whole i ≡ true → AllByRecursion P (words_of i)
 
-  first-words : (line : List (List ℕ)) (i : Item ArgData) (later : List (Item ArgData)) → items chosen line ≡ i ∷ later → AllByRecursion P line → HasGoodWords i
-  first-words line i later is good whole =
-      grind (arith, all-left, (words-are_those_read chosen line i later is whole))
+  parts-words : (ps : List (Item ArgData × List (List ℕ))) → AllByRecursion (λ p. is_whole p.0 ≡ true → words_of p.0 ≡ p.1) ps → AllByRecursion P (flat_map (λ p. p.1) ps) → AllByRecursion HasGoodWords (map (λ p. p.0) ps)
+  parts-words [] kept good = tt
+  parts-words (p ∷ ps) kept good =
+      let both = all-parts P p.1 (flat_map (λ q. q.1) ps) good in ((λ whole. subst (AllByRecursion P) (sym (kept.0 whole)) both.0), parts-words ps kept.1 both.1)
 
   pub items-words : (line : List (List ℕ)) → AllByRecursion P line → AllByRecursion HasGoodWords (items chosen line)
-  items-words [] good = tt
-  items-words (w ∷ []) good =
-      elim (said_of w (chosen w)) as (λ s. said_of w (chosen w) ≡ s → AllByRecursion HasGoodWords (elim s as (λ _. List (Item ArgData)) [ item j ↦ j ∷ [] | option e ↦ last_item e ∷ [] ])) [
-        | item j ↦ λ said. (first-words (w ∷ []) j [] (ap (λ s. elim s as (λ _. List (Item ArgData)) [ item j ↦ j ∷ [] | option e ↦ last_item e ∷ [] ]) said) good, tt)
-        | option e ↦ λ said. (first-words (w ∷ []) (last_item e) [] (ap (λ s. elim s as (λ _. List (Item ArgData)) [ item j ↦ j ∷ [] | option e ↦ last_item e ∷ [] ]) said) good, tt)
-      ] refl
-  items-words (w ∷ x ∷ rest) good =
-      let later = items-words (x ∷ rest) good.1 in
-      let past = items-words rest good.1.1 in
-      elim (said_of w (chosen w)) as (λ s. said_of w (chosen w) ≡ s → AllByRecursion HasGoodWords (elim s as (λ _. List (Item ArgData)) [ item j ↦ j ∷ items chosen (x ∷ rest) | option e ↦ separate_item e x ∷ items chosen rest ])) [
-        | item j ↦ λ said. (first-words (w ∷ x ∷ rest) j (items chosen (x ∷ rest)) (ap (λ s. elim s as (λ _. List (Item ArgData)) [ item j ↦ j ∷ items chosen (x ∷ rest) | option e ↦ separate_item e x ∷ items chosen rest ]) said) good, later)
-        | option e ↦ λ said. (first-words (w ∷ x ∷ rest) (separate_item e x) (items chosen rest) (ap (λ s. elim s as (λ _. List (Item ArgData)) [ item j ↦ j ∷ items chosen (x ∷ rest) | option e ↦ separate_item e x ∷ items chosen rest ]) said) good, past)
-      ] refl
+  items-words line good =
+      let are = lines-are_their_parts chosen line in
+      subst (AllByRecursion HasGoodWords) are.0 (parts-words (parts chosen line) (whole_items-are_their_parts chosen line) (subst (AllByRecursion P) (sym are.1) good))

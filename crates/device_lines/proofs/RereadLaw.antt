@@ -1,6 +1,7 @@
 -- A line that is written back is read as the same arguments.
-use Rattle.std.proofs.Common.{◌≡◌, ℕ, List, [], ◌∷◌, ◌++◌, true, false, Some, None, Ok, refl, ap, sym, ◌∙◌, subst, append_assoc, append-nil, length, codes, IfSome, option_map, arith}
+use Rattle.std.proofs.Common.{◌≡◌, ℕ, List, [], ◌∷◌, ◌++◌, Bool, true, false, Option, Some, None, Ok, refl, ap, sym, ◌∙◌, subst, append_assoc, append-nil, length, filter, codes, bytes_eq, IfSome, option_map, arith}
 use Rattle.std.proofs.Math.Bool.{or-false}
+use Rattle.std.proofs.Math.Seq.{get_or-append_seam}
 use Rattle.std.specs.List.{AllByRecursion, filter_map, flat_map, list_any, remove, slice_index_or}
 use Rattle.std.proofs.lemmas.Grind.{flat_map-append}
 use Rattle.std.proofs.lemmas.List.Elements.{filter-append, filter_map-append}
@@ -15,22 +16,62 @@ use Rattle.compilers.specs.declared.table.ArgDisposition.TheVariants.{Separated}
 use Rattle.texts.specs.Path.{is_absolute_path, joined}
 use Rattle.compilers.specs.Outputs.{entry_at}
 use Rattle.compilers.specs.Table.{Entry, longest_match}
-use Rattle.compilers.specs.Items.{Item, with_value, items, words_of}
+use Rattle.compilers.specs.Items.{Item, with_value, items, words_of, kind_of}
 use Rattle.device_lines.specs.declared.options.ArgData.{ArgData}
 use Rattle.device_lines.specs.declared.options.ArgData.TheVariants.{Output}
 use Rattle.device_lines.specs.Cicc.{cicc_options}
 use Rattle.device_lines.specs.CudaFE.{cudafe_options}
 use Rattle.device_lines.specs.Ptxas.{ptxas_options}
-use Rattle.device_lines.specs.Reading.{is_input_word, common_items, unhashed_items, made_at, output_of, module_id_of, is_generating, module_id, module_id_output, outputs_of, reading_of_items, input_place, reading}
+use Rattle.device_lines.specs.Reading.{is_input_word, is_unhashed_kind, is_unknown, is_common, common_items, unhashed_items, made_at, output_of, module_id_of, is_generating, module_id, module_id_output, outputs_of, reading_of_items, input_place, reading}
 use Rattle.compilers.specs.declared.command.Cacheable.TheVariants.{Yes}
 use Rattle.compilers.specs.Command.{single_command, written, written_to}
 use Rattle.device_lines.specs.DeviceWords.{cicc_words, cudafe_words}
 use Rattle.device_lines.specs.Reread.{is_filled, AllFilled, common_words, unhashed_words, Rereads, CiccLinesReread, PtxasLinesReread, CudaFELinesReread}
-use Rattle.device_lines.proofs.RereadWords.{all-append, Silent, common-kind, other-kind, unhashed-kind, common-again, all-unhashed_silent, kept-all, common-whole, unhashed-whole, kept-read, common-none_unhashed, unhashed-again}
-use Rattle.device_lines.proofs.RereadOutputs.{is_other, value-from, same-entries}
-use Rattle.device_lines.proofs.RereadPlaces.{NonePass, rest-none, third-last, host-words, last-place, cut-word, cut-rest, joined-away, joined-twice}
-use Rattle.device_lines.proofs.RereadItems.{is_plain, entry_fits, item_fits, chosen-passes, plain-filled, all-fit, HasGoodWords, items-words}
-use Rattle.device_lines.proofs.RereadPicks.{picked-common, picked-no_common, picked-no_unhashed, generating-common, generating-no_unhashed, outputs-unhashed, AtGoodPath, good-outputs, module_id-other}
+use Rattle.device_lines.proofs.RereadWords.{common_after, all-append, Silent, common-kind, other-kind, unhashed-kind, common-again, all-unhashed_silent, kept-all, common-whole, unhashed-whole, kept-read, common-none_unhashed, unhashed-again}
+use Rattle.device_lines.proofs.RereadOutputs.{IsOther, is_other, value-from, same-entries}
+use Rattle.device_lines.proofs.RereadPlaces.{NonePass, rest-none, third-last, host-words, last-place, cut-rest, joined-away, joined-twice}
+use Rattle.device_lines.proofs.RereadItems.{entry_fits, item_fits, plain-filled, all-fit, HasGoodWords, items-words}
+
+-- what is picked of items: where only common items give something, the common ones suffice; where none of them does,
+-- they give nothing; and so of unhashed items
+module _ {Y : Type 0} (h : Item ArgData → Option Y) where
+  picked-common : ((b : Bool) (i : Item ArgData) → is_common (b, i) ≡ false → h i ≡ None) → (b : Bool) (is : List (Item ArgData)) → filter_map h (common_after b is) ≡ filter_map h is
+  picked-common other b [] = refl
+  picked-common other b (i ∷ is) = grind (arith, (picked-common other (is_unknown i) is))
+
+  picked-no_common : ((b : Bool) (i : Item ArgData) → is_common (b, i) ≡ true → h i ≡ None) → (b : Bool) (is : List (Item ArgData)) → filter_map h (common_after b is) ≡ []
+  picked-no_common none b [] = refl
+  picked-no_common none b (i ∷ is) = grind (arith, common_after, (picked-no_common none (is_unknown i) is))
+
+  picked-no_unhashed : ((i : Item ArgData) → is_unhashed_kind (kind_of i) ≡ true → h i ≡ None) → (is : List (Item ArgData)) → filter_map h (unhashed_items is) ≡ []
+  picked-no_unhashed none [] = refl
+  picked-no_unhashed none (i ∷ is) = grind (arith, (picked-no_unhashed none is))
+
+generating-common : (b : Bool) (is : List (Item ArgData)) → list_any is_generating (common_after b is) ≡ list_any is_generating is
+generating-common b [] = refl
+generating-common b (i ∷ is) = grind (arith, other-kind, (generating-common (is_unknown i) is))
+
+generating-no_unhashed : (is : List (Item ArgData)) → list_any is_generating (unhashed_items is) ≡ false
+generating-no_unhashed [] = refl
+generating-no_unhashed (i ∷ is) = grind (arith, unhashed-kind, (generating-no_unhashed is))
+
+-- the outputs of unhashed items are those of all items under other keys than `obj`
+outputs-unhashed : (cwd : List ℕ) (is : List (Item ArgData)) → AllByRecursion (λ i. item_fits i ≡ true) is → filter_map (output_of cwd) (unhashed_items is) ≡ filter (is_other (codes "obj")) (filter_map (output_of cwd) is)
+outputs-unhashed cwd [] fit = refl
+outputs-unhashed cwd (i ∷ is) fit = grind (arith, is_other, item_fits, (outputs-unhashed cwd is fit.1))
+
+module _ (cwd : List ℕ) (P : List ℕ → Type 0) (nothing : P []) (chosen : List ℕ → Option (Entry ArgData)) where
+  -- a file at the path of a word of which P holds
+  abbrev AtGoodPath : ArtifactDescriptor → Type 0
+  AtGoodPath d = (value : List ℕ) × P value × (d ≡ made_at false (joined cwd value))
+
+  good-outputs : (is : List (Item ArgData)) → AllByRecursion (λ i. item_fits i ≡ true) is → AllByRecursion (HasGoodWords chosen P) is → AllByRecursion (λ a. bytes_eq (codes "obj") a.0 ≡ true → AtGoodPath a.1) (filter_map (output_of cwd) is)
+  good-outputs [] fit good = tt
+  good-outputs (i ∷ is) fit good = grind (arith, (good-outputs is fit.1 good.1))
+
+-- the module id file isn't recorded under `obj`
+module_id-other : (cwd : List ℕ) (generates : Bool) (id : Option (List ℕ)) → AllByRecursion (IsOther (codes "obj")) (module_id_output cwd generates id)
+module_id-other cwd generates id = grind arith
 
 -- the items that are kept, and an output
 module _ (cwd : List ℕ) (is : List (Item ArgData)) (text path : List ℕ) where
@@ -96,7 +137,7 @@ module _ (options : List (Entry ArgData)) (language : Language) (cwd text : List
   HasOutput line obj = entry_at (codes "obj") (outputs_of cwd (items (longest_match options) line)) ≡ Some obj
 
   line-fits : (line : List (List ℕ)) → AllByRecursion (λ i. item_fits i ≡ true) (items (longest_match options) line)
-  line-fits line = all-fit (longest_match options) (λ w e at. chosen-passes entry_fits w options suit e at) line
+  line-fits line = all-fit options suit line
 
   kept-none : (line : List (List ℕ)) → IsGood line → NonePass (is_input_word language) (words_kept line)
   kept-none line good =
@@ -155,41 +196,32 @@ module _ (options : List (Entry ArgData)) (language : Language) (cwd text : List
       let front = words_kept line in
       let words = front ++ input ∷ text ∷ obj.path ∷ [] in
       let place = third-last language front input text obj.path (kept-none line good) other ((grind (arith, joined-away, (output-path line obj good found)))) in
-      ap (option_map (λ at. arguments_of (remove words at) (slice_index_or words at []))) place ∙ ap Some ((λ i. arguments_of (cut-rest front input (text ∷ obj.path ∷ []) i) (cut-word front input (text ∷ obj.path ∷ []) [] i)) ∙ items-again line input obj good found)
+      ap (option_map (λ at. arguments_of (remove words at) (slice_index_or words at []))) place ∙ ap Some ((λ i. arguments_of (cut-rest front input (text ∷ obj.path ∷ []) i) (get_or-append_seam front input (text ∷ obj.path ∷ []) [] i)) ∙ items-again line input obj good found)
 
--- a cudafe++ line, with its input as the last word
-written-last : (cwd : List ℕ) (root : is_absolute_path cwd ≡ true) (suit : AllByRecursion (λ e. entry_fits e ≡ true) cudafe_options) (reads : (path : List ℕ) → items (longest_match cudafe_options) (codes "--module_id_file_name" ∷ path ∷ []) ≡ with_value (codes "--module_id_file_name") Output path Separated ∷ []) → WrittenReads cudafe_options CudaFE cwd (codes "--module_id_file_name") root suit reads 1 cudafe_words
-written-last cwd root suit reads line input obj good found =
-    let option = codes "--module_id_file_name" in
-    let kept = common_words (longest_match cudafe_options) line ++ unhashed_words (longest_match cudafe_options) line in
-    let front = kept ++ option ∷ obj.path ∷ [] in
-    let words = front ++ input ∷ [] in
-    let read = λ (ws : List (List ℕ)) (w : List ℕ). reading_of_items cwd CudaFE w (items (longest_match cudafe_options) ws) in
-    let parted : kept ++ option ∷ obj.path ∷ input ∷ [] ≡ words = sym (append_assoc kept (option ∷ obj.path ∷ []) (input ∷ [])) in
-    let rest : remove words (length front) ≡ front = cut-rest front input [] ∙ append-nil front in
-    let cut : read (remove words (length front)) (slice_index_or words (length front) []) ≡ read front input = λ i. read (rest i) (cut-word front input [] [] i) in
-    ap (reading (longest_match cudafe_options) cwd CudaFE 1) parted
-    ∙ (ap (option_map (λ at. read (remove words at) (slice_index_or words at []))) (last-place front input) ∙ ap Some (cut ∙ items-again cudafe_options CudaFE cwd option root suit reads line input obj good found))
+  -- a line with its input as the last word
+  written-last : ((words : List (List ℕ)) (input : List ℕ) → input_place language 1 (words ++ input ∷ []) ≡ Some (length words)) → WrittenReads 1 (λ p obj. (p.common_args ++ p.unhashed_args) ++ text ∷ obj ∷ p.input ∷ [])
+  written-last last line input obj good found =
+      let front = words_kept line ++ text ∷ obj.path ∷ [] in
+      let words = front ++ input ∷ [] in
+      let rest : remove words (length front) ≡ front = cut-rest front input [] ∙ append-nil front in
+      ap (reading (longest_match options) cwd language 1) (sym (append_assoc (words_kept line) (text ∷ obj.path ∷ []) (input ∷ [])))
+      ∙ (ap (option_map (λ at. arguments_of (remove words at) (slice_index_or words at []))) (last front input)
+      ∙ ap Some ((λ i. arguments_of (rest i) (get_or-append_seam front input [] [] i)) ∙ items-again line input obj good found))
 
 pub cicc-lines_reread : CiccLinesReread
 cicc-lines_reread cwd words root few =
-    let suit : AllByRecursion (λ e. entry_fits e ≡ true) cicc_options = (refl, (refl, (refl, (refl, (refl, (refl, (refl, tt))))))) in
-    let plain : AllByRecursion (λ e. is_plain e.form ≡ true) cicc_options = (refl, (refl, (refl, (refl, (refl, (refl, (refl, tt))))))) in
-    let reads : (path : List ℕ) → items (longest_match cicc_options) (codes "-o" ∷ path ∷ []) ≡ with_value (codes "-o") Output path Separated ∷ [] = λ path. refl in
-    whole-line cicc_options Ptx cwd (codes "-o") root suit reads 3 cicc_words (written-third_last cicc_options Ptx cwd (codes "-o") root suit reads refl) words
-    (λ place found. (plain-filled (longest_match cicc_options) (λ w e at. chosen-passes (λ f. is_plain f.form) w cicc_options plain e at) (remove words place), rest-none Ptx 3 words place few found))
+    let written = written-third_last cicc_options Ptx cwd (codes "-o") root (refl, (refl, (refl, (refl, (refl, (refl, (refl, tt))))))) (λ path. refl) refl in
+    whole-line cicc_options Ptx cwd (codes "-o") root (refl, (refl, (refl, (refl, (refl, (refl, (refl, tt))))))) (λ path. refl) 3 cicc_words written words
+    (λ place found. (plain-filled cicc_options (refl, (refl, (refl, (refl, (refl, (refl, (refl, tt))))))) (remove words place), rest-none Ptx 3 words place few found))
 
 pub ptxas-lines_reread : PtxasLinesReread
 ptxas-lines_reread cwd words root few filled =
-    let suit : AllByRecursion (λ e. entry_fits e ≡ true) ptxas_options = (refl, (refl, (refl, tt))) in
-    let reads : (path : List ℕ) → items (longest_match ptxas_options) (codes "-o" ∷ path ∷ []) ≡ with_value (codes "-o") Output path Separated ∷ [] = λ path. refl in
-    whole-line ptxas_options Cubin cwd (codes "-o") root suit reads 3 cicc_words (written-third_last ptxas_options Cubin cwd (codes "-o") root suit reads refl) words
+    let written = written-third_last ptxas_options Cubin cwd (codes "-o") root (refl, (refl, (refl, tt))) (λ path. refl) refl in
+    whole-line ptxas_options Cubin cwd (codes "-o") root (refl, (refl, (refl, tt))) (λ path. refl) 3 cicc_words written words
     (λ place found. (subst (λ o. IfSome o (λ at. AllFilled (items (longest_match ptxas_options) (remove words at)))) found filled, rest-none Cubin 3 words place few found))
 
 pub cudafe-lines_reread : CudaFELinesReread
 cudafe-lines_reread cwd words root =
-    let suit : AllByRecursion (λ e. entry_fits e ≡ true) cudafe_options = (refl, (refl, (refl, (refl, tt)))) in
-    let plain : AllByRecursion (λ e. is_plain e.form ≡ true) cudafe_options = (refl, (refl, (refl, (refl, tt)))) in
-    let reads : (path : List ℕ) → items (longest_match cudafe_options) (codes "--module_id_file_name" ∷ path ∷ []) ≡ with_value (codes "--module_id_file_name") Output path Separated ∷ [] = λ path. refl in
-    whole-line cudafe_options CudaFE cwd (codes "--module_id_file_name") root suit reads 1 cudafe_words (written-last cwd root suit reads) words
-    (λ place found. (plain-filled (longest_match cudafe_options) (λ w e at. chosen-passes (λ f. is_plain f.form) w cudafe_options plain e at) (remove words place), rest-none CudaFE 1 words place (host-words words) found))
+    let written = written-last cudafe_options CudaFE cwd (codes "--module_id_file_name") root (refl, (refl, (refl, (refl, tt)))) (λ path. refl) last-place in
+    whole-line cudafe_options CudaFE cwd (codes "--module_id_file_name") root (refl, (refl, (refl, (refl, tt)))) (λ path. refl) 1 cudafe_words written words
+    (λ place found. (plain-filled cudafe_options (refl, (refl, (refl, (refl, tt)))) (remove words place), rest-none CudaFE 1 words place (host-words words) found))

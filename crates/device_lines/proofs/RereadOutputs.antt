@@ -1,5 +1,5 @@
 -- Outputs under a key: once it is recorded last, those recorded under it before don't count.
-use Rattle.std.proofs.Common.{◌≡◌, ℕ, List, [], ◌∷◌, ◌++◌, Bool, true, false, cond, not, Some, None, refl, ap, sym, ◌∙◌, subst, filter, bytes_eq, Ordering, Less, Equal, Greater, arith}
+use Rattle.std.proofs.Common.{◌≡◌, ℕ, List, [], ◌∷◌, ◌++◌, Bool, true, false, not, Some, None, refl, ap, sym, ◌∙◌, subst, filter, bytes_eq, Ordering, Less, Equal, Greater, arith}
 use Rattle.std.specs.List.{AllByRecursion, fold}
 use Rattle.std.specs.BTreeMap.{insert_entry}
 use Rattle.std.specs.Ordering.{nat_cmp, ordering_reverse, is_eq}
@@ -65,14 +65,7 @@ module _ {X : Type 0} (key : List ℕ) where
 
   found-other : (es : List (List ℕ × X)) (k : List ℕ) (v : X) → bytes_eq key k ≡ false → entry_at key (insert_entry keys es k v) ≡ entry_at key es
   found-other [] k v other = rw other refl
-  found-other (e ∷ es) k v other =
-      elim (keys k e.0) as (λ o. keys k e.0 ≡ o → entry_at key (insert_entry keys (e ∷ es) k v) ≡ entry_at key (e ∷ es)) [
-        | Less ↦ λ h. rw (h, other) refl
-        | Equal ↦ λ h.
-            let here : bytes_eq key e.0 ≡ false = subst (λ l. bytes_eq key l ≡ false) (exact_bytes k e.0 h) other in
-            rw (h, here) refl
-        | Greater ↦ λ h. rw h (ap (λ t. cond (bytes_eq key e.0) (Some e.1) t) (found-other es k v other))
-      ] refl
+  found-other (e ∷ es) k v other = grind (arith, (exact_bytes k e.0), (found-other es k v other))
 
   -- an entry of the key before entries of other keys doesn't count once the key is recorded last
   early : (es : List (List ℕ × X)) (y x : X) (fs : List (List ℕ × X)) → AllByRecursion IsOther fs → with_entry (fold with_entry (insert_entry keys es key y) fs) (key, x) ≡ with_entry (fold with_entry es fs) (key, x)
@@ -85,12 +78,7 @@ module _ {X : Type 0} (key : List ℕ) where
 
   others-suffice : (es ds : List (List ℕ × X)) (x : X) → with_entry (fold with_entry es ds) (key, x) ≡ with_entry (fold with_entry es (filter is_other ds)) (key, x)
   others-suffice es [] x = refl
-  others-suffice es (a ∷ ds) x =
-      let rest = filter is_other ds in
-      elim (bytes_eq key a.0) as (λ t. bytes_eq key a.0 ≡ t → with_entry (fold with_entry (with_entry es a) ds) (key, x) ≡ with_entry (fold with_entry es (cond (not t) (a ∷ rest) rest)) (key, x)) [
-        | true ↦ λ h. others-suffice (with_entry es a) ds x ∙ (ap (λ k. with_entry (fold with_entry (insert_entry keys es k a.1) rest) (key, x)) (sym (equal_key key a.0 h)) ∙ early es a.1 x rest (all-other ds))
-        | false ↦ λ h. others-suffice (with_entry es a) ds x
-      ] refl
+  others-suffice es (a ∷ ds) x = grind (arith, (equal_key key a.0), (early es a.1 x (filter is_other ds) (all-other ds)), (others-suffice (with_entry es a) ds x))
 
   -- recording again what stands under the key changes nothing
   abbrev Settled : List (List ℕ × X) → Type 0

@@ -1,16 +1,16 @@
 -- Where the input stands in a line, in the words left of it, and in the line that it is written back as.
-use Rattle.std.proofs.Common.{◌≡◌, ℕ, zero, suc, ◌+◌, ◌-◌, ◌≤◌, ◌<◌, List, [], ◌∷◌, ◌++◌, Bool, true, false, cond, ◌||◌, eqb, eqb-true, ne_eqb, Option, Some, None, refl, ap, sym, ◌∙◌, subst, append_assoc, append-nil, filter, length, drop, reverse, nat_le, nat_eq, arith, codes, option_map}
-use Rattle.std.specs.List.{AllByRecursion, position, remove, slice_index_or, ends_with}
+use Rattle.std.proofs.Common.{◌≡◌, ℕ, zero, suc, ◌+◌, ◌-◌, ◌≤◌, ◌<◌, List, [], ◌∷◌, ◌++◌, Bool, true, false, cond, ◌||◌, eqb, ne_eqb, Some, None, refl, ap, sym, ◌∙◌, subst, append_assoc, append-nil, filter, length, take, drop, take-append-drop, nat_le, nat_eq, arith, codes, option_map}
+use Rattle.std.specs.List.{AllByRecursion, position, remove, ends_with}
 use Rattle.std.specs.Cmp.Lexicographic.{pointwise}
-use Rattle.std.proofs.Math.Seq.{drop-append-add, get_or-append_seam}
 use Rattle.std.proofs.lemmas.Bool.{false≢true, and_parts}
 use Rattle.std.proofs.lemmas.Bool.Decides.{Decides-ltb, nat_tests}
-use Rattle.std.proofs.lemmas.List.{length-append, drop-append-le}
+use Rattle.std.proofs.lemmas.List.{length-append}
+use Rattle.std.proofs.lemmas.Slice.Eq.{bytes_eq-Decides}
 use Rattle.std.specs.Option.{option_or}
 use Rattle.texts.specs.declared.language.Language.{Language}
 use Rattle.texts.specs.declared.language.Language.TheVariants.{C, Cxx, ObjectiveC, ObjectiveCxx, Cuda, CudaFE, Ptx, Cubin}
 use Rattle.texts.specs.Path.{is_absolute_path, separator_after, joined, lacks}
-use Rattle.texts.proofs.PathLemmas.{ends_slash, forwards, false-not_true, not-is}
+use Rattle.texts.proofs.PathLemmas.{false-not_true, not-is}
 use Rattle.device_lines.proofs.RereadWords.{all-append}
 use Rattle.device_lines.specs.Reading.{is_input_word, place_from_end, input_place}
 
@@ -34,26 +34,12 @@ module _ {X : Type 0} (p : X → Bool) where
 
   none-position : (xs : List X) → position p xs ≡ None → NonePass xs
   none-position [] h = tt
-  none-position (x ∷ xs) h =
-      elim (p x) as (λ b. p x ≡ b → cond b (Some 0) (option_map suc (position p xs)) ≡ None → NonePass (x ∷ xs)) [
-        | true ↦ λ e k. absurd (never 0 k)
-        | false ↦ λ e k. (e, none-position xs (unmapped (position p xs) k))
-      ] refl (sym (position-cons p x xs) ∙ h) where
-        never : (n : ℕ) → Some n ≡ None → ⊥
-        never n h = cc
-
-        unmapped : (o : Option ℕ) → option_map suc o ≡ None → o ≡ None
-        unmapped None h = refl
-        unmapped (Some n) h = cc
+  none-position (x ∷ xs) h = grind (arith, (position-cons p x xs), (none-position xs))
 
   -- where at most no element passes, none does
   filter-none : (xs : List X) → length (filter p xs) ≤ 0 → NonePass xs
   filter-none [] h = tt
-  filter-none (x ∷ xs) h =
-      elim (p x) as (λ b. p x ≡ b → length (cond b (x ∷ filter p xs) (filter p xs)) ≤ 0 → NonePass (x ∷ xs))
-      [ true ↦ λ e k. absurd (some (filter p xs) k) | false ↦ λ e k. (e, filter-none xs k) ] refl h where
-        some : (ys : List X) → length (x ∷ ys) ≤ 0 → ⊥
-        some ys h = omega arith
+  filter-none (x ∷ xs) h = grind (arith, (filter-none xs))
 
   none-removed : (xs : List X) (place : ℕ) → NonePass xs → NonePass (remove xs place)
   none-removed [] zero h = tt
@@ -113,9 +99,6 @@ pub last-place : (words : List (List ℕ)) (input : List ℕ) → input_place Cu
 last-place words input = grind (arith, position-none, none-host, from-end, length-append)
 
 -- a line with its input cut out
-pub cut-word : {X : Type 0} (xs : List X) (y : X) (ys : List X) (d : X) → slice_index_or (xs ++ y ∷ ys) (length xs) d ≡ y
-cut-word xs y ys d = get_or-append_seam xs y ys d
-
 pub cut-rest : {X : Type 0} (xs : List X) (y : X) (ys : List X) → remove (xs ++ y ∷ ys) (length xs) ≡ xs ++ ys
 cut-rest [] y ys = refl
 cut-rest (x ∷ xs) y ys = ap (λ t. x ∷ t) (cut-rest xs y ys)
@@ -127,38 +110,36 @@ apart-slash [] (x ∷ front) name h = refl
 apart-slash (c ∷ needle) [] name h = grind (arith, and_parts, not-is)
 apart-slash (c ∷ needle) (x ∷ front) name h = grind (arith, (apart-slash needle front name))
 
-ends-below : (needle front name : List ℕ) → lacks 47 needle ≡ true → ends_with nat_eq name needle ≡ false → ends_with nat_eq (front ++ 47 ∷ name) needle ≡ false
-ends-below needle front name bare none =
-    let count : length (front ++ 47 ∷ name) ≡ length front + length (47 ∷ name) = length-append front (47 ∷ name) in
-    elim (nat_le (length needle) (length name)) as (λ b. nat_le (length needle) (length name) ≡ b → ends_with nat_eq (front ++ 47 ∷ name) needle ≡ false) [
+-- a text with one more byte in front ends like another only if it is that one, or ended like it before
+ends-cons : (needle text : List ℕ) (c : ℕ) → pointwise nat_eq needle (c ∷ text) ≡ false → ends_with nat_eq text needle ≡ false → ends_with nat_eq (c ∷ text) needle ≡ false
+ends-cons needle text c other none =
+    elim (nat_le (length needle) (length text)) as (λ b. nat_le (length needle) (length text) ≡ b → ends_with nat_eq (c ∷ text) needle ≡ false) [
       | true ↦ λ e.
-          let fits : length needle ≤ length name = grind (arith, nat_tests) in
-          let start : length (front ++ 47 ∷ name) - length needle ≡ length (front ++ 47 ∷ []) + (length name - length needle) = omega (arith, length-append front (47 ∷ [])) in
-          let parted : front ++ 47 ∷ name ≡ (front ++ 47 ∷ []) ++ name = sym (append_assoc front (47 ∷ []) name) in
-          ap (λ n. pointwise nat_eq needle (drop n (front ++ 47 ∷ name))) start
-          ∙ (ap (λ t. pointwise nat_eq needle (drop (length (front ++ 47 ∷ []) + (length name - length needle)) t)) parted
-          ∙ (ap (pointwise nat_eq needle) (drop-append-add (front ++ 47 ∷ []) name (length name - length needle)) ∙ none))
+          let fits : length needle ≤ length text = grind (arith, nat_tests) in
+          let start : length (c ∷ text) - length needle ≡ suc (length text - length needle) = omega arith in
+          ap (λ n. pointwise nat_eq needle (drop n (c ∷ text))) start ∙ none
       | false ↦ λ e.
-          let longer : length name < length needle = grind (arith, nat_tests) in
-          let early : length (front ++ 47 ∷ name) - length needle ≤ length front = omega arith in
-          ap (pointwise nat_eq needle) (drop-append-le (length (front ++ 47 ∷ name) - length needle) front (47 ∷ name) early)
-          ∙ apart-slash needle (drop (length (front ++ 47 ∷ name) - length needle) front) name bare
+          let longer : length text < length needle = grind (arith, nat_tests) in
+          let start : length (c ∷ text) - length needle ≡ 0 = omega arith in
+          ap (λ n. pointwise nat_eq needle (drop n (c ∷ text))) start ∙ other
     ] refl
+
+ends-below : (needle front name : List ℕ) → lacks 47 needle ≡ true → ends_with nat_eq name needle ≡ false → ends_with nat_eq (front ++ 47 ∷ name) needle ≡ false
+ends-below needle [] name bare none = ends-cons needle name 47 (apart-slash needle [] name bare) none
+ends-below needle (x ∷ front) name bare none = ends-cons needle (front ++ 47 ∷ name) x (apart-slash needle (x ∷ front) name bare) (ends-below needle front name bare none)
 
 -- what stands before a name that is put below an absolute folder ends in `/`
 folder-slash : (cwd : List ℕ) → is_absolute_path cwd ≡ true → (front : List ℕ) × (cwd ++ separator_after cwd ≡ front ++ 47 ∷ [])
 folder-slash [] h = absurd (false≢true h)
 folder-slash (c ∷ cs) h =
     let some : eqb (length (c ∷ cs)) 0 ≡ false = ne_eqb (length (c ∷ cs)) 0 (λ e. omega arith) in
-    elim (ends_with nat_eq (c ∷ cs) (47 ∷ [])) as (λ b. ends_with nat_eq (c ∷ cs) (47 ∷ []) ≡ b → (front : List ℕ) × ((c ∷ cs) ++ separator_after (c ∷ cs) ≡ front ++ 47 ∷ [])) [
-      | true ↦ λ e. slash (reverse (c ∷ cs)) refl some e (sym (ends_slash (c ∷ cs)) ∙ e)
-      | false ↦ λ e. (c ∷ cs, ap (λ b. (c ∷ cs) ++ cond (b || ends_with nat_eq (c ∷ cs) (47 ∷ [])) [] (47 ∷ [])) some ∙ ap (λ b. (c ∷ cs) ++ cond b [] (47 ∷ [])) e)
-    ] refl where
-      slash : (back : List ℕ) → reverse (c ∷ cs) ≡ back → eqb (length (c ∷ cs)) 0 ≡ false → ends_with nat_eq (c ∷ cs) (47 ∷ []) ≡ true → is_absolute_path back ≡ true → (front : List ℕ) × ((c ∷ cs) ++ separator_after (c ∷ cs) ≡ front ++ 47 ∷ [])
-      slash [] e some ends k = absurd (false≢true k)
-      slash (d ∷ before) e some ends k =
-          let nothing : separator_after (c ∷ cs) ≡ [] = ap (λ b. cond (b || ends_with nat_eq (c ∷ cs) (47 ∷ [])) [] (47 ∷ [])) some ∙ ap (λ b. cond b [] (47 ∷ [])) ends in
-          (reverse before, ap (λ t. (c ∷ cs) ++ t) nothing ∙ (append-nil (c ∷ cs) ∙ (forwards (c ∷ cs) before d e ∙ ap (λ n. reverse before ++ n ∷ []) (eqb-true d 47 k))))
+    let before = length (c ∷ cs) - 1 in
+    elim (ends_with nat_eq (c ∷ cs) (47 ∷ [])) as (λ b. ends_with nat_eq (c ∷ cs) (47 ∷ []) ≡ b → (front : List ℕ) × ((c ∷ cs) ++ cond (eqb (length (c ∷ cs)) 0 || b) [] (47 ∷ []) ≡ front ++ 47 ∷ [])) [
+      | true ↦ λ e.
+          let slash : drop before (c ∷ cs) ≡ 47 ∷ [] = sym ((bytes_eq-Decides (47 ∷ []) (drop before (c ∷ cs))).0 e) in
+          (take before (c ∷ cs), ap (λ b. (c ∷ cs) ++ cond (b || true) [] (47 ∷ [])) some ∙ append-nil (c ∷ cs) ∙ sym (take-append-drop before (c ∷ cs)) ∙ ap (λ t. take before (c ∷ cs) ++ t) slash)
+      | false ↦ λ e. (c ∷ cs, ap (λ b. (c ∷ cs) ++ cond (b || false) [] (47 ∷ [])) some)
+    ] refl
 
 joined-end : (needle cwd path : List ℕ) → lacks 47 needle ≡ true → is_absolute_path cwd ≡ true → ends_with nat_eq path needle ≡ false → ends_with nat_eq (joined cwd path) needle ≡ false
 joined-end needle cwd path bare root none = grind (arith, folder-slash, append_assoc, ends-below)

@@ -42,14 +42,6 @@ common-silent : (is : List (Item ArgData)) → AllByRecursion Silent is → (b :
 common-silent [] h b = refl
 common-silent (i ∷ is) h b = grind (arith, (common-silent is h.1 (is_unknown i)))
 
--- an item that isn't common is no unknown flag
-not_common-known : (b : Bool) (i : Item ArgData) → is_common (b, i) ≡ false → is_unknown i ≡ false
-not_common-known b i h = grind arith
-
--- a common item is common after an unknown flag too
-common-wider : (b c : Bool) (i : Item ArgData) → is_common (c, i) ≡ true → is_common (b || c, i) ≡ true
-common-wider b c i h = grind arith
-
 -- the common items are common again, with items after them of which none is common
 pub common-again : (b c : Bool) (is tail : List (Item ArgData)) → AllByRecursion Silent tail → common_after (b || c) (common_after c is ++ tail) ≡ common_after c is
 common-again b c [] tail none = common-silent tail none (b || c)
@@ -59,9 +51,11 @@ common-again b c (i ∷ is) tail none =
     let again = filter is_common (beside unknown (common_after unknown is ++ tail)) in
     elim (is_common (c, i))
     as (λ t. is_common (c, i) ≡ t → common_after (b || c) (map (λ p. p.1) (cond t ((c, i) ∷ kept) kept) ++ tail) ≡ map (λ p. p.1) (cond t ((c, i) ∷ kept) kept)) [
-      | true ↦ λ e. ap (λ t. map (λ p. p.1) (cond t ((b || c, i) ∷ again) again)) (common-wider b c i e) ∙ ap (λ t. i ∷ t) (common-again false unknown is tail none)
+      | true ↦ λ e.
+          let wider : is_common (b || c, i) ≡ true = grind arith in
+          ap (λ t. map (λ p. p.1) (cond t ((b || c, i) ∷ again) again)) wider ∙ ap (λ t. i ∷ t) (common-again false unknown is tail none)
       | false ↦ λ e.
-          let known = not_common-known c i e in
+          let known : is_unknown i ≡ false = grind arith in
           let later = subst (λ d. common_after d (common_after false is ++ tail) ≡ common_after false is) (or-false (b || c)) (common-again (b || c) false is tail none) in
           subst (λ u. common_after (b || c) (common_after u is ++ tail) ≡ common_after u is) (sym known) later
     ] refl

@@ -1,7 +1,7 @@
 //! The reader of device tools' lines, which cicc, ptxas and cudafe++ share.
 
 ghost use Rattle.std.specs.Prelude.{◌≡◌, ◌<◌, [], map, length, position, IfOk, IfSome, string_bytes, slice_index_or};
-ghost use Rattle.compilers.specs.Compiler.{accepted, reading_of};
+ghost use Rattle.compilers.specs.Compiler.{reading_of};
 ghost use Rattle.device_lines.specs.Reading as spec;
 
 mod gathered;
@@ -38,25 +38,14 @@ fn place_by_end(language: Language, words: &[String]) -> Option<usize>
         .position(|word| is_input(language, word.as_str()))
 }
 
-// The position `offset` words from the end, if the line is that long.
-fn place_from_end(offset: usize, count: usize) -> Option<usize>
-    ensures { result ≡ spec.place_from_end offset count }
-{
-    if offset > 0 && offset <= count {
-        Some(count - offset)
-    } else {
-        None
-    }
-}
-
-// The position of the input: by its ending, else `offset` words from the end of the line.
+// The position of the input: by its ending, else `offset` words from the end, if the line is that long.
 fn input_place(language: Language, offset: usize, words: &[String]) -> Option<usize>
     ensures place { result ≡ spec.input_place language offset (map string_bytes words.now) }
     ensures within { IfSome result (λ place. place < length words.now) }
 {
     match place_by_end(language, words) {
-        Some(place) => Some(place),
-        None => place_from_end(offset, words.len()),
+        None if offset > 0 => words.len().checked_sub(offset),
+        found => found,
     }
 }
 
@@ -66,25 +55,6 @@ fn word_at(words: &[String], place: usize) -> &str
     ensures { result.now ≡ slice_index_or (map string_bytes words.now) place [] }
 {
     words[place].as_str()
-}
-
-// Reads the words around the input.
-fn read_around<S: SearchableArgInfo<ArgData>>(
-    alloc: Global,
-    arguments: &[String],
-    place: usize,
-    cwd: &str,
-    language: Language,
-    arg_info: &S,
-) -> Result<CompilerArguments<ParsedArguments>, AllocError>
-    requires { place < length arguments.now }
-    ensures { IfOk result (λ r. reading_of r
-        ≡ accepted (spec.reading_around (S.chosen arg_info.now) cwd.now language (map string_bytes arguments.now) place)) }
-{
-    let mut gathered = Gathered::with_capacity(alloc, arguments.len())?;
-    let line = Line::without(arguments, place);
-    gathered.take_line(alloc, cwd, line, arg_info)?;
-    gathered.into_answer(alloc, cwd, language, word_at(arguments, place))
 }
 
 /// Reads a device tool's line, as sccache 0.19.0's cicc reader does.
@@ -109,5 +79,8 @@ pub fn parse_arguments<S: SearchableArgInfo<ArgData> + Drop>(
     let Some(place) = input_place(language, input_arg_offset_from_end, arguments) else {
         return Ok(CompilerArguments::NotCompilation);
     };
-    read_around(alloc, arguments, place, cwd, language, &arg_info)
+    let mut gathered = Gathered::with_capacity(alloc, arguments.len())?;
+    let line = Line::without(arguments, place);
+    gathered.take_line(alloc, cwd, line, &arg_info)?;
+    gathered.into_answer(alloc, cwd, language, word_at(arguments, place))
 }
