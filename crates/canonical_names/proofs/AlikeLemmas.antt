@@ -3,7 +3,7 @@ use Rattle.std.proofs.Common.{◌≡◌, ℕ, ◌++◌, ◌&&◌, Bool, true, fa
 use Rattle.std.specs.List.{All, starts_with, list_any, ends_with, flat_map, cons_option}
 use Rattle.std.proofs.lemmas.List.Elements.{All-nil, All-contains, Contains-append_left, Contains-push}
 use Rattle.std.proofs.Math.Bool.{and-false}
-use Rattle.std.proofs.lemmas.Bool.{false≢true, or_cases}
+use Rattle.std.proofs.lemmas.Bool.{false≢true}
 use Rattle.std.proofs.lemmas.Slice.Eq.{bytes_eq-Decides}
 use Rattle.std.proofs.lemmas.List.{map-append}
 use Rattle.texts.proofs.PathLaw.{folder-begins}
@@ -99,11 +99,7 @@ same-tests a b h k = grind arith
 -- a name that is added is a member
 pub any-member : (x : List ℕ) (seen : List (List ℕ)) → list_any (bytes_eq x) seen ≡ true → Contains seen x
 any-member x [] h = absurd (false≢true h)
-any-member x (n ∷ seen) h =
-    elim (or_cases (bytes_eq x n) (list_any (bytes_eq x) seen) h) as (λ _. Contains (n ∷ seen) x) [
-      | inl is ↦ subst (λ z. Contains (n ∷ seen) z) (sym ((bytes_eq-Decides x n).0 is)) (head-member n seen)
-      | inr more ↦ tail-member n seen x (any-member x seen more)
-    ]
+any-member x (n ∷ seen) h = grind (arith, bytes_eq-Decides, head-member, tail-member, (any-member x seen))
 
 pub added-member : (seen : List (List ℕ)) (x : List ℕ) → Contains (add seen x) x
 added-member seen x =
@@ -135,15 +131,12 @@ module _ (suffixes : List (List ℕ)) (f : List ℕ → List ℕ) where
 -- Below, a renaming of the names of a run.
 module _ (suffixes : List (List ℕ)) (lawful : AreSuffixes suffixes) (names : List (List ℕ)) (f : List ℕ → List ℕ) (renaming : IsRenaming suffixes names f) where
   bytes-mapped : (m n : List ℕ) → Contains names m → Contains names n → bytes_eq (f m) (f n) ≡ bytes_eq m n
-  bytes-mapped m n hm hn =
-      same-tests (bytes_eq (f m) (f n)) (bytes_eq m n)
-      (λ e. subst (λ z. bytes_eq m z ≡ true) (renaming.one_to_one m n hm hn ((bytes_eq-Decides (f m) (f n)).0 e)) (bytes_eq-itself m))
-      (λ e. subst (λ z. bytes_eq (f m) (f z) ≡ true) ((bytes_eq-Decides m n).0 e) (bytes_eq-itself (f m)))
+  bytes-mapped m n hm hn = grind (arith, bytes_eq-Decides, bytes_eq-itself, (renaming.one_to_one m n hm hn))
 
   pub any-mapped : (x : List ℕ) (part : List (List ℕ)) → Contains names x → ((n : List ℕ) → Contains part n → Contains names n) → list_any (bytes_eq (f x)) (map f part) ≡ list_any (bytes_eq x) part
   any-mapped x [] hx within = refl
   any-mapped x (n ∷ part) hx within =
-      simp (bytes-mapped, head-member, tail-member, (any-mapped x part hx (λ m h. within m (tail-member n part m h))))
+      simp (bytes-mapped, head-member, (any-mapped x part hx (λ m h. within m (tail-member n part m h))))
 
   pub add-mapped : (seen : List (List ℕ)) (x : List ℕ) → Contains names x → ((n : List ℕ) → Contains seen n → Contains names n) → add (map f seen) (f x) ≡ map f (add seen x)
   add-mapped seen x hx within = grind (arith, any-mapped, map-append)
@@ -167,14 +160,12 @@ module _ (suffixes : List (List ℕ)) (lawful : AreSuffixes suffixes) (names : L
 
   ends-mapped : (class x : List ℕ) → Contains suffixes class → Contains names x → ends_with nat_eq (f x) class ≡ ends_with nat_eq x class
   ends-mapped class x hc hx =
-      same-tests (ends_with nat_eq (f x) class) (ends_with nat_eq x class)
-      (λ e. (find-found (ends_with nat_eq x) suffixes class (sym (renaming.keeps_class x hx) ∙ class-found class (f x) hc e)).1)
-      (λ e. (find-found (ends_with nat_eq (f x)) suffixes class (renaming.keeps_class x hx ∙ class-found class x hc e)).1)
+      grind (arith, find-found, (renaming.keeps_class x hx), (class-found class x hc), (class-found class (f x) hc))
 
   pub rank-mapped : (class n : List ℕ) → Contains suffixes class → Contains names n → (part : List (List ℕ)) → ((m : List ℕ) → Contains part m → Contains names m) → rank class (map f part) (f n) ≡ rank class part n
   rank-mapped class n hc hn [] within = refl
   rank-mapped class n hc hn (x ∷ part) within =
-      simp (head-member, bytes-mapped, ends-mapped, tail-member, (rank-mapped class n hc hn part (λ m h. within m (tail-member x part m h))))
+      simp (head-member, bytes-mapped, ends-mapped, (rank-mapped class n hc hn part (λ m h. within m (tail-member x part m h))))
 
 -- a word and a command, renamed by what is told of them
 abbrev word_of_told : List (List ℕ) → ToldWord → List ℕ
@@ -244,11 +235,7 @@ alike-runs_agree suffixes lawful first second one other (f, renaming, told) =
 -- members of a mapped list
 pub mapped-member : {A B : Type 0} (f : A → B) (xs : List A) (x : A) → Contains xs x → Contains (map f xs) (f x)
 mapped-member f [] x h = absurd (no-member x h)
-mapped-member f (y ∷ ys) x h =
-    elim (member-cases y ys x h) as (λ _. Contains (map f (y ∷ ys)) (f x)) [
-      | inl is ↦ subst (λ z. Contains (f y ∷ map f ys) z) (ap f is) (head-member (f y) (map f ys))
-      | inr more ↦ tail-member (f y) (map f ys) (f x) (mapped-member f ys x more)
-    ]
+mapped-member f (y ∷ ys) x h = grind (arith, member-cases, head-member, tail-member, (mapped-member f ys x))
 
 pub member-mapped : {A B : Type 0} (f : A → B) (xs : List A) (y : B) → Contains (map f xs) y → (x : A) × Contains xs x × (f x ≡ y)
 member-mapped f [] y h = absurd (no-member y h)
@@ -346,12 +333,6 @@ module _ (suffixes : List (List ℕ)) (lawful : AreSuffixes suffixes) (first sec
   partner-name : (n : List ℕ) → (p : (m : List ℕ) × Contains others m × (canonical_other m ≡ canonical n)) → name_of (canonical n) ≡ p.0
   partner-name n p = ap name_of (sym p.2) ∙ name_of-canonical p.0 p.1
 
-  -- what a canonical name keeps
-  kept-by : (commands : List CommandLine) (n : List ℕ) → Contains (names_of_run suffixes commands) n →
-      (folder_of (canonical_name suffixes (names_of_run suffixes commands) n) ≡ folder_of n) × (class_of_name suffixes (canonical_name suffixes (names_of_run suffixes commands) n) ≡ class_of_name suffixes n)
-  kept-by commands n h =
-      grind (arith, (folder_and_class-stay suffixes lawful (names_of_run suffixes commands) n), All-contains, run-all, All-nil)
-
   partner-renaming : map (command_through suffixes canonical) first ≡ map (command_through suffixes canonical_other) second → IsRenaming suffixes names (λ n. name_of (canonical n))
   partner-renaming told = record {
     one_to_one = λ m n hm hn e.
@@ -361,10 +342,12 @@ module _ (suffixes : List (List ℕ)) (lawful : AreSuffixes suffixes) (first sec
         different-names suffixes lawful first m n hm hn (sym pm.2 ∙ ap canonical_other equal ∙ pn.2);
     keeps_folder = λ n hn.
         let p = partner told n hn in
-        ap folder_of (partner-name n p) ∙ sym (kept-by second p.0 p.1).0 ∙ ap folder_of p.2 ∙ (kept-by first n hn).0;
+        ap folder_of (partner-name n p) ∙ sym ((canonical-renaming suffixes lawful second).keeps_folder p.0 p.1)
+        ∙ ap folder_of p.2 ∙ (canonical-renaming suffixes lawful first).keeps_folder n hn;
     keeps_class = λ n hn.
         let p = partner told n hn in
-        ap (class_of_name suffixes) (partner-name n p) ∙ sym (kept-by second p.0 p.1).1 ∙ ap (class_of_name suffixes) p.2 ∙ (kept-by first n hn).1;
+        ap (class_of_name suffixes) (partner-name n p) ∙ sym ((canonical-renaming suffixes lawful second).keeps_class p.0 p.1)
+        ∙ ap (class_of_name suffixes) p.2 ∙ (canonical-renaming suffixes lawful first).keeps_class n hn;
   }
 
 pub one-canonical_run : OneCanonicalRun

@@ -1,7 +1,7 @@
 -- The names that appear in a run have a class, and a text holds one of them where it holds one of the run's names.
 use Rattle.std.proofs.Common.{◌≡◌, ℕ, ◌++◌, ◌||◌, Bool, true, false, not, cond, List, [], ◌∷◌, Option, None, refl, ap, sym, ◌∙◌, fold, option_map, bytes_eq, arith}
 use Rattle.std.specs.List.{list_any, list_all, filter_map, cons_option}
-use Rattle.std.proofs.lemmas.Bool.{false≢true, and_from, or_right}
+use Rattle.std.proofs.lemmas.Bool.{false≢true, and_from}
 use Rattle.std.proofs.lemmas.List.Folds.{list_any-append}
 use Rattle.std.proofs.lemmas.Slice.Eq.{bytes_eq-Decides}
 use Rattle.std.proofs.Math.Bool.{or_assoc, or-false, or-true}
@@ -35,11 +35,7 @@ appearances-classes suffixes (c ∷ commands) = simp (all-append, words-classes,
 module _ (test : List ℕ → Bool) where
   seen-tested : (x : List ℕ) (seen : List (List ℕ)) → list_any (bytes_eq x) seen ≡ true → test x ≡ true → list_any test seen ≡ true
   seen-tested x [] h t = absurd (false≢true h)
-  seen-tested x (y ∷ seen) h t =
-      elim (bytes_eq x y) as (λ b. bytes_eq x y ≡ b → (b || list_any (bytes_eq x) seen) ≡ true → (test y || list_any test seen) ≡ true) [
-        | true ↦ λ e _. ap (λ b. b || list_any test seen) (ap test (sym ((bytes_eq-Decides x y).0 e)) ∙ t)
-        | false ↦ λ _ k. or_right (test y) (list_any test seen) (seen-tested x seen k t)
-      ] refl h
+  seen-tested x (y ∷ seen) h t = grind (arith, bytes_eq-Decides, (seen-tested x seen))
 
   absorbed : (a b c : Bool) → (b ≡ true → a ≡ true) → (a || c) ≡ (a || (b || c))
   absorbed a b c h = grind (arith, false≢true)

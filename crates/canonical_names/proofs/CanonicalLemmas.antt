@@ -53,6 +53,12 @@ pub run-names : (suffixes seen : List (List ℕ)) (commands : List CommandLine) 
 run-names suffixes seen [] = refl
 run-names suffixes seen (command ∷ commands) = grind (arith, words-names, fold-append, (run-names suffixes (seen_after suffixes seen (words_of_command command)) commands))
 
+-- names seen after some words, and then others
+pub words-front : (suffixes seen words xs : List (List ℕ)) →
+    fold add (seen_after suffixes seen words) xs ≡ fold add seen (filter_map (generated_name suffixes) words ++ xs)
+words-front suffixes seen words xs =
+    ap (λ s. fold add s xs) (words-names suffixes seen words) ∙ sym (fold-append seen (filter_map (generated_name suffixes) words) xs)
+
 -- names that were seen stay in front
 pub fold-front : (seen xs : List (List ℕ)) → (more : List (List ℕ)) × (fold add seen xs ≡ seen ++ more)
 fold-front seen [] = ([], sym (append-nil seen))
@@ -92,35 +98,19 @@ module _ (class name : List ℕ) where
   any-turned (n ∷ seen) = ap (λ t. t || list_any (bytes_eq name) seen) (bytes_eq-turned name n) ∙ ap (λ t. bytes_eq n name || t) (any-turned seen)
 
   rank-first : (seen xs : List (List ℕ)) → among seen ≡ false → rank class (fold add (add seen name) xs) name ≡ count seen
-  rank-first seen xs h =
-      let added : add seen name ≡ seen ++ name ∷ [] = ap (λ t. cond t seen (seen ++ name ∷ [])) (any-turned seen ∙ h) in
-      let rest = fold-front (seen ++ name ∷ []) xs in
-      ap (λ s. rank class (fold add s xs) name) added ∙ ap (λ s. rank class s name) (rest.1 ∙ append_assoc seen (name ∷ []) rest.0) ∙ rank-settled seen rest.0 h
+  rank-first seen xs h = grind (arith, any-turned, append_assoc, rank-settled, (fold-front (seen ++ name ∷ []) xs))
 
   rank-over : (seen xs : List (List ℕ)) → among seen ≡ false → rank class (fold add seen xs) name ≡ count (fold add seen (before_name name xs))
   rank-over seen [] h = rank-absent seen h
-  rank-over seen (x ∷ xs) h =
-      elim (bytes_eq x name) as (λ b. bytes_eq x name ≡ b → rank class (fold add (add seen x) xs) name ≡ count (fold add seen (cond b [] (x ∷ before_name name xs)))) [
-        | true ↦ λ e. subst (λ z. rank class (fold add (add seen z) xs) name ≡ count seen) (sym ((bytes_eq-Decides x name).0 e)) (rank-first seen xs h)
-        | false ↦ λ e. rank-over (add seen x) xs (among-add seen x h e)
-      ] refl
+  rank-over seen (x ∷ xs) h = grind (arith, bytes_eq-Decides, rank-first, among-add, (rank-over (add seen x) xs))
 
   -- a name that was seen keeps its rank
   pub rank-found : (seen more : List (List ℕ)) → among seen ≡ true → rank class (seen ++ more) name ≡ rank class seen name
   rank-found [] more h = absurd (false≢true h)
-  rank-found (n ∷ seen) more h =
-      elim (bytes_eq n name) as (λ b. (b || among seen) ≡ true → cond b 0 (cond (ends_with nat_eq n class) 1 0 + rank class (seen ++ more) name) ≡ cond b 0 (cond (ends_with nat_eq n class) 1 0 + rank class seen name))
-      [ true ↦ λ _. refl | false ↦ λ k. ap (λ r. cond (ends_with nat_eq n class) 1 0 + r) (rank-found seen more k) ] h
+  rank-found (n ∷ seen) more h = grind (arith, (rank-found seen more))
 
   pub rank-stable : (seen xs : List (List ℕ)) → rank class (fold add (add seen name) xs) name ≡ rank class seen name
-  rank-stable seen xs =
-      elim (among seen) as (λ t. among seen ≡ t → rank class (fold add (add seen name) xs) name ≡ rank class seen name) [
-        | true ↦ λ e.
-            let kept : add seen name ≡ seen = ap (λ t. cond t seen (seen ++ name ∷ [])) (any-turned seen ∙ e) in
-            let rest = fold-front seen xs in
-            ap (λ s. rank class (fold add s xs) name) kept ∙ ap (λ s. rank class s name) rest.1 ∙ rank-found seen rest.0 e
-        | false ↦ λ e. rank-first seen xs e ∙ sym (rank-absent seen e)
-      ] refl
+  rank-stable seen xs = grind (arith, any-turned, rank-first, rank-absent, rank-found, (fold-front seen xs))
 
 pub rank-counts_names : RankCountsNames
 rank-counts_names suffixes commands name class = simp (run-names, rank-over)
@@ -180,23 +170,19 @@ module _ {A : Type 0} where
   -- the first that passes a test is a member that passes it
   pub find-found : (test : A → Bool) (xs : List A) (x : A) → find test xs ≡ Some x → Contains xs x × (test x ≡ true)
   find-found test [] x h = cc
-  find-found test (y ∷ ys) x h =
-      elim (test y) as (λ b. test y ≡ b → cond b (Some y) (find test ys) ≡ Some x → Contains (y ∷ ys) x × (test x ≡ true)) [
-        | true ↦ λ e k. let is : y ≡ x = cc in (subst (λ z. Contains (y ∷ ys) z) is (head-member y ys), subst (λ z. test z ≡ true) is e)
-        | false ↦ λ e k. let more = find-found test ys x k in (tail-member y ys x more.0, more.1)
-      ] refl h
+  find-found test (y ∷ ys) x h = grind (arith, head-member, tail-member, (find-found test ys x))
 
   -- a member that alone passes a test is found
   pub find-only : (test : A → Bool) (xs : List A) (x : A) → Contains xs x → test x ≡ true → ((z : A) → Contains xs z → test z ≡ true → z ≡ x) → find test xs ≡ Some x
   find-only test [] x among passes only = absurd (no-member x among)
   find-only test (y ∷ ys) x among passes only =
-      elim (test y) as (λ b. test y ≡ b → cond b (Some y) (find test ys) ≡ Some x) [
-        | true ↦ λ e. ap Some (only y (head-member y ys) e)
-        | false ↦ λ e. elim (member-cases y ys x among) as (λ _. find test ys ≡ Some x) [
-          | inl is ↦ absurd (false≢true (sym e ∙ ap test is ∙ passes))
-          | inr more ↦ find-only test ys x more passes (λ z m p. only z (tail-member y ys z m) p)
-        ]
-      ] refl
+      grind (
+        arith,
+        member-cases,
+        false≢true,
+        (only y (head-member y ys)),
+        (λ (more : Contains ys x). find-only test ys x more passes (λ z m p. only z (tail-member y ys z m) p)),
+      )
 
 -- of two suffixes that end one text each is the other
 pub two-ends : (suffixes : List (List ℕ)) → AreSuffixes suffixes → (s t front other : List ℕ) → Contains suffixes s → Contains suffixes t → front ++ s ≡ other ++ t → s ≡ t
@@ -231,26 +217,9 @@ folder_and_class-stay suffixes lawful seen name class h =
     )
 
 -- names of one class have different ranks
-rank-cases : (class : List ℕ) (x m n : List ℕ) (more : List (List ℕ)) (a b : Bool) → bytes_eq x m ≡ a → bytes_eq x n ≡ b → ends_with nat_eq m class ≡ true → ends_with nat_eq n class ≡ true →
-    (a ≡ false → b ≡ false → rank class more m ≡ rank class more n → m ≡ n) →
-    cond a 0 (cond (ends_with nat_eq x class) 1 0 + rank class more m) ≡ cond b 0 (cond (ends_with nat_eq x class) 1 0 + rank class more n) → m ≡ n
-rank-cases class x m n more true true em en cm cn rest e = sym (same x m em) ∙ same x n en
-rank-cases class x m n more true false em en cm cn rest e =
-    let no : ⊥ = omega (arith, (e ∙ ap (λ b. cond b 1 0 + rank class more n) (ap (λ z. ends_with nat_eq z class) (same x m em) ∙ cm))) in
-    grind arith
-rank-cases class x m n more false true em en cm cn rest e =
-    let no : ⊥ = omega (arith, (sym e ∙ ap (λ b. cond b 1 0 + rank class more m) (ap (λ z. ends_with nat_eq z class) (same x n en) ∙ cn))) in
-    grind arith
-rank-cases class x m n more false false em en cm cn rest e = grind arith
-
-later-member : (x : List ℕ) (xs : List (List ℕ)) (m : List ℕ) → Contains (x ∷ xs) m → bytes_eq x m ≡ false → Contains xs m
-later-member x xs m h differs = grind (arith, member-cases, false≢true, bytes_eq-itself)
-
 pub rank-apart : (class : List ℕ) (names : List (List ℕ)) (m n : List ℕ) → Contains names m → Contains names n → ends_with nat_eq m class ≡ true → ends_with nat_eq n class ≡ true → rank class names m ≡ rank class names n → m ≡ n
 rank-apart class [] m n hm hn cm cn e = absurd (no-member m hm)
-rank-apart class (x ∷ xs) m n hm hn cm cn e =
-    rank-cases class x m n xs (bytes_eq x m) (bytes_eq x n) refl refl cm cn
-    (λ em en k. rank-apart class xs m n (later-member x xs m hm em) (later-member x xs n hn en) cm cn k) e
+rank-apart class (x ∷ xs) m n hm hn cm cn e = grind (arith, bytes_eq-Decides, bytes_eq-itself, member-cases, (rank-apart class xs m n))
 
 -- the names of a run have a class
 abbrev pub HasClass : List (List ℕ) → List ℕ → Type 0

@@ -1,15 +1,15 @@
 -- In a clean run every word is renamed by all names of the run.
-use Rattle.std.proofs.Common.{◌≡◌, ℕ, ◌++◌, true, false, List, [], ◌∷◌, Option, Some, None, is_some, map, refl, ap, sym, ◌∙◌, fold, option_map, arith}
-use Rattle.std.specs.List.{list_any, list_all, filter_map}
+use Rattle.std.proofs.Common.{◌≡◌, ℕ, ◌++◌, true, false, List, [], ◌∷◌, Option, Some, None, is_some, map, refl, ◌∙◌, fold, option_map, arith}
+use Rattle.std.specs.List.{list_any, list_all}
 use Rattle.std.proofs.lemmas.Bool.{and_parts, or_parts, or_from, not-true}
 use Rattle.compilers.specs.CommandLines.{CommandLine, words_of_command}
-use Rattle.canonical_names.specs.Generated.{head_of, core_of, class_of, generated_name}
+use Rattle.canonical_names.specs.Generated.{head_of, core_of, class_of}
 use Rattle.canonical_names.specs.Renaming.{seen_after_word, seen_after, names_of_run, renamed_word, renamed_words, renamed_after}
 use Rattle.texts.specs.Lists.{with_name}
 use Rattle.canonical_names.specs.Appearances.{appearances}
 use Rattle.canonical_names.specs.Alike.{holds, is_clean_word}
 use Rattle.canonical_names.specs.CanonicalNames.{core_by_all, word_by_all, command_by_all, CleanRunIsAMap}
-use Rattle.canonical_names.proofs.CanonicalLemmas.{add, fold-append, words-names, run-names, fold-front, rank-stable}
+use Rattle.canonical_names.proofs.CanonicalLemmas.{add, words-front, run-names, fold-front, rank-stable}
 use Rattle.canonical_names.proofs.RewriteLemmas.{other-words_stay}
 
 -- what a word doesn't hold, its core doesn't hold
@@ -35,12 +35,8 @@ words-clean : (suffixes names seen words xs : List (List ℕ)) → names ≡ fol
     renamed_words suffixes seen words ≡ map (word_by_all suffixes names) words
 words-clean suffixes names seen [] xs all clean = refl
 words-clean suffixes names seen (word ∷ words) xs all clean =
-    let parts = and_parts (is_clean_word suffixes names word) (list_all (is_clean_word suffixes names) words) clean in
-    let later = filter_map (generated_name suffixes) words ++ xs in
-    let behind : names ≡ fold add (seen_after_word suffixes seen word) later =
-    all ∙ ap (λ s. fold add s xs) (words-names suffixes (seen_after_word suffixes seen word) words) ∙ sym (fold-append (seen_after_word suffixes seen word) (filter_map (generated_name suffixes) words) xs) in
-    ap (λ w. w ∷ renamed_words suffixes (seen_after_word suffixes seen word) words) (word-clean suffixes names seen later word (class_of suffixes word) refl behind parts.0)
-    ∙ ap (λ ws. word_by_all suffixes names word ∷ ws) (words-clean suffixes names (seen_after_word suffixes seen word) words xs all parts.1)
+    let behind = all ∙ words-front suffixes (seen_after_word suffixes seen word) words xs in
+    grind (arith, and_parts, word-clean, (words-clean suffixes names (seen_after_word suffixes seen word) words xs all))
 
 -- the commands of a run
 run-clean : (suffixes names seen : List (List ℕ)) (commands : List CommandLine) → names ≡ fold (λ seen command. seen_after suffixes seen (words_of_command command)) seen commands →

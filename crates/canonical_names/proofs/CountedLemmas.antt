@@ -1,9 +1,9 @@
 -- A name that is new is counted, and a name that was seen keeps its canonical name.
-use Rattle.std.proofs.Common.{◌≡◌, ℕ, ◌+◌, ◌<◌, ◌≤◌, ◌||◌, true, false, cond, suc, zero, List, [], ◌∷◌, ◌++◌, Option, Some, None, map, length, inl, inr, refl, ap, sym, ◌∙◌, subst, nat_eq, codes, arith, string_bytes, String, slice_set, get_or, replicate, ◌^◌, unwrap_or, bytes_eq, Global}
+use Rattle.std.proofs.Common.{◌≡◌, ℕ, ◌+◌, ◌<◌, ◌≤◌, true, false, cond, suc, zero, List, [], ◌∷◌, ◌++◌, Option, Some, None, map, length, refl, ap, sym, ◌∙◌, nat_eq, codes, arith, string_bytes, String, slice_set, get_or, replicate, ◌^◌, unwrap_or, bytes_eq, Global}
 use Rattle.std.specs.List.{Contains, ends_with, list_all, list_any, slice_get}
 use Rattle.std.specs.Map.{lookup}
 use Rattle.indexmap.specs.IndexMap.{insert_entry}
-use Rattle.std.proofs.lemmas.Bool.{false≢true, and_parts, and_from, or_parts}
+use Rattle.std.proofs.lemmas.Bool.{false≢true, false_from_ne_true, and_parts, and_from, or_parts}
 use Rattle.texts.proofs.NumeralLemmas.{decimal-numeral}
 use Rattle.std.proofs.lemmas.List.{map-append, length-append, length-map, get_or_default}
 use Rattle.std.proofs.lemmas.List.Elements.{filter-append}
@@ -21,25 +21,11 @@ use Rattle.canonical_names.proofs.SuffixLemmas.{one-end, all-apart}
 pub known-name : (f : List ℕ → List ℕ) (es : List (String Global × String Global)) (name : List ℕ) → map pair_of es ≡ map (λ n. (n, f n)) (old_names (map pair_of es)) →
     (v : String Global) → lookup (λ k. bytes_eq name (string_bytes k)) es ≡ Some v → (string_bytes v ≡ f name) × (list_any (bytes_eq name) (old_names (map pair_of es)) ≡ true)
 known-name f [] name all v h = cc
-known-name f (e ∷ es) name all v h =
-    let here : string_bytes e.1 ≡ f (string_bytes e.0) = ap value_of all in
-    elim (bytes_eq name (string_bytes e.0)) as (λ t. bytes_eq name (string_bytes e.0) ≡ t → cond t (Some e.1) (lookup (λ k. bytes_eq name (string_bytes k)) es) ≡ Some v → (string_bytes v ≡ f name) × ((t || list_any (bytes_eq name) (old_names (map pair_of es))) ≡ true)) [
-      | true ↦ λ is k. let found : e.1 ≡ v = cc in (ap string_bytes (sym found) ∙ here ∙ ap f (sym ((bytes_eq-Decides name (string_bytes e.0)).0 is)), refl)
-      | false ↦ λ _ k. known-name f es name (ap rest_of all) v k
-    ] refl h where
-      value_of : List (List ℕ × List ℕ) → List ℕ
-      value_of [] = []
-      value_of (p ∷ ps) = p.1
-
-      rest_of : List (List ℕ × List ℕ) → List (List ℕ × List ℕ)
-      rest_of [] = []
-      rest_of (p ∷ ps) = ps
+known-name f (e ∷ es) name all v h = grind (arith, bytes_eq-Decides, (known-name f es name))
 
 pub unknown-name : (es : List (String Global × String Global)) (name : List ℕ) → lookup (λ k. bytes_eq name (string_bytes k)) es ≡ None → list_any (bytes_eq name) (old_names (map pair_of es)) ≡ false
 unknown-name [] name h = refl
-unknown-name (e ∷ es) name h =
-    elim (bytes_eq name (string_bytes e.0)) as (λ t. cond t (Some e.1) (lookup (λ k. bytes_eq name (string_bytes k)) es) ≡ None → (t || list_any (bytes_eq name) (old_names (map pair_of es))) ≡ false)
-    [ true ↦ λ k. cc | false ↦ λ k. unknown-name es name k ] h
+unknown-name (e ∷ es) name h = grind (arith, (unknown-name es name))
 
 -- names that were seen keep their canonical names
 same-map : {A B : Type 0} (f g : A → B) (xs : List A) → ((x : A) → Contains xs x → f x ≡ g x) → map f xs ≡ map g xs
@@ -48,12 +34,7 @@ same-map f g (x ∷ xs) h = ap (λ y. y ∷ map f xs) (h x (head-member x xs)) �
 
 pub member-among : (names : List (List ℕ)) (m : List ℕ) → Contains names m → list_any (λ n. bytes_eq n m) names ≡ true
 member-among [] m h = absurd (no-member m h)
-member-among (x ∷ xs) m h =
-    elim (bytes_eq x m) as (λ t. bytes_eq x m ≡ t → (t || list_any (λ n. bytes_eq n m) xs) ≡ true) [
-      | true ↦ λ _. refl
-      | false ↦ λ e. elim (member-cases x xs m h) as (λ _. list_any (λ n. bytes_eq n m) xs ≡ true)
-          [ inl is ↦ absurd (false≢true (sym e ∙ ap (λ z. bytes_eq z m) is ∙ bytes_eq-itself m)) | inr more ↦ member-among xs m more ]
-    ] refl
+member-among (x ∷ xs) m h = grind (arith, member-cases, bytes_eq-itself, (member-among xs m))
 
 canonical-stays : (names more : List (List ℕ)) (m : List ℕ) (o : Option (List ℕ)) → list_any (λ n. bytes_eq n m) names ≡ true → canonical_or (names ++ more) m o ≡ canonical_or names m o
 canonical-stays names more m o h = grind (arith, rank-found)
@@ -88,8 +69,7 @@ counts-raised names n class ends [] apart i at = cc
 counts-raised names n class ends (s ∷ suffixes) apart zero at = grind (arith, and_parts, count-of-push, counts-others)
 counts-raised names n class ends (s ∷ suffixes) apart (suc i) at =
     let parts = and_parts (list_all (is_apart s) suffixes) (are_apart suffixes) apart in
-    let other : ends_with nat_eq n s ≡ false = elim (ends_with nat_eq n s) as (λ b. ends_with nat_eq n s ≡ b → b ≡ false)
-    [ true ↦ λ e. absurd (false≢true (sym (one-end n s class (apart-at s suffixes i class parts.0 at) e) ∙ ends)) | false ↦ λ _. refl ] refl in
+    let other = false_from_ne_true (ends_with nat_eq n s) (λ e. false≢true (sym (one-end n s class (apart-at s suffixes i class parts.0 at) e) ∙ ends)) in
     ap (λ k. k ∷ slice_set (map (count_of names) suffixes) i (count_of names class + 1)) (count-other names n s other)
     ∙ ap (λ ks. count_of (names ++ n ∷ []) s ∷ ks) (counts-raised names n class ends suffixes parts.1 i at)
 
@@ -122,24 +102,12 @@ name-counted suffixes names pairs counts n class i before at is new = grind (ari
 pub decimal-file : (k : ℕ) (class : List ℕ) → k < 2 ^ 64 → decimal_file k class ≡ canonical_file k class
 decimal-file k class small = ap (λ n. codes "x_" ++ (n ++ class)) (sym ((sym (decimal-numeral k small))))
 
--- a counter is a number of names, of which there are no more than the map has entries
-pub counter-limit : (suffixes names : List (List ℕ)) (pairs : List (List ℕ × List ℕ)) (counts : List ℕ) → IsCounted suffixes names pairs counts → (i : ℕ) → i < length suffixes → get_or counts i 0 ≤ length names
-counter-limit suffixes names pairs counts h i within = subst (λ ks. get_or ks i 0 ≤ length names) (sym h.counted) (limit suffixes i within) where
-  limit : (suffixes : List (List ℕ)) (i : ℕ) → i < length suffixes → get_or (map (count_of names) suffixes) i 0 ≤ length names
-  limit [] i lt = absurd (omega (arith, lt))
-  limit (s ∷ suffixes) zero lt = count-bound names s
-  limit (s ∷ suffixes) (suc i) lt = limit suffixes i (omega (arith, lt))
-
 pub old_names-length : (es : List (String Global × String Global)) → length (old_names (map pair_of es)) ≡ length es
 old_names-length [] = refl
 old_names-length (e ∷ es) = ap suc (old_names-length es)
 
 pub counter-is : (suffixes names : List (List ℕ)) (pairs : List (List ℕ × List ℕ)) (counts : List ℕ) → IsCounted suffixes names pairs counts → (i : ℕ) (class : List ℕ) → slice_get suffixes i ≡ Some class → get_or counts i 0 ≡ count_of names class
 counter-is suffixes names pairs counts h i class at = ap (λ ks. get_or ks i 0) h.counted ∙ count-at names suffixes i class at 0
-
--- the names of a map with one more entry
-pub old_names-push : (ps : List (List ℕ × List ℕ)) (n c : List ℕ) → old_names (ps ++ (n, c) ∷ []) ≡ old_names ps ++ n ∷ []
-old_names-push ps n c = map-append (λ p. p.0) ps ((n, c) ∷ [])
 
 pub pairs-push : (es : List (String Global × String Global)) (n c : String Global) → map pair_of (es ++ (n, c) ∷ []) ≡ map pair_of es ++ (string_bytes n, string_bytes c) ∷ []
 pairs-push es n c = map-append pair_of es ((n, c) ∷ [])
@@ -151,12 +119,17 @@ entry-last [] n c h = refl
 entry-last (e ∷ es) n c h = grind (arith, or_parts, (entry-last es n c))
 
 pub names-put : (es more : List (String Global × String Global)) (n c : String Global) → more ≡ es ++ (n, c) ∷ [] → old_names (map pair_of more) ≡ old_names (map pair_of es) ++ string_bytes n ∷ []
-names-put es more n c is = ap (λ l. old_names (map pair_of l)) is ∙ ap old_names (pairs-push es n c) ∙ old_names-push (map pair_of es) (string_bytes n) (string_bytes c)
+names-put es more n c is = ap (λ l. old_names (map pair_of l)) is ∙ simp map-append
 
 pub class-at : (suffixes : List (List ℕ)) (i : ℕ) → i < length suffixes → (class : List ℕ) × (slice_get suffixes i ≡ Some class)
 class-at [] i lt = absurd (omega (arith, lt))
 class-at (s ∷ suffixes) zero lt = (s, refl)
 class-at (s ∷ suffixes) (suc i) lt = class-at suffixes i (omega (arith, lt))
+
+-- a counter is a number of names, of which there are no more than the map has entries
+pub counter-limit : (suffixes names : List (List ℕ)) (pairs : List (List ℕ × List ℕ)) (counts : List ℕ) → IsCounted suffixes names pairs counts → (i : ℕ) → i < length suffixes → get_or counts i 0 ≤ length names
+counter-limit suffixes names pairs counts h i within =
+    let at = class-at suffixes i within in rw (counter-is suffixes names pairs counts h i at.0 at.1) (count-bound names at.0)
 
 pub put-counted : (suffixes : List (List ℕ)) (es more : List (String Global × String Global)) (counts raised : List ℕ) (n c : String Global) (i k : ℕ) → IsCounted suffixes (old_names (map pair_of es)) (map pair_of es) counts →
     i < length suffixes → class_of_name suffixes (string_bytes n) ≡ slice_get suffixes i → list_any (bytes_eq (string_bytes n)) (old_names (map pair_of es)) ≡ false →

@@ -1,5 +1,5 @@
 -- Suffixes begin with a dot, so they are looked for behind dots alone.
-use Rattle.std.proofs.Common.{◌≡◌, ℕ, ◌+◌, ◌<◌, ◌≤◌, ◌&&◌, ◌||◌, Bool, true, false, not, cond, List, [], ◌∷◌, ◌++◌, Option, Some, None, Bor, refl, ap, sym, ◌∙◌, subst, nat_eq, nat_le, eqb, eqb-true, length, take, drop, get_or, arith, one-add, length-append}
+use Rattle.std.proofs.Common.{◌≡◌, ℕ, ◌+◌, ◌<◌, ◌≤◌, ◌||◌, Bool, true, false, not, cond, List, [], ◌∷◌, ◌++◌, Option, Some, None, Bor, refl, ap, sym, ◌∙◌, subst, nat_eq, nat_le, eqb, eqb-true, length, take, drop, get_or, arith, one-add, length-append}
 use Rattle.std.specs.List.{position_or_len, prefix_len, list_any, list_all, before_first, after_first, starts_with}
 use Rattle.std.proofs.lemmas.Bool.{false≢true, and_parts, and_from}
 use Rattle.std.proofs.lemmas.List.Sums.{split_at_first, passes_at_first}
@@ -26,19 +26,11 @@ short-none text n short (s ∷ suffixes) all = grind (arith, held-short, (short-
 -- where a text that begins with a dot stands in one that lacks dots, or has one
 lacks-none : (r text : List ℕ) → lacks 46 text ≡ true → holds (46 ∷ r) text ≡ false
 lacks-none r [] h = refl
-lacks-none r (c ∷ cs) h =
-    elim (eqb c 46) as (λ b. eqb c 46 ≡ b → (not b && lacks 46 cs) ≡ true → holds (46 ∷ r) (c ∷ cs) ≡ false) [
-      | true ↦ λ _ k. absurd (false≢true k)
-      | false ↦ λ e k. ap (λ t. (t && starts_with nat_eq cs r) || holds (46 ∷ r) cs) (eqb-turned 46 c ∙ e) ∙ lacks-none r cs k
-    ] refl h
+lacks-none r (c ∷ cs) h = grind (arith, eqb-turned, (lacks-none r cs))
 
 behind-dot : (r front back : List ℕ) → lacks 46 front ≡ true → holds (46 ∷ r) (front ++ 46 ∷ back) ≡ (starts_with nat_eq back r || holds (46 ∷ r) back)
 behind-dot r [] back h = refl
-behind-dot r (c ∷ front) back h =
-    elim (eqb c 46) as (λ b. eqb c 46 ≡ b → (not b && lacks 46 front) ≡ true → holds (46 ∷ r) (c ∷ (front ++ 46 ∷ back)) ≡ (starts_with nat_eq back r || holds (46 ∷ r) back)) [
-      | true ↦ λ _ k. absurd (false≢true k)
-      | false ↦ λ e k. ap (λ t. (t && starts_with nat_eq (front ++ 46 ∷ back) r) || holds (46 ∷ r) (front ++ 46 ∷ back)) (eqb-turned 46 c ∙ e) ∙ behind-dot r front back k
-    ] refl h
+behind-dot r (c ∷ front) back h = grind (arith, eqb-turned, (behind-dot r front back))
 
 -- what std's cut at the first dot leaves
 lacks-before : (bs : List ℕ) → lacks 46 (before_first (λ b. eqb b 46) bs) ≡ true

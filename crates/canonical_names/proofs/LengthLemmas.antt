@@ -1,15 +1,19 @@
 -- References replaced by the lengths of their names: the longest that stand in a text, then those next to them.
-use Rattle.std.proofs.Common.{◌≡◌, ℕ, ◌-◌, ◌<◌, ◌≤◌, ◌++◌, true, false, not, cond, List, [], ◌∷◌, refl, ap, sym, ◌∙◌, eqb, nat_le, length, fold, filter, arith}
+use Rattle.std.proofs.Common.{◌≡◌, ℕ, ◌-◌, ◌<◌, ◌≤◌, ◌++◌, true, false, not, List, [], ◌∷◌, refl, ap, ◌∙◌, nat_le, length, fold, filter, arith}
 use Rattle.std.specs.List.{AllByRecursion}
 use Rattle.compilers.specs.Replacing.{replaced}
 use Rattle.canonical_names.specs.Alike.{holds}
 use Rattle.canonical_names.specs.Counted.{old_names}
-use Rattle.canonical_names.specs.References.{replaced_by, replaced_by_all, insert_pair, longest_pairs_first, replaced_of, replaced_by_length, longer, longest_in}
+use Rattle.canonical_names.specs.References.{replaced_by_all, longest_pairs_first, replaced_by_length, longer, longest_in}
 use Rattle.canonical_names.proofs.DotLemmas.{held-short}
-use Rattle.canonical_names.proofs.RewriteLemmas.{replaced-none}
+use Rattle.canonical_names.specs.Renaming.{insert_by}
+use Rattle.canonical_names.proofs.RewriteLemmas.{insert-each, fold-each, replaced-none}
 
 abbrev Pair : Type 0
 Pair = List ℕ × List ℕ
+
+abbrev size : Pair → ℕ
+size p = length p.0
 
 -- the pairs whose names have at most so many bytes, and the others
 abbrev pub up_to : ℕ → List Pair → List Pair
@@ -18,45 +22,35 @@ up_to m ps = filter (λ p. nat_le (length p.0) m) ps
 abbrev pub over : ℕ → List Pair → List Pair
 over m ps = filter (λ p. not (nat_le (length p.0) m)) ps
 
--- what holds of each pair holds of each in the order of the lengths
-module _ (P : Pair → Type 0) where
-  insert-each : (ps : List Pair) (p : Pair) → AllByRecursion P ps → P p → AllByRecursion P (insert_pair ps p)
-  insert-each [] p all one = (one, tt)
-  insert-each (q ∷ qs) p all one = grind (arith, (insert-each qs p all.1 one))
-
-  fold-each : (ps sorted : List Pair) → AllByRecursion P ps → AllByRecursion P sorted → AllByRecursion P (fold insert_pair sorted ps)
-  fold-each [] sorted all done = done
-  fold-each (p ∷ ps) sorted all done = fold-each ps (insert_pair sorted p) all.1 (insert-each sorted p done all.0)
-
 -- the order falls into the longer ones and the shorter ones
 module _ (m : ℕ) where
-  insert-long : (p : Pair) → m < length p.0 → (longs shorts : List Pair) → AllByRecursion (λ q. length q.0 ≤ m) shorts → insert_pair (longs ++ shorts) p ≡ insert_pair longs p ++ shorts
+  insert-long : (p : Pair) → m < length p.0 → (longs shorts : List Pair) → AllByRecursion (λ q. length q.0 ≤ m) shorts → insert_by size (longs ++ shorts) p ≡ insert_by size longs p ++ shorts
   insert-long p long [] [] all = refl
   insert-long p long [] (q ∷ qs) all = grind arith
   insert-long p long (q ∷ qs) shorts all = grind (arith, (insert-long p long qs shorts all))
 
-  insert-short : (p : Pair) → length p.0 ≤ m → (longs shorts : List Pair) → AllByRecursion (λ q. m < length q.0) longs → insert_pair (longs ++ shorts) p ≡ longs ++ insert_pair shorts p
+  insert-short : (p : Pair) → length p.0 ≤ m → (longs shorts : List Pair) → AllByRecursion (λ q. m < length q.0) longs → insert_by size (longs ++ shorts) p ≡ longs ++ insert_by size shorts p
   insert-short p short [] shorts all = refl
   insert-short p short (q ∷ qs) shorts all = grind (arith, (insert-short p short qs shorts all.1))
 
   fold-cut : (ps longs shorts : List Pair) → AllByRecursion (λ q. m < length q.0) longs → AllByRecursion (λ q. length q.0 ≤ m) shorts →
-      fold insert_pair (longs ++ shorts) ps ≡ fold insert_pair longs (over m ps) ++ fold insert_pair shorts (up_to m ps)
+      fold (insert_by size) (longs ++ shorts) ps ≡ fold (insert_by size) longs (over m ps) ++ fold (insert_by size) shorts (up_to m ps)
   fold-cut [] longs shorts long short = refl
   fold-cut (p ∷ ps) longs shorts long short =
-      elim (nat_le (length p.0) m)
-      as (λ b. nat_le (length p.0) m ≡ b → fold insert_pair (insert_pair (longs ++ shorts) p) ps ≡ fold insert_pair longs (cond (not b) (p ∷ over m ps) (over m ps)) ++ fold insert_pair shorts (cond b (p ∷ up_to m ps) (up_to m ps))) [
-        | true ↦ λ e.
-            let one : length p.0 ≤ m = grind (arith, e) in
-            ap (λ qs. fold insert_pair qs ps) (insert-short p one longs shorts long) ∙ fold-cut ps longs (insert_pair shorts p) long (insert-each (λ q. length q.0 ≤ m) shorts p short one)
-        | false ↦ λ e.
-            let one : m < length p.0 = grind (arith, e) in
-            ap (λ qs. fold insert_pair qs ps) (insert-long p one longs shorts short) ∙ fold-cut ps (insert_pair longs p) shorts (insert-each (λ q. m < length q.0) longs p long one) short
-      ] refl
+      grind (
+        arith,
+        insert-short,
+        insert-long,
+        (insert-each size (λ q. length q.0 ≤ m) shorts p short),
+        (insert-each size (λ q. m < length q.0) longs p long),
+        (fold-cut ps longs (insert_by size shorts p) long),
+        (fold-cut ps (insert_by size longs p) shorts),
+      )
 
 -- one after the other
 replaced-append : (xs ys : List Pair) (text : List ℕ) → replaced_by_all (xs ++ ys) text ≡ replaced_by_all ys (replaced_by_all xs text)
 replaced-append [] ys text = refl
-replaced-append (x ∷ xs) ys text = replaced-append xs ys (replaced_by text x)
+replaced-append (x ∷ xs) ys text = replaced-append xs ys (replaced x.0 x.1 text)
 
 nowhere : (text : List ℕ) (ps : List Pair) → AllByRecursion (λ p. holds p.0 text ≡ false) ps → replaced_by_all ps text ≡ text
 nowhere text [] all = refl
@@ -67,7 +61,7 @@ cut-by : (m : ℕ) (ps : List Pair) (text : List ℕ) → replaced_by_all (longe
 cut-by m ps text = ap (λ qs. replaced_by_all qs text) (fold-cut m ps [] [] tt tt) ∙ replaced-append (longest_pairs_first (over m ps)) (longest_pairs_first (up_to m ps)) text
 
 cut-none : (m : ℕ) (ps : List Pair) (text : List ℕ) → AllByRecursion (λ p. holds p.0 text ≡ false) (over m ps) → replaced_by_all (longest_pairs_first ps) text ≡ replaced_by_all (longest_pairs_first (up_to m ps)) text
-cut-none m ps text none = cut-by m ps text ∙ ap (replaced_by_all (longest_pairs_first (up_to m ps))) (nowhere text (longest_pairs_first (over m ps)) (fold-each (λ p. holds p.0 text ≡ false) (over m ps) [] none tt))
+cut-none m ps text none = cut-by m ps text ∙ ap (replaced_by_all (longest_pairs_first (up_to m ps))) (nowhere text (longest_pairs_first (over m ps)) (fold-each size (λ p. holds p.0 text ≡ false) (over m ps) [] none tt))
 
 up_to-less : (k m : ℕ) → k ≤ m → (ps : List Pair) → up_to k (up_to m ps) ≡ up_to k ps
 up_to-less k m le [] = refl
@@ -78,17 +72,7 @@ pub longest-begun : (ps : List Pair) (text : List ℕ) → replaced_by_all (long
 longest-begun ps text = cut-none (length text) ps text (too-long ps) where
   too-long : (ps : List Pair) → AllByRecursion (λ p. holds p.0 text ≡ false) (over (length text) ps)
   too-long [] = tt
-  too-long (p ∷ ps) =
-      elim (nat_le (length p.0) (length text)) as (λ b. nat_le (length p.0) (length text) ≡ b → AllByRecursion (λ p. holds p.0 text ≡ false) (cond (not b) (p ∷ over (length text) ps) (over (length text) ps))) [
-        | true ↦ λ _. too-long ps
-        | false ↦ λ e. (
-          elim (holds p.0 text) as (λ h. holds p.0 text ≡ h → h ≡ false) [
-            | true ↦ λ h. absurd (let bound : length p.0 ≤ length text = held-short p.0 text h in let more : length text < length p.0 = grind (arith, e) in omega (arith, bound, more))
-            | false ↦ λ _. refl
-          ] refl,
-          too-long ps,
-        )
-      ] refl
+  too-long (p ∷ ps) = grind (arith, held-short, (too-long ps))
 
 -- what the search for the longest name tells
 module _ (text : List ℕ) (m : ℕ) where
@@ -117,38 +101,22 @@ module _ (text : List ℕ) (m : ℕ) where
       cut-none k (up_to m ps) text (none-over k ps 0 (omega arith)) ∙ ap (λ qs. replaced_by_all (longest_pairs_first qs) text) (up_to-less k m (longest-bound (old_names ps)) ps)
 
 -- those of one length
-equal-last : (k : ℕ) (p : Pair) → length p.0 ≡ k → (done : List Pair) → AllByRecursion (λ q. length q.0 ≡ k) done → insert_pair done p ≡ done ++ p ∷ []
+equal-last : (k : ℕ) (p : Pair) → length p.0 ≡ k → (done : List Pair) → AllByRecursion (λ q. length q.0 ≡ k) done → insert_by size done p ≡ done ++ p ∷ []
 equal-last k p is [] all = refl
 equal-last k p is (q ∷ qs) all = grind (arith, (equal-last k p is qs all.1))
+
+with-last : (k : ℕ) (p : Pair) → length p.0 ≡ k → (done : List Pair) →
+    AllByRecursion (λ q. length q.0 ≡ k) done → AllByRecursion (λ q. length q.0 ≡ k) (done ++ p ∷ [])
+with-last k p same [] all = (same, tt)
+with-last k p same (q ∷ qs) all = (all.0, with-last k p same qs all.1)
 
 module _ (k : ℕ) (some : 0 < k) where
   -- a pair among those of at most k bytes and over k - 1 is one of k bytes
   of-length : (ps done : List Pair) (text : List ℕ) → AllByRecursion (λ q. length q.0 ≡ k) done →
-      replaced_by_all (fold insert_pair done (over (k - 1) (up_to k ps))) text ≡ fold (replaced_of k) (replaced_by_all done text) ps
+      replaced_by_all (fold (insert_by size) done (over (k - 1) (up_to k ps))) text ≡ replaced_by_length k ps (replaced_by_all done text)
   of-length [] done text all = refl
   of-length (p ∷ ps) done text all =
-      elim (nat_le (length p.0) k)
-      as (λ b. nat_le (length p.0) k ≡ b → replaced_by_all (fold insert_pair done (over (k - 1) (cond b (p ∷ up_to k ps) (up_to k ps)))) text ≡ fold (replaced_of k) (cond (eqb (length p.0) k) (replaced p.0 p.1 (replaced_by_all done text)) (replaced_by_all done text)) ps) [
-        | true ↦ λ e. elim (nat_le (length p.0) (k - 1))
-            as (λ b. nat_le (length p.0) (k - 1) ≡ b → replaced_by_all (fold insert_pair done (cond (not b) (p ∷ over (k - 1) (up_to k ps)) (over (k - 1) (up_to k ps)))) text ≡ fold (replaced_of k) (cond (eqb (length p.0) k) (replaced p.0 p.1 (replaced_by_all done text)) (replaced_by_all done text)) ps) [
-              | true ↦ λ f.
-                  let other : eqb (length p.0) k ≡ false = grind (arith, f, some) in
-                  of-length ps done text all ∙ sym (ap (λ b. fold (replaced_of k) (cond b (replaced p.0 p.1 (replaced_by_all done text)) (replaced_by_all done text)) ps) other)
-              | false ↦ λ f.
-                  let same : length p.0 ≡ k = grind (arith, e, f, some) in
-                  let told : eqb (length p.0) k ≡ true = grind (arith, same) in
-                  ap (λ qs. replaced_by_all (fold insert_pair qs (over (k - 1) (up_to k ps))) text) (equal-last k p same done all)
-                  ∙ of-length ps (done ++ p ∷ []) text (with-last p same done all)
-                  ∙ ap (λ t. fold (replaced_of k) t ps) (replaced-append done (p ∷ []) text)
-                  ∙ sym (ap (λ b. fold (replaced_of k) (cond b (replaced p.0 p.1 (replaced_by_all done text)) (replaced_by_all done text)) ps) told)
-            ] refl
-        | false ↦ λ e.
-            let other : eqb (length p.0) k ≡ false = grind (arith, e) in
-            of-length ps done text all ∙ sym (ap (λ b. fold (replaced_of k) (cond b (replaced p.0 p.1 (replaced_by_all done text)) (replaced_by_all done text)) ps) other)
-      ] refl where
-        with-last : (p : Pair) → length p.0 ≡ k → (done : List Pair) → AllByRecursion (λ q. length q.0 ≡ k) done → AllByRecursion (λ q. length q.0 ≡ k) (done ++ p ∷ [])
-        with-last p same [] all = (same, tt)
-        with-last p same (q ∷ qs) all = (all.0, with-last p same qs all.1)
+      grind (arith, equal-last, with-last, replaced-append, (of-length ps done text all), (of-length ps (done ++ p ∷ []) text))
 
   pub longest-replaced : (ps : List Pair) (text : List ℕ) → replaced_by_all (longest_pairs_first (up_to k ps)) text ≡ replaced_by_all (longest_pairs_first (up_to (k - 1) ps)) (replaced_by_length k ps text)
   longest-replaced ps text =
@@ -161,7 +129,4 @@ pub longest-done : (ps : List Pair) (text : List ℕ) → AllByRecursion (λ p. 
 longest-done ps text some = ap (λ qs. replaced_by_all (longest_pairs_first qs) text) (none ps some) where
   none : (ps : List Pair) → AllByRecursion (λ p. 0 < length p.0) ps → up_to 0 ps ≡ []
   none [] some = refl
-  none (p ∷ ps) some =
-      let long = some.0 in
-      let over : nat_le (length p.0) 0 ≡ false = grind (arith, long) in
-      ap (λ b. cond b (p ∷ up_to 0 ps) (up_to 0 ps)) over ∙ none ps some.1
+  none (p ∷ ps) some = grind (arith, (none ps some.1))

@@ -7,7 +7,7 @@ use Rattle.texts.specs.Path.{joined, folder_of}
 use Rattle.compilers.specs.CommandLines.{CommandLine, words_of_command}
 use Rattle.compilers.specs.Replacing.{replaced, replaced_past}
 use Rattle.canonical_names.specs.Generated.{head_of, core_of, class_of, class_of_name, generated_name, begins_with_dash}
-use Rattle.canonical_names.specs.Renaming.{canonical_file, canonical_name, rank, longest_first, rewritten, renamed_core, renamed_words, renamed_after, renamed, seen_after_word, seen_after, names_of_run}
+use Rattle.canonical_names.specs.Renaming.{canonical_file, canonical_name, rank, rewritten, renamed_core, renamed_words, renamed_after, renamed, seen_after_word, seen_after, names_of_run}
 use Rattle.canonical_names.specs.Alike.{core_through, IsRenaming}
 use Rattle.canonical_names.specs.CanonicalNames.{AreSuffixes, core_by_all, word_by_all, command_by_all, RenamedOnceForAll}
 use Rattle.canonical_names.proofs.CountedLemmas.{member-among}
@@ -15,7 +15,7 @@ use Rattle.canonical_names.proofs.AlikeLemmas.{told-word, canonical-renaming, To
 use Rattle.canonical_names.proofs.CanonicalLemmas.{HasClass, run-all, canonical-at, head-member, tail-member, find-found, add, fold-append, words-names, run-names, fold-front, rank-found, rank-stable}
 use Rattle.canonical_names.proofs.CleanLemmas.{clean-run_is_a_map}
 use Rattle.canonical_names.proofs.ReplaceLemmas.{starts-split}
-use Rattle.canonical_names.proofs.RewriteLemmas.{fold-each}
+use Rattle.canonical_names.proofs.RewriteLemmas.{rewritten-same}
 
 -- a text that isn't empty, replaced by itself
 past-itself : (x : ℕ) (xs : List ℕ) (k : ℕ) (text : List ℕ) → replaced_past k (x ∷ xs) (x ∷ xs) text ≡ drop k text
@@ -27,15 +27,6 @@ past-itself x xs zero (c ∷ cs) = grind (arith, sub-one, starts-split, (past-it
 replaced-itself : (front : List ℕ) (x : ℕ) (xs text : List ℕ) → replaced (front ++ x ∷ xs) (front ++ x ∷ xs) text ≡ text
 replaced-itself [] x xs text = past-itself x xs zero text
 replaced-itself (c ∷ front) x xs text = past-itself c (front ++ x ∷ xs) zero text
-
--- names whose replacement leaves a text as it is
-fold-same : (new : List ℕ → List ℕ) (text : List ℕ) (names : List (List ℕ)) → AllByRecursion (λ n. replaced n (new n) text ≡ text) names → fold (λ t name. replaced name (new name) t) text names ≡ text
-fold-same new text [] all = refl
-fold-same new text (n ∷ ns) all = ap (λ t. fold (λ t name. replaced name (new name) t) t ns) all.0 ∙ fold-same new text ns all.1
-
-rewritten-same : (suffixes seen : List (List ℕ)) (text : List ℕ) → AllByRecursion (λ n. replaced n (canonical_name suffixes seen n) text ≡ text) seen → rewritten suffixes seen text ≡ text
-rewritten-same suffixes seen text each =
-    fold-same (canonical_name suffixes seen) text (longest_first seen) (fold-each (λ n. replaced n (canonical_name suffixes seen n) text ≡ text) seen [] each tt)
 
 -- Below, the names of a run, which get canonical names.
 module _ (suffixes : List (List ℕ)) (lawful : AreSuffixes suffixes) (names : List (List ℕ)) (renaming : IsRenaming suffixes names (canonical_name suffixes names)) (classes : All (HasClass suffixes) names) where

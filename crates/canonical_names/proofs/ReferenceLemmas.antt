@@ -1,28 +1,32 @@
 -- References in the order of their lengths, and what they make of a text.
 use Rattle.std.proofs.Common.{◌≡◌, ℕ, ◌+◌, ◌-◌, ◌<◌, ◌++◌, true, false, List, [], ◌∷◌, Option, is_some, map, refl, ap, sym, ◌∙◌, subst, nat_eq, length, fold, take, arith, append_assoc, length-append}
 use Rattle.std.specs.List.{list_any, list_all, ends_with, AllByRecursion, Contains}
-use Rattle.std.proofs.lemmas.Bool.{false≢true}
+use Rattle.std.proofs.lemmas.Bool.{false≢true, false_from_ne_true}
 use Rattle.compilers.specs.Replacing.{replaced}
 use Rattle.canonical_names.specs.Alike.{holds}
 use Rattle.canonical_names.specs.Counted.{has_class, with_canonical}
 use Rattle.canonical_names.specs.Generated.{class_of_name}
-use Rattle.canonical_names.specs.Renaming.{insert_by_length, longest_first, canonical_name, rewritten}
-use Rattle.canonical_names.specs.References.{replaced_by_all, insert_pair, longest_pairs_first}
+use Rattle.canonical_names.specs.Renaming.{insert_by, longest_first, canonical_name, rewritten}
+use Rattle.canonical_names.specs.References.{replaced_by_all, longest_pairs_first}
 use Rattle.canonical_names.specs.SuffixRule.{is_suffix, are_suffixes}
 use Rattle.canonical_names.proofs.CanonicalLemmas.{find-found, ends-split}
 use Rattle.canonical_names.proofs.ReplaceLemmas.{holds-split, holds-within}
-use Rattle.canonical_names.proofs.RewriteLemmas.{none-each, fold-each, fold-none}
+use Rattle.canonical_names.proofs.RewriteLemmas.{none-rewritten}
 use Rattle.canonical_names.proofs.SuffixLemmas.{each-member, each-suffix, none-member}
 
 -- pairs of names and what they became are in the order of the names
 module _ (f : List ℕ → List ℕ) where
-  insert-mapped : (names : List (List ℕ)) (n : List ℕ) → insert_pair (map (λ m. (m, f m)) names) (n, f n) ≡ map (λ m. (m, f m)) (insert_by_length names n)
+  insert-mapped : (names : List (List ℕ)) (n : List ℕ) →
+      insert_by {A = List ℕ × List ℕ} (λ p. length p.0) (map (λ m. (m, f m)) names) (n, f n) ≡ map (λ m. (m, f m)) (insert_by length names n)
   insert-mapped [] n = refl
   insert-mapped (m ∷ names) n = grind (arith, (insert-mapped names n))
 
-  fold-mapped : (names sorted : List (List ℕ)) → fold insert_pair (map (λ m. (m, f m)) sorted) (map (λ m. (m, f m)) names) ≡ map (λ m. (m, f m)) (fold insert_by_length sorted names)
+  fold-mapped : (names sorted : List (List ℕ)) →
+      fold (insert_by {A = List ℕ × List ℕ} (λ p. length p.0)) (map (λ m. (m, f m)) sorted) (map (λ m. (m, f m)) names) ≡ map (λ m. (m, f m)) (fold (insert_by length) sorted names)
   fold-mapped [] sorted = refl
-  fold-mapped (n ∷ names) sorted = ap (λ ps. fold insert_pair ps (map (λ m. (m, f m)) names)) (insert-mapped sorted n) ∙ fold-mapped names (insert_by_length sorted n)
+  fold-mapped (n ∷ names) sorted =
+      ap (λ ps. fold (insert_by {A = List ℕ × List ℕ} (λ p. length p.0)) ps (map (λ m. (m, f m)) names)) (insert-mapped sorted n)
+      ∙ fold-mapped names (insert_by length sorted n)
 
   replaced-mapped : (names : List (List ℕ)) (text : List ℕ) → replaced_by_all (map (λ m. (m, f m)) names) text ≡ fold (λ t n. replaced n (f n) t) text names
   replaced-mapped [] text = refl
@@ -65,17 +69,14 @@ pairs-named suffixes names pairs accepted classes is =
 -- A text that holds no suffix holds no name: names end in a suffix.
 pub name-needs_suffix : (suffixes : List (List ℕ)) (text n : List ℕ) → has_class suffixes n ≡ true → list_any (λ s. holds s text) suffixes ≡ false → holds n text ≡ false
 name-needs_suffix suffixes text n class none =
-    elim (holds n text) as (λ b. holds n text ≡ b → b ≡ false) [
-      | true ↦ λ e.
-          let found = class-found suffixes n (class_of_name suffixes n) refl class in
-          let front = take (length n - length found.0) n in
-          let split = holds-split n text e in
-          let whole : text ≡ (split.0 ++ front) ++ (found.0 ++ split.1) =
-          split.2 ∙ ap (λ z. split.0 ++ (z ++ split.1)) (ends-split n found.0 found.2) ∙ ap (λ z. split.0 ++ z) (append_assoc front found.0 split.1) ∙ sym (append_assoc split.0 front (found.0 ++ split.1)) in
-          let held : holds found.0 text ≡ true = ap (holds found.0) whole ∙ holds-within found.0 (split.0 ++ front) split.1 in
-          absurd (false≢true (sym (none-member (λ t. holds t text) suffixes found.0 none found.1) ∙ held))
-      | false ↦ λ _. refl
-    ] refl
+    false_from_ne_true (holds n text) (λ e.
+    let found = class-found suffixes n (class_of_name suffixes n) refl class in
+    let front = take (length n - length found.0) n in
+    let split = holds-split n text e in
+    let whole : text ≡ (split.0 ++ front) ++ (found.0 ++ split.1) =
+    split.2 ∙ ap (λ z. split.0 ++ (z ++ split.1)) (ends-split n found.0 found.2) ∙ simp append_assoc in
+    false≢true (sym (none-member (λ t. holds t text) suffixes found.0 none found.1) ∙ ap (holds found.0) whole
+    ∙ holds-within found.0 (split.0 ++ front) split.1))
 
 pub no-suffix-no_names : (suffixes names : List (List ℕ)) (text : List ℕ) → list_all (has_class suffixes) names ≡ true → list_any (λ s. holds s text) suffixes ≡ false → list_any (λ n. holds n text) names ≡ false
 no-suffix-no_names suffixes [] text classes none = refl
@@ -83,6 +84,4 @@ no-suffix-no_names suffixes (n ∷ names) text classes none =
     grind (arith, name-needs_suffix, (no-suffix-no_names suffixes names text))
 
 pub rewritten-none : (suffixes names : List (List ℕ)) (text : List ℕ) → list_all (has_class suffixes) names ≡ true → list_any (λ s. holds s text) suffixes ≡ false → text ≡ rewritten suffixes names text
-rewritten-none suffixes names text classes none =
-    let each = none-each text names (no-suffix-no_names suffixes names text classes none) in
-    sym (fold-none (canonical_name suffixes names) text (longest_first names) (fold-each (λ n. holds n text ≡ false) names [] each tt))
+rewritten-none suffixes names text classes none = sym (none-rewritten suffixes names text (no-suffix-no_names suffixes names text classes none))

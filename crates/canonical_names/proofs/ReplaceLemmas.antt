@@ -4,7 +4,7 @@ use Rattle.std.specs.List.{starts_with}
 use Rattle.std.specs.Str.Iter.{HasSubslice}
 use Rattle.std.specs.Str.Pattern.{LacksTextAt, FindsText, HasMatch}
 use Rattle.std.specs.Str.Replace.{ReplacesMatches}
-use Rattle.std.proofs.lemmas.Bool.{false≢true, or_right}
+use Rattle.std.proofs.lemmas.Bool.{false≢true, false_from_ne_true, or_right}
 use Rattle.std.proofs.lemmas.Slice.Eq.{bytes_eq-Decides}
 use Rattle.std.proofs.lemmas.Str.Pattern.{contains_text}
 use Rattle.std.proofs.Math.Seq.{drop-append_seam}
@@ -57,21 +57,16 @@ module _ (old new : List ℕ) (some : 0 < length old) where
   first-place [] t lacks = begun old refl t
   first-place (c ∷ front) t lacks =
       let text = c ∷ (front ++ (old ++ t)) in
-      let not_here : starts_with nat_eq text old ≡ false = elim (starts_with nat_eq text old) as (λ b. starts_with nat_eq text old ≡ b → b ≡ false)
-      [ true ↦ λ e. absurd (lacks 0 (omega arith) (drop (length old) text) (starts-split text old e)) | false ↦ λ _. refl ] refl in
+      let not_here = false_from_ne_true (starts_with nat_eq text old) (λ e. lacks 0 (omega arith) (drop (length old) text) (starts-split text old e)) in
       ap (λ b. cond b new (c ∷ []) ++ replaced_past (cond b (length old - 1) 0) old new (front ++ (old ++ t))) not_here
       ∙ ap (λ r. c ∷ r) (first-place front t (λ i lt. lacks (suc i) (omega (arith, lt))))
 
   nowhere : (s : List ℕ) → ((i : ℕ) → i ≤ length s → LacksTextAt old s i) → replaced old new s ≡ s
   nowhere s lacks =
-      let none : holds old s ≡ false = elim (holds old s) as (λ b. holds old s ≡ b → b ≡ false) [
-        | true ↦ λ e.
-            let parts = holds-split old s e in
-            let within : length parts.0 ≤ length s = let all : length s ≡ length parts.0 + length (old ++ parts.1) = ap length parts.2 ∙ length-append parts.0 (old ++ parts.1) in omega (arith, all) in
-            absurd (lacks (length parts.0) within parts.1 (ap (drop (length parts.0)) parts.2 ∙ drop-append_seam parts.0 (old ++ parts.1)))
-        | false ↦ λ _. refl
-      ] refl in
-      replaced-none old new s none
+      replaced-none old new s (false_from_ne_true (holds old s) (λ e.
+      let parts = holds-split old s e in
+      let all : length s ≡ length parts.0 + length (old ++ parts.1) = ap length parts.2 ∙ length-append parts.0 (old ++ parts.1) in
+      lacks (length parts.0) (omega (arith, all)) parts.1 (ap (drop (length parts.0)) parts.2 ∙ drop-append_seam parts.0 (old ++ parts.1))))
 
   pub all-replaced : (n : ℕ) (p : Bor (List ℕ)) → p.now ≡ old → (s out : List ℕ) → ReplacesMatches (λ (q : Bor (List ℕ)). FindsText q.now) (λ (q r : Bor (List ℕ)). r.now ≡ q.now) new n p s out → out ≡ replaced old new s
   all-replaced zero p is s out h = h.1 ∙ sym (nowhere s (λ i le. subst (λ z. LacksTextAt z s i) is (h.0 i le)))

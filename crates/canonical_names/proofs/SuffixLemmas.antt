@@ -1,7 +1,7 @@
 -- What is asked of suffixes follows from the rule by which a list is accepted.
-use Rattle.std.proofs.Common.{◌≡◌, ℕ, ◌&&◌, ◌||◌, Bool, true, false, suc, zero, List, [], ◌∷◌, Some, ◌-◌, drop, length, inl, inr, refl, ap, sym, ◌∙◌, nat_eq, codes, arith, ◌++◌, take, map, bytes_eq}
+use Rattle.std.proofs.Common.{◌≡◌, ℕ, ◌&&◌, ◌||◌, Bool, true, false, suc, zero, List, [], ◌∷◌, Some, ◌-◌, drop, inl, inr, refl, ap, sym, ◌∙◌, nat_eq, codes, arith, map, bytes_eq}
 use Rattle.std.specs.List.{Contains, ends_with, list_all, list_any, slice_get}
-use Rattle.std.proofs.lemmas.Bool.{false≢true, and_parts, or_parts, cases_lt, not-true}
+use Rattle.std.proofs.lemmas.Bool.{false≢true, false_from_ne_true, and_parts, or_parts, cases_lt, not-true}
 use Rattle.std.proofs.lemmas.List.Elements.{All-contains}
 use Rattle.std.proofs.lemmas.List.Sums.{AllPass-from_list_all}
 use Rattle.texts.specs.Path.{is_bare}
@@ -59,16 +59,9 @@ accepted-are_suffixes suffixes h = record {
 -- a text ends in at most one of two suffixes of which none is an end of the other
 pub one-end : (text s t : List ℕ) → is_apart s t ≡ true → ends_with nat_eq text s ≡ true → ends_with nat_eq text t ≡ false
 one-end text s t apart ends =
-    let none = apart-parts s t apart in
-    elim (ends_with nat_eq text t) as (λ b. ends_with nat_eq text t ≡ b → b ≡ false) [
-      | true ↦ λ e.
-          let both : take (length text - length s) text ++ s ≡ take (length text - length t) text ++ t = sym (ends-split text s ends) ∙ ends-split text t e in
-          elim (cases_lt (length t) (length s)) as (λ _. true ≡ false) [
-            | inl lt ↦ absurd (false≢true (sym none.0 ∙ shorter-end (take (length text - length t) text) (take (length text - length s) text) t s (sym both) (omega (arith, lt))))
-            | inr le ↦ absurd (false≢true (sym none.1 ∙ shorter-end (take (length text - length s) text) (take (length text - length t) text) s t both le))
-          ]
-      | false ↦ λ _. refl
-    ] refl
+    false_from_ne_true (ends_with nat_eq text t) (λ e.
+    let both = sym (ends-split text s ends) ∙ ends-split text t e in
+    grind (arith, apart-parts, shorter-end, cases_lt, false≢true, (sym both)))
 
 -- what is left from a place on
 pub drop-got : {A : Type 0} (xs : List A) (i : ℕ) (x : A) → slice_get xs i ≡ Some x → drop i xs ≡ x ∷ drop (suc i) xs

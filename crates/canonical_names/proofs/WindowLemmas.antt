@@ -1,8 +1,9 @@
 -- Which names of a length stand in a text, by the parts of it that have that length.
-use Rattle.std.proofs.Common.{◌≡◌, ℕ, ◌+◌, ◌-◌, ◌<◌, ◌≤◌, ◌&&◌, ◌||◌, Bool, true, false, suc, zero, List, [], ◌∷◌, is_some, map, refl, ap, sym, ◌∙◌, subst, eqb, eqb-true, nat_eq, nat_le, length, fold, take, drop, arith, string_bytes, String, get_or, add-one, bytes_eq, IsUtf8, IsCharBoundary, Global, length-take-le, length-append, take-append-drop}
+use Rattle.std.proofs.Common.{◌≡◌, ℕ, ◌+◌, ◌-◌, ◌<◌, ◌≤◌, ◌&&◌, ◌||◌, Bool, true, false, suc, zero, List, [], ◌∷◌, is_some, map, refl, ap, sym, ◌∙◌, subst, eqb, nat_eq, nat_le, length, fold, take, drop, arith, string_bytes, String, get_or, add-one, bytes_eq, IsUtf8, IsCharBoundary, Global, length-take-le}
 use Rattle.std.specs.List.{list_any, starts_with}
 use Rattle.std.specs.Map.{lookup}
-use Rattle.std.proofs.lemmas.Bool.{false≢true, or_parts, and_parts}
+use Rattle.std.proofs.lemmas.Bool.{false≢true, false_from_ne_true, or_from, or_parts}
+use Rattle.std.proofs.lemmas.List.{length-take}
 use Rattle.std.proofs.lemmas.Slice.Eq.{bytes_eq-Decides}
 use Rattle.std.proofs.lemmas.Str.{IsUtf8-string_bytes, IsUtf8-drop, IsCharBoundary-from_take, IsCharBoundary-from_rest, IsCharBoundary-start}
 use Rattle.std.proofs.Math.Bool.{and-false, and-or_distrib_left}
@@ -10,14 +11,11 @@ use Rattle.texts.specs.Variables.{pair_of}
 use Rattle.canonical_names.specs.Alike.{holds}
 use Rattle.canonical_names.specs.Counted.{old_names}
 use Rattle.canonical_names.specs.References.{longer, longest_in, stand_of, window_is, windows_are}
-use Rattle.canonical_names.proofs.CanonicalLemmas.{bytes_eq-turned}
+use Rattle.canonical_names.proofs.AlikeLemmas.{same-tests}
+use Rattle.canonical_names.proofs.CanonicalLemmas.{bytes_eq-itself}
 use Rattle.canonical_names.proofs.LengthLemmas.{longest-bound, longer-least, fold-more}
 
 -- tests of all names
-any-same : {A : Type 0} (f g : A → Bool) → ((x : A) → f x ≡ g x) → (xs : List A) → list_any f xs ≡ list_any g xs
-any-same f g h [] = refl
-any-same f g h (x ∷ xs) = ap (λ b. b || list_any f xs) (h x) ∙ ap (λ b. g x || b) (any-same f g h xs)
-
 any-none : {A : Type 0} (f : A → Bool) → ((x : A) → f x ≡ false) → (xs : List A) → list_any f xs ≡ false
 any-none f h [] = refl
 any-none f h (x ∷ xs) = ap (λ b. b || list_any f xs) (h x) ∙ any-none f h xs
@@ -52,37 +50,15 @@ module _ (k : ℕ) (names : List (List ℕ)) where
     short (c ∷ cs) (suc i) past = short cs i (omega (arith, past))
 
   -- a part is a name of that length at the beginning
+  part-begins : (text n : List ℕ) → (nat_le k (length text) && bytes_eq (take k text) n) ≡ true → (eqb (length n) k && starts_with nat_eq text n) ≡ true
+  part-begins text n h = grind (arith, bytes_eq-Decides, bytes_eq-itself, length-take-le)
+
+  part-whole : (text n : List ℕ) → (eqb (length n) k && starts_with nat_eq text n) ≡ true → (nat_le k (length text) && bytes_eq (take k text) n) ≡ true
+  part-whole text n h = grind (arith, bytes_eq-Decides, bytes_eq-itself, length-take)
+
   part-is : (text n : List ℕ) → (nat_le k (length text) && bytes_eq (take k text) n) ≡ (eqb (length n) k && starts_with nat_eq text n)
   part-is text n =
-      elim (eqb (length n) k) as (λ b. eqb (length n) k ≡ b → (nat_le k (length text) && bytes_eq (take k text) n) ≡ (b && starts_with nat_eq text n)) [
-        | true ↦ λ e.
-            let same : length n ≡ k = eqb-true (length n) k e in
-            subst (λ m. (nat_le k (length text) && bytes_eq (take k text) n) ≡ bytes_eq n (take m text)) (sym same) (whole same)
-        | false ↦ λ e. elim (nat_le k (length text)) as (λ a. nat_le k (length text) ≡ a → (a && bytes_eq (take k text) n) ≡ false) [
-          | true ↦ λ a. elim (bytes_eq (take k text) n) as (λ t. bytes_eq (take k text) n ≡ t → t ≡ false) [
-            | true ↦ λ t.
-                let is : take k text ≡ n = (bytes_eq-Decides (take k text) n).0 t in
-                let enough : k ≤ length text = grind (arith, a) in
-                let long : length n ≡ k = ap length (sym is) ∙ length-take-le k text enough in
-                absurd (let yes : eqb (length n) k ≡ true = grind (arith, long) in false≢true (sym e ∙ yes))
-            | false ↦ λ _. refl
-          ] refl
-          | false ↦ λ _. refl
-        ] refl
-      ] refl where
-        whole : length n ≡ k → (nat_le k (length text) && bytes_eq (take k text) n) ≡ bytes_eq n (take k text)
-        whole same =
-            elim (nat_le k (length text)) as (λ a. nat_le k (length text) ≡ a → (a && bytes_eq (take k text) n) ≡ bytes_eq n (take k text)) [
-              | true ↦ λ _. bytes_eq-turned (take k text) n
-              | false ↦ λ a. elim (bytes_eq n (take k text)) as (λ t. bytes_eq n (take k text) ≡ t → false ≡ t) [
-                | true ↦ λ t.
-                    let is : n ≡ take k text = (bytes_eq-Decides n (take k text)).0 t in
-                    let all : length text ≡ length (take k text) + length (drop k text) = ap length (sym (take-append-drop k text)) ∙ length-append (take k text) (drop k text) in
-                    let long : length n ≡ length (take k text) = ap length is in
-                    absurd (let less : length text < k = grind (arith, a) in omega (arith, less, all, long, same))
-                | false ↦ λ _. refl
-              ] refl
-            ] refl
+      same-tests (nat_le k (length text) && bytes_eq (take k text) n) (eqb (length n) k && starts_with nat_eq text n) (part-begins text n) (part-whole text n)
 
   -- the parts that are names are the names that stand in the text
   pub windows-stand : 0 < k → (text : List ℕ) → windows_are k names text ≡ stand_of k names text
@@ -91,7 +67,7 @@ module _ (k : ℕ) (names : List (List ℕ)) where
     none [] = let other : eqb (length {A = ℕ} []) k ≡ false = grind (arith, some) in ap (λ b. b && bytes_eq [] []) other
     none (c ∷ n) = and-false (eqb (length (c ∷ n)) k)
   windows-stand some (c ∷ cs) =
-      simp (any-and, any-same, part-is, any-or, and-or_distrib_left, (windows-stand some cs))
+      simp (any-and, part-is, any-or, and-or_distrib_left, (windows-stand some cs))
 
 -- the longest name, length by length
 module _ (text : List ℕ) (k : ℕ) where
@@ -105,17 +81,7 @@ module _ (text : List ℕ) (k : ℕ) where
 
   stands-least : (names : List (List ℕ)) (best : ℕ) → stand_of k names text ≡ true → k ≤ fold (longer text k) best names
   stands-least [] best h = absurd (false≢true h)
-  stands-least (n ∷ names) best h =
-      elim (eqb (length n) k && holds n text) as (λ b. (eqb (length n) k && holds n text) ≡ b → (b || stand_of k names text) ≡ true → k ≤ fold (longer text k) best (n ∷ names)) [
-        | true ↦ λ e _.
-            let parts = and_parts (eqb (length n) k) (holds n text) e in
-            let same : length n ≡ k = eqb-true (length n) k parts.0 in
-            let le : nat_le (length n) k ≡ true = grind (arith, same) in
-            let least : length n ≤ longer text k best n = longer-least text k best n le parts.1 in
-            let more : longer text k best n ≤ fold (longer text k) (longer text k best n) names = fold-more text k names (longer text k best n) in
-            omega (arith, same, least, more)
-        | false ↦ λ _ rest. stands-least names (longer text k best n) rest
-      ] refl h
+  stands-least (n ∷ names) best h = grind (arith, longer-least, fold-more, (stands-least names (longer text k best n)))
 
   pub longest-stands : (names : List (List ℕ)) → stand_of k names text ≡ true → longest_in text k names ≡ k
   longest-stands names h = grind (arith, stands-least, longest-bound)
@@ -163,7 +129,6 @@ module _ (text : List ℕ) (utf8 : IsUtf8 text) (i k : ℕ) (some : 0 < k) (with
   pub no-part : ((IsCharBoundary text i) → (IsCharBoundary text (i + k)) → ⊥) → (es : List (String Global × String Global)) → list_any (bytes_eq (take k (drop i text))) (old_names (map pair_of es)) ≡ false
   no-part never [] = refl
   no-part never (e ∷ es) =
-      elim (bytes_eq (take k (drop i text)) (string_bytes e.0)) as (λ t. bytes_eq (take k (drop i text)) (string_bytes e.0) ≡ t → (t || list_any (bytes_eq (take k (drop i text))) (old_names (map pair_of es))) ≡ false) [
-        | true ↦ λ t. let cut = part-cut (string_bytes e.0) (IsUtf8-string_bytes e.0) ((bytes_eq-Decides (take k (drop i text)) (string_bytes e.0)).0 t) in absurd (never cut.0 cut.1)
-        | false ↦ λ _. no-part never es
-      ] refl
+      or_from (bytes_eq (take k (drop i text)) (string_bytes e.0)) _
+      (false_from_ne_true _ (λ t.
+      let cut = part-cut (string_bytes e.0) (IsUtf8-string_bytes e.0) ((bytes_eq-Decides (take k (drop i text)) (string_bytes e.0)).0 t) in never cut.0 cut.1)) (no-part never es)

@@ -17,14 +17,8 @@ run_with words = (0, codes "/b/gcc", words) ∷ []
 abbrev pub OneKernelIsClean : Type 0
 OneKernelIsClean = is_clean standard_suffixes one_kernel_commands ≡ true
 
-pub one_kernel_is_clean : OneKernelIsClean
-one_kernel_is_clean = refl
-
 abbrev pub ReferenceIsNotClean : Type 0
 ReferenceIsNotClean = is_clean standard_suffixes (run_with (codes "k.cudafe1.c" ∷ codes "-I=k.cudafe1.c" ∷ [])) ≡ false
-
-pub reference_is_not_clean : ReferenceIsNotClean
-reference_is_not_clean = refl
 
 -- the one-kernel dry run and the same run with other names of its generated files are alike
 abbrev pub OneKernelIsAlike : Type 0

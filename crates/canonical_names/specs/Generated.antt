@@ -1,5 +1,5 @@
 -- Generated words: those that name a file that nvcc generates.
-use Rattle.std.specs.Prelude.{◌≡◌, ℕ, List, [], ◌∷◌, Bool, true, false, ◌==◌, ◌&&◌, nat_eq, if◌then◌else◌, Option, Some, None, is_some, refl, codes, option_map}
+use Rattle.std.specs.Prelude.{◌≡◌, ℕ, List, [], ◌∷◌, Bool, true, false, ◌==◌, ◌&&◌, nat_eq, if◌then◌else◌, Option, Some, None, is_some, refl, codes, map, option_map}
 use Rattle.std.specs.List.{find, starts_with, ends_with}
 
 -- the suffixes of the files that nvcc generates
@@ -42,21 +42,13 @@ is_generated suffixes word = is_some (class_of suffixes word)
 abbrev pub generated_name : List (List ℕ) → List ℕ → Option (List ℕ)
 generated_name suffixes word = option_map (λ _. core_of word) (class_of suffixes word)
 
--- Examples: several `-Fi` count as one head; an option's word isn't generated.
-pub core_after_two_marks : core_of (codes "-Fi-Fik.cpp1.ii") ≡ codes "k.cpp1.ii"
-core_after_two_marks = refl
-
-pub head_of_two_marks : head_of (codes "-Fi-Fik.cpp1.ii") ≡ codes "-Fi"
-head_of_two_marks = refl
+-- Examples: several `-Fi` count as one head; a lone suffix is generated, an option's word isn't.
+pub two_marks : (head_of (codes "-Fi-Fik.cpp1.ii") ∷ core_of (codes "-Fi-Fik.cpp1.ii") ∷ []) ≡ codes "-Fi" ∷ codes "k.cpp1.ii" ∷ []
+two_marks = refl
 
 pub class_of_stub : class_of standard_suffixes (codes "a/k.cudafe1.stub.c") ≡ Some (codes ".cudafe1.stub.c")
 class_of_stub = refl
 
-pub option_is_not_generated : is_generated standard_suffixes (codes "-I=k.cudafe1.c") ≡ false
-option_is_not_generated = refl
-
-pub lone_suffix_is_generated : is_generated standard_suffixes (codes ".cpp1.ii") ≡ true
-lone_suffix_is_generated = refl
-
-pub device_file_is_not_generated : is_generated standard_suffixes (codes "kernel.cudafe1.gpu") ≡ false
-device_file_is_not_generated = refl
+pub words_that_are_generated :
+    map (is_generated standard_suffixes) (codes ".cpp1.ii" ∷ codes "-I=k.cudafe1.c" ∷ codes "kernel.cudafe1.gpu" ∷ []) ≡ true ∷ false ∷ false ∷ []
+words_that_are_generated = refl

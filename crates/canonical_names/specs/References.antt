@@ -3,29 +3,19 @@ use Rattle.std.specs.Prelude.{ℕ, List, [], ◌∷◌, Bool, false, ◌==◌, �
 use Rattle.std.specs.List.{list_any}
 use Rattle.compilers.specs.Replacing.{replaced}
 use Rattle.canonical_names.specs.Alike.{holds}
+use Rattle.canonical_names.specs.Renaming.{insert_by}
 
 -- a text with the first name of each pair replaced by the second, one after the other
-abbrev pub replaced_by : List ℕ → List ℕ × List ℕ → List ℕ
-replaced_by text p = replaced p.0 p.1 text
-
 abbrev pub replaced_by_all : List (List ℕ × List ℕ) → List ℕ → List ℕ
-replaced_by_all pairs text = fold replaced_by text pairs
-
--- inserts a pair into a list of pairs, after all whose names are at least as long
-abbrev pub insert_pair : List (List ℕ × List ℕ) → List ℕ × List ℕ → List (List ℕ × List ℕ)
-insert_pair [] p = p ∷ []
-insert_pair (q ∷ qs) p = if nat_lt (length q.0) (length p.0) then p ∷ q ∷ qs else q ∷ insert_pair qs p
+replaced_by_all pairs text = fold (λ t p. replaced p.0 p.1 t) text pairs
 
 -- pairs, those of the longest names first
 abbrev pub longest_pairs_first : List (List ℕ × List ℕ) → List (List ℕ × List ℕ)
-longest_pairs_first pairs = fold insert_pair [] pairs
+longest_pairs_first pairs = fold (insert_by (λ p. length p.0)) [] pairs
 
 -- a text with the names of a length replaced, in their order
-abbrev pub replaced_of : ℕ → List ℕ → List ℕ × List ℕ → List ℕ
-replaced_of k text p = if length p.0 == k then replaced p.0 p.1 text else text
-
 abbrev pub replaced_by_length : ℕ → List (List ℕ × List ℕ) → List ℕ → List ℕ
-replaced_by_length k pairs text = fold (replaced_of k) text pairs
+replaced_by_length k pairs text = fold (λ t p. if length p.0 == k then replaced p.0 p.1 t else t) text pairs
 
 -- the length of the longest name in a text of at most so many bytes; 0 if there is none
 abbrev pub longer : List ℕ → ℕ → ℕ → List ℕ → ℕ

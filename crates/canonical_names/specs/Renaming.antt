@@ -42,14 +42,14 @@ canonical_or seen name (Some class) = canonical_in seen name class
 abbrev pub canonical_name : List (List ℕ) → List (List ℕ) → List ℕ → List ℕ
 canonical_name suffixes seen name = canonical_or seen name (class_of_name suffixes name)
 
--- inserts a name into a list of names, after all that are at least as long
-abbrev pub insert_by_length : List (List ℕ) → List ℕ → List (List ℕ)
-insert_by_length [] name = name ∷ []
-insert_by_length (n ∷ ns) name = if nat_lt (length n) (length name) then name ∷ n ∷ ns else n ∷ insert_by_length ns name
+-- inserts into a list, after all that are at least as long
+abbrev pub insert_by : {A : Type 0} → (A → ℕ) → List A → A → List A
+insert_by size [] x = x ∷ []
+insert_by size (y ∷ ys) x = if nat_lt (size y) (size x) then x ∷ y ∷ ys else y ∷ insert_by size ys x
 
 -- names, the longest first, and equally long ones in their order
 abbrev pub longest_first : List (List ℕ) → List (List ℕ)
-longest_first names = fold insert_by_length [] names
+longest_first names = fold (insert_by length) [] names
 
 -- a text that refers to generated files: each name seen is replaced by its canonical name, one name after the other,
 -- the longest first

@@ -16,9 +16,7 @@ LongestReferenceFirst =
 
 -- a reference before its name has appeared stays as it is
 abbrev pub EarlyReferenceStays : Type 0
-EarlyReferenceStays =
-    renames (codes "-I=k.cudafe1.c" ∷ codes "k.cudafe1.c" ∷ []) ≡
-    codes "-I=k.cudafe1.c" ∷ codes "x_0.cudafe1.c" ∷ []
+EarlyReferenceStays = renames (codes "-I=k.cudafe1.c" ∷ codes "k.cudafe1.c" ∷ []) ≡ codes "-I=k.cudafe1.c" ∷ codes "x_0.cudafe1.c" ∷ []
 
 -- of several `-Fi` one is left
 abbrev pub OneMarkIsLeft : Type 0
@@ -34,13 +32,11 @@ FolderLosesItsDot = renames (codes "a/./k.cpp4.ii" ∷ []) ≡ codes "a/x_0.cpp4
 -- equal names become equal names, and different ones different ones
 abbrev pub FirstNameComesAgain : Type 0
 FirstNameComesAgain =
-    renames (codes "a.cudafe1.c" ∷ codes "b.cudafe1.c" ∷ codes "a.cudafe1.c" ∷ []) ≡
-    codes "x_0.cudafe1.c" ∷ codes "x_1.cudafe1.c" ∷ codes "x_0.cudafe1.c" ∷ []
+    renames (codes "a.cudafe1.c" ∷ codes "b.cudafe1.c" ∷ codes "a.cudafe1.c" ∷ []) ≡ codes "x_0.cudafe1.c" ∷ codes "x_1.cudafe1.c" ∷ codes "x_0.cudafe1.c" ∷ []
 
 abbrev pub SecondNameComesAgain : Type 0
 SecondNameComesAgain =
-    renames (codes "a.cudafe1.c" ∷ codes "b.cudafe1.c" ∷ codes "b.cudafe1.c" ∷ []) ≡
-    codes "x_0.cudafe1.c" ∷ codes "x_1.cudafe1.c" ∷ codes "x_1.cudafe1.c" ∷ []
+    renames (codes "a.cudafe1.c" ∷ codes "b.cudafe1.c" ∷ codes "b.cudafe1.c" ∷ []) ≡ codes "x_0.cudafe1.c" ∷ codes "x_1.cudafe1.c" ∷ codes "x_1.cudafe1.c" ∷ []
 
 -- the one-kernel dry run, and the same run with other names of its generated files, have the same canonical run
 abbrev pub OneKernelIsRenamed : Type 0

@@ -7,26 +7,18 @@ use Rattle.canonical_names.specs.CanonicalNames.{AreSuffixes}
 use Rattle.canonical_names.specs.Generated.{class_of_name}
 use Rattle.canonical_names.specs.Renaming.{names_of_run, renamed}
 
--- names keep their folder; they keep their class; different ones stay different
-abbrev pub KeepsFolder : List (List ℕ) → (List ℕ → List ℕ) → Type 0
-KeepsFolder names f = (n : List ℕ) → Contains names n → folder_of (f n) ≡ folder_of n
-
-abbrev pub KeepsClass : List (List ℕ) → List (List ℕ) → (List ℕ → List ℕ) → Type 0
-KeepsClass suffixes names f = (n : List ℕ) → Contains names n → class_of_name suffixes (f n) ≡ class_of_name suffixes n
-
-abbrev pub IsOneToOne : List (List ℕ) → (List ℕ → List ℕ) → Type 0
-IsOneToOne names f = (m n : List ℕ) → Contains names m → Contains names n → f m ≡ f n → m ≡ n
-
 -- two runs are alike by a map of names that needn't be one-to-one, or that needn't keep folders
 abbrev pub AlikeByAnyMap : List (List ℕ) → List CommandLine → List CommandLine → Type 0
 AlikeByAnyMap suffixes first second =
-    (f : List ℕ → List ℕ) × KeepsFolder (names_of_run suffixes first) f × KeepsClass suffixes (names_of_run suffixes first) f ×
-    (map (command_through suffixes f) first ≡ map (command_through suffixes (λ n. n)) second)
+    (f : List ℕ → List ℕ) × ((n : List ℕ) → Contains (names_of_run suffixes first) n → folder_of (f n) ≡ folder_of n)
+    × ((n : List ℕ) → Contains (names_of_run suffixes first) n → class_of_name suffixes (f n) ≡ class_of_name suffixes n)
+    × (map (command_through suffixes f) first ≡ map (command_through suffixes (λ n. n)) second)
 
 abbrev pub AlikeInOtherFolders : List (List ℕ) → List CommandLine → List CommandLine → Type 0
 AlikeInOtherFolders suffixes first second =
-    (f : List ℕ → List ℕ) × IsOneToOne (names_of_run suffixes first) f × KeepsClass suffixes (names_of_run suffixes first) f ×
-    (map (command_through suffixes f) first ≡ map (command_through suffixes (λ n. n)) second)
+    (f : List ℕ → List ℕ) × ((m n : List ℕ) → Contains (names_of_run suffixes first) m → Contains (names_of_run suffixes first) n → f m ≡ f n → m ≡ n)
+    × ((n : List ℕ) → Contains (names_of_run suffixes first) n → class_of_name suffixes (f n) ≡ class_of_name suffixes n)
+    × (map (command_through suffixes f) first ≡ map (command_through suffixes (λ n. n)) second)
 
 -- runs that are alike in some way; one needn't be clean, or both are
 abbrev pub AreAlikeFirstUnclean : List (List ℕ) → List CommandLine → List CommandLine → Type 0

@@ -39,11 +39,8 @@ AcceptedAreSuffixes = (suffixes : List (List ℕ)) → are_suffixes suffixes ≡
 
 -- Examples: the standard suffixes, and one more; then an empty list, one without cicc's input, suffixes that overlap or
 -- are listed twice, and texts that aren't suffixes: an empty one, one with a slash, without a dot, and with one at the end.
-pub standard_are_accepted : are_suffixes standard_suffixes ≡ true
-standard_are_accepted = refl
-
-pub one_more_is_accepted : are_suffixes (codes ".cudafe1.gpu" ∷ standard_suffixes) ≡ true
-one_more_is_accepted = refl
+pub lists_are_accepted : list_all are_suffixes (standard_suffixes ∷ (codes ".cudafe1.gpu" ∷ standard_suffixes) ∷ []) ≡ true
+lists_are_accepted = refl
 
 pub odd_lists_are_refused :
     list_any are_suffixes ([] ∷ (codes ".cpp4.ii" ∷ []) ∷ (codes ".gpu" ∷ codes ".cudafe1.gpu" ∷ standard_suffixes) ∷ []) ≡ false

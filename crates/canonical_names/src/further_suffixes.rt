@@ -15,7 +15,7 @@ fn push_suffix(alloc: Global, words: &mut Words, suffix: Option<&str>) -> Result
 {
     match suffix {
         None => Ok(()),
-        Some(suffix) => words.push(String::from_str(alloc, suffix)?),
+        Some(suffix) => words.push_str(alloc, suffix),
     }
 }
 

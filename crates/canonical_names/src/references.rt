@@ -17,23 +17,16 @@ pub(crate) fn holds(text: &str, part: &str) -> bool
     text.contains(part)
 }
 
-// `text` with each `old`, which isn't empty, replaced by `new`.
-fn replace(alloc: Global, text: &str, old: &str, new: &str) -> Result<String, AllocError>
+// A text with each `old`, which isn't empty, replaced by `new`; no copy if it doesn't contain `old`.
+fn replace(alloc: Global, whole: String, old: &str, new: &str) -> Result<String, AllocError>
     requires { 0 < length old.now }
-    ensures { IfOk result (λ t. string_bytes t ≡ replaced old.now new.now text.now) }
+    ensures { IfOk result (λ t. string_bytes t ≡ replaced old.now new.now (string_bytes whole)) }
 {
-    text.replace(alloc, old, new)
-}
-
-// The same, without a copy if `text` doesn't contain `old`.
-fn replace_held(alloc: Global, text: String, old: &str, new: &str) -> Result<String, AllocError>
-    requires { 0 < length old.now }
-    ensures { IfOk result (λ t. string_bytes t ≡ replaced old.now new.now (string_bytes text)) }
-{
-    if !holds(text.as_str(), old) {
-        return Ok(text);
+    let text = whole.as_str();
+    if !holds(text, old) {
+        return Ok(whole);
     }
-    replace(alloc, text.as_str(), old, new)
+    text.replace(alloc, old, new)
 }
 
 // `text` with each name of `length` bytes replaced by its canonical name, in their order.
@@ -49,7 +42,7 @@ fn replace_of(
     let mut new = text;
     for (name, canonical) in names.iter() {
         if name.len() == length {
-            new = replace_held(alloc, new, name.as_str(), canonical.as_str())?;
+            new = replace(alloc, new, name.as_str(), canonical.as_str())?;
         }
     }
     Ok(new)

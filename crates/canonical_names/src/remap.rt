@@ -1,7 +1,6 @@
 //! Replaces generated names in the words of commands by canonical ones.
 
 ghost use Rattle.std.specs.Prelude.{◌≡◌, ◌⊎◌, ◌++◌, ◌∷◌, [], ℕ, map, take, IfOk, OnOk, OnErr, string_bytes, option_map, unwrap_or};
-ghost use Rattle.compilers.specs.CommandLines.{line_seen, words_of_command};
 ghost use Rattle.texts.specs.Lists.{with_name};
 ghost use Rattle.canonical_names.specs.Counted.{class_of_core};
 ghost use Rattle.canonical_names.specs.Renaming as spec;
@@ -44,12 +43,17 @@ fn remap_word(
     Ok(Some(with_head(alloc, word, new)?))
 }
 
-fn or_copy(alloc: Global, new: Option<String>, word: &str) -> Result<String, AllocError>
-    ensures { IfOk result (λ t. string_bytes t ≡ unwrap_or (option_map string_bytes new) word.now) }
+fn push_or_copy(
+    alloc: Global,
+    words: &mut Words,
+    new: Option<String>,
+    word: &str,
+) -> Result<(), AllocError>
+    ensures { OnOk result (words.new ≡ words.old ++ unwrap_or (option_map string_bytes new) word.now ∷ []) }
 {
     match new {
-        None => String::from_str(alloc, word),
-        Some(new) => Ok(new),
+        None => words.push_str(alloc, word),
+        Some(new) => words.push(new),
     }
 }
 
@@ -80,7 +84,7 @@ pub fn remap_generated_filenames(
     for word in args {
         let text = word.as_str();
         let new = remap_word(alloc, text, renames)?;
-        words.push(or_copy(alloc, new, text)?)?;
+        push_or_copy(alloc, &mut words, new, text)?;
     }
     Ok(words)
 }
@@ -102,23 +106,6 @@ fn remap_words(
     Ok(renamed)
 }
 
-fn push_remapped(
-    alloc: Global,
-    command: (usize, String, Vec<String>),
-    renames: &mut Renames,
-    renamed: &mut Vec<(usize, String, Vec<String>)>,
-) -> Result<(), AllocError>
-    ensures names { OnOk result (renames.new
-        ≡ (renames.old.0, spec.seen_after renames.old.0 renames.old.1 (words_of_command (line_seen command)))) }
-    ensures commands { OnOk result (map line_seen renamed.new.items ≡ map line_seen renamed.old.items
-        ++ spec.with_words (line_seen command) (spec.renamed_words renames.old.0 renames.old.1 (words_of_command (line_seen command))) ∷ []) }
-{
-    let (line, program, words) = command;
-    let words = remap_words(alloc, words, renames)?;
-    renamed.push((line, program, words))?;
-    Ok(())
-}
-
 /// Replaces the generated names in all commands of a run by canonical ones. The names of earlier commands count
 /// for later ones.
 pub fn remap_commands(
@@ -131,7 +118,9 @@ pub fn remap_commands(
     let mut renames = Renames::new(alloc, suffixes)?;
     let mut renamed = Vec::new(alloc);
     for command in commands.into_vec() {
-        push_remapped(alloc, command, &mut renames, &mut renamed)?;
+        let (line, program, words) = command;
+        let words = remap_words(alloc, words, &mut renames)?;
+        renamed.push((line, program, words))?;
     }
     Ok(Commands::from_vec(renamed))
 }

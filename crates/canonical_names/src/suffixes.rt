@@ -40,19 +40,6 @@ impl Model for Suffixes {
     ghost invariant = { λ s. are_suffixes (suffixes_or_standard s.handed) ≡ true };
 }
 
-fn standard_suffix(index: usize) -> Option<&'static str>
-    ensures { option_copied result ≡ slice_get standard_suffixes index }
-{
-    match index {
-        0 => Some(".cpp1.ii"),
-        1 => Some(".cpp4.ii"),
-        2 => Some(".cudafe1.c"),
-        3 => Some(".cudafe1.cpp"),
-        4 => Some(".cudafe1.stub.c"),
-        _ => None,
-    }
-}
-
 /// Whether a text begins with `.`, ends in an ASCII letter or digit, and contains no `/`.
 pub fn is_suffix(text: &str) -> bool
     ensures { result ≡ spec.is_suffix text.now }
@@ -158,8 +145,15 @@ impl Suffixes {
         ensures { option_copied result ≡ slice_get self.now index }
     {
         match &self.handed {
-            None => standard_suffix(index),
-            Some(words) => word_at(words.as_slice(), index),
+            Some(words) => Some(words.as_slice().get(index)?.as_str()),
+            None => match index {
+                0 => Some(".cpp1.ii"),
+                1 => Some(".cpp4.ii"),
+                2 => Some(".cudafe1.c"),
+                3 => Some(".cudafe1.cpp"),
+                4 => Some(".cudafe1.stub.c"),
+                _ => None,
+            },
         }
     }
 
@@ -299,12 +293,6 @@ fn are_equal(one: Option<&str>, other: Option<&str>) -> bool
         (Some(one), Some(other)) => one == other,
         _ => false,
     }
-}
-
-fn word_at(words: &[String], index: usize) -> Option<&str>
-    ensures { option_copied result ≡ slice_get (map string_bytes words.now) index }
-{
-    Some(words.get(index)?.as_str())
 }
 
 impl PartialEq for Suffixes {

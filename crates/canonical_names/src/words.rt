@@ -1,8 +1,7 @@
 //! The words of a dry run: their heads and cores.
 
-ghost use Rattle.std.specs.Prelude.{◌≡◌, ◌++◌, nat_eq, codes, IfOk, string_bytes, option_copied};
+ghost use Rattle.std.specs.Prelude.{◌≡◌, ◌++◌, nat_eq, codes, IfOk, string_bytes};
 ghost use Rattle.std.specs.List.{starts_with};
-ghost use Rattle.texts.specs.Lists.{rest_after};
 ghost use Rattle.canonical_names.specs.Generated as spec;
 
 use std::alloc::{AllocError, Global};
@@ -13,18 +12,12 @@ pub(crate) fn is_marked(word: &str) -> bool
     word.as_bytes().starts_with(b"-Fi")
 }
 
-fn unmarked(word: &str) -> Option<&str>
-    ensures { option_copied result ≡ rest_after (codes "-Fi") word.now }
-{
-    word.strip_prefix("-Fi")
-}
-
 // The core of a word: what is left without every `-Fi` that it begins with.
 pub(crate) fn core(word: &str) -> &str
     ensures { result.now ≡ spec.core_of word.now }
 {
     let mut rest = word;
-    while let Some(front) = unmarked(rest) {
+    while let Some(front) = rest.strip_prefix("-Fi") {
         rest = front;
     }
     rest

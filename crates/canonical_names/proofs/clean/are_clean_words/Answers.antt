@@ -1,5 +1,4 @@
-use Rattle.std.proofs.Common.{◌≡◌, ◌∙◌, sym, rules, map, string_bytes, tests}
-use Rattle.std.specs.List.{list_all}
+use Rattle.std.proofs.Common.{◌∙◌, sym, rules, map, string_bytes, tests}
 use Rattle.std.proofs.lemmas.List.Folds.{list_all-map}
 use Rattle.std.proofs.lemmas.Iterator.{YieldsList-from_slice}
 use Rattle.std.proofs.lemmas.Iterator.Search.{all_from_yields_List}
@@ -11,6 +10,6 @@ use Rattle.canonical_names.proofs.clean.are_clean_words.Goals as goal
 pub returns : goal.returns
 returns c =
     let clean = is_clean_word c.args.suffixes.now (names_of_run c.args.suffixes.now (map line_seen c.args.commands.now)) in
-    let all : c.all.result ≡ list_all (λ x. clean (string_bytes x)) c.args.words.now =
-    all_from_yields_List (λ x. clean (string_bytes x)) _ _ c.all.result c.all.ensures.ran (YieldsList-from_slice c.args.words.now (search rules)) (λ x b q k. search (rules, tests)) in
-    all ∙ sym (list_all-map clean string_bytes c.args.words.now)
+    all_from_yields_List (λ x. clean (string_bytes x)) _ _ c.all.result c.all.ensures.ran
+    (YieldsList-from_slice c.args.words.now (search rules)) (λ x b q k. search (rules, tests))
+    ∙ sym (list_all-map clean string_bytes c.args.words.now)

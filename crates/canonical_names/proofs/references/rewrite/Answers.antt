@@ -1,4 +1,4 @@
-use Rattle.std.proofs.Common.{◌≡◌, ◌-◌, map, ap, sym, ◌∙◌, arith, string_bytes}
+use Rattle.std.proofs.Common.{◌≡◌, ◌-◌, map, ap, sym, ◌∙◌, length, arith, string_bytes}
 use Rattle.texts.specs.Variables.{pair_of}
 use Rattle.canonical_names.specs.Counted.{old_names}
 use Rattle.canonical_names.specs.References.{replaced_by_all, longest_pairs_first, longest_in}
@@ -6,7 +6,12 @@ use Rattle.canonical_names.proofs.LengthLemmas.{up_to, longest-begun, longest-bo
 use Rattle.canonical_names.proofs.references.rewrite.Goals as goal
 
 pub loop-longest-init : goal.loop-longest-init
-loop-longest-init c = grind (arith, longest-next, longest-begun)
+loop-longest-init c =
+    let pairs = map pair_of c.args.names.now.entries in
+    let text = c.args.text.now in
+    ap (λ n. replaced_by_all (longest_pairs_first (up_to n pairs)) (string_bytes c.in_ok-new.new)) c.longest_in-longest.ensures
+    ∙ ap (replaced_by_all (longest_pairs_first (up_to (longest_in text (length text) (old_names pairs)) pairs))) c.in_ok-new.ensures.ok
+    ∙ sym (longest-next text (length text) pairs) ∙ sym (longest-begun pairs text)
 
 pub loop-longest-smaller : goal.loop-longest-smaller
 loop-longest-smaller c = grind (arith, longest-bound)

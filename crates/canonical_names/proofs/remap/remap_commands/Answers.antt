@@ -1,5 +1,6 @@
-use Rattle.std.proofs.Common.{◌≡◌, ℕ, List, [], ◌∷◌, ◌++◌, ◌∙◌, ap, sym, subst, map, append-nil}
-use Rattle.std.proofs.lemmas.List.{nil_from_length}
+use Rattle.std.proofs.Common.{◌≡◌, [], ◌∷◌, ◌++◌, ◌∙◌, ap, sym, subst, map, append-nil, arith}
+use Rattle.std.proofs.lemmas.Grind.{common_steps}
+use Rattle.std.proofs.lemmas.List.{nil_from_length, map-append}
 use Rattle.compilers.specs.CommandLines.{line_seen, words_of_command}
 use Rattle.canonical_names.specs.Renaming.{seen_after, renamed, renamed_after, renamed_words, with_words}
 use Rattle.canonical_names.proofs.RemapLemmas.{commands-step}
@@ -9,19 +10,18 @@ pub loop-command-preserved : goal.loop-command-preserved
 loop-command-preserved c =
     let suffixes = c.args.suffixes.now in
     let before = c.loop-command.renames in
-    let after = c.push_remapped.new.renames in
+    let after = c.remap_words.new.renames in
     let done = map line_seen c.loop-command.renamed.items in
     let command = line_seen c.in-Some.command in
     let rest = map line_seen c.next.new.self.rest.items in
     let target = renamed suffixes c.args.commands in
     let lists : before.0 ≡ suffixes = c.loop-command.invariant.suffixes in
     let left : map line_seen c.loop-command.command-iterator.rest.items ≡ command ∷ rest = ap (map line_seen) c.in-Some.ensures.steps.0 in
-    let put : map line_seen c.push_remapped.new.renamed.items ≡ done ++ with_words command (renamed_words suffixes before.1 (words_of_command command)) ∷ [] =
-    c.in_ok-push_remapped.ensures.commands ∙ ap (λ s. done ++ with_words command (renamed_words s before.1 (words_of_command command)) ∷ []) lists in
-    let seen : after.1 ≡ seen_after suffixes before.1 (words_of_command command) =
-    ap (λ (r : List (List ℕ) × List (List ℕ)). r.1) c.in_ok-push_remapped.ensures.names ∙ ap (λ s. seen_after s before.1 (words_of_command command)) lists in
+    let put : map line_seen c.push.new.self.items ≡ done ++ with_words command (renamed_words suffixes before.1 (words_of_command command)) ∷ [] =
+    grind (arith, common_steps, map-append) in
+    let seen : after.1 ≡ seen_after suffixes before.1 (words_of_command command) = grind (arith, common_steps) in
     record {
-      suffixes = ap (λ (r : List (List ℕ) × List (List ℕ)). r.0) c.in_ok-push_remapped.ensures.names ∙ lists;
+      suffixes = grind (arith, common_steps);
       commands = ap (λ d. d ++ renamed_after suffixes after.1 rest) put
           ∙ ap (λ names. (done ++ with_words command (renamed_words suffixes before.1 (words_of_command command)) ∷ []) ++ renamed_after suffixes names rest) seen
           ∙ commands-step suffixes before.1 done target rest command (subst (λ cs. done ++ renamed_after suffixes before.1 cs ≡ target) left c.loop-command.invariant.commands);

@@ -40,18 +40,11 @@ returns-in_err-new-clause-refused c =
           (more ∙ ap (λ w. (before.0, seen_after_word before.0 before.1 w)) c.as_str-text.ensures.value)
     ])
 
-pub returns-in_err-push-clause-refused : goal.returns-in_err-push-clause-refused
-returns-in_err-push-clause-refused c =
-    let at = goal.at.returns-in_err-push-clause-refused c in
+pub returns-in_err-push_or_copy-clause-refused : goal.returns-in_err-push_or_copy-clause-refused
+returns-in_err-push_or_copy-clause-refused c =
+    let at = goal.at.returns-in_err-push_or_copy-clause-refused c in
     let first = c.args.renames.now in
-    on-error c.from_residual-in_err-push.result
-    (beginning-seen first _ c.remap_word.new.renames (map string_bytes c.args.args.now) (c.loop-word.word-index + 1) c.loop-word.invariant.suffixes (next at.After-remap_word) (after at.In_ok-new))
-
-pub returns-in_err-or_copy-clause-refused : goal.returns-in_err-or_copy-clause-refused
-returns-in_err-or_copy-clause-refused c =
-    let at = goal.at.returns-in_err-or_copy-clause-refused c in
-    let first = c.args.renames.now in
-    on-error c.from_residual-in_err-or_copy.result
+    on-error c.from_residual-in_err-push_or_copy.result
     (beginning-seen first _ c.remap_word.new.renames (map string_bytes c.args.args.now) (c.loop-word.word-index + 1) c.loop-word.invariant.suffixes (next at.After-remap_word) (after at.In_ok-new))
 
 pub loop-word-preserved : goal.loop-word-preserved
@@ -64,8 +57,8 @@ loop-word-preserved c =
     let rest = map string_bytes (drop (c.loop-word.word-index + 1) args) in
     let left : map string_bytes (drop c.loop-word.word-index args) ≡ word ∷ rest = ap (map string_bytes) (front at.After-remap_word) in
     let seen = after at.In_ok-new in
-    let done : c.push.new.self ≡ c.loop-word.words ++ renamed_word before.0 before.1 word ∷ [] =
-    c.in_ok-push.ensures.ok ∙ ap (λ t. c.loop-word.words ++ t ∷ []) (c.in_ok-or_copy.ensures ∙ c.in_ok-new.ensures.word ∙ ap (renamed_word before.0 before.1) c.as_str-text.ensures.value) in
+    let done : c.push_or_copy.new.words ≡ c.loop-word.words ++ renamed_word before.0 before.1 word ∷ [] =
+    c.in_ok-push_or_copy.ensures ∙ ap (λ t. c.loop-word.words ++ t ∷ []) (c.in_ok-new.ensures.word ∙ ap (renamed_word before.0 before.1) c.as_str-text.ensures.value) in
     record {
       words = rw (seen, done) (words-step before.0 before.1 c.loop-word.words (renamed_words first.0 first.1 (map string_bytes args)) rest word (subst (λ ws. c.loop-word.words ++ renamed_words before.0 before.1 ws ≡ renamed_words first.0 first.1 (map string_bytes args)) left c.loop-word.invariant.words));
       suffixes = ap (λ (r : List (List ℕ) × List (List ℕ)). r.0) seen ∙ c.loop-word.invariant.suffixes;

@@ -1,5 +1,4 @@
-use Rattle.std.proofs.Common.{◌≡◌, ◌∙◌, sym, rules, string_bytes, tests}
-use Rattle.std.specs.List.{list_all}
+use Rattle.std.proofs.Common.{◌∙◌, sym, rules, string_bytes, tests}
 use Rattle.std.proofs.lemmas.List.Folds.{list_all-map}
 use Rattle.std.proofs.lemmas.Iterator.{YieldsList-from_slice}
 use Rattle.std.proofs.lemmas.Iterator.Search.{all_from_yields_List}
@@ -8,6 +7,6 @@ use Rattle.canonical_names.proofs.suffixes.is_apart_from.Goals as goal
 
 pub returns : goal.returns
 returns c =
-    let all : c.all.result ≡ list_all (λ x. is_apart c.args.suffix.now (string_bytes x)) c.args.others.now =
-    all_from_yields_List (λ x. is_apart c.args.suffix.now (string_bytes x)) _ _ c.all.result c.all.ensures.ran (YieldsList-from_slice c.args.others.now (search rules)) (λ x b q k. search (rules, tests)) in
-    all ∙ sym (list_all-map (is_apart c.args.suffix.now) string_bytes c.args.others.now)
+    all_from_yields_List (λ x. is_apart c.args.suffix.now (string_bytes x)) _ _ c.all.result c.all.ensures.ran
+    (YieldsList-from_slice c.args.others.now (search rules)) (λ x b q k. search (rules, tests))
+    ∙ sym (list_all-map (is_apart c.args.suffix.now) string_bytes c.args.others.now)
