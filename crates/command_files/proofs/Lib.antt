@@ -3,6 +3,5 @@ pub mod NeededLemmas
 pub mod OrderLemmas
 pub mod OrderNeedLemmas
 pub mod OverlapLemmas
-pub mod PartLemmas
 pub mod PlanOrderLemmas
 pub mod TouchedLemmas

@@ -1,11 +1,11 @@
 -- Needs by a test: they hold it, and by them the plan's own order is an order.
-use Rattle.std.proofs.Common.{◌≡◌, ℕ, zero, suc, ◌+◌, ◌<◌, List, [], ◌∷◌, ◌++◌, Bool, true, false, cond, ◌||◌, ◌==◌, length, take, get_or, refl, sym, ap, subst, ◌∙◌, arith, append_assoc, append-nil, get_or-take, length-take-le}
+use Rattle.std.proofs.Common.{◌≡◌, ℕ, zero, suc, ◌+◌, ◌<◌, List, [], ◌∷◌, ◌++◌, Bool, true, ◌==◌, length, take, get_or, refl, sym, ap, subst, ◌∙◌, arith, append_assoc, append-nil, get_or-take, length-take-le}
 use Rattle.std.specs.List.{list_all, range_with_len}
-use Rattle.std.proofs.lemmas.Bool.{false≢true, eqb-true, eq-eqb}
+use Rattle.std.proofs.lemmas.Bool.{false≢true, eq-eqb}
 use Rattle.std.proofs.lemmas.List.Folds.{list_any-append}
 use Rattle.std.proofs.lemmas.List.Sorted.{IsPermutation-refl}
 use Rattle.command_files.specs.Order.{numbers_where, needs_behind, needs_by, is_in, is_ready, needs_at, own_order, NeedsHold, OwnOrderIsOne}
-use Rattle.command_files.proofs.OrderLemmas.{in_either, in_first, in_second, in_both, passes}
+use Rattle.command_files.proofs.OrderLemmas.{in_first, in_second, in_both, passes}
 
 -- there are needs for each command
 pub length-needs_behind : {X : Type 0} (needed : X → X → Bool) (earlier xs : List X) → length (needs_behind needed earlier xs) ≡ length xs
@@ -21,15 +21,7 @@ needs_at_place needed d earlier (x ∷ xs) (suc k) h = simp (append_assoc, (need
 -- all numbers of those that pass are numbers of the list
 pub numbers_below : {X : Type 0} (test : X → Bool) (n : ℕ) (xs : List X) (m : ℕ) → is_in (numbers_where test n xs) m ≡ true → m < n + length xs
 numbers_below test n [] m e = absurd (false≢true e)
-numbers_below test n (x ∷ xs) m e =
-    in_either (is_in (cond (test x) (n ∷ []) []) m) (is_in (numbers_where test (n + 1) xs) m)
-    (λ k. one (test x) k)
-    (λ k. let ih : m < (n + 1) + length xs = numbers_below test (n + 1) xs m k in omega arith)
-    (sym (list_any-append (λ j. j == m) (cond (test x) (n ∷ []) []) (numbers_where test (n + 1) xs)) ∙ e)
-  where
-    one : (b : Bool) → is_in (cond b (n ∷ []) []) m ≡ true → m < n + suc (length xs)
-    one true k = in_either (n == m) false (λ j. let same = eqb-true n m j in omega arith) (λ j. absurd (false≢true j)) k
-    one false k = absurd (false≢true k)
+numbers_below test n (x ∷ xs) m e = grind (arith, list_any-append, (numbers_below test (n + 1) xs m))
 
 -- a command needs each earlier one at which the test holds
 pub needs_each : {X : Type 0} (needed : X → X → Bool) (d : X) (xs : List X) (i j : ℕ) → i < j → j < length xs → needed (get_or xs i d) (get_or xs j d) ≡ true → is_in (needs_at (needs_by needed xs) j) i ≡ true
@@ -62,15 +54,7 @@ ready_in_order needs bound earlier done a (suc n) e known =
     (ready_in_order needs bound earlier (a ∷ done) (a + 1) n (omega arith) known_more)
   where
     known_more : (m : ℕ) → m < a + 1 → is_in (a ∷ done) m ≡ true
-    known_more m h =
-        elim (a == m) as (λ b. (a == m) ≡ b → (b || is_in done m) ≡ true) [
-          | true ↦ λ k. refl
-          | false ↦ λ k. known m (below k)
-        ]
-        refl
-      where
-        below : (a == m) ≡ false → m < a
-        below k = let differ : a ≡ m → ⊥ = λ s. false≢true (sym k ∙ eq-eqb a m s) in omega arith
+    known_more m h = grind (arith, (known m))
 
 pub own_order_ready : {X : Type 0} (needed : X → X → Bool) (d : X) (xs : List X) → is_ready (needs_at (needs_by needed xs)) [] (own_order (needs_by needed xs)) ≡ true
 own_order_ready needed d xs = grind (arith, length-needs_behind, ready_in_order, needs_earlier)

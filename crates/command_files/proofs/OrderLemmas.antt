@@ -100,16 +100,9 @@ exchange_written plan needs a b ea eb h c file w = grind (arith, unseen, or_part
 
 exchange_at : (plan : List Files) (needs : List (List ℕ)) (a b : ℕ) (ea eb : Effect) → Free plan needs a b ea eb → (c : Contents) (file : List ℕ) → ea (eb c) file ≡ eb (ea c) file
 exchange_at plan needs a b ea eb h c file =
-    elim (is_among (files_at plan a).writes file) as (λ x. is_among (files_at plan a).writes file ≡ x → ea (eb c) file ≡ eb (ea c) file) [
-      | true ↦ λ w. exchange_written plan needs a b ea eb h c file w
-      | false ↦ λ u.
-          elim (is_among (files_at plan b).writes file) as (λ x. is_among (files_at plan b).writes file ≡ x → ea (eb c) file ≡ eb (ea c) file) [
-            | true ↦ λ w. sym (exchange_written plan needs b a eb ea (turned_free plan needs a b ea eb h) c file w)
-            | false ↦ λ v. h.within_a.changes (eb c) file u ∙ h.within_b.changes c file v ∙ sym (h.within_b.changes (ea c) file v ∙ h.within_a.changes c file u)
-          ]
-          refl
-    ]
-    refl
+    let first = exchange_written plan needs a b ea eb h c file in
+    let second = exchange_written plan needs b a eb ea (turned_free plan needs a b ea eb h) c file in
+    grind (arith, first, second, (h.within_a.changes (eb c) file), (h.within_b.changes c file), (h.within_b.changes (ea c) file), (h.within_a.changes c file))
 
 -- what a command reads is the same behind another
 reads_same : (plan : List Files) (needs : List (List ℕ)) (a b : ℕ) (ea eb : Effect) → Free plan needs a b ea eb → (c : Contents) (files : List (List ℕ)) → ((file : List ℕ) → is_among files file ≡ true → touches (files_at plan a) file ≡ true) → map (eb c) files ≡ map c files
@@ -190,23 +183,11 @@ times-permutation n xs ys h = sum_by-IsPermutation (mark n) xs ys h
 
 times-in : (n : ℕ) (xs : List ℕ) → is_in xs n ≡ true → 1 ≤ times n xs
 times-in n [] e = absurd (false≢true e)
-times-in n (x ∷ xs) e =
-    let count = times-cons n x xs in
-    in_either (x == n) (is_in xs n)
-    (λ k. let one : mark n x ≡ 1 = ap (λ b. cond b 1 0) k in omega arith)
-    (λ k. let more : 1 ≤ times n xs = times-in n xs k in omega arith) e
+times-in n (x ∷ xs) e = grind (arith, times-cons, (times-in n xs))
 
 in-times : (n : ℕ) (xs : List ℕ) → 1 ≤ times n xs → is_in xs n ≡ true
 in-times n [] h = let none = times-nil n in absurd (omega arith)
-in-times n (x ∷ xs) h =
-    elim (x == n) as (λ b. (x == n) ≡ b → (b || is_in xs n) ≡ true) [
-      | true ↦ λ k. refl
-      | false ↦ λ k.
-          let count = times-cons n x xs in
-          let zero_here : mark n x ≡ 0 = ap (λ b. cond b 1 0) k in
-          in-times n xs (omega arith)
-    ]
-    refl
+in-times n (x ∷ xs) h = grind (arith, times-cons, (in-times n xs))
 
 -- A number's first place.
 
@@ -313,10 +294,7 @@ agree files needs effects (p ∷ ps) os done distinct same fresh swaps ready c =
 
 pub in_range : (a n x : ℕ) → is_in (range_with_len a n) x ≡ true → (a ≤ x) × (x < a + n)
 in_range a zero x e = absurd (false≢true e)
-in_range a (suc n) x e =
-    in_either (a == x) (is_in (range_with_len (a + 1) n) x)
-    (λ k. let same = eqb-true a x k in (omega arith, omega arith))
-    (λ k. let ih : (a + 1 ≤ x) × (x < (a + 1) + n) = in_range (a + 1) n x k in (omega arith, omega arith)) e
+in_range a (suc n) x e = grind (arith, (in_range (a + 1) n x))
 
 range_is_distinct : (a n : ℕ) → Distinct (range_with_len a n)
 range_is_distinct a zero = tt
@@ -324,15 +302,7 @@ range_is_distinct a (suc n) = grind (arith, fails, in_range, (range_is_distinct 
 
 range_has : (a n x : ℕ) → a ≤ x → x < a + n → is_in (range_with_len a n) x ≡ true
 range_has a zero x h k = absurd (omega arith)
-range_has a (suc n) x h k =
-    elim (a == x) as (λ b. (a == x) ≡ b → (b || is_in (range_with_len (a + 1) n) x) ≡ true) [
-      | true ↦ λ e. refl
-      | false ↦ λ e. range_has (a + 1) n x (behind e) (omega arith)
-    ]
-    refl
-  where
-    behind : (a == x) ≡ false → a + 1 ≤ x
-    behind e = let differ : a ≡ x → ⊥ = λ s. false≢true (sym e ∙ eq-eqb a x s) in omega arith
+range_has a (suc n) x h k = grind (arith, (range_has (a + 1) n x))
 
 -- then neither has one place in all orders
 many_places : (needs : List (List ℕ)) (n m : ℕ) → m < length needs → (m ≡ n → ⊥) → are_ordered needs m n ≡ false → has_one_place needs n ≡ false
@@ -361,11 +331,7 @@ range_exchanges plan needs effects holds stay a (suc n) e = (
 -- some of the commands
 in_filter : (test : ℕ → Bool) (xs : List ℕ) (x : ℕ) → is_in (filter test xs) x ≡ true → is_in xs x ≡ true
 in_filter test [] x e = absurd (false≢true e)
-in_filter test (y ∷ ys) x e =
-    (elim (test y) as (λ b. is_in (cond b (y ∷ filter test ys) (filter test ys)) x ≡ true → is_in (y ∷ ys) x ≡ true) [
-      | true ↦ λ k. in_either (y == x) (is_in (filter test ys) x) (λ m. in_first (y == x) (is_in ys x) m) (λ m. in_second (y == x) (is_in ys x) (in_filter test ys x m)) k
-      | false ↦ λ k. in_second (y == x) (is_in ys x) (in_filter test ys x k)
-    ]) e
+in_filter test (y ∷ ys) x e = grind (arith, (in_filter test ys x))
 
 some_distinct : (test : ℕ → Bool) (xs : List ℕ) → Distinct xs → Distinct (filter test xs)
 some_distinct test [] d = tt

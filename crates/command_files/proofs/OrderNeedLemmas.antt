@@ -2,9 +2,8 @@
 use Rattle.std.proofs.Common.{◌≡◌, ℕ, zero, suc, ◌<◌, List, [], ◌∷◌, Bool, true, false, cond, ◌||◌, Some, None, length, refl, arith, bytes_eq}
 use Rattle.std.proofs.lemmas.Bool.{false≢true, or_parts}
 use Rattle.std.proofs.lemmas.List.Sorted.{IsPermutation-append_comm}
-use Rattle.command_files.specs.Files.{Files}
+use Rattle.command_files.specs.Files.{Files, but_reads_written, but_writes_read, but_writes_written}
 use Rattle.command_files.specs.Order.{needs_by, IsOrder, Contents, Effect, files_at, StaysWithin, OrdersAgree}
-use Rattle.command_files.specs.OrderNeeds.{but_reads_written, but_writes_read, but_writes_written}
 use Rattle.command_files.proofs.OrderLemmas.{in_either, in_first}
 use Rattle.command_files.proofs.NeedLemmas.{needs_hold}
 
@@ -73,27 +72,18 @@ reads_must_follow h =
     let same : None ≡ Some one =
     exchanged but_reads_written (putting one_file) (copying other_file one_file) (puts one_file one) (copies other_file one_file) h
     (record { each_once = IsPermutation-append_comm (0 ∷ []) (1 ∷ []); ready = refl })
-    (puts_within (plan_of (putting one_file) (copying other_file one_file)) (needs_by but_reads_written (plan_of (putting one_file) (copying other_file one_file))) 0 one_file one refl)
-    (copies_within (plan_of (putting one_file) (copying other_file one_file)) (needs_by but_reads_written (plan_of (putting one_file) (copying other_file one_file))) 1 other_file one_file refl refl)
-    other_file in
-    cc
+    (puts_within _ _ 0 one_file one refl) (copies_within _ _ 1 other_file one_file refl refl) other_file in cc
 
 pub writes_must_follow_reads : OrdersAgree but_writes_read → ⊥
 writes_must_follow_reads h =
     let same : Some one ≡ None =
     exchanged but_writes_read (copying other_file one_file) (putting one_file) (copies other_file one_file) (puts one_file one) h
     (record { each_once = IsPermutation-append_comm (0 ∷ []) (1 ∷ []); ready = refl })
-    (copies_within (plan_of (copying other_file one_file) (putting one_file)) (needs_by but_writes_read (plan_of (copying other_file one_file) (putting one_file))) 0 other_file one_file refl refl)
-    (puts_within (plan_of (copying other_file one_file) (putting one_file)) (needs_by but_writes_read (plan_of (copying other_file one_file) (putting one_file))) 1 one_file one refl)
-    other_file in
-    cc
+    (copies_within _ _ 0 other_file one_file refl refl) (puts_within _ _ 1 one_file one refl) other_file in cc
 
 pub writes_must_follow_writes : OrdersAgree but_writes_written → ⊥
 writes_must_follow_writes h =
     let same : Some one ≡ Some another =
     exchanged but_writes_written (putting one_file) (putting one_file) (puts one_file one) (puts one_file another) h
     (record { each_once = IsPermutation-append_comm (0 ∷ []) (1 ∷ []); ready = refl })
-    (puts_within (plan_of (putting one_file) (putting one_file)) (needs_by but_writes_written (plan_of (putting one_file) (putting one_file))) 0 one_file one refl)
-    (puts_within (plan_of (putting one_file) (putting one_file)) (needs_by but_writes_written (plan_of (putting one_file) (putting one_file))) 1 one_file another refl)
-    one_file in
-    cc
+    (puts_within _ _ 0 one_file one refl) (puts_within _ _ 1 one_file another refl) one_file in cc

@@ -133,9 +133,7 @@ plan_order_is_one plan = grind (arith, IsPermutation-refl, own_order_ready)
 
 recorded_there : (steps : List Step) (n : ℕ) → n < length steps → list_all (λ s. is_final s.role || is_recorded s) steps ≡ true → is_final (get_or (map (λ s. s.role) steps) n roles.Plain) ≡ false → get_or (map is_recorded steps) n false ≡ true
 recorded_there [] n h keeps other = absurd (omega arith)
-recorded_there (s ∷ steps) zero h keeps other =
-    in_either (is_final s.role) (is_recorded s) (λ e. absurd (false≢true (sym other ∙ e))) (λ e. e)
-    (and_parts (is_final s.role || is_recorded s) (list_all (λ s. is_final s.role || is_recorded s) steps) keeps).0
+recorded_there (s ∷ steps) zero h keeps other = grind (arith, and_parts, in_either)
 recorded_there (s ∷ steps) (suc n) h keeps other =
     recorded_there steps n (omega arith) (and_parts (is_final s.role || is_recorded s) (list_all (λ s. is_final s.role || is_recorded s) steps) keeps).1 other
 

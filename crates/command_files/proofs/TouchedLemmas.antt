@@ -89,10 +89,7 @@ in_below bound (x ∷ xs) m = grind (arith, (in_below bound xs m))
 
 pub in_touching : (bound : ℕ) (numbers : Numbers) (paths : List (List ℕ)) (m : ℕ) → is_in (touching bound numbers paths) m ≡ (nat_lt m bound && list_any (λ path. is_in (numbers path) m) paths)
 in_touching bound numbers [] m = sym (and_false (nat_lt m bound))
-in_touching bound numbers (path ∷ paths) m =
-    list_any-append (λ k. k == m) (below bound (numbers path)) (touching bound numbers paths)
-    ∙ (λ i. in_below bound (numbers path) m i || in_touching bound numbers paths m i)
-    ∙ and_or (nat_lt m bound) (is_in (numbers path) m) (list_any (λ p. is_in (numbers p) m) paths)
+in_touching bound numbers (path ∷ paths) m = simp (list_any-append, in_below, and_or, (in_touching bound numbers paths m))
 
 below_with_number : (n : ℕ) (numbers : Numbers) (path file : List ℕ) → below n (with_number numbers path n file) ≡ below n (numbers file)
 below_with_number n numbers path file = grind (arith, filter-append, ltb-true, append-nil)
@@ -126,13 +123,7 @@ in_touching_either bound readers writers (path ∷ paths) m =
     ∙ crossed (nat_lt m bound) (is_in (writers path) m) (is_in (readers path) m) (list_any (λ p. is_in (readers p) m) paths) (list_any (λ p. is_in (writers p) m) paths)
   where
     crossed : (t w r rs ws : Bool) → (((t && w) || (t && r)) || (t && (rs || ws))) ≡ (t && ((r || rs) || (w || ws)))
-    crossed false w r rs ws = refl
-    crossed true true true rs ws = refl
-    crossed true true false true ws = refl
-    crossed true true false false ws = refl
-    crossed true false true rs ws = refl
-    crossed true false false true ws = refl
-    crossed true false false false ws = refl
+    crossed t w r rs ws = grind arith
 
 pub with_both : (numbers : Numbers) (some others : List (List ℕ)) (n : ℕ) → with_numbers (with_numbers numbers some n) others n ≡ with_numbers numbers (some ++ others) n
 with_both numbers [] others n = refl
@@ -143,15 +134,7 @@ with_both numbers (path ∷ paths) others n = with_both (with_number numbers pat
 -- they begin with the first number
 numbers_from_first : {X : Type 0} (test : X → Bool) (n : ℕ) (xs : List X) (m : ℕ) → is_in (numbers_where test n xs) m ≡ true → n ≤ m
 numbers_from_first test n [] m e = absurd (false≢true e)
-numbers_from_first test n (x ∷ xs) m e =
-    in_either (is_in (cond (test x) (n ∷ []) []) m) (is_in (numbers_where test (n + 1) xs) m)
-    (λ k. one (test x) k)
-    (λ k. let ih : n + 1 ≤ m = numbers_from_first test (n + 1) xs m k in omega arith)
-    (sym (list_any-append (λ j. j == m) (cond (test x) (n ∷ []) []) (numbers_where test (n + 1) xs)) ∙ e)
-  where
-    one : (b : Bool) → is_in (cond b (n ∷ []) []) m ≡ true → n ≤ m
-    one true k = in_either (n == m) false (λ j. let same = eqb-true n m j in omega arith) (λ j. absurd (false≢true j)) k
-    one false k = absurd (false≢true k)
+numbers_from_first test n (x ∷ xs) m e = grind (arith, list_any-append, in_one_or_none, (numbers_from_first test (n + 1) xs m))
 
 holds_both : (a b : Bool) → (a && b) ≡ true → a ≡ true
 holds_both a b h = grind arith

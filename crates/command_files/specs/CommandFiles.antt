@@ -43,11 +43,10 @@ files_of_reading cwd (cannot_cache text word) = unknown_files
 files_of_reading cwd not_compilation = unknown_files
 
 -- cicc also writes the file behind `-olto`, which its reader passes through
-abbrev pub with_written : CommandFiles → List (List ℕ) → CommandFiles
-with_written f more = record { reads = f.reads; writes = f.writes ++ more; may_write = f.may_write; complete = f.complete }
-
 abbrev pub cicc_files : List ℕ → List (List ℕ) → CommandFiles
-cicc_files cwd words = with_written (files_of_reading cwd (cicc_answer cwd words)) (joined_option cwd (word_after (codes "-olto") words))
+cicc_files cwd words =
+    let f = files_of_reading cwd (cicc_answer cwd words) in
+    record { reads = f.reads; writes = f.writes ++ joined_option cwd (word_after (codes "-olto") words); may_write = f.may_write; complete = f.complete }
 
 -- Lines of fatbinary.
 

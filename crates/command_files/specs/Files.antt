@@ -31,3 +31,13 @@ writes_written earlier later = share earlier.writes later.writes
 -- whether a later command needs an earlier one: either writes a file that the other reads or writes
 abbrev pub must_follow : Files → Files → Bool
 must_follow earlier later = reads_written earlier later || (writes_read earlier later || writes_written earlier later)
+
+-- the same, but for one kind of need
+abbrev pub but_reads_written : Files → Files → Bool
+but_reads_written earlier later = writes_read earlier later || writes_written earlier later
+
+abbrev pub but_writes_read : Files → Files → Bool
+but_writes_read earlier later = reads_written earlier later || writes_written earlier later
+
+abbrev pub but_writes_written : Files → Files → Bool
+but_writes_written earlier later = reads_written earlier later || writes_read earlier later

@@ -2,7 +2,6 @@ pub mod CommandFiles
 pub mod Files
 pub mod Numbered
 pub mod Order
-pub mod OrderNeeds
 pub mod Overlap
 pub mod PlanNeeds
 pub mod PlanOrders

@@ -1,5 +1,5 @@
 -- What each command of a plan needs. Commands are numbered in plan order from 0: group after group, as they are run.
-use Rattle.std.specs.Prelude.{◌≡◌, ℕ, ◌+◌, ◌-◌, List, [], ◌∷◌, ◌++◌, Bool, true, false, ◌||◌, ◌==◌, if◌then◌else◌, map, length, codes, refl, bytes_eq}
+use Rattle.std.specs.Prelude.{◌≡◌, ℕ, ◌+◌, ◌-◌, List, [], ◌∷◌, ◌++◌, Bool, true, false, ◌||◌, ◌==◌, if◌then◌else◌, map, length, codes, bytes_eq}
 use Rattle.std.specs.List.{list_any}
 use Rattle.texts.specs.Rows.{spaced}
 use Rattle.compilers.specs.declared.command.Cacheable.TheVariants.{Yes}
@@ -109,9 +109,6 @@ fatbin_plan = record {
 abbrev pub NeedsOfFatbin : Type 0
 NeedsOfFatbin = plan_needs fatbin_plan ≡ [] ∷ (0 ∷ []) ∷ (1 ∷ []) ∷ [] ∷ (1 ∷ 3 ∷ []) ∷ (4 ∷ []) ∷ (0 ∷ 1 ∷ 2 ∷ 3 ∷ 4 ∷ 5 ∷ []) ∷ []
 
-pub needs_of_fatbin : NeedsOfFatbin
-needs_of_fatbin = refl
-
 -- `-c`: cudafe++ runs beside the device preprocess step and writes the module id, which cicc reads
 abbrev pub object_plan : Plan
 object_plan = record {
@@ -134,6 +131,3 @@ abbrev pub NeedsOfObject : Type 0
 NeedsOfObject =
     plan_needs object_plan ≡
     [] ∷ (0 ∷ []) ∷ (0 ∷ []) ∷ (1 ∷ 2 ∷ []) ∷ (3 ∷ []) ∷ (3 ∷ []) ∷ (0 ∷ 1 ∷ 2 ∷ 3 ∷ 4 ∷ 5 ∷ []) ∷ (0 ∷ 1 ∷ 2 ∷ 3 ∷ 4 ∷ 5 ∷ 6 ∷ []) ∷ []
-
-pub needs_of_object : NeedsOfObject
-needs_of_object = refl

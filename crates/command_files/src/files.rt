@@ -124,11 +124,11 @@ fn first_part(image: &str) -> Option<(&str, &str)>
     image.split_once(',')
 }
 
-// The file of an image.
-fn file_of_image(image: &str) -> Option<&str>
-    ensures { option_copied result ≡ spec.file_of_parts (spec.parts_of image.now) }
+// The file of a word that names an image.
+fn image_file(word: &str) -> Option<&str>
+    ensures { option_copied result ≡ spec.image_file word.now }
 {
-    let mut rest = image;
+    let mut rest = rest_of(word, "--image")?;
     while let Some((part, behind)) = first_part(rest) {
         if let Some(path) = rest_of(part, "file=") {
             return Some(path);
@@ -138,29 +138,14 @@ fn file_of_image(image: &str) -> Option<&str>
     rest_of(rest, "file=")
 }
 
-// The file of a word that names an image.
-fn image_file(word: &str) -> Option<&str>
-    ensures { option_copied result ≡ spec.image_file word.now }
-{
-    file_of_image(rest_of(word, "--image")?)
-}
-
-// The files of the images that words name, joined to `cwd`.
-fn image_files(alloc: Global, cwd: &str, words: &[String]) -> Result<Words, AllocError>
-    ensures { IfOk result (λ files. files ≡ spec.image_files cwd.now (map string_bytes words.now)) }
-{
-    let mut files = Words::new(alloc);
-    for word in words {
-        push_joined(alloc, &mut files, cwd, image_file(word.as_str()))?;
-    }
-    Ok(files)
-}
-
 // The files of a fatbinary line.
 fn fatbinary_files(alloc: Global, cwd: &str, words: &[String]) -> Result<CommandFiles, AllocError>
     ensures { IfOk result (λ files. files ≡ spec.fatbinary_files cwd.now (map string_bytes words.now)) }
 {
-    let reads = image_files(alloc, cwd, words)?;
+    let mut reads = Words::new(alloc);
+    for word in words {
+        push_joined(alloc, &mut reads, cwd, image_file(word.as_str()))?;
+    }
     let mut writes = Words::new(alloc);
     push_paths_behind(alloc, &mut writes, cwd, "--create=", words)?;
     push_paths_behind(alloc, &mut writes, cwd, "--embedded-fatbin=", words)?;

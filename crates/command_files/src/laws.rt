@@ -1,8 +1,7 @@
 //! Laws of the orders in which commands may run.
 
-ghost use Rattle.command_files.specs.Files.{must_follow};
+ghost use Rattle.command_files.specs.Files.{must_follow, but_reads_written, but_writes_read, but_writes_written};
 ghost use Rattle.command_files.specs.Order.{OrdersAgree, RunsAgree, NeedsHold, OwnOrderIsOne};
-ghost use Rattle.command_files.specs.OrderNeeds.{but_reads_written, but_writes_read, but_writes_written};
 ghost use Rattle.command_files.specs.Overlap.{OverlapsAgree};
 ghost use Rattle.command_files.specs.PlanNeeds.{NeedsOfFatbin, NeedsOfObject};
 ghost use Rattle.command_files.specs.PlanOrders.{PlanOrdersAgree, PlanRunsAgree, PlanOrderIsOne, FinalHasOnePlace, RecordsSuffice};

@@ -82,23 +82,6 @@ fn numbers_for(needs: &RoleNeeds, role: Role) -> &[usize]
     }
 }
 
-// Notes that the command with a number writes files, and puts the numbers of the earlier ones last that touch one of them.
-fn write_files<'a>(
-    alloc: Global,
-    touched: &mut Touched<'a>,
-    needs: &mut Vec<usize>,
-    number: usize,
-    step: &'a Step,
-) -> Result<(), AllocError>
-    ensures needs { OnOk result (needs.new.items ≡ needs.old.items
-        ++ spec.touching_either number (spec.readers_seen touched.old) (spec.writers_seen touched.old) (spec.written_by step.now)) }
-    ensures readers { OnOk result (spec.readers_seen touched.new ≡ spec.readers_seen touched.old) }
-    ensures writers { OnOk result (spec.writers_seen touched.new ≡ spec.with_numbers (spec.writers_seen touched.old) (spec.written_by step.now) number) }
-{
-    touched.write_all(alloc, needs, number, step.files.writes.as_slice())?;
-    touched.write_all(alloc, needs, number, step.files.may_write.as_slice())
-}
-
 // Where the needs of the command with a number are found, given the files of the earlier ones, to which it adds its own.
 fn gathered<'a>(
     alloc: Global,
@@ -114,7 +97,8 @@ fn gathered<'a>(
 {
     let mut numbers = Vec::new(alloc);
     touched.read_all(alloc, &mut numbers, number, step.files.reads.as_slice())?;
-    write_files(alloc, touched, &mut numbers, number, step)?;
+    touched.write_all(alloc, &mut numbers, number, step.files.writes.as_slice())?;
+    touched.write_all(alloc, &mut numbers, number, step.files.may_write.as_slice())?;
     push_below(&mut numbers, number, others)?;
     Ok(numbers)
 }
@@ -184,13 +168,6 @@ pub fn files_and_needs(alloc: Global, plan: &Plan) -> Result<FilesAndNeeds, Allo
     })
 }
 
-// Whether a role is that of the final group.
-fn is_final(role: Role) -> bool
-    ensures { result ≡ orders.is_final role }
-{
-    matches!(role, Role::Final)
-}
-
 /// Whether the records of a plan's commands say enough of them, so that they may run in each order that follows their needs.
 ///
 /// Final commands need all before them, so nothing is asked of their records. Each other command must have a complete record
@@ -201,5 +178,7 @@ pub fn keeps_orders(alloc: Global, plan: &Plan) -> Result<bool, AllocError>
 {
     let steps = steps_of(alloc, plan)?;
     let mut rest = steps.as_slice().iter();
-    Ok(rest.all(|step| is_final(step.role) || step.files.complete || step.preprocesses))
+    Ok(rest.all(|step| {
+        matches!(step.role, Role::Final) || step.files.complete || step.preprocesses
+    }))
 }
