@@ -1,23 +1,25 @@
--- What environment lines and references come to, within a limit or without.
-use Rattle.std.proofs.Common.{◌≡◌, ℕ, suc, ◌+◌, ◌<◌, Bool, true, false, cond, eqb, eqb-true, not, ◌&&◌, List, [], ◌∷◌, ◌++◌, Option, Some, None, Bor, refl, ap, sym, ◌∙◌, subst, length, take, drop, get_or, append-nil, arith, is_some, one-add, sub-one, ◌-◌, MatchOption, fold, nat_le, option_map, length-append}
-use Rattle.std.specs.List.{position_or_len, prefix_len, list_all, before_first}
+-- What environment lines and references come to, within a limit or without; and the first line of a text.
+use Rattle.std.proofs.Common.{◌≡◌, ℕ, suc, ◌+◌, ◌<◌, Bool, true, false, cond, eqb, eqb-true, not, List, [], ◌∷◌, ◌++◌, Option, Some, None, Bor, refl, ap, sym, ◌∙◌, subst, length, take, drop, get_or, append-nil, arith, is_some, one-add, sub-one, ◌-◌, MatchOption, fold, nat_le, option_map, length-append}
+use Rattle.std.specs.List.{position, position_or_len, prefix_len, before_first}
+use Rattle.std.specs.Str.Lines.{lines, strip_carriage_return}
 use Rattle.std.specs.Cmp.Lexicographic.{pointwise}
-use Rattle.std.proofs.lemmas.Bool.{false≢true, and_parts, not-true}
-use Rattle.std.proofs.lemmas.List.Sums.{split_at_first, passes_at_first}
-use Rattle.std.proofs.lemmas.List.Folds.{length-prefix_len}
+use Rattle.std.proofs.lemmas.Bool.{not-true, not_from_false, false_from_ne_true}
+use Rattle.std.proofs.lemmas.List.Splits.{slice_split_none, slice_split_first, length-slice_split}
+use Rattle.std.proofs.lemmas.List.Sums.{split_at_first, passes_at_first, fails_before_first, prefix_len_is}
 use Rattle.std.proofs.lemmas.Str.Pattern.{IsSplitOnceResult, split_once_first}
-use Rattle.std.proofs.Math.Seq.{take-length, take-append_seam, drop-append_seam}
+use Rattle.std.proofs.Math.Seq.{take-length}
+use Rattle.memchr.specs.Find.{IsFirstByte, is_byte}
 use Rattle.texts.specs.Path.{lacks}
 use Rattle.texts.specs.Lists.{rest_after}
 use Rattle.compilers.specs.Replacing.{replaced_past, replaced}
 use Rattle.texts.specs.Shell.Splitting.{shell_words}
-use Rattle.dry_runs.specs.Environment.{is_name_byte, assigned, assignment, refers, Variable, expanded}
-use Rattle.dry_runs.specs.Reading.{IsCutAt, is_name}
+use Rattle.dry_runs.specs.Environment.{refers, Variable, expanded}
+use Rattle.dry_runs.specs.Reading.{IsCutAt}
 use Rattle.dry_runs.specs.Places.{behind_dollars, refers as refers_by}
 use Rattle.dry_runs.specs.declared.set_variables.Reference.{Reference}
-use Rattle.dry_runs.specs.Limit.{fitting, begun, made, expanded_fitting, expanded_within, words_left}
+use Rattle.dry_runs.specs.Limit.{fitting, made, expanded_fitting, expanded_within, words_left}
 
-pub not-zero : (n : ℕ) → eqb (suc n) 0 ≡ false
+not-zero : (n : ℕ) → eqb (suc n) 0 ≡ false
 not-zero n = grind arith
 
 -- no mark stands before the first one
@@ -35,54 +37,6 @@ cut-once mark bs (Some x) h small =
     let at = split_once_first mark bs (Some x) h small in
     let found : get_or bs (position_or_len (λ b. eqb b mark) bs) 0 ≡ mark = eqb-true _ mark (passes_at_first (λ b. eqb b mark) bs 0 at.0) in
     grind (arith, lacks-before, split_at_first)
-
--- what follows the bytes of a name
-abbrev behind_bytes : List ℕ → List ℕ
-behind_bytes text = drop (prefix_len is_name_byte text) text
-
-abbrev begins_without_equals : List ℕ → Bool
-begins_without_equals [] = true
-begins_without_equals (c ∷ _) = not (eqb c 61)
-
-assignment-is : (text : List ℕ) → assignment text ≡ assigned (take (prefix_len is_name_byte text) text) (behind_bytes text)
-assignment-is text = ap (λ n. assigned (take (prefix_len is_name_byte text) text) (drop n text)) (length-prefix_len is_name_byte text)
-
-assigned-nothing : (name rest : List ℕ) → begins_without_equals rest ≡ true → assigned name rest ≡ None
-assigned-nothing name rest h = grind (arith, false≢true)
-
--- a text without `=` behind its bytes of a name assigns nothing
-behind-lacking : (text : List ℕ) → lacks 61 text ≡ true → begins_without_equals (behind_bytes text) ≡ true
-behind-lacking [] h = refl
-behind-lacking (c ∷ cs) h =
-    let parts = and_parts (not (eqb c 61)) (lacks 61 cs) h in
-    elim (is_name_byte c) as (λ b. begins_without_equals (drop (cond b (1 + prefix_len is_name_byte cs) 0) (c ∷ cs)) ≡ true) [ true ↦ subst (λ n. begins_without_equals (drop n (c ∷ cs)) ≡ true) (sym (one-add (prefix_len is_name_byte cs))) (behind-lacking cs parts.1) | false ↦ parts.0 ]
-
-behind-other : (name rest : List ℕ) → lacks 61 name ≡ true → list_all is_name_byte name ≡ false → begins_without_equals (behind_bytes (name ++ rest)) ≡ true
-behind-other [] rest h other = absurd (false≢true (sym other))
-behind-other (c ∷ cs) rest h other =
-    let parts = and_parts (not (eqb c 61)) (lacks 61 cs) h in
-    elim (is_name_byte c) as (λ b. (b && list_all is_name_byte cs) ≡ false → begins_without_equals (drop (cond b (1 + prefix_len is_name_byte (cs ++ rest)) 0) (c ∷ (cs ++ rest))) ≡ true)
-    [ true ↦ λ k. subst (λ n. begins_without_equals (drop n (c ∷ (cs ++ rest))) ≡ true) (sym (one-add (prefix_len is_name_byte (cs ++ rest)))) (behind-other cs rest parts.1 k) | false ↦ λ k. parts.0 ] other
-
-bytes-all : (name rest : List ℕ) → list_all is_name_byte name ≡ true → prefix_len is_name_byte (name ++ 61 ∷ rest) ≡ length name
-bytes-all [] rest all = refl
-bytes-all (c ∷ cs) rest all = grind (arith, (bytes-all cs rest))
-
-pub assignment-unmarked : (text : List ℕ) → lacks 61 text ≡ true → assignment text ≡ None
-assignment-unmarked text h = assignment-is text ∙ assigned-nothing (take (prefix_len is_name_byte text) text) (behind_bytes text) (behind-lacking text h)
-
-pub assignment-other : (text name value : List ℕ) → text ≡ name ++ 61 ∷ value → lacks 61 name ≡ true → is_name name ≡ false → assignment text ≡ None
-assignment-other text [] value is h other = ap assignment is
-assignment-other text (c ∷ cs) value is h other =
-    let bytes : list_all is_name_byte (c ∷ cs) ≡ false = subst (λ b. (not b && list_all is_name_byte (c ∷ cs)) ≡ false) (not-zero (length cs)) other in
-    let whole : List ℕ = (c ∷ cs) ++ 61 ∷ value in
-    ap assignment is ∙ assignment-is whole ∙ assigned-nothing (take (prefix_len is_name_byte whole) whole) (behind_bytes whole) (behind-other (c ∷ cs) (61 ∷ value) h bytes)
-
-named : (name value : List ℕ) → not (eqb (length name) 0) ≡ true → assigned name (61 ∷ value) ≡ Some (name, value)
-named name value some = grind (arith, false≢true)
-
-pub assignment-named : (text name value : List ℕ) → text ≡ name ++ 61 ∷ value → is_name name ≡ true → assignment text ≡ Some (name, value)
-assignment-named text name value is all = grind (arith, and_parts, assignment-is, bytes-all, take-append_seam, drop-append_seam, named)
 
 -- what follows each `$`, past a text without one
 pub behind-past : (front rest : List ℕ) → lacks 36 front ≡ true → behind_dollars (front ++ rest) ≡ behind_dollars rest
@@ -143,12 +97,6 @@ pub fitting-none : (env : List Variable) → fold expanded_fitting None env ≡ 
 fitting-none [] = refl
 fitting-none (v ∷ env) = fitting-none env
 
-pub begins : (left : ℕ) (text : List ℕ) → nat_le (length text) left ≡ true → begun left text ≡ Some (left, text)
-begins left text h = rw h refl
-
-begins-not : (left : ℕ) (text : List ℕ) → nat_le (length text) left ≡ false → begun left text ≡ None
-begins-not left text h = rw h refl
-
 pub fits : (left : ℕ) (text : List ℕ) → nat_le (length text) left ≡ true → fitting left text ≡ Some text
 fits left text h = rw h refl
 
@@ -184,10 +132,10 @@ pub within-words : (left : ℕ) (env : List Variable) (text : List ℕ) (words :
 within-words left env text words within is h = grind (arith, within-expanded)
 
 pub words-too_long : (left : ℕ) (env : List Variable) (text : List ℕ) → nat_le (length text) left ≡ false → None ≡ option_map words_left (expanded_within left env text)
-words-too_long left env text h = sym (ap (option_map words_left) (ap (λ o. fold expanded_fitting o env) (begins-not left text h) ∙ fitting-none env))
+words-too_long left env text h = rw h (sym (ap (option_map words_left) (fitting-none env)))
 
 pub words-from : (left : ℕ) (env : List Variable) (text : List ℕ) (within : Option (ℕ × List ℕ)) → nat_le (length text) left ≡ true → fold expanded_fitting (Some (left, text)) env ≡ within → option_map words_left within ≡ option_map words_left (expanded_within left env text)
-words-from left env text within h is = sym (ap (option_map words_left) (ap (λ o. fold expanded_fitting o env) (begins left text h) ∙ is))
+words-from left env text within h is = rw h (sym (ap (option_map words_left) is))
 
 -- what a reference says, by whether there is one
 module _ (left : ℕ) (env : List Variable) (from : ℕ) (text : List ℕ) where
@@ -201,3 +149,21 @@ module _ (left : ℕ) (env : List Variable) (from : ℕ) (text : List ℕ) where
 
   pub first-some : (o : Option Reference) (r : Reference) → o ≡ Some r → FirstIs o → fold expanded_fitting (Some (left, text)) (drop from env) ≡ fold expanded_fitting (made left (replaced (36 ∷ r.name.now) r.value.now text)) (drop r.next env)
   first-some o r is h = grind arith
+
+-- The first line of what is left of a dry run, and the rest.
+
+abbrev is_newline : ℕ → Bool
+is_newline b = eqb b 10
+
+-- the first newline, where a search finds it
+pub newline-found : (bs : List ℕ) (r : Option ℕ) → IsFirstByte (is_byte 10) bs r → r ≡ position is_newline bs
+newline-found bs None h =
+    let all : position_or_len is_newline bs ≡ length bs = prefix_len_is (λ b. not (is_newline b)) bs (length bs) 0 (omega arith) (λ k less. not_from_false _ (false_from_ne_true _ (h k (omega arith) less))) (λ less. absurd (omega (arith, less))) in
+    grind arith
+newline-found bs (Some k) h = grind (arith, prefix_len_is, not_from_false, false_from_ne_true)
+
+pub lines-at_newline : (bs : List ℕ) (n : ℕ) → position is_newline bs ≡ Some n → lines bs ≡ strip_carriage_return (take n bs) ∷ lines (drop (n + 1) bs)
+lines-at_newline bs n e = grind (arith, length-slice_split, slice_split_first)
+
+pub lines-last : (bs : List ℕ) → 0 < length bs → position is_newline bs ≡ None → lines bs ≡ bs ∷ []
+lines-last bs some e = grind (arith, slice_split_none, fails_before_first, not-zero)

@@ -6,14 +6,14 @@ use Rattle.std.specs.Str.Lines.{lines}
 use Rattle.std.specs.declared.alloc.AllocError.{AllocError}
 use Rattle.std.proofs.lemmas.Str.{IsUtf8-from_is_utf8, is_utf8-from_IsUtf8}
 use Rattle.texts.specs.declared.fault.Fault.{Fault}
+use Rattle.texts.specs.Results.{and_then}
 use Rattle.compilers.specs.CommandLines.{CommandLine}
 use Rattle.texts.specs.Fault.{UnlessMemory}
 use Rattle.texts.specs.Variables.{first_value}
 use Rattle.texts.proofs.RestLemmas.{rest_after-append}
-use Rattle.dry_runs.specs.DryRun.{LookUp, meaning, environment_after, fault_of, Meaning, Ignored, Assigns, Runs, Bad, meanings, run_of_meanings, run_or_fault}
+use Rattle.dry_runs.specs.DryRun.{LookUp, meaning, environment_after, fault_of, Meaning, Ignored, Assigns, Runs, Bad, meanings, run_of_meanings, run_or_fault, stated, stated_assigned, stated_by_words}
 use Rattle.dry_runs.specs.Environment.{Variable}
 use Rattle.dry_runs.specs.Reading.{meaning_stated, said_next, next_within, next_held, found_or_fault, said_parsed, said_ended}
-use Rattle.dry_runs.specs.Statement.{stated, stated_assigned, stated_by_words}
 use Rattle.dry_runs.specs.declared.reader.Said.{Said}
 use Rattle.dry_runs.specs.declared.limit.LimitedFault.TheVariants.{TooLong}
 use Rattle.dry_runs.specs.declared.statement.Statement.{Statement}
@@ -23,7 +23,7 @@ use Rattle.dry_runs.specs.Limit.{expanded_within, words_left, left_assigned, sta
 use Rattle.dry_runs.proofs.ExpansionLemmas.{within-expanded}
 use Rattle.dry_runs.specs.declared.limit.LimitedFault.{LimitedFault}
 use Rattle.dry_runs.specs.declared.parsed.ParsedRun.{ParsedRun}
-use Rattle.dry_runs.specs.Parsed.{question_of, program_in, path_of, with_line, run_of_lines, lines_read, unless_long, lines_read_within, unless_bad, whole, whole_in, behind_found, found_commands, unless_missing, parsed_of, ParsesThenResolves}
+use Rattle.dry_runs.specs.Parsed.{question_of, program_in, path_of, with_line, run_of_lines, lines_read, unless_long, lines_read_within, unless_bad, whole, whole_in, behind_found, found_commands, parsed_of, ParsesThenResolves}
 use Rattle.dry_runs.specs.declared.limit.LimitedFault.TheVariants as limited
 
 -- a line means what it says, once its program is looked up
@@ -90,9 +90,6 @@ unlimited run long said run_said h = grind arith
 -- what was said so far, and the run that the lines behind it are
 abbrev pub said_before : Said → ParsedRun → ParsedRun
 said_before s run = record { commands = s.commands ++ run.commands; env = s.env ++ run.env; fault = run.fault }
-
-abbrev run_with : List CommandLine → List Variable → Option Fault → ParsedRun
-run_with commands env fault = record { commands = commands; env = env; fault = fault }
 
 -- one line, and the lines behind it
 module _ (which : LookUp) (run : ℕ) (cwd : List ℕ) where
@@ -185,7 +182,7 @@ module _ (which : LookUp) (run : ℕ) (cwd : List ℕ) where
   read_all env ls = run_of_lines (meanings which run cwd env ls)
 
   abbrev looked_up : List ℕ → ParsedRun → Read
-  looked_up path parsed = unless_missing parsed.env parsed.fault (found_commands which cwd path parsed.commands)
+  looked_up path parsed = and_then (found_commands which cwd path parsed.commands) (λ commands. unless_bad commands parsed.env parsed.fault)
 
   -- the lines say alike what they say with the look-ups of a parsed run
   abbrev SaysAlike : List Variable → List (ℕ × List ℕ) → Type 0

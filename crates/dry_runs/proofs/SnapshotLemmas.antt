@@ -50,8 +50,5 @@ module _ (post : Bor (List ℕ) → Bool → Type 0) where
         let found = first-found (tried_by l) e.found h.0.1 in
         λ i. record { lookup = h.0.0 i; found = found i } ∷ taken-exact lookups entries h.1 i
 
-    exact-result : (lookups : List Lookup) (r : Result (List Entry) AllocError) → IfOk r (IsTaken post lookups) → IfOk r (λ entries. entries ≡ taken (found_on test) lookups)
-    exact-result lookups r h = grind (arith, taken-exact)
-
     pub exact-both : (asked lookups : List Lookup) (r : Result (List Entry) AllocError) → asked ≡ lookups → IfOk r (IsTaken post asked) → IfOk r (λ entries. entries ≡ taken (found_on test) lookups)
-    exact-both asked lookups r same h = exact-result lookups r (subst (λ ls. IfOk r (IsTaken post ls)) same h)
+    exact-both asked lookups r same h = grind (arith, taken-exact)

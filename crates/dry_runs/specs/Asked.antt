@@ -17,17 +17,13 @@ lookup_in path folder command = lookup_of (program_in path command.1) path folde
 abbrev pub lookups_in : List ℕ → ParsedRun → List Lookup
 lookups_in folder run = map (lookup_in (path_of run.env) folder) run.commands
 
--- the same behind those of a list: in order of first ask, none twice
-abbrev pub asked_behind : List Lookup → List ℕ → ParsedRun → List Lookup
-asked_behind known folder run = with_lookups known (lookups_in folder run)
-
--- the look-ups of two parsed runs from one folder
+-- the look-ups of two parsed runs from one folder, in order of first ask, none twice
 abbrev pub asked_by : List ℕ → ParsedRuns → List Lookup
-asked_by folder runs = asked_behind (asked_behind [] folder runs.first) folder runs.second
+asked_by folder runs = with_lookups (with_lookups [] (lookups_in folder runs.first)) (lookups_in folder runs.second)
 
--- the look-ups of a dry run
+-- the look-ups of a dry run, in such an order
 abbrev pub asked_of : List ℕ → List ℕ → List Lookup
-asked_of bytes folder = asked_behind [] folder (parsed_of 1 bytes)
+asked_of bytes folder = with_lookups [] (lookups_in folder (parsed_of 1 bytes))
 
 -- the look-ups of two dry runs from one folder
 abbrev pub asked_of_both : List ℕ → List ℕ → List ℕ → List Lookup

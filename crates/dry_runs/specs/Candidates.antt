@@ -21,22 +21,14 @@ candidates_of program path folder = if is_bare program then map (in_part program
 abbrev pub found_on : (List ℕ → Bool) → LookUp
 found_on test program path folder = find test (candidates_of program path folder)
 
--- examples: the folders in order; an empty part, also in the front or at the end; a part that is no absolute path; a name
--- with a `/`, also from the root
-pub tried_in_order : candidates_of (codes "cicc") (codes "/a/bin:/b/bin") (codes "/w") ≡ codes "/a/bin/cicc" ∷ codes "/b/bin/cicc" ∷ []
+-- examples: the folders in order, one that is no absolute path and an empty part; an empty `PATH`; a name with a `/`, also
+-- from the root
+pub tried_in_order : candidates_of (codes "cicc") (codes "/a/bin:bin:") (codes "/w") ≡ codes "/a/bin/cicc" ∷ codes "/w/bin/cicc" ∷ codes "/w/cicc" ∷ []
 tried_in_order = refl
-
-pub tried_in_empty_parts : candidates_of (codes "cc") (codes ":/b:") (codes "/w") ≡ codes "/w/cc" ∷ codes "/b/cc" ∷ codes "/w/cc" ∷ []
-tried_in_empty_parts = refl
 
 pub tried_with_an_empty_path : candidates_of (codes "cc") [] (codes "/w") ≡ codes "/w/cc" ∷ []
 tried_with_an_empty_path = refl
 
-pub tried_below_the_folder : candidates_of (codes "cc") (codes "bin") (codes "/w") ≡ codes "/w/bin/cc" ∷ []
-tried_below_the_folder = refl
-
-pub tried_from_the_folder : candidates_of (codes "./cc") (codes "/b") (codes "/w") ≡ codes "/w/./cc" ∷ []
-tried_from_the_folder = refl
-
-pub tried_as_written : candidates_of (codes "/usr/bin/cc") (codes "/b") (codes "/w") ≡ codes "/usr/bin/cc" ∷ []
-tried_as_written = refl
+pub tried_once :
+    map (λ program. candidates_of program (codes "/b") (codes "/w")) (codes "./cc" ∷ codes "/usr/bin/cc" ∷ []) ≡ (codes "/w/./cc" ∷ []) ∷ (codes "/usr/bin/cc" ∷ []) ∷ []
+tried_once = refl

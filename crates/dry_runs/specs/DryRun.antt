@@ -1,9 +1,11 @@
--- What a dry run says: its commands and its environment, or the first line that is bad.
+-- What a dry run says: its commands and its environment, or the first line that is bad; and what a line says by itself.
 use Rattle.std.specs.Prelude.{ℕ, List, [], ◌∷◌, ◌++◌, Option, Some, None, Result, Ok, Err, if◌then◌else◌, codes, filter_map}
 use Rattle.std.specs.Str.{is_utf8}
 use Rattle.texts.specs.declared.fault.Fault.{Fault}
 use Rattle.texts.specs.declared.fault.Fault.TheVariants.{NotUtf8, BadShell, EmptyCommand, NoPath, NotFound}
 use Rattle.compilers.specs.CommandLines.{CommandLine}
+use Rattle.dry_runs.specs.declared.statement.Statement.{Statement}
+use Rattle.dry_runs.specs.declared.statement.Statement.TheVariants as statements
 use Rattle.texts.specs.Variables.{first_value}
 use Rattle.dry_runs.specs.Environment.{Variable, assignment, expanded}
 use Rattle.dry_runs.specs.DryRunLines.{numbered_lines, marked_text}
@@ -87,3 +89,24 @@ run_of_meanings lines = run_or_fault lines (filter_map fault_of lines)
 -- what a dry run says: its commands and its environment, each in order, or the fault of its first bad line
 abbrev pub dry_run_of : ℕ → List ℕ → List ℕ → LookUp → Result (List CommandLine × List Variable) Fault
 dry_run_of run bytes cwd which = run_of_meanings (meanings which run cwd [] (numbered_lines bytes))
+
+-- What a line says by itself, before its program is looked up.
+
+-- a command, by the words of its line
+abbrev pub stated_by_words : Option (List (List ℕ)) → Statement
+stated_by_words None = statements.BadShell
+stated_by_words (Some words) = statements.Runs words
+
+-- a marked line, by what it assigns: a line that assigns nothing is a command
+abbrev pub stated_assigned : List Variable → List ℕ → Option Variable → Statement
+stated_assigned env text None = stated_by_words (shell_words (expanded env text))
+stated_assigned env text (Some v) = statements.Sets v.0 v.1
+
+-- a line, by the text behind its mark
+abbrev pub stated_marked : List Variable → Option (List ℕ) → Statement
+stated_marked env None = statements.Nothing
+stated_marked env (Some text) = stated_assigned env text (assignment text)
+
+-- a line of bytes behind these environment lines
+abbrev pub stated : List Variable → List ℕ → Statement
+stated env line = if is_utf8 line then stated_marked env (marked_text line) else statements.NotUtf8

@@ -1,5 +1,5 @@
 -- Dry runs worked out by hand.
-use Rattle.std.specs.Prelude.{◌≡◌, ℕ, List, [], ◌∷◌, ◌++◌, None, Result, Ok, Err, encode_utf8_all, if◌then◌else◌, codes, bytes_eq}
+use Rattle.std.specs.Prelude.{◌≡◌, ℕ, List, [], ◌∷◌, ◌++◌, None, Result, Ok, Err, encode_utf8_all, if◌then◌else◌, codes, map, bytes_eq}
 use Rattle.texts.specs.declared.fault.Fault.{Fault}
 use Rattle.texts.specs.declared.fault.Fault.TheVariants.{NotUtf8, BadShell, EmptyCommand, NoPath, NotFound}
 use Rattle.compilers.specs.CommandLines.{CommandLine}
@@ -16,22 +16,23 @@ Said = Result (List CommandLine × List Variable) Fault
 abbrev pub first_run : List ℕ → Said
 first_run bytes = dry_run_of 1 bytes (codes "/w") first_dir
 
+-- the environment of a run that sets `PATH` alone
+abbrev path_b : List Variable
+path_b = (codes "PATH", codes "/b") ∷ []
+
 -- a look-up that lacks a program
 abbrev pub lacking : List ℕ → LookUp
 lacking missing exe path cwd = if bytes_eq exe missing then None else first_dir exe path cwd
 
 -- the one-kernel dry run, read whole
 abbrev pub OneKernelIsRead : Type 0
-OneKernelIsRead = first_run one_kernel ≡ Ok (one_kernel_commands, (codes "PATH", codes "/b") ∷ [])
+OneKernelIsRead = first_run one_kernel ≡ Ok (one_kernel_commands, path_b)
 
 -- unmarked lines are passed over, but have their numbers; a carriage return before a newline goes, and the last line needs no newline
 abbrev pub LastLineNeedsNoNewline : Type 0
 LastLineNeedsNoNewline =
     first_run (codes "kernel.cu\r\n#$ PATH=/b\r\n#$ gcc -D__NVCC__ -c x.cpp")
-    ≡ Ok (
-      (2, codes "/b/gcc", codes "-D__NVCC__" ∷ codes "-c" ∷ codes "x.cpp" ∷ []) ∷ [],
-      (codes "PATH", codes "/b") ∷ [],
-    )
+    ≡ Ok ((2, codes "/b/gcc", codes "-D__NVCC__" ∷ codes "-c" ∷ codes "x.cpp" ∷ []) ∷ [], path_b)
 
 -- a run without lines, and one whose only line lacks the blank of the mark
 abbrev pub NothingIsRead : Type 0
@@ -74,19 +75,14 @@ FirstBadLineDecides =
 -- the one-kernel dry run with a look-up that lacks one of its programs
 abbrev pub ProgramsAreMissing : Type 0
 ProgramsAreMissing =
-    (dry_run_of 1 one_kernel (codes "/w") (lacking (codes "gcc")) ≡ Err (NotFound (codes "gcc")))
-    × (dry_run_of 1 one_kernel (codes "/w") (lacking (codes "cudafe++")) ≡ Err (NotFound (codes "cudafe++")))
-    × (dry_run_of 1 one_kernel (codes "/w") (lacking (codes "cicc")) ≡ Err (NotFound (codes "cicc")))
-    × (dry_run_of 1 one_kernel (codes "/w") (lacking (codes "ptxas")) ≡ Err (NotFound (codes "ptxas")))
-    × (dry_run_of 1 one_kernel (codes "/w") (lacking (codes "fatbinary")) ≡ Err (NotFound (codes "fatbinary")))
+    let programs = codes "gcc" ∷ codes "cudafe++" ∷ codes "cicc" ∷ codes "ptxas" ∷ codes "fatbinary" ∷ [] in
+    map {B = Said} (λ p. dry_run_of 1 one_kernel (codes "/w") (lacking p)) programs ≡ map (λ p. Err (NotFound p)) programs
 
 -- an empty word is a program too
 abbrev pub EmptyProgramIsLookedUp : Type 0
 EmptyProgramIsLookedUp =
-    (first_run (codes "#$ PATH=/b\n#$ \"\" x\n")
-    ≡ Ok ((1, codes "/b/", codes "x" ∷ []) ∷ [], (codes "PATH", codes "/b") ∷ []))
-    × (first_run (codes "#$ PATH=/\n#$ \"\" x\n")
-    ≡ Ok ((1, codes "/", codes "x" ∷ []) ∷ [], (codes "PATH", codes "/") ∷ []))
+    (first_run (codes "#$ PATH=/b\n#$ \"\" x\n") ≡ Ok ((1, codes "/b/", codes "x" ∷ []) ∷ [], path_b))
+    × (first_run (codes "#$ PATH=/\n#$ \"\" x\n") ≡ Ok ((1, codes "/", codes "x" ∷ []) ∷ [], (codes "PATH", codes "/") ∷ []))
 
 -- at the end of a text no character follows a reference, so it does not count
 abbrev pub ReferenceAtTheEndStays : Type 0
@@ -99,53 +95,38 @@ OneReferenceExpandsAll = expanded ((codes "TOP", codes "/u") ∷ []) (codes "$TO
 -- a letter of any script goes on with the name, and a hyphen ends it
 abbrev pub LetterFollowsAReference : Type 0
 LetterFollowsAReference =
-    (expanded ((codes "TOP", codes "/u") ∷ []) (encode_utf8_all (codes "gcc $TOPé"))
-    ≡ encode_utf8_all (codes "gcc $TOPé"))
+    (expanded ((codes "TOP", codes "/u") ∷ []) (encode_utf8_all (codes "gcc $TOPé")) ≡ encode_utf8_all (codes "gcc $TOPé"))
     × (expanded ((codes "TOP", codes "/u") ∷ []) (codes "gcc $TOP-") ≡ codes "gcc /u-")
 
 -- of two values the first is expanded, and the environment keeps both
 abbrev pub FirstValueIsExpanded : Type 0
 FirstValueIsExpanded =
     first_run (codes "#$ PATH=/b\n#$ TOP=/u\n#$ TOP=/v\n#$ gcc $TOP/x\n")
-    ≡ Ok (
-      (3, codes "/b/gcc", codes "/u/x" ∷ []) ∷ [],
-      (codes "PATH", codes "/b") ∷ (codes "TOP", codes "/u") ∷ (codes "TOP", codes "/v") ∷ [],
-    )
+    ≡ Ok ((3, codes "/b/gcc", codes "/u/x" ∷ []) ∷ [], path_b ++ (codes "TOP", codes "/u") ∷ (codes "TOP", codes "/v") ∷ [])
 
 -- a reference in a value is expanded only where its own line comes later
 abbrev pub ValuesAreExpandedInOrder : Type 0
 ValuesAreExpandedInOrder =
     (first_run (codes "#$ PATH=/b\n#$ A=$B/x\n#$ B=/u\n#$ gcc $A/y\n")
-    ≡ Ok (
-      (3, codes "/b/gcc", codes "/u/x/y" ∷ []) ∷ [],
-      (codes "PATH", codes "/b") ∷ (codes "A", codes "$B/x") ∷ (codes "B", codes "/u") ∷ [],
-    ))
+    ≡ Ok ((3, codes "/b/gcc", codes "/u/x/y" ∷ []) ∷ [], path_b ++ (codes "A", codes "$B/x") ∷ (codes "B", codes "/u") ∷ []))
     × (first_run (codes "#$ PATH=/b\n#$ B=/u\n#$ A=$B/x\n#$ gcc $A/y\n")
-    ≡ Ok (
-      (3, codes "/b/gcc", codes "$B/x/y" ∷ []) ∷ [],
-      (codes "PATH", codes "/b") ∷ (codes "B", codes "/u") ∷ (codes "A", codes "$B/x") ∷ [],
-    ))
+    ≡ Ok ((3, codes "/b/gcc", codes "$B/x/y" ∷ []) ∷ [], path_b ++ (codes "B", codes "/u") ∷ (codes "A", codes "$B/x") ∷ []))
 
 -- the first `PATH` counts for every command, and a program with a folder counts from the working directory
 abbrev pub FirstPathCounts : Type 0
 FirstPathCounts =
     first_run (codes "#$ PATH=/b\n#$ PATH=/c\n#$ gcc\n#$ ./gcc\n")
-    ≡ Ok (
-      (2, codes "/b/gcc", []) ∷ (3, codes "/w/./gcc", []) ∷ [],
-      (codes "PATH", codes "/b") ∷ (codes "PATH", codes "/c") ∷ [],
-    )
+    ≡ Ok ((2, codes "/b/gcc", []) ∷ (3, codes "/w/./gcc", []) ∷ [], path_b ++ (codes "PATH", codes "/c") ∷ [])
 
 -- the one-kernel dry run with other names of its generated files, and with these in the folder `/t`
 abbrev pub OtherNamesAreRead : Type 0
 OtherNamesAreRead =
-    (first_run one_kernel_elsewhere ≡ Ok (one_kernel_elsewhere_commands, (codes "PATH", codes "/b") ∷ []))
-    × (first_run one_kernel_in_temporary ≡ Ok (one_kernel_in_temporary_commands, (codes "PATH", codes "/b") ∷ []))
+    (first_run one_kernel_elsewhere ≡ Ok (one_kernel_elsewhere_commands, path_b))
+    × (first_run one_kernel_in_temporary ≡ Ok (one_kernel_in_temporary_commands, path_b))
 
 -- one carriage return right before a newline goes, and a last line without a newline keeps its own, which is no blank
 abbrev pub LastLineKeepsItsReturn : Type 0
-LastLineKeepsItsReturn =
-    first_run (codes "#$ PATH=/b\r\n#$ gcc x\r")
-    ≡ Ok ((1, codes "/b/gcc", codes "x\r" ∷ []) ∷ [], (codes "PATH", codes "/b") ∷ [])
+LastLineKeepsItsReturn = first_run (codes "#$ PATH=/b\r\n#$ gcc x\r") ≡ Ok ((1, codes "/b/gcc", codes "x\r" ∷ []) ∷ [], path_b)
 
 -- behind a byte order mark the first line is unmarked, so here `PATH` isn't set
 abbrev pub ByteOrderMarkUnmarks : Type 0
@@ -155,10 +136,7 @@ ByteOrderMarkUnmarks = first_run (239 ∷ 187 ∷ 191 ∷ codes "#$ PATH=/b\n#$ 
 abbrev pub ValuesAreKeptAsTheyStand : Type 0
 ValuesAreKeptAsTheyStand =
     first_run (codes "#$ TOP=/u\n#$ PATH=$TOP/bin:/b\n#$ gcc x\n")
-    ≡ Ok (
-      (2, codes "$TOP/bin/gcc", codes "x" ∷ []) ∷ [],
-      (codes "TOP", codes "/u") ∷ (codes "PATH", codes "$TOP/bin:/b") ∷ [],
-    )
+    ≡ Ok ((2, codes "$TOP/bin/gcc", codes "x" ∷ []) ∷ [], (codes "TOP", codes "/u") ∷ (codes "PATH", codes "$TOP/bin:/b") ∷ [])
 
 -- a `PATH` whose first folder is empty holds no program
 abbrev pub FirstFolderIsEmpty : Type 0
@@ -172,10 +150,7 @@ FolderNeedsAPathToo = first_run (codes "#$ ./gcc\n#$ PATH=/b\n") ≡ Err (NoPath
 abbrev pub NameIsSetTwice : Type 0
 NameIsSetTwice =
     first_run (codes "#$ _TARGET_DIR_=\n#$ _TARGET_DIR_=targets/x86_64-linux\n#$ PATH=/b\n#$ gcc $_TARGET_DIR_/x\n")
-    ≡ Ok (
-      (3, codes "/b/gcc", codes "/x" ∷ []) ∷ [],
-      (codes "_TARGET_DIR_", []) ∷ (codes "_TARGET_DIR_", codes "targets/x86_64-linux") ∷ (codes "PATH", codes "/b") ∷ [],
-    )
+    ≡ Ok ((3, codes "/b/gcc", codes "/x" ∷ []) ∷ [], (codes "_TARGET_DIR_", []) ∷ (codes "_TARGET_DIR_", codes "targets/x86_64-linux") ∷ path_b)
 
 -- what becomes of a reference right before a character
 abbrev pub before : ℕ → List ℕ
@@ -183,14 +158,8 @@ before c = expanded ((codes "TOP", codes "/u") ∷ []) (codes "$TOP" ++ encode_u
 
 -- `²` and `·` go on with no name
 abbrev pub OtherCharactersEndAName : Type 0
-OtherCharactersEndAName = (before 178 ≡ codes "/u" ++ encode_utf8_all (178 ∷ [])) × (before 183 ≡ codes "/u" ++ encode_utf8_all (183 ∷ []))
+OtherCharactersEndAName = let cs = 178 ∷ 183 ∷ [] in map before cs ≡ map (λ c. codes "/u" ++ encode_utf8_all (c ∷ [])) cs
 
 -- a name goes on with `ⓐ`, `Ⅷ`, `‿`, a combining accent, an enclosing circle, and the joiner U+200D
 abbrev pub WordCharactersGoOn : Type 0
-WordCharactersGoOn =
-    (before 9424 ≡ codes "$TOP" ++ encode_utf8_all (9424 ∷ []))
-    × (before 8551 ≡ codes "$TOP" ++ encode_utf8_all (8551 ∷ []))
-    × (before 8255 ≡ codes "$TOP" ++ encode_utf8_all (8255 ∷ []))
-    × (before 769 ≡ codes "$TOP" ++ encode_utf8_all (769 ∷ []))
-    × (before 8413 ≡ codes "$TOP" ++ encode_utf8_all (8413 ∷ []))
-    × (before 8205 ≡ codes "$TOP" ++ encode_utf8_all (8205 ∷ []))
+WordCharactersGoOn = let cs = 9424 ∷ 8551 ∷ 8255 ∷ 769 ∷ 8413 ∷ 8205 ∷ [] in map before cs ≡ map (λ c. codes "$TOP" ++ encode_utf8_all (c ∷ [])) cs

@@ -1,5 +1,5 @@
 -- The lines of a dry run. A dry run is the list of its bytes.
-use Rattle.std.specs.Prelude.{◌≡◌, ℕ, List, [], ◌∷◌, Option, Some, None, refl, codes}
+use Rattle.std.specs.Prelude.{◌≡◌, ℕ, List, [], ◌∷◌, Option, Some, None, map, refl, codes}
 use Rattle.std.specs.List.{enumerate_from}
 use Rattle.std.specs.Str.Lines.{lines}
 use Rattle.texts.specs.Lists.{rest_after}
@@ -17,8 +17,5 @@ marked_text line = rest_after (codes "#$ ") line
 pub lines_lose_their_ends : numbered_lines (codes "a\r\n\r\r\n\nb\r") ≡ (0, codes "a") ∷ (1, codes "\r") ∷ (2, []) ∷ (3, codes "b\r") ∷ []
 lines_lose_their_ends = refl
 
-pub mark_without_a_blank : marked_text (codes "#$") ≡ None
-mark_without_a_blank = refl
-
-pub mark_alone : marked_text (codes "#$ ") ≡ Some []
-mark_alone = refl
+pub mark_ends_in_a_blank : map marked_text (codes "#$" ∷ codes "#$ " ∷ []) ≡ None ∷ Some [] ∷ []
+mark_ends_in_a_blank = refl

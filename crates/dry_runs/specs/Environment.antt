@@ -1,5 +1,5 @@
 -- Environment lines, and the expansion of references to them.
-use Rattle.std.specs.Prelude.{◌≡◌, ℕ, List, [], ◌∷◌, ◌++◌, Bool, false, not, ◌==◌, ◌&&◌, ◌||◌, nat_le, length, drop, fold, if◌then◌else◌, Option, Some, None, refl, codes, take_while, chars, bytes_eq}
+use Rattle.std.specs.Prelude.{◌≡◌, ℕ, List, [], ◌∷◌, ◌++◌, Bool, false, not, ◌==◌, ◌&&◌, ◌||◌, nat_le, length, drop, fold, map, if◌then◌else◌, Option, Some, None, refl, codes, take_while, chars, bytes_eq}
 use Rattle.ucd_perl.specs.Perl.{is_word_char}
 use Rattle.texts.specs.Lists.{rest_after}
 use Rattle.compilers.specs.Replacing.{replaced}
@@ -51,17 +51,10 @@ abbrev pub expanded : List Variable → List ℕ → List ℕ
 expanded env text = fold expanded_by text env
 
 -- examples: a digit is no byte of a name, the first `=` ends it, and the value may be empty
-pub assigns : assignment (codes "A_B=c=d") ≡ Some (codes "A_B", codes "c=d")
+pub assigns :
+    map {B = Option Variable} assignment (codes "A_B=c=d" ∷ codes "PATH=" ∷ codes "A1=x" ∷ codes "=x" ∷ [])
+    ≡ Some (codes "A_B", codes "c=d") ∷ Some (codes "PATH", []) ∷ None ∷ None ∷ []
 assigns = refl
-
-pub assigns_nothing : assignment (codes "PATH=") ≡ Some (codes "PATH", [])
-assigns_nothing = refl
-
-pub digit_in_a_name : assignment (codes "A1=x") ≡ None
-digit_in_a_name = refl
-
-pub no_name : assignment (codes "=x") ≡ None
-no_name = refl
 
 -- an environment in which a variable is set: where its name is known, the first pair of that name has the new value; else
 -- the pair comes last

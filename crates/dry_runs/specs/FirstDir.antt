@@ -1,5 +1,5 @@
 -- A look-up that looks at no file.
-use Rattle.std.specs.Prelude.{◌≡◌, ℕ, List, [], ◌∷◌, ◌==◌, if◌then◌else◌, Option, Some, None, refl, codes}
+use Rattle.std.specs.Prelude.{◌≡◌, ℕ, List, [], ◌∷◌, ◌==◌, map, if◌then◌else◌, Option, Some, None, refl, codes}
 use Rattle.std.specs.List.{before_first}
 use Rattle.texts.specs.Path.{joined, is_bare}
 
@@ -17,11 +17,8 @@ abbrev pub first_dir : List ℕ → List ℕ → List ℕ → Option (List ℕ)
 first_dir name path cwd = if is_bare name then found_in (first_folder_of path) name else Some (joined cwd name)
 
 -- examples
-pub found_in_the_first_folder : first_dir (codes "gcc") (codes "/b:/c") (codes "/w") ≡ Some (codes "/b/gcc")
+pub found_in_the_first_folder : map (λ path. first_dir (codes "gcc") path (codes "/w")) (codes "/b:/c" ∷ codes ":/c" ∷ []) ≡ Some (codes "/b/gcc") ∷ None ∷ []
 found_in_the_first_folder = refl
 
 pub found_from_the_working_directory : first_dir (codes "./gcc") (codes "/b") (codes "/w") ≡ Some (codes "/w/./gcc")
 found_from_the_working_directory = refl
-
-pub found_nowhere : first_dir (codes "gcc") (codes ":/c") (codes "/w") ≡ None
-found_nowhere = refl

@@ -1,5 +1,4 @@
 pub mod Asked
-pub mod AskedExamples
 pub mod Candidates
 pub mod Computing
 pub mod DryRun
@@ -15,11 +14,9 @@ pub mod LookupLimit
 pub mod Parsed
 pub mod ParsedExamples
 pub mod Places
-pub mod PlacesView
 pub mod PlainWords
 pub mod Reading
 pub mod Snapshot
-pub mod Statement
 pub use Rattle.compilers.specs.CommandLines
 pub use Rattle.compilers.specs.OneKernel
 pub use Rattle.compilers.specs.Replacing

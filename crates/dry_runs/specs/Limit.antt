@@ -9,23 +9,18 @@ use Rattle.dry_runs.specs.declared.limit.LimitedFault.{LimitedFault}
 use Rattle.dry_runs.specs.declared.limit.LimitedFault.TheVariants.{TooLong}
 use Rattle.dry_runs.specs.declared.limit.LimitedFault.TheVariants as limited
 use Rattle.compilers.specs.CommandLines.{CommandLine}
-use Rattle.dry_runs.specs.DryRun.{LookUp, Meaning, Ignored, Assigns, Runs, Bad, meaning, environment_after, fault_of, dry_run_of}
+use Rattle.dry_runs.specs.DryRun.{LookUp, Meaning, Ignored, Assigns, Runs, Bad, meaning, environment_after, fault_of, dry_run_of, stated, stated_marked}
 use Rattle.dry_runs.specs.DryRunLines.{numbered_lines, marked_text}
 use Rattle.dry_runs.specs.Environment.{Variable, assignment, refers}
 use Rattle.compilers.specs.Replacing.{replaced}
 use Rattle.dry_runs.specs.declared.statement.Statement.{Statement}
 use Rattle.texts.specs.Shell.Splitting.{shell_words}
-use Rattle.dry_runs.specs.Statement.{stated, stated_marked}
 
 -- a text, unless it is longer than what is left of the limit
 abbrev pub fitting : ℕ → List ℕ → Option (List ℕ)
 fitting left text = if nat_le (length text) left then Some text else None
 
--- what is left of the limit and the text of a line, unless it is longer than that
-abbrev pub begun : ℕ → List ℕ → Option (ℕ × List ℕ)
-begun left text = if nat_le (length text) left then Some (left, text) else None
-
--- the same once a text is made, which counts its bytes
+-- what is left of the limit once a text is made, which counts its bytes, and the text, unless it is longer than what was left
 abbrev pub made : ℕ → List ℕ → Option (ℕ × List ℕ)
 made left text = if nat_le (length text) left then Some (left - length text, text) else None
 
@@ -37,9 +32,9 @@ expanded_fitting (Some s) v =
     if refers reference s.1 then made s.0 (replaced reference v.1 s.1) else Some s
 
 -- a text with the variables of an environment expanded, one after the other, and what all texts made on the way leave of
--- the limit; nothing as soon as they exceed it
+-- the limit; nothing as soon as they exceed it, or if the text itself does
 abbrev pub expanded_within : ℕ → List Variable → List ℕ → Option (ℕ × List ℕ)
-expanded_within left env text = fold expanded_fitting (begun left text) env
+expanded_within left env text = fold expanded_fitting (if nat_le (length text) left then Some (left, text) else None) env
 
 -- the shell words of a text that is expanded, and what is left of the limit
 abbrev pub words_left : ℕ × List ℕ → Option (List (List ℕ)) × ℕ

@@ -1,5 +1,6 @@
 -- A limit for the paths that look-ups try: what counts, and which command is the first that exceeds it.
 use Rattle.std.specs.Prelude.{◌≡◌, ℕ, ◌+◌, List, [], ◌∷◌, length, Option, Some, None, Result, Ok, Err, refl, codes}
+use Rattle.std.specs.Option.{option_map_or}
 use Rattle.dry_runs.specs.declared.limit.LimitedFault.{LimitedFault}
 use Rattle.dry_runs.specs.declared.limit.LimitedFault.TheVariants.{TooLong}
 use Rattle.dry_runs.specs.declared.parsed.ParsedRun.{ParsedRun}
@@ -18,17 +19,13 @@ abbrev pub tried_bytes : List (List ℕ) → ℕ
 tried_bytes [] = 0
 tried_bytes (path ∷ paths) = length path + path_cost + tried_bytes paths
 
--- a command's line if its look-up exceeds what is left, and else the first of those behind it
-abbrev pub over_from : ℕ → Option ℕ → (ℕ → Option ℕ) → Option ℕ
-over_from line None rest = Some line
-over_from line (Some left) rest = rest left
-
 -- Programs are looked up by a value of `PATH` and a working directory.
 module _ (path folder : List ℕ) where
   -- the line of the first command whose look-up, with those before it, tries paths that count more than is left
   abbrev pub first_over : ℕ → List CommandLine → Option ℕ
   first_over left [] = None
-  first_over left (c ∷ cs) = over_from c.0 (left_behind left (tried_bytes (candidates_of (program_in path c.1) path folder))) (λ less. first_over less cs)
+  first_over left (c ∷ cs) =
+      option_map_or (λ less. first_over less cs) (left_behind left (tried_bytes (candidates_of (program_in path c.1) path folder))) (Some c.0)
 
 -- the same of a parsed run
 abbrev pub over_in : ℕ → List ℕ → ParsedRun → Option ℕ

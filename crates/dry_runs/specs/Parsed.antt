@@ -1,8 +1,10 @@
 -- A dry run that is parsed before its programs are looked up, and what their look-ups make of it.
 use Rattle.std.specs.Prelude.{◌≡◌, ℕ, List, [], ◌∷◌, ◌++◌, Option, Some, None, Result, Ok, Err, codes, unwrap_or}
+use Rattle.std.specs.Option.{option_and_then, option_map_or, option_or}
 use Rattle.texts.specs.declared.fault.Fault.{Fault}
 use Rattle.texts.specs.declared.fault.Fault.TheVariants.{NotUtf8, BadShell, EmptyCommand, NoPath, NotFound}
 use Rattle.texts.specs.Lists.{rest_after}
+use Rattle.texts.specs.Results.{and_then}
 use Rattle.texts.specs.Variables.{first_value}
 use Rattle.dry_runs.specs.declared.limit.LimitedFault.{LimitedFault}
 use Rattle.dry_runs.specs.declared.limit.LimitedFault.TheVariants.{TooLong}
@@ -105,40 +107,21 @@ behind_found command program None rest = Err (NotFound program)
 behind_found command program (Some path) (Ok rest) = Ok ((command.0, path, command.2) ∷ rest)
 behind_found command program (Some path) (Err fault) = Err fault
 
--- the first of two lines, if there is one
-abbrev pub or_line : Option ℕ → Option ℕ → Option ℕ
-or_line (Some line) other = Some line
-or_line None other = other
-
--- a command's line, if its program isn't found
-abbrev pub if_missing : ℕ → Option (List ℕ) → Option ℕ
-if_missing line None = Some line
-if_missing line (Some path) = None
-
 -- A run's programs are looked up from a working directory.
 module _ (which : LookUp) (cwd : List ℕ) where
-  -- what a look-up answers a question, by the value of `PATH`
-  abbrev pub answer_to : List ℕ → List ℕ → Option (List ℕ)
-  answer_to path question = which (program_in path question) path cwd
-
   -- commands with their programs' paths, or the first program that isn't found
   abbrev pub found_commands : List ℕ → List CommandLine → Result (List CommandLine) Fault
   found_commands path [] = Ok []
-  found_commands path (c ∷ cs) = behind_found c (program_in path c.1) (answer_to path c.1) (found_commands path cs)
+  found_commands path (c ∷ cs) = behind_found c (program_in path c.1) (which (program_in path c.1) path cwd) (found_commands path cs)
 
   -- the line of the first command whose program isn't found
   abbrev pub first_missing : List ℕ → List CommandLine → Option ℕ
   first_missing path [] = None
-  first_missing path (c ∷ cs) = or_line (if_missing c.0 (answer_to path c.1)) (first_missing path cs)
-
--- commands that were found, and an environment, unless a line behind them is bad
-abbrev pub unless_missing : List Variable → Option Fault → Result (List CommandLine) Fault → Result (List CommandLine × List Variable) Fault
-unless_missing env fault (Ok commands) = unless_bad commands env fault
-unless_missing env fault (Err missing) = Err missing
+  first_missing path (c ∷ cs) = option_map_or (λ _. first_missing path cs) (which (program_in path c.1) path cwd) (Some c.0)
 
 -- what a parsed run says, once its programs are looked up
 abbrev pub resolved : LookUp → List ℕ → ParsedRun → Result (List CommandLine × List Variable) Fault
-resolved which cwd run = unless_missing run.env run.fault (found_commands which cwd (path_of run.env) run.commands)
+resolved which cwd run = and_then (found_commands which cwd (path_of run.env) run.commands) (λ commands. unless_bad commands run.env run.fault)
 
 -- the line of a fault, if it has one
 abbrev pub line_of_fault : Fault → Option ℕ
@@ -148,13 +131,9 @@ line_of_fault (EmptyCommand run line) = Some line
 line_of_fault (NoPath run line) = Some line
 line_of_fault fault = None
 
-abbrev pub line_of_bad : Option Fault → Option ℕ
-line_of_bad None = None
-line_of_bad (Some fault) = line_of_fault fault
-
 -- the first line of a parsed run that is bad once its programs are looked up
 abbrev pub bad_line : LookUp → List ℕ → ParsedRun → Option ℕ
-bad_line which cwd run = or_line (first_missing which cwd (path_of run.env) run.commands) (line_of_bad run.fault)
+bad_line which cwd run = option_or (first_missing which cwd (path_of run.env) run.commands) (option_and_then line_of_fault run.fault)
 
 -- looking up the programs of a parsed run says what reading the run with the look-up says
 abbrev pub ParsesThenResolves : Type 0

@@ -31,15 +31,13 @@ MissingProgramIsFirst =
     × (bad_line (lacking (codes "./gcc")) (codes "/w") (parsed_of 1 open_quote) ≡ Some 2)
     × (bad_line (lacking []) (codes "/w") (parsed_of 1 open_quote) ≡ Some 3)
 
--- each command counts the value of `PATH`: `PATH` and `/b` hold eight bytes, and `/bgcc` and `x` eight. Each line counts 4,096 more
-abbrev pub PathCounts : Type 0
-PathCounts =
-    (parsed_within 8208 1 (codes "#$ PATH=/b\n#$ gcc x\n") ≡ Ok (parsed_of 1 (codes "#$ PATH=/b\n#$ gcc x\n")))
-    × (parsed_within 8207 1 (codes "#$ PATH=/b\n#$ gcc x\n") ≡ Err (TooLong 1 1))
-
 -- a run that counts 8,208 bytes: `PATH` and `/b` eight, `/bgcc` and `x` eight, and each line 4,096 more
 abbrev gcc_run : List ℕ
 gcc_run = codes "#$ PATH=/b\n#$ gcc x\n"
+
+-- each command counts the value of `PATH`
+abbrev pub PathCounts : Type 0
+PathCounts = (parsed_within 8208 1 gcc_run ≡ Ok (parsed_of 1 gcc_run)) × (parsed_within 8207 1 gcc_run ≡ Err (TooLong 1 1))
 
 -- each of two runs has the whole limit, and the first one that exceeds it decides
 abbrev pub EachRunHasTheLimit : Type 0
@@ -48,8 +46,6 @@ EachRunHasTheLimit =
     × (both_parsed_within 8207 gcc_run gcc_run ≡ Err (TooLong 1 1))
     × (both_parsed_within 8207 [] gcc_run ≡ Err (TooLong 2 1))
 
--- Dry runs that are read within a limit, worked out by hand.
-
 -- a first run that is read at `/w` within a limit
 abbrev pub first_within : ℕ → List ℕ → Result (List CommandLine × List Variable) LimitedFault
 first_within limit bytes = dry_run_within limit 1 bytes (codes "/w") first_dir
@@ -57,8 +53,7 @@ first_within limit bytes = dry_run_within limit 1 bytes (codes "/w") first_dir
 -- `PATH` and `/b` hold eight bytes, and `/b/gcc` seven, not the four of `gcc`. Each line counts 4,096 more
 abbrev pub AllThatIsHeldCounts : Type 0
 AllThatIsHeldCounts =
-    (first_within 8207 (codes "#$ PATH=/b\n#$ gcc\n")
-    ≡ Ok ((1, codes "/b/gcc", []) ∷ [], (codes "PATH", codes "/b") ∷ []))
+    (first_within 8207 (codes "#$ PATH=/b\n#$ gcc\n") ≡ Ok ((1, codes "/b/gcc", []) ∷ [], (codes "PATH", codes "/b") ∷ []))
     × (first_within 8206 (codes "#$ PATH=/b\n#$ gcc\n") ≡ Err (TooLong 1 1))
     × (first_within 4103 (codes "#$ PATH=/b\n#$ gcc\n") ≡ Err (TooLong 1 0))
 

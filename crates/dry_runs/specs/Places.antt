@@ -1,6 +1,9 @@
 -- Where the variables of an environment stand, by the beginnings of their names.
 use Rattle.std.specs.Prelude.{◌≡◌, ℕ, ◌+◌, List, [], ◌∷◌, ◌++◌, Bool, drop, if◌then◌else◌, refl, codes, bytes_eq, ◌<◌, ◌≤◌, true, false, nat_le, ◌==◌, ◌&&◌, length, slice_get}
+use Rattle.std.specs.HashMap.{get_by_text}
+use Rattle.std.specs.Option.{option_map_or}
 use Rattle.std.specs.List.{take_while, prefix_len, list_all, list_any}
+use Rattle.dry_runs.specs.declared.places.NamePlaces.{NamePlaces}
 use Rattle.texts.specs.Lists.{is_some_and, rest_after}
 use Rattle.dry_runs.specs.Environment.{Variable, is_name_byte, is_followed}
 
@@ -19,6 +22,10 @@ are_plain env = list_all (λ v. list_all is_name_byte v.0) env
 -- the places of variables, for each beginning of their names
 abbrev pub Places : Type 0
 Places = List ℕ → List ℕ
+
+-- the places as the code holds them
+abbrev pub places_seen : NamePlaces → Places
+places_seen p start = option_map_or (λ places. places.items) (get_by_text p.places start) []
 
 abbrev pub no_places : Places
 no_places start = []

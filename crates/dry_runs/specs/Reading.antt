@@ -1,6 +1,5 @@
 -- What reading a dry run has gathered, and how one more line changes it.
-use Rattle.std.specs.Prelude.{◌≡◌, ℕ, List, [], ◌∷◌, ◌++◌, Bool, true, false, not, ◌==◌, ◌&&◌, length, Option, Some, None, Result, Ok, Err, String, string_bytes}
-use Rattle.std.specs.List.{list_all}
+use Rattle.std.specs.Prelude.{◌≡◌, ℕ, List, [], ◌∷◌, ◌++◌, true, Option, Some, None, Result, Ok, Err, String, string_bytes}
 use Rattle.std.specs.Borrow.{Bor}
 use Rattle.std.specs.declared.alloc.Global.{Global}
 use Rattle.texts.specs.Path.{lacks}
@@ -11,7 +10,7 @@ use Rattle.compilers.specs.declared.dry_run.DryRun.{DryRun}
 use Rattle.dry_runs.specs.declared.parsed.ParsedRun.{ParsedRun}
 use Rattle.dry_runs.specs.declared.reader.Said.{Said}
 use Rattle.compilers.specs.CommandLines.{CommandLine}
-use Rattle.dry_runs.specs.Environment.{Variable, is_name_byte}
+use Rattle.dry_runs.specs.Environment.{Variable}
 use Rattle.dry_runs.specs.declared.statement.Statement.{Statement}
 use Rattle.dry_runs.specs.declared.statement.Statement.TheVariants.{Nothing, Sets}
 use Rattle.dry_runs.specs.declared.statement.Statement.TheVariants as statements
@@ -21,10 +20,6 @@ use Rattle.dry_runs.specs.declared.limit.LimitedFault.TheVariants as limited
 use Rattle.dry_runs.specs.Limit.{held_by, left_behind}
 use Rattle.dry_runs.specs.DryRun.{LookUp, Meaning, Ignored, Assigns, Runs, Bad, meaning_of_words}
 
--- a text that is lent
-abbrev pub text_of : Bor (List ℕ) → List ℕ
-text_of t = t.now
-
 -- the texts of a name and a value that are lent
 abbrev pub texts_of : Bor (List ℕ) × Bor (List ℕ) → Variable
 texts_of p = (p.0.now, p.1.now)
@@ -33,15 +28,6 @@ texts_of p = (p.0.now, p.1.now)
 abbrev pub IsCutAt : ℕ → List ℕ → Option (Bor (List ℕ) × Bor (List ℕ)) → Type 0
 IsCutAt mark text None = lacks mark text ≡ true
 IsCutAt mark text (Some parts) = (text ≡ parts.0.now ++ mark ∷ parts.1.now) × (lacks mark parts.0.now ≡ true)
-
--- whether a text is a name of an environment line
-abbrev pub is_name : List ℕ → Bool
-is_name text = not (length text == 0) && list_all is_name_byte text
-
--- whether a text begins with a byte of such a name
-abbrev pub begins_name : List ℕ → Bool
-begins_name [] = false
-begins_name (c ∷ _) = is_name_byte c
 
 -- what a dry run says, as texts
 abbrev pub run_seen : DryRun → List CommandLine × List Variable
@@ -75,10 +61,6 @@ meaning_stated which run cwd line env (statements.Runs words) = meaning_of_words
 meaning_stated which run cwd line env statements.BadShell = Bad (faults.BadShell run line)
 meaning_stated which run cwd line env statements.NotUtf8 = Bad (faults.NotUtf8 run line)
 
--- nothing so far
-abbrev pub nothing_said : Said
-nothing_said = record { commands = []; env = [] }
-
 -- the run that lines are, and why the next one is bad, if it is
 abbrev pub said_parsed : Said → Option Fault → ParsedRun
 said_parsed s fault = record { commands = s.commands; env = s.env; fault = fault }
@@ -89,19 +71,11 @@ said_ended s (limited.Fault Memory) = Err (limited.Fault Memory)
 said_ended s (limited.Fault fault) = Ok (said_parsed s (Some fault))
 said_ended s (TooLong run line) = Err (TooLong run line)
 
--- one more variable
-abbrev pub with_variable : Said → Variable → Said
-with_variable s v = record { commands = s.commands; env = s.env ++ v ∷ [] }
-
--- one more command
-abbrev pub with_command : Said → CommandLine → Said
-with_command s command = record { commands = s.commands ++ command ∷ []; env = s.env }
-
 -- one more line, by what it means
 abbrev pub said_next : Said → Meaning → Result Said Fault
 said_next s Ignored = Ok s
-said_next s (Assigns v) = Ok (with_variable s v)
-said_next s (Runs command) = Ok (with_command s command)
+said_next s (Assigns v) = Ok (record { commands = s.commands; env = s.env ++ v ∷ [] })
+said_next s (Runs command) = Ok (record { commands = s.commands ++ command ∷ []; env = s.env })
 said_next s (Bad fault) = Err fault
 
 -- what is gathered behind a line and what is left of the limit, where the line was read

@@ -14,11 +14,8 @@ answer_in [] program path folder = None
 answer_in (e ∷ es) program path folder = if same_lookup e.lookup (lookup_of program path folder) then e.found else answer_in es program path folder
 
 -- the entries that are taken of look-ups, when each is answered by a function
-abbrev pub entry_by : LookUp → Lookup → Entry
-entry_by which l = record { lookup = l; found = which l.program l.path l.folder }
-
 abbrev pub taken : LookUp → List Lookup → List Entry
-taken which lookups = map (entry_by which) lookups
+taken which lookups = map (λ l. record { lookup = l; found = which l.program l.path l.folder }) lookups
 
 -- the paths of a look-up
 abbrev pub tried_by : Lookup → List (List ℕ)

@@ -103,10 +103,7 @@ fn is_runnable(file: &Metadata) -> bool
 
 // Whether a path names such a file. It doesn't where the disk answers an error, as for a file that isn't there.
 fn is_program<R: Files>(rt: &R, path: &str) -> bool {
-    match fs::metadata(rt, path) {
-        Ok(file) => is_runnable(&file),
-        Err(_) => false,
-    }
+    fs::metadata(rt, path).is_ok_and(|file| is_runnable(&file))
 }
 
 /// A snapshot of the disk: the look-ups that two parsed runs ask for from the working directory `folder`, each once, in order of

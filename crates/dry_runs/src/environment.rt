@@ -1,15 +1,15 @@
 //! The environment lines of a dry run, and the expansion of references to what they set.
 
-ghost use Rattle.std.specs.Prelude.{◌≡◌, ◌++◌, ◌<◌, ◌≤◌, ℕ, Some, true, false, nat_le, not, length, map, fold, drop, codes, IfOk, IfSome, MatchOption, string_bytes, option_copied, option_map, chars};
+ghost use Rattle.std.specs.Prelude.{◌≡◌, ◌++◌, ◌<◌, ◌≤◌, Some, true, false, nat_le, length, map, fold, drop, codes, IfOk, IfSome, MatchOption, string_bytes, option_copied, option_map, chars};
 ghost use Rattle.std.specs.List.{list_all};
 ghost use Rattle.texts.specs.Lists.{rest_after};
 ghost use Rattle.texts.specs.Shell.Splitting.{shell_words};
 ghost use Rattle.dry_runs.specs.Environment as spec;
 ghost use Rattle.dry_runs.specs.Limit as limit;
 ghost use Rattle.compilers.specs.Replacing as replacing;
-ghost use Rattle.dry_runs.specs.Reading as reading;
 ghost use Rattle.dry_runs.specs.Reading.{texts_of, IsCutAt};
 
+use crate::places::name_cut;
 use crate::plain_words::words_of;
 use crate::set_variables::{Reference, SetVariables};
 use std::alloc::{AllocError, Global};
@@ -37,37 +37,18 @@ pub(crate) fn is_of_name_bytes(text: &[u8]) -> bool
     text.iter().all(|byte| is_name_byte(*byte))
 }
 
-// Whether a text is a name that an environment line may set.
-fn is_name(text: &str) -> bool
-    ensures { result ≡ reading.is_name text.now }
-{
-    !text.is_empty() && is_of_name_bytes(text.as_bytes())
-}
-
-fn begins_name(text: &str) -> bool
-    ensures { result ≡ reading.begins_name text.now }
-{
-    match text.as_bytes() {
-        [byte, ..] => is_name_byte(*byte),
-        [] => false,
-    }
-}
-
 /// The name and the value that an environment line assigns, or `None` if the text is no such line. The first byte
 /// rules most commands out.
 pub fn assignment(text: &str) -> Option<(&str, &str)>
     ensures { option_map texts_of result ≡ spec.assignment text.now }
 {
-    if !begins_name(text) {
+    let (name, rest) = name_cut(text);
+    if name.is_empty() {
         return None;
     }
-    let Some((name, value)) = parted(text, '=') else {
-        return None;
-    };
-    if is_name(name) {
-        Some((name, value))
-    } else {
-        None
+    match behind_name(rest, "=") {
+        None => None,
+        Some(value) => Some((name, value)),
     }
 }
 
@@ -75,11 +56,7 @@ pub fn assignment(text: &str) -> Option<(&str, &str)>
 pub(crate) fn begins_otherwise(text: &str) -> bool
     ensures { result ≡ spec.begins_otherwise (chars text.now) }
 {
-    let mut chars = text.chars();
-    match chars.next() {
-        None => false,
-        Some(c) => !is_word_character(c),
-    }
+    text.chars().next().is_some_and(|c| !is_word_character(c))
 }
 
 pub(crate) fn behind_name<'a>(text: &'a str, name: &str) -> Option<&'a str>
@@ -87,16 +64,6 @@ pub(crate) fn behind_name<'a>(text: &'a str, name: &str) -> Option<&'a str>
     ensures less { IfSome result (λ rest. length rest.now ≤ length text.now) }
 {
     text.strip_prefix(name)
-}
-
-// Whether what follows a `$` is a name that ends there.
-pub(crate) fn is_reference(after: &str, name: &str) -> bool
-    ensures { result ≡ spec.is_followed (rest_after name.now after.now) }
-{
-    match behind_name(after, name) {
-        None => false,
-        Some(behind) => begins_otherwise(behind),
-    }
 }
 
 // Appends a text, unless that makes one longer than `left`. Answers whether it did.

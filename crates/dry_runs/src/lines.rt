@@ -3,6 +3,7 @@
 ghost use Rattle.std.specs.Prelude.{◌≡◌, ◌<◌, ◌∷◌, [], length, MatchOption, IfSome, option_copied};
 ghost use Rattle.std.specs.Str.Lines.{lines, strip_carriage_return};
 ghost use Rattle.dry_runs.specs.DryRunLines.{marked_text};
+ghost use Rattle.dry_runs.specs.DryRunText as spec;
 
 use memchr::memchr;
 
@@ -38,4 +39,18 @@ pub fn marked(line: &str) -> Option<&str>
     ensures { option_copied result ≡ marked_text line.now }
 {
     line.strip_prefix("#$ ")
+}
+
+/// Whether a text has a line of a dry run: one that begins with `#$ `, as nvcc prints it.
+pub fn is_dry_run(bytes: &[u8]) -> bool
+    ensures { result ≡ spec.is_dry_run bytes.now }
+{
+    let mut rest = bytes;
+    while let Some((line, behind)) = first_line(rest) {
+        if line.starts_with(b"#$ ") {
+            return true;
+        }
+        rest = behind;
+    }
+    false
 }

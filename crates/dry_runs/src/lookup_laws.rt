@@ -1,7 +1,6 @@
 //! Laws of asked look-ups and of snapshots.
 
-ghost use Rattle.dry_runs.specs.AskedExamples.{AskedInOrder, AskedExpanded, AskedBeforeABadLine, AskedByBoth, AskedByAnotherPath};
-ghost use Rattle.dry_runs.specs.LookupLaws.{ReadsAlike, SnapshotReads, AskedOnce, FirstFolderIsFirst};
+ghost use Rattle.dry_runs.specs.LookupLaws.{ReadsAlike, SnapshotReads, AskedOnce, FirstFolderIsFirst, AskedInOrder, AskedExpanded, AskedBeforeABadLine, AskedByBoth, AskedByAnotherPath};
 
 /// What a dry run says depends on a look-up by its answers to what the dry run asks for, and by nothing else.
 ///

@@ -1,10 +1,10 @@
 //! A limit for the paths that look-ups try.
 
-ghost use Rattle.std.specs.Prelude.{◌≡◌, ◌+◌, length, map, IfOk, Ok};
+ghost use Rattle.std.specs.Prelude.{◌≡◌, ◌+◌, length, IfOk, Ok};
 ghost use Rattle.texts.specs.Results.{and_then};
 ghost use Rattle.dry_runs.specs.Limit.{UnlessMemoryWithin, left_behind};
 ghost use Rattle.dry_runs.specs.Parsed.{both_parsed};
-ghost use Rattle.dry_runs.specs.Candidates.{candidates_of, in_part as path_in_part, parts_of};
+ghost use Rattle.dry_runs.specs.Candidates.{candidates_of};
 ghost use Rattle.dry_runs.specs.LookupLimit as spec;
 
 use crate::search_path::{first_part, in_part};
@@ -22,16 +22,20 @@ fn left_behind_path(left: usize, path: &str) -> Option<usize>
     left.checked_sub(path.len())?.checked_sub(PATH_COST)
 }
 
-// What is left once the paths of a program in each part of `PATH` are tried.
-fn left_behind_parts(
+// What is left once the paths of a look-up are tried.
+fn left_behind_lookup(
     alloc: Global,
     left: usize,
     program: &str,
     path: &str,
     folder: &str,
 ) -> Result<Option<usize>, AllocError>
-    ensures { IfOk result (λ room. room ≡ left_behind left (spec.tried_bytes (map (path_in_part program.now folder.now) (parts_of path.now)))) }
+    ensures { IfOk result (λ room. room ≡ left_behind left (spec.tried_bytes (candidates_of program.now path.now folder.now))) }
 {
+    if !is_bare(program) {
+        let tried = join(alloc, folder, program)?;
+        return Ok(left_behind_path(left, tried.as_str()));
+    }
     let mut room = left;
     let mut rest = path;
     while let Some((part, behind)) = first_part(rest) {
@@ -44,23 +48,6 @@ fn left_behind_parts(
     }
     let tried = in_part(alloc, program, folder, rest)?;
     Ok(left_behind_path(room, tried.as_str()))
-}
-
-// What is left once the paths of a look-up are tried.
-fn left_behind_lookup(
-    alloc: Global,
-    left: usize,
-    program: &str,
-    path: &str,
-    folder: &str,
-) -> Result<Option<usize>, AllocError>
-    ensures { IfOk result (λ room. room ≡ left_behind left (spec.tried_bytes (candidates_of program.now path.now folder.now))) }
-{
-    if is_bare(program) {
-        return left_behind_parts(alloc, left, program, path, folder);
-    }
-    let tried = join(alloc, folder, program)?;
-    Ok(left_behind_path(left, tried.as_str()))
 }
 
 // The line of the first command of a run whose look-up exceeds the limit, with those before it.

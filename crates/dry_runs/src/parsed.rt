@@ -9,8 +9,7 @@ ghost use Rattle.dry_runs.specs.Parsed as spec;
 ghost use Rattle.dry_runs.specs.Reading.{dry_run_seen, dry_run_seen_within};
 
 use crate::limit::LimitedFault;
-use crate::question::program_in;
-use crate::which::{Which, found_program};
+use crate::which::{Which, found_program, program_in};
 use compilers::dry_run::{Commands, DryRun};
 use std::alloc::{AllocError, Global};
 use texts::fault::Fault;
@@ -32,10 +31,7 @@ pub struct ParsedRun {
 fn path_of(env: &Variables) -> &str
     ensures { result.now ≡ spec.path_of env.now }
 {
-    match first_value(env.as_slice(), "PATH") {
-        Some(path) => path,
-        None => "",
-    }
+    first_value(env.as_slice(), "PATH").unwrap_or("")
 }
 
 // The commands with the paths of their programs.

@@ -1,10 +1,10 @@
 //! The places of variables in an environment, found by the beginnings of their names.
 
-ghost use Rattle.std.specs.Prelude.{◌≡◌, length, OnErr, OnOk, chars};
+ghost use Rattle.std.specs.Prelude.{◌≡◌, OnErr, OnOk, chars};
 ghost use Rattle.std.specs.List.{prefix_len};
 ghost use Rattle.dry_runs.specs.Environment as environment;
 ghost use Rattle.dry_runs.specs.Places as spec;
-ghost use Rattle.dry_runs.specs.PlacesView.{places_seen};
+ghost use Rattle.dry_runs.specs.Places.{places_seen};
 
 use crate::environment::{begins_otherwise, is_name_byte};
 use std::alloc::{AllocError, Global};
@@ -24,27 +24,19 @@ fn name_len(text: &[u8]) -> usize
     len
 }
 
-// The bytes of a name that a text begins with.
-fn beginning(text: &str) -> &str
-    ensures { result.now ≡ spec.beginning text.now }
+// The bytes of a name that a text begins with, and what follows them.
+pub(crate) fn name_cut(text: &str) -> (&str, &str)
+    ensures front { result.0.now ≡ spec.beginning text.now }
+    ensures behind { result.1.now ≡ spec.behind_beginning text.now }
 {
-    let (front, _) = text.split_at(name_len(text.as_bytes()));
-    front
-}
-
-// What follows these bytes.
-fn behind_beginning(text: &str) -> &str
-    ensures { result.now ≡ spec.behind_beginning text.now }
-{
-    let (_, behind) = text.split_at(name_len(text.as_bytes()));
-    behind
+    text.split_at(name_len(text.as_bytes()))
 }
 
 // Whether a reference to a name of such bytes alone can begin a text: no word character follows them.
 pub(crate) fn ends_a_name(text: &str) -> bool
     ensures { result ≡ environment.begins_otherwise (chars (spec.behind_beginning text.now)) }
 {
-    begins_otherwise(behind_beginning(text))
+    begins_otherwise(name_cut(text).1)
 }
 
 /// The places of variables, in ascending order for each beginning of their names. Contracts see the function from a
@@ -69,7 +61,7 @@ impl NamePlaces {
         ensures ok { OnOk result (places_seen self.new ≡ spec.with_place (places_seen self.old) (spec.beginning name.now) place) }
         ensures err { OnErr result (places_seen self.new ≡ places_seen self.old) }
     {
-        let start = String::from_str(alloc, beginning(name))?;
+        let start = String::from_str(alloc, name_cut(name).0)?;
         self.places.entry(start)?.or_default().push(place)?;
         Ok(())
     }
@@ -78,7 +70,7 @@ impl NamePlaces {
     pub fn of(&self, text: &str) -> &[usize]
         ensures { result.now ≡ places_seen self.now (spec.beginning text.now) }
     {
-        match self.places.get(beginning(text)) {
+        match self.places.get(name_cut(text).0) {
             None => &[],
             Some(places) => places.as_slice(),
         }

@@ -1,20 +1,19 @@
 //! Reading a dry run.
 
-ghost use Rattle.std.specs.Prelude.{◌≡◌, ◌∷◌, [], map, codes, IfOk, OnErr, OnOk, string_bytes};
+ghost use Rattle.std.specs.Prelude.{◌≡◌, [], map, codes, IfOk, OnErr, string_bytes};
 ghost use Rattle.texts.specs.Fault.{UnlessMemory};
 ghost use Rattle.texts.specs.Variables as variables;
-ghost use Rattle.dry_runs.specs.DryRun.{dry_run_of, meaning, meaning_of_words, meaning_by_path, Assigns, Runs};
+ghost use Rattle.dry_runs.specs.DryRun.{dry_run_of, meaning, meaning_of_words, meaning_by_path, Assigns};
 ghost use Rattle.dry_runs.specs.Limit.{UnlessMemoryWithin, dry_run_within, left_behind_line};
 ghost use Rattle.dry_runs.specs.Parsed as spec;
-ghost use Rattle.dry_runs.specs.Reading.{dry_run_seen, dry_run_seen_within, nothing_said, said_parsed, said_ended, with_variable, said_left, said_next, next_within, next_held, meaning_stated};
+ghost use Rattle.dry_runs.specs.Reading.{dry_run_seen, dry_run_seen_within, said_parsed, said_ended, said_left, said_next, next_within, next_held, meaning_stated};
 
 use crate::limit::{LimitedFault, left_behind_command, left_behind_variable};
 use crate::lines::first_line;
 use crate::parsed::{ParsedRun, whole};
-use crate::question::Question;
 use crate::set_variables::SetVariables;
 use crate::statement::{Statement, statement_within};
-use crate::which::{Which, found_program};
+use crate::which::{Question, Which, found_program};
 use compilers::dry_run::{Commands, DryRun};
 use std::alloc::{AllocError, Global};
 use texts::fault::Fault;
@@ -163,7 +162,7 @@ struct Said {
 
 impl Said {
     fn new(alloc: Global) -> Said
-        ensures { result ≡ nothing_said }
+        ensures { result ≡ record { commands = []; env = [] } }
     {
         Said {
             commands: Commands::new(alloc),

@@ -1,6 +1,6 @@
 //! The paths that a look-up of a program tries.
 
-ghost use Rattle.std.specs.Prelude.{◌≡◌, ◌<◌, ◌∷◌, [], length, map, IfOk, IfSome, MatchOption, string_bytes};
+ghost use Rattle.std.specs.Prelude.{◌≡◌, ◌<◌, ◌∷◌, [], length, IfOk, IfSome, MatchOption, string_bytes};
 ghost use Rattle.dry_runs.specs.Candidates.{candidates_of, in_part as path_in_part, parts_of};
 
 use crate::is_bare;
@@ -29,19 +29,6 @@ pub(crate) fn first_part(path: &str) -> Option<(&str, &str)>
     path.split_once(':')
 }
 
-fn in_each_part(alloc: Global, program: &str, path: &str, folder: &str) -> Result<Words, AllocError>
-    ensures { IfOk result (λ paths. paths ≡ map (path_in_part program.now folder.now) (parts_of path.now)) }
-{
-    let mut paths = Words::new(alloc);
-    let mut rest = path;
-    while let Some((part, behind)) = first_part(rest) {
-        paths.push(in_part(alloc, program, folder, part)?)?;
-        rest = behind;
-    }
-    paths.push(in_part(alloc, program, folder, rest)?)?;
-    Ok(paths)
-}
-
 /// The paths that a look-up of `program` tries, in order. `path` is the value of `PATH`, and `folder` the working
 /// directory.
 ///
@@ -56,10 +43,16 @@ pub fn candidates(
 ) -> Result<Words, AllocError>
     ensures { IfOk result (λ paths. paths ≡ candidates_of program.now path.now folder.now) }
 {
-    if is_bare(program) {
-        return in_each_part(alloc, program, path, folder);
-    }
     let mut paths = Words::new(alloc);
-    paths.push(join(alloc, folder, program)?)?;
+    if !is_bare(program) {
+        paths.push(join(alloc, folder, program)?)?;
+        return Ok(paths);
+    }
+    let mut rest = path;
+    while let Some((part, behind)) = first_part(rest) {
+        paths.push(in_part(alloc, program, folder, part)?)?;
+        rest = behind;
+    }
+    paths.push(in_part(alloc, program, folder, rest)?)?;
     Ok(paths)
 }

@@ -8,7 +8,7 @@ ghost use Rattle.dry_runs.specs.Limit as limit;
 ghost use Rattle.dry_runs.specs.Places as spec;
 ghost use Rattle.compilers.specs.Replacing as replacing;
 
-use crate::environment::{is_of_name_bytes, is_reference, parted};
+use crate::environment::{begins_otherwise, behind_name, is_of_name_bytes, parted};
 use crate::places::{NamePlaces, ends_a_name};
 use std::alloc::{AllocError, Global};
 use std::marker::Model;
@@ -29,8 +29,7 @@ pub struct SetVariables {
 impl Model for SetVariables {
     ghost use Rattle.std.specs.Prelude.{◌≡◌, List, ℕ, map};
     ghost use Rattle.texts.specs.Variables.{pair_of};
-    ghost use Rattle.dry_runs.specs.Places.{are_plain, places_from};
-    ghost use Rattle.dry_runs.specs.PlacesView.{places_seen};
+    ghost use Rattle.dry_runs.specs.Places.{are_plain, places_from, places_seen};
 
     ghost Value = { List (List ℕ × List ℕ) };
 
@@ -94,13 +93,16 @@ impl SetVariables {
         Ok(())
     }
 
-    // Whether the text behind a `$` refers to the variable at a place.
+    // Whether the text behind a `$` refers to the variable at a place: its name ends there.
     fn follows_at(&self, after: &str, place: usize) -> bool
         ensures { result ≡ spec.follows_at self.now after.now place }
     {
         match self.pairs.as_slice().get(place) {
             None => false,
-            Some(pair) => is_reference(after, pair.0.as_str()),
+            Some(pair) => match behind_name(after, pair.0.as_str()) {
+                None => false,
+                Some(behind) => begins_otherwise(behind),
+            },
         }
     }
 

@@ -1,6 +1,6 @@
 //! Look-ups with what they found.
 
-ghost use Rattle.std.specs.Prelude.{◌≡◌, IfOk, option_map};
+ghost use Rattle.std.specs.Prelude.{◌≡◌, option_map};
 ghost use Rattle.dry_runs.specs.Snapshot.{answer_in};
 
 use crate::Which;

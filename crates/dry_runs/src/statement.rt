@@ -1,8 +1,8 @@
 //! What a line of a dry run says.
 
 ghost use Rattle.std.specs.Prelude.{◌≡◌, Some, IfOk, option_map};
+ghost use Rattle.dry_runs.specs.DryRun as spec;
 ghost use Rattle.dry_runs.specs.Limit as limit;
-ghost use Rattle.dry_runs.specs.Statement as spec;
 
 use crate::environment::{assignment, expanded_words_within};
 use crate::lines::marked;

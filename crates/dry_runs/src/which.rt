@@ -3,8 +3,10 @@
 ghost use Rattle.std.specs.Prelude.{◌≡◌, IfOk, string_bytes, ℕ, List, Option, option_map};
 ghost use Rattle.texts.specs.Fault.{UnlessMemory};
 ghost use Rattle.dry_runs.specs.FirstDir.{first_dir};
+ghost use Rattle.dry_runs.specs.Parsed as spec;
 ghost use Rattle.dry_runs.specs.Reading.{found_seen, found_or_fault};
 
+use crate::environment::behind_name;
 use std::alloc::{AllocError, Global};
 use texts::fault::Fault;
 use texts::text::{Text, is_bare, join};
@@ -71,4 +73,35 @@ impl Which for FirstDir {
         }
         Ok(Some(join(alloc, folder, exe)?))
     }
+}
+
+// A look-up that answers its question: the value of `PATH`, and the program's name behind it. A command that is parsed
+// with it counts the value of `PATH`, which looking its program up in folders holds.
+#[derive(Clone, Copy)]
+pub(crate) struct Question;
+
+impl Which for Question {
+    ghost use Rattle.dry_runs.specs.Parsed.{question_of};
+
+    ghost answer = { λ _ exe path cwd. question_of exe path cwd };
+
+    fn found(
+        &self,
+        alloc: Global,
+        exe: &str,
+        path: &str,
+        _cwd: &str,
+    ) -> Result<Option<String>, AllocError> {
+        let mut text = String::with_capacity(alloc, path.len().saturating_add(exe.len()))?;
+        text.push_str(path)?;
+        text.push_str(exe)?;
+        Ok(Some(text))
+    }
+}
+
+/// The name of the program in a question, given the value of `PATH`.
+pub fn program_in<'a>(path: &str, question: &'a str) -> &'a str
+    ensures { result.now ≡ spec.program_in path.now question.now }
+{
+    behind_name(question, path).unwrap_or("")
 }

@@ -15,7 +15,7 @@ returns c = record {
   digit_makes_a_command = refl;
   path_is_empty = refl;
   first_bad_line_decides = (refl, refl, refl);
-  programs_are_missing = (refl, refl, refl, refl, refl);
+  programs_are_missing = refl;
   empty_program_is_looked_up = (refl, refl);
   reference_at_the_end_stays = refl;
   one_reference_expands_all = refl;
@@ -30,6 +30,6 @@ returns c = record {
   first_folder_is_empty = refl;
   folder_needs_a_path_too = refl;
   name_is_set_twice = refl;
-  other_characters_end_a_name = (refl, refl);
-  word_characters_go_on = (refl, refl, refl, refl, refl, refl);
+  other_characters_end_a_name = refl;
+  word_characters_go_on = refl;
 }

@@ -1,4 +1,4 @@
-use Rattle.dry_runs.proofs.FirstLemmas.{first-folder_is_first}
+use Rattle.dry_runs.proofs.ReadingLemmas.{first-folder_is_first}
 use Rattle.dry_runs.proofs.lookup_laws.first_candidate.Goals as goal
 
 pub returns : goal.returns

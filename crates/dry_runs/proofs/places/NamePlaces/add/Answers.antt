@@ -1,8 +1,7 @@
 use Rattle.std.proofs.Common.{◌≡◌, arith}
 use Rattle.std.proofs.lemmas.Map.Text.{text_keys}
 use Rattle.texts.proofs.ListLemmas.{on-error}
-use Rattle.dry_runs.specs.Places.{beginning, with_place}
-use Rattle.dry_runs.specs.PlacesView.{places_seen}
+use Rattle.dry_runs.specs.Places.{beginning, places_seen, with_place}
 use Rattle.dry_runs.proofs.places.NamePlaces.add.Goals as goal
 
 pub returns-clause-ok : goal.returns-clause-ok

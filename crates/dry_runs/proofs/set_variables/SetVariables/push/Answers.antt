@@ -1,7 +1,7 @@
 use Rattle.std.proofs.Common.{String, ◌∙◌, [], ◌∷◌, ◌++◌, ◌&&◌, ap, length, Global}
 use Rattle.std.specs.List.{list_all}
 use Rattle.dry_runs.specs.Environment.{is_name_byte}
-use Rattle.dry_runs.specs.PlacesView.{places_seen}
+use Rattle.dry_runs.specs.Places.{places_seen}
 use Rattle.dry_runs.proofs.PlaceLemmas.{places-more, plain-more}
 use Rattle.dry_runs.proofs.set_variables.SetVariables.push.Goals as goal
 

@@ -2,7 +2,7 @@ use Rattle.std.proofs.Common.{◌≡◌, ◌++◌, map, length}
 use denote.Text.{Utf8}
 use denote.Shadow.{shadow}
 use Rattle.dry_runs.specs.Candidates.{in_part, parts_of}
-use Rattle.dry_runs.proofs.search_path.in_each_part.Given as goal
+use Rattle.dry_runs.proofs.search_path.candidates.Given as goal
 
 -- the paths so far, and those in the parts that are left, are all
 abbrev pub invariant-loop-part : goal.invariant-loop-part

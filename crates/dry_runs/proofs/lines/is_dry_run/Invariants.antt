@@ -1,7 +1,7 @@
 use Rattle.std.proofs.Common.{◌≡◌, length, codes, nat_eq}
 use Rattle.std.specs.List.{list_any, starts_with}
 use Rattle.std.specs.Str.Lines.{lines}
-use Rattle.dry_runs.proofs.dry_run_text.is_dry_run.Given as goal
+use Rattle.dry_runs.proofs.lines.is_dry_run.Given as goal
 
 abbrev pub invariant-loop-line : goal.invariant-loop-line
 invariant-loop-line l =

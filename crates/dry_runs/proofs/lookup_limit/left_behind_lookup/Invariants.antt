@@ -4,7 +4,7 @@ use denote.Shadow.{shadow}
 use Rattle.dry_runs.specs.Limit.{left_behind}
 use Rattle.dry_runs.specs.Candidates.{in_part, parts_of}
 use Rattle.dry_runs.specs.LookupLimit.{tried_bytes}
-use Rattle.dry_runs.proofs.lookup_limit.left_behind_parts.Given as goal
+use Rattle.dry_runs.proofs.lookup_limit.left_behind_lookup.Given as goal
 
 -- what the parts that are left leave of the room is what all parts leave
 abbrev pub invariant-loop-part : goal.invariant-loop-part
