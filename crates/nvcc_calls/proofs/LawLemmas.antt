@@ -12,13 +12,13 @@ use Rattle.host_lines.specs.GccItems.{asked_of}
 use Rattle.compilers.specs.Items.{Item}
 use Rattle.host_lines.specs.NvccEnvironment.{prepended_name, appended_name, with_added_words}
 use Rattle.nvcc_calls.specs.declared.asked.Asked.{Asked}
-use Rattle.nvcc_calls.specs.declared.call.Call.{Call}
+use Rattle.nvcc_calls.specs.declared.settling.Call.{Call}
 use Rattle.nvcc_calls.specs.declared.verdict.Verdict.{Verdict}
 use Rattle.nvcc_calls.specs.declared.verdict.Verdict.TheVariants.{Split, Pass}
 use Rattle.nvcc_calls.specs.declared.reason.Reason.{Reason}
 use Rattle.nvcc_calls.specs.declared.reason.Reason.TheVariants.{VariableQuotes, OtherReading}
 use Rattle.nvcc_calls.specs.NormalForm.{asked_by, nvcc_call, settled, is_call, agrees, sccache_reading, is_normal, judged, is_plain, verdict}
-use Rattle.nvcc_calls.specs.NormalLaws.{ReadsAs, SplitLinesReadAlike, NormalFormsAreKept}
+use Rattle.nvcc_calls.specs.Laws.{ReadsAs, SplitLinesReadAlike, NormalFormsAreKept}
 
 -- the call of a split line
 abbrev call_in : Verdict → Option Call

@@ -2,4 +2,3 @@ pub mod IdentityLemmas
 pub mod KeepingLemmas
 pub mod LawLemmas
 pub mod OptionLemmas
-pub mod TableLemmas

@@ -24,9 +24,7 @@ use Rattle.nvcc_calls.proofs.KeepingLemmas.{keeps-says}
 use Rattle.nvcc_calls.specs.declared.answer.Answer.{Answer}
 use Rattle.nvcc_calls.specs.declared.answer.Answer.TheVariants.{Split, Pass}
 use Rattle.nvcc_calls.specs.declared.outline.Outline.{Outline}
-use Rattle.nvcc_calls.specs.Answer.{answer_by, answer_to, answer_to_reading, answer_to_verdict, unless_hazard}
-use Rattle.nvcc_calls.specs.Jobs.{jobs_of}
-use Rattle.nvcc_calls.specs.Outline.{dependencies_of, outline_of, outline_with, threads_of_line}
+use Rattle.nvcc_calls.specs.Answer.{answer_by, answer_to, answer_to_reading, answer_to_verdict, dependencies_of, jobs_of, outline_of, outline_with, threads_of_line, unless_hazard}
 use Rattle.compilers.specs.Calls.{NvccOf}
 use Rattle.nvcc_calls.specs.Hazards.{hazard_of}
 use Rattle.nvcc_calls.specs.Laws.{DryRunsSayAs, SplitLinesKeepOptions}

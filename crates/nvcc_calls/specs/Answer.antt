@@ -1,5 +1,5 @@
--- What becomes of an nvcc line.
-use Rattle.std.specs.Prelude.{◌≡◌, ℕ, List, [], ◌∷◌, ◌++◌, Option, Some, None, Result, Ok, Err, if◌then◌else◌, codes, refl}
+-- What becomes of an nvcc line, and what the arguments of one say: the commands that a plan of the line begins with.
+use Rattle.std.specs.Prelude.{◌≡◌, ℕ, List, [], ◌∷◌, ◌++◌, Option, Some, None, Result, Ok, Err, if◌then◌else◌, map, codes, refl, length, ◌==◌, Bool, false, not, ◌&&◌, ◌||◌, bytes_eq, unwrap_or, option_and_then}
 use Rattle.std.specs.Str.{chars}
 use Rattle.texts.specs.declared.fault.Fault.{Fault}
 use Rattle.texts.specs.Rows.{spaced}
@@ -8,9 +8,9 @@ use Rattle.compilers.specs.declared.arguments.ParsedArguments.{ParsedArguments}
 use Rattle.host_lines.specs.declared.nvcc.command.NvccCompileCommand.{NvccCompileCommand}
 use Rattle.host_lines.specs.Nvcc.{nvcc_reading}
 use Rattle.nvcc_calls.specs.declared.asked.Asked.{Asked}
-use Rattle.nvcc_calls.specs.declared.call.Call.{Call}
+use Rattle.nvcc_calls.specs.declared.settling.Call.{Call}
 use Rattle.nvcc_calls.specs.declared.reason.Reason.{Reason}
-use Rattle.nvcc_calls.specs.declared.reason.Reason.TheVariants.{OtherReading, GeneratedName}
+use Rattle.nvcc_calls.specs.declared.reason.Reason.TheVariants.{OtherReading, OtherPhase, SeveralInputs, Links, GeneratedName}
 use Rattle.nvcc_calls.specs.declared.verdict.Verdict.{Verdict}
 use Rattle.nvcc_calls.specs.declared.verdict.Verdict.TheVariants as verdicts
 use Rattle.nvcc_calls.specs.Asked.{asked_of}
@@ -22,8 +22,106 @@ use Rattle.nvcc_calls.specs.declared.answer.Answer.{Answer}
 use Rattle.nvcc_calls.specs.declared.answer.Answer.TheVariants.{Split, Pass}
 use Rattle.compilers.specs.Calls.{NvccOf}
 use Rattle.nvcc_calls.specs.Hazards.{hazard_of}
-use Rattle.nvcc_calls.specs.Outline.{command_of, outline_of}
 use Rattle.nvcc_calls.specs.OutlineTexts.{outline_text}
+use Rattle.std.specs.List.{list_any}
+use Rattle.std.specs.Option.{is_some, option_map_or}
+use Rattle.texts.specs.Variables.{first_value}
+use Rattle.texts.specs.declared.language.Language.TheVariants.{Cuda}
+use Rattle.texts.specs.Path.{joined}
+use Rattle.compilers.specs.declared.command.SingleCompileCommand.{SingleCompileCommand}
+use Rattle.compilers.specs.declared.compiler.NvccHostCompiler.TheVariants.{Gcc}
+use Rattle.compilers.specs.declared.compiler.Places.{Places}
+use Rattle.compilers.specs.Arguments.{plain_arguments}
+use Rattle.host_lines.specs.NvccCommand.{dry_runs, nvcc_written}
+use Rattle.canonical_names.specs.Alike.{holds}
+use Rattle.host_lines.specs.KeepThreads.{keep_of, threads_of, number_of}
+use Rattle.host_lines.specs.Preprocess.{nvcc_preprocess}
+use Rattle.nvcc_calls.specs.declared.outline.Outline.{Outline}
+
+-- whether a word asks nvcc to put the source's lines into device code
+abbrev pub is_lines_word : List ℕ → Bool
+is_lines_word word =
+    bytes_eq word (codes "-lineinfo") || bytes_eq word (codes "--generate-line-info") || bytes_eq word (codes "-G") || bytes_eq word (codes "--device-debug")
+
+abbrev pub asks_lines : List (List ℕ) → Bool
+asks_lines words = list_any is_lines_word words
+
+-- whether the caller runs nvcc's tools in the call's own directory, and not in the temporary one, as plans have it
+abbrev pub runs_in_place : List (List ℕ × List ℕ) → Bool
+runs_in_place variables = is_some (first_value (codes "ZIGRUNK_IN_PLACE") variables)
+
+-- the input's path: as the line gives it, or absolute if the line asks for the source's lines. cicc would resolve a relative
+-- path from its own directory, unless that is the call's
+abbrev pub input_of : List ℕ → ParsedArguments → List (List ℕ × List ℕ) → List ℕ
+input_of cwd p variables = if asks_lines p.common_args && not (runs_in_place variables) then joined cwd p.input else p.input
+
+-- the places of a line
+abbrev pub places_of : NvccOf → ParsedArguments → List (List ℕ × List ℕ) → Places
+places_of call p variables = record { temp_dir = call.tmp; canonical_input = input_of call.cwd p variables }
+
+abbrev pub first_command : List SingleCompileCommand → Option SingleCompileCommand
+first_command [] = None
+first_command (c ∷ cs) = Some c
+
+-- the command that writes the dependency file, if the line asks for one
+abbrev pub dependencies_of : NvccOf → ParsedArguments → List (List ℕ × List ℕ) → Result (Option SingleCompileCommand) Fault
+dependencies_of call p variables =
+    if length p.dependency_args == 0 then Ok None else
+    and_then (nvcc_preprocess Gcc call.nvcc p call.cwd variables) (λ commands. Ok (first_command commands))
+
+-- the number of threads that a line asks for, or 0 if it has no thread words, so that as many words are left without these
+abbrev pub threads_of_line : List ℕ → ParsedArguments → Result ℕ Fault
+threads_of_line cwd p =
+    and_then (keep_of cwd p.unhashed_args) (λ kept.
+    and_then (threads_of kept.0) (λ taken.
+    Ok (if length taken.0 == length kept.0 then 0 else taken.1)))
+
+-- the number of jobs, or 0 if nobody says, given the line's number of threads. `ZIGRUNK_JOBS` decides if it is a number. Under a make that
+-- hands out jobs, the call is one of them
+abbrev pub names_jobserver : List ℕ → Bool
+names_jobserver flags = holds (codes "--jobserver-auth=") flags || holds (codes "--jobserver-fds=") flags
+
+abbrev pub jobs_of : List (List ℕ × List ℕ) → ℕ → ℕ
+jobs_of variables threads =
+    unwrap_or (option_and_then number_of (first_value (codes "ZIGRUNK_JOBS") variables))
+    (if option_map_or names_jobserver (first_value (codes "MAKEFLAGS") variables) false then 1 else threads)
+
+-- what a line says, given its command, the dependency command and the number of jobs
+abbrev pub outline_with : NvccCompileCommand → Option SingleCompileCommand → ℕ → Outline
+outline_with c dependencies jobs = record {
+  dependencies = dependencies;
+  first = (dry_runs c).0;
+  second = (dry_runs c).1;
+  flag = c.compilation_flag;
+  jobs = jobs;
+  keep_dir = c.keep_dir;
+}
+
+-- the nvcc command of a line's arguments
+abbrev pub command_of : NvccOf → ParsedArguments → List (List ℕ × List ℕ) → Result NvccCompileCommand Fault
+command_of call p variables =
+    and_then (nvcc_written call.nvcc p call.cwd variables Gcc (places_of call p variables)) (λ made. Ok made.0)
+
+-- what a line's arguments say, given their command. A fault of the line comes before a fault of its language
+abbrev pub outline_of : NvccOf → ParsedArguments → List (List ℕ × List ℕ) → NvccCompileCommand → Result Outline Fault
+outline_of call p variables command =
+    and_then (dependencies_of call p variables) (λ dependencies.
+    and_then (threads_of_line call.cwd p) (λ threads.
+    Ok (outline_with command dependencies (jobs_of variables threads))))
+
+-- worked examples
+abbrev lines_line : ParsedArguments
+lines_line = record (plain_arguments (codes "k.cu") Cuda []) { common_args = spaced "-lineinfo -c" }
+
+pub inputs_of_lines :
+    input_of (codes "/w") lines_line [] ∷ input_of (codes "/w") lines_line ((codes "ZIGRUNK_IN_PLACE", codes "1") ∷ []) ∷ [] ≡ spaced "/w/k.cu k.cu"
+inputs_of_lines = refl
+
+pub jobs_of_lines :
+    jobs_of ((codes "MAKEFLAGS", codes " -j4 --jobserver-auth=fifo:/tmp/x") ∷ []) 3
+    ∷ jobs_of ((codes "MAKEFLAGS", codes " -j4 --jobserver-auth=3,4") ∷ (codes "ZIGRUNK_JOBS", codes "2") ∷ []) 3
+    ∷ jobs_of ((codes "ZIGRUNK_JOBS", codes "two") ∷ []) 3 ∷ [] ≡ 1 ∷ 2 ∷ 3 ∷ []
+jobs_of_lines = refl
 
 -- the answer to arguments, given their command, which has to keep the line's options
 abbrev pub answer_by : NvccOf → List (List ℕ × List ℕ) → Asked → ParsedArguments → NvccCompileCommand → Result Answer Fault
@@ -75,40 +173,34 @@ abbrev pub split_text : Result Answer Fault → List ℕ
 split_text (Ok (Split outline)) = outline_text outline
 split_text _ = []
 
+-- the text of a line that is split, by what it has for the dependency file, the words of its dry runs, and the jobs
+abbrev pub text_with : List ℕ → List ℕ → List ℕ → List ℕ
+text_with dependencies words jobs =
+    codes "dependencies=" ++ (dependencies
+    ++ (codes "\nfirst_dry_run='( unset NVCC_PREPEND_FLAGS NVCC_APPEND_FLAGS; cd /w && nvcc -x cu " ++ (words ++ (codes " --dryrun --keep )'"
+    ++ (codes "\nsecond_dry_run='( unset NVCC_PREPEND_FLAGS NVCC_APPEND_FLAGS; cd /w && nvcc -x cu " ++ (words ++ (codes " --keep-dir /t --dryrun --keep )'"
+    ++ (codes "\nflag=-c\njobs=" ++ (jobs ++ codes "\nkeep_dir=''\n")))))))))
+
 pub words_of_a_variable :
-    split_text (nvcc_answer (line_at (spaced "-c k.cu")) ((codes "NVCC_APPEND_FLAGS", codes "-o=j.o -Xptxas -v") ∷ []) []) ≡
-    codes "dependencies=''\n" ++
-    (codes "first_dry_run='( unset NVCC_PREPEND_FLAGS NVCC_APPEND_FLAGS; cd /w && nvcc -x cu -o j.o -Xptxas -v -c k.cu --dryrun --keep )'\n" ++
-    (codes "second_dry_run='( unset NVCC_PREPEND_FLAGS NVCC_APPEND_FLAGS; cd /w && nvcc -x cu -o j.o -Xptxas -v -c k.cu --keep-dir /t --dryrun --keep )'\n" ++
-    codes "flag=-c\njobs=''\nkeep_dir=''\n"))
+    split_text (nvcc_answer (line_at (spaced "-c k.cu")) ((codes "NVCC_APPEND_FLAGS", codes "-o=j.o -Xptxas -v") ∷ []) [])
+    ≡ text_with (codes "''") (codes "-o j.o -Xptxas -v -c k.cu") (codes "''")
 unfolding chars lib.Utf8.encode keeps
 words_of_a_variable = refl
 
-pub two_values : split_text (nvcc_answer (line_at (spaced "-MD -MF a.d -t2 -o a.o -c k.cu -o b.o -t3 -MF b.d")) [] []) ≡
-    codes "dependencies='( unset NVCC_PREPEND_FLAGS NVCC_APPEND_FLAGS; cd /w && nvcc -c -x cu k.cu -M -MF b.d -MT b.o )'\n" ++
-    (codes "first_dry_run='( unset NVCC_PREPEND_FLAGS NVCC_APPEND_FLAGS; cd /w && nvcc -x cu -o b.o -c k.cu --dryrun --keep )'\n" ++
-    (codes "second_dry_run='( unset NVCC_PREPEND_FLAGS NVCC_APPEND_FLAGS; cd /w && nvcc -x cu -o b.o -c k.cu --keep-dir /t --dryrun --keep )'\n" ++
-    codes "flag=-c\njobs=3\nkeep_dir=''\n"))
+pub two_values :
+    split_text (nvcc_answer (line_at (spaced "-MD -MF a.d -t2 -o a.o -c k.cu -o b.o -t3 -MF b.d")) [] [])
+    ≡ text_with (codes "'( unset NVCC_PREPEND_FLAGS NVCC_APPEND_FLAGS; cd /w && nvcc -c -x cu k.cu -M -MF b.d -MT b.o )'")
+    (codes "-o b.o -c k.cu") (codes "3")
 unfolding chars lib.Utf8.encode keeps
 two_values = refl
 
-pub preprocessor_call : nvcc_answer (line_at (spaced "-E k.cu")) [] [] ≡ Ok (Pass (codes "its phase isn't split"))
-preprocessor_call = refl
-
-pub two_sources : nvcc_answer (line_at (spaced "-c a.cu b.cu")) [] [] ≡ Ok (Pass (codes "it names several inputs"))
-two_sources = refl
-
-pub no_line : nvcc_answer (line_at []) [] [] ≡ Ok (Pass (codes "it links"))
-no_line = refl
-
-pub generated_name : nvcc_answer (line_at (spaced "-ptx k.cu -o k.cpp1.ii")) [] [] ≡ Ok (Pass (text_of GeneratedName))
-generated_name = refl
-
 pub words_of_a_file :
-    split_text (nvcc_answer (line_at (spaced "-c k.cu --options-file inc.rsp -Iz")) [] ((codes "inc.rsp", codes "-Ix -Iy -o j.o\n") ∷ [])) ≡
-    codes "dependencies=''\n" ++
-    (codes "first_dry_run='( unset NVCC_PREPEND_FLAGS NVCC_APPEND_FLAGS; cd /w && nvcc -x cu -o j.o -Ix -Iy -Iz -c k.cu --dryrun --keep )'\n" ++
-    (codes "second_dry_run='( unset NVCC_PREPEND_FLAGS NVCC_APPEND_FLAGS; cd /w && nvcc -x cu -o j.o -Ix -Iy -Iz -c k.cu --keep-dir /t --dryrun --keep )'\n" ++
-    codes "flag=-c\njobs=''\nkeep_dir=''\n"))
+    split_text (nvcc_answer (line_at (spaced "-c k.cu --options-file inc.rsp -Iz")) [] ((codes "inc.rsp", codes "-Ix -Iy -o j.o\n") ∷ []))
+    ≡ text_with (codes "''") (codes "-o j.o -Ix -Iy -Iz -c k.cu") (codes "''")
 unfolding chars lib.Utf8.encode keeps
 words_of_a_file = refl
+
+pub passed_lines :
+    map (λ words. nvcc_answer (line_at words) [] []) (spaced "-E k.cu" ∷ spaced "-c a.cu b.cu" ∷ [] ∷ spaced "-ptx k.cu -o k.cpp1.ii" ∷ [])
+    ≡ Ok (Pass (text_of OtherPhase)) ∷ Ok (Pass (text_of SeveralInputs)) ∷ Ok (Pass (text_of Links)) ∷ Ok (Pass (text_of GeneratedName)) ∷ []
+passed_lines = refl

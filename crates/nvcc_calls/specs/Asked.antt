@@ -12,8 +12,7 @@ use Rattle.nvcc_calls.specs.declared.options.Purpose.TheVariants.{Define, Depend
 use Rattle.nvcc_calls.specs.declared.reason.Reason.{Reason}
 use Rattle.nvcc_calls.specs.declared.reason.Reason.TheVariants.{UnknownOption, MissingValue, BadValue, OptionsFile, ShellCharacter}
 use Rattle.nvcc_calls.specs.Options.{nvcc_entries}
-use Rattle.nvcc_calls.specs.Files.{words_of_file}
-use Rattle.nvcc_calls.specs.Words.{has_no_operator, is_number, is_language, is_joinable, is_unexpanded, equals_word}
+use Rattle.nvcc_calls.specs.Words.{has_no_operator, is_number, is_language, is_joinable, is_unexpanded, equals_word, words_of_file}
 
 -- a line that asks for nothing
 abbrev pub nothing_asked : Asked

@@ -8,7 +8,7 @@ use Rattle.texts.specs.Rows.{spaced}
 use Rattle.canonical_names.specs.Alike.{holds}
 use Rattle.canonical_names.specs.Generated.{standard_suffixes}
 use Rattle.nvcc_calls.specs.declared.asked.Asked.{Asked}
-use Rattle.nvcc_calls.specs.declared.call.Call.{Call}
+use Rattle.nvcc_calls.specs.declared.settling.Call.{Call}
 use Rattle.nvcc_calls.specs.declared.reason.Reason.{Reason}
 use Rattle.nvcc_calls.specs.declared.reason.Reason.TheVariants.{GeneratedName, DirectoryName, ToolFile, HostFile, KeptName, OpenFile}
 use Rattle.nvcc_calls.specs.Asked.{nothing_asked, reason_unless}
@@ -21,15 +21,10 @@ use Rattle.nvcc_calls.specs.ToolWords.{begins_with_one, may_name_file}
 abbrev pub may_be_renamed : List ℕ → Bool
 may_be_renamed text = list_any (λ suffix. holds suffix text) standard_suffixes
 
-abbrev pub may_one_be_renamed : List (List ℕ) → Bool
-may_one_be_renamed texts = list_any may_be_renamed texts
-
 -- whether a shell leaves the name of a directory as it is in double quotes. nvcc writes it there without a backslash
-abbrev pub is_left : ℕ → Bool
-is_left byte = nat_le 32 byte && not (byte == 36) && not (byte == 92) && not (byte == 96) && not (byte == 127)
-
 abbrev pub is_plain_directory : List ℕ → Bool
-is_plain_directory path = list_all is_left path
+is_plain_directory path =
+    list_all (λ byte. nat_le 32 byte && not (byte == 36) && not (byte == 92) && not (byte == 96) && not (byte == 127)) path
 
 -- whether a word has each host preprocessor write a dependency file
 abbrev pub host_options : List (List ℕ)
@@ -62,12 +57,12 @@ names_open_file text =
 -- whether a call uses such a file: as its input, as its output, or in an option. A dependency file may be one, since one command writes it
 abbrev pub uses_open_file : Asked → Call → Bool
 uses_open_file asked normal =
-    names_open_file normal.input || names_open_file normal.output || list_any names_open_file asked.kept
+    list_any names_open_file asked.kept || names_open_file normal.input || names_open_file normal.output
 
 -- whether the names of a call may be changed where generated files get canonical names
 abbrev pub is_renamed : NvccOf → Call → Bool
 is_renamed call normal =
-    may_be_renamed call.cwd || may_be_renamed call.tmp || may_be_renamed call.nvcc || may_one_be_renamed normal.words
+    list_any may_be_renamed normal.words || may_be_renamed call.cwd || may_be_renamed call.tmp || may_be_renamed call.nvcc
 
 -- why nvcc makes the call, if it does: its directories, the words, and what the line asks for
 abbrev pub hazard_of : NvccOf → Asked → Call → Option Reason
@@ -80,47 +75,41 @@ hazard_of call asked normal =
     ∷ reason_unless (not (uses_open_file asked normal)) OpenFile
     ∷ [])
 
--- Worked examples.
-abbrev pub call_in : List ℕ → NvccOf
-call_in cwd = record { cwd = cwd; tmp = codes "/t"; nvcc = codes "nvcc"; words = [] }
-
-abbrev pub call_for : List ℕ → List ℕ → List (List ℕ) → Call
-call_for flag output words = record { flag = flag; input = codes "sub/dev.cu"; output = output; words = words }
+-- Worked examples: the reason at a working directory, for a line that asks for some words alone, by a call's flag, output and words.
+abbrev pub reason_at : List ℕ → List (List ℕ) → List ℕ → List ℕ → List (List ℕ) → Option Reason
+reason_at cwd kept flag output words =
+    hazard_of (record { cwd = cwd; tmp = codes "/t"; nvcc = codes "nvcc"; words = [] }) (record nothing_asked { kept = kept })
+    (record { flag = flag; input = codes "sub/dev.cu"; output = output; words = words })
 
 -- words that name a generated file, or no such file; a file for ptxas, and one for fatbinary; a dependency file of an object, and an open one
 pub words_of_objects :
-    map (λ words. hazard_of (call_in (codes "/w")) nothing_asked (call_for (codes "-c") (codes "k.o") words))
-    (spaced "-DN=a.cpp1.ii" ∷ spaced "-DN=a.ii -I/x.cpp1 sub/dev.cu" ∷ spaced "-Xptxas=-optf,p.txt" ∷ spaced "-Xfatbin=--image=file=a" ∷ spaced "-Xcompiler=-MD,-MF,k.d" ∷ spaced "-MD -MF /dev/fd/3" ∷ [])
+    map (reason_at (codes "/w") [] (codes "-c") (codes "k.o"))
+    (spaced "-DN=a.cpp1.ii" ∷ spaced "-DN=a.ii -I/x.cpp1 sub/dev.cu" ∷ spaced "-Xptxas=-optf,p.txt" ∷ spaced "-Xfatbin=--image=file=a"
+    ∷ spaced "-Xcompiler=-MD,-MF,k.d" ∷ spaced "-MD -MF /dev/fd/3" ∷ [])
     ≡ Some GeneratedName ∷ None ∷ Some ToolFile ∷ Some ToolFile ∷ None ∷ None ∷ []
 words_of_objects = refl
 
-pub folder_with_a_name : hazard_of (call_in (codes "/w/a.cudafe1.cpp.d")) nothing_asked (call_for (codes "-c") (codes "k.o") []) ≡ Some GeneratedName
-folder_with_a_name = refl
+pub folders :
+    map (λ cwd. reason_at cwd [] (codes "-c") (codes "k.o") []) (spaced "/w/a.cudafe1.cpp.d /w$x")
+    ≡ Some GeneratedName ∷ Some DirectoryName ∷ []
+folders = refl
 
-pub folder_with_a_dollar : hazard_of (call_in (codes "/w$x")) nothing_asked (call_for (codes "-c") (codes "k.o") []) ≡ Some DirectoryName
-folder_with_a_dollar = refl
-
-pub shared_file : hazard_of (call_in (codes "/w")) nothing_asked (call_for (codes "-fatbin") (codes "k.f") (spaced "-Xcompiler=-MD,-MF,k.d")) ≡ Some HostFile
+pub shared_file : reason_at (codes "/w") [] (codes "-fatbin") (codes "k.f") (spaced "-Xcompiler=-MD,-MF,k.d") ≡ Some HostFile
 shared_file = refl
 
-pub kept_cubin : hazard_of (call_in (codes "/w")) nothing_asked (call_for (codes "-c") (codes "o/dev.sm_80.cubin") (spaced "--keep")) ≡ Some KeptName
-kept_cubin = refl
+pub kept_files :
+    map (λ output. reason_at (codes "/w") [] (codes "-c") output (spaced "--keep")) (spaced "o/dev.sm_80.cubin dev.cu.o")
+    ≡ Some KeptName ∷ None ∷ []
+kept_files = refl
 
-pub kept_beside_an_object : hazard_of (call_in (codes "/w")) nothing_asked (call_for (codes "-c") (codes "dev.cu.o") (spaced "--keep")) ≡ None
-kept_beside_an_object = refl
-
--- a line that asks only for these words
-abbrev pub keeping : List (List ℕ) → Asked
-keeping words = record nothing_asked { kept = words }
-
-pub standard_input : map names_open_file (spaced "/dev/stdin ../dev/stdin /dev/fd/63 /proc/self/fd/0 /proc/9/fd/3") ≡ true ∷ true ∷ true ∷ true ∷ true ∷ []
+pub standard_input : list_all names_open_file (spaced "/dev/stdin ../dev/stdin /dev/fd/63 /proc/self/fd/0 /proc/9/fd/3") ≡ true
 standard_input = refl
 
-pub usual_files : map names_open_file (spaced "/dev/null /dev/stdout /w/fd/k.cu /proc/cpuinfo stdin") ≡ false ∷ false ∷ false ∷ false ∷ false ∷ []
+pub usual_files : list_any names_open_file (spaced "/dev/null /dev/stdout /w/fd/k.cu /proc/cpuinfo stdin") ≡ false
 usual_files = refl
 
-pub open_header : hazard_of (call_in (codes "/w")) (keeping (spaced "-Xcompiler=-include,/dev/fd/3")) (call_for (codes "-c") (codes "k.o") []) ≡ Some OpenFile
+pub open_header : reason_at (codes "/w") (spaced "-Xcompiler=-include,/dev/fd/3") (codes "-c") (codes "k.o") [] ≡ Some OpenFile
 open_header = refl
 
-pub open_product : hazard_of (call_in (codes "/w")) nothing_asked (call_for (codes "-ptx") (codes "/dev/fd/3") []) ≡ Some OpenFile
+pub open_product : reason_at (codes "/w") [] (codes "-ptx") (codes "/dev/fd/3") [] ≡ Some OpenFile
 open_product = refl

@@ -1,15 +1,11 @@
 pub mod Answer
 pub mod Asked
 pub mod Directory
-pub mod Files
 pub mod Hazards
-pub mod Jobs
 pub mod Keeping
 pub mod Laws
 pub mod NormalForm
-pub mod NormalLaws
 pub mod Options
-pub mod Outline
 pub mod OutlineTexts
 pub mod Reasons
 pub mod ToolWords

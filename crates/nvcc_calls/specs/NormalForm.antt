@@ -1,5 +1,5 @@
 -- The normal form of a line: nvcc's reading of it, and the words that say the same in fewer ways.
-use Rattle.std.specs.Prelude.{◌≡◌, ℕ, List, [], ◌∷◌, ◌++◌, Bool, true, false, not, ◌==◌, ◌&&◌, ◌||◌, fold, length, nat_le, is_some, is_none, unwrap_or, if◌then◌else◌, Option, Some, None, Result, Ok, Err, refl, codes, nat_eq, bytes_eq}
+use Rattle.std.specs.Prelude.{◌≡◌, ℕ, List, [], ◌∷◌, ◌++◌, Bool, true, false, not, ◌==◌, ◌&&◌, ◌||◌, fold, length, map, nat_le, is_some, is_none, unwrap_or, if◌then◌else◌, Option, Some, None, Result, Ok, Err, refl, codes, nat_eq, bytes_eq}
 use Rattle.std.specs.List.{list_any, list_all}
 use Rattle.std.specs.Option.{option_or, option_map_or}
 use Rattle.std.specs.Str.{chars}
@@ -20,10 +20,10 @@ use Rattle.host_lines.specs.NvccOptions.{nvcc_options}
 use Rattle.host_lines.specs.NvccEnvironment.{prepended_name, appended_name, with_added_words}
 use Rattle.compilers.specs.declared.compiler.CCompilerKind.TheVariants as kinds
 use Rattle.nvcc_calls.specs.declared.asked.Asked.{Asked}
-use Rattle.nvcc_calls.specs.declared.call.Call.{Call}
+use Rattle.nvcc_calls.specs.declared.settling.Call.{Call}
 use Rattle.nvcc_calls.specs.declared.reason.Reason.{Reason}
 use Rattle.nvcc_calls.specs.declared.reason.Reason.TheVariants.{Links, SeveralPhases, NoInput, SeveralInputs, NotSource, HostSource, StandardOutput, HiddenName, UnknownOption, MissingValue, OptionsFile, DependencyWords, ShellCharacter, VariableQuotes, OtherReading}
-use Rattle.nvcc_calls.specs.Words.{is_unexpanded, is_cut_at_spaces}
+use Rattle.nvcc_calls.specs.Words.{is_unexpanded, is_cut_at_spaces, is_usual_name}
 use Rattle.nvcc_calls.specs.Asked.{asked_of, reason_unless}
 use Rattle.nvcc_calls.specs.declared.verdict.Verdict.{Verdict}
 use Rattle.nvcc_calls.specs.declared.verdict.Verdict.TheVariants.{Split, Pass}
@@ -39,11 +39,7 @@ value_of option = unwrap_or option []
 
 -- whether texts differ
 abbrev pub differ : List (List ℕ) → Bool
-differ [] = false
-differ (t ∷ ts) = not (list_all (bytes_eq t) ts)
-
-abbrev pub are_given : List (List ℕ) → Bool
-are_given texts = not (length texts == 0)
+differ texts = not (list_all (bytes_eq (first_of texts)) texts)
 
 -- whether the file name of a path is empty or begins with `.`: nvcc names what it makes of such a source, and the
 -- dependency file of such an output, in a way of its own
@@ -95,27 +91,17 @@ default_output directory input flag = joined directory (with_extension (last_par
 abbrev pub output_of : Asked → List ℕ
 output_of a = if is_some a.output then value_of a.output else default_output (value_of a.directory) (input_of a) (phase_of a)
 
--- examples: the default outputs
-pub object_of_a_source : default_output [] (codes "sub/k.x.cu") (codes "-dc") ≡ codes "k.x.o"
-object_of_a_source = refl
-
-pub ptx_in_a_folder : default_output (codes "od") (codes "k.cu") (codes "-ptx") ≡ codes "od/k.ptx"
-ptx_in_a_folder = refl
-
--- whether the output is a file: not `-` or the empty text
-abbrev pub is_file : List ℕ → Bool
-is_file output = not (length output == 0) && not (bytes_eq output (codes "-"))
+-- examples: an object, and PTX in a folder
+pub default_outputs :
+    default_output [] (codes "sub/k.x.cu") (codes "-dc") ∷ default_output (codes "od") (codes "k.cu") (codes "-ptx") ∷ []
+    ≡ spaced "k.x.o od/k.ptx"
+default_outputs = refl
 
 -- whether a dependency file is asked for in a usual way: by one flag, with a name or a plain one beside the object, for
 -- the object
 abbrev pub names_usual_file : Asked → Bool
 names_usual_file a =
     if is_some a.output then is_some a.dependency_file || not (is_hidden (value_of a.output)) else makes_objects (phase_of a)
-
--- whether a name looks like one: it isn't empty and doesn't begin with `-`
-abbrev pub is_usual_name : List ℕ → Bool
-is_usual_name [] = false
-is_usual_name (c ∷ cs) = not (c == 45)
 
 -- the target in a dependency file, if the line names it or the output
 abbrev pub names_target : Asked → Bool
@@ -141,7 +127,7 @@ has_usual_dependencies a =
     if length a.dependencies == 0 then is_none a.dependency_file && is_none a.dependency_target && (length a.phonies == 0)
     else not (differ a.dependencies) && is_none a.directory && names_usual_file a && names_two_files a
 
--- why an input's language, or an output, leaves a line's call to nvcc
+-- why an input's language, or an output that is `-` or the empty text, leaves a line's call to nvcc
 abbrev pub language_reason : Asked → Option Reason
 language_reason a =
     if is_cuda a then None
@@ -150,7 +136,7 @@ language_reason a =
 
 abbrev pub output_reason : Asked → Option Reason
 output_reason a =
-    if is_some a.output then reason_unless (is_file (value_of a.output)) StandardOutput
+    if is_some a.output then reason_unless (not (length (value_of a.output) == 0) && not (bytes_eq (value_of a.output) (codes "-"))) StandardOutput
     else reason_unless (not (is_hidden (input_of a))) HiddenName
 
 -- why a line's call is left to nvcc, in order: what an item says; unknown words that nvcc doesn't forward; phases; inputs;
@@ -158,10 +144,10 @@ output_reason a =
 abbrev pub reason_of : Asked → Option Reason
 reason_of a =
     fold option_or a.refusal
-    (reason_unless ((length a.unknown == 0) || are_given a.forwards) UnknownOption
-    ∷ reason_unless (are_given a.phases) Links
+    (reason_unless ((length a.unknown == 0) || not (length a.forwards == 0)) UnknownOption
+    ∷ reason_unless (not (length a.phases == 0)) Links
     ∷ reason_unless (not (differ a.phases)) SeveralPhases
-    ∷ reason_unless (are_given a.inputs) NoInput
+    ∷ reason_unless (not (length a.inputs == 0)) NoInput
     ∷ reason_unless (nat_le (length a.inputs) 1) SeveralInputs
     ∷ language_reason a
     ∷ output_reason a
@@ -192,15 +178,14 @@ with_last_values a words =
 abbrev pub normal_words : Asked → List ℕ → List (List ℕ)
 normal_words a output = with_last_values a (phase_of a ∷ codes "-o" ∷ output ∷ a.kept) ++ input_of a ∷ []
 
-abbrev pub call_of : Asked → Call
-call_of a = record { flag = phase_of a; input = input_of a; output = output_of a; words = normal_words a (output_of a) }
-
 abbrev pub unless_refused : Option Reason → Call → Result Call Reason
 unless_refused None call = Ok call
 unless_refused (Some reason) call = Err reason
 
 abbrev pub settled : Asked → Result Call Reason
-settled a = unless_refused (reason_of a) (call_of a)
+settled a =
+    unless_refused (reason_of a)
+    (record { flag = phase_of a; input = input_of a; output = output_of a; words = normal_words a (output_of a) })
 
 -- what words ask for, given the options files by name and text, unless nvcc's shell may expand one
 abbrev pub asked_by : List (List ℕ × List ℕ) → List (List ℕ) → Result Asked Reason
@@ -211,36 +196,21 @@ abbrev pub nvcc_call : List (List ℕ × List ℕ) → List (List ℕ) → Resul
 nvcc_call files words = and_then (asked_by files words) settled
 
 -- examples: of two values the last counts, and comes once
-abbrev pub two_outputs_call : Call
-two_outputs_call = record { flag = codes "-c"; input = codes "k.cu"; output = codes "b.o"; words = spaced "-c -o b.o k.cu" }
+abbrev pub object_call : List ℕ → List (List ℕ) → Call
+object_call output words = record { flag = codes "-c"; input = codes "k.cu"; output = output; words = words }
 
-pub last_output_counts : nvcc_call [] (spaced "-c k.cu -o a.o --output-file=b.o") ≡ Ok two_outputs_call
-last_output_counts = refl
+pub last_values_count :
+    map (nvcc_call []) (spaced "-c k.cu -o a.o --output-file=b.o" ∷ spaced "-MF a.d -MT s -MD -MT t -g -MF b.d -c k.cu" ∷ [])
+    ≡ Ok (object_call (codes "b.o") (spaced "-c -o b.o k.cu")) ∷ Ok (object_call (codes "k.o") (spaced "-c -o k.o -MD -g -MF b.d -MT t k.cu")) ∷ []
+last_values_count = refl
 
-abbrev pub two_files_call : Call
-two_files_call = record { flag = codes "-c"; input = codes "k.cu"; output = codes "k.o"; words = spaced "-c -o k.o -MD -g -MF b.d -MT t k.cu" }
-
-pub last_file_counts : nvcc_call [] (spaced "-MF a.d -MT s -MD -MT t -g -MF b.d -c k.cu") ≡ Ok two_files_call
-last_file_counts = refl
-
--- examples: the words of a file count where it is named, and no value comes from behind it
-abbrev pub file_call : Call
-file_call = record { flag = codes "-c"; input = codes "k.cu"; output = codes "k.o"; words = spaced "-c -o k.o -DA=1 -DA=2 -DA=3 k.cu" }
-
-pub words_of_a_file : nvcc_call ((codes "f", codes "-DA=2 -o k.o\n") ∷ []) (spaced "-DA=1 -o j.o --options-file f -DA=3 -c k.cu") ≡ Ok file_call
+-- examples: the words of a file count where it is named, no value comes from behind it, and it may neither name another nor be missing
+pub words_of_files :
+    map (nvcc_call ((codes "f", codes "-DA=2 -o k.o\n") ∷ (codes "g", codes "-arch") ∷ (codes "h", codes "-optf f") ∷ []))
+    (spaced "-DA=1 -o j.o --options-file f -DA=3 -c k.cu" ∷ spaced "-c k.cu -optf=g sm_80" ∷ spaced "-c k.cu -optf h" ∷ spaced "-c k.cu -optf i" ∷ [])
+    ≡ Ok (object_call (codes "k.o") (spaced "-c -o k.o -DA=1 -DA=2 -DA=3 k.cu")) ∷ Err MissingValue ∷ Err OptionsFile ∷ Err OptionsFile ∷ []
 unfolding chars lib.Utf8.encode
-words_of_a_file = refl
-
-pub value_behind_a_file : nvcc_call ((codes "f", codes "-arch") ∷ []) (spaced "-c k.cu -optf=f sm_80") ≡ Err MissingValue
-unfolding chars lib.Utf8.encode
-value_behind_a_file = refl
-
-pub file_in_a_file : nvcc_call ((codes "f", codes "-optf g") ∷ (codes "g", codes "-c") ∷ []) (spaced "k.cu -optf f") ≡ Err OptionsFile
-unfolding chars lib.Utf8.encode
-file_in_a_file = refl
-
-pub missing_file : nvcc_call [] (spaced "-c k.cu -optf f") ≡ Err OptionsFile
-missing_file = refl
+words_of_files = refl
 
 -- The verdict on a line: its normal form, if sccache's reader reads that as nvcc does, or why the call goes to nvcc.
 

@@ -1,14 +1,12 @@
 -- nvcc 13's options: every name that nvcc takes, and what it does with a value.
-use Rattle.std.specs.Prelude.{ℕ, List, [], ◌∷◌, ◌++◌, map, Some, None, codes, length, nat_lt, if◌then◌else◌, Option, fold, flat_map}
+use Rattle.std.specs.Prelude.{ℕ, List, [], ◌∷◌, ◌++◌, map, Some, None, codes}
 use Rattle.texts.specs.Rows.{spaced}
 use Rattle.compilers.specs.declared.table.ArgDisposition.{ArgDisposition}
 use Rattle.compilers.specs.declared.table.ArgDisposition.TheVariants.{Concatenated, CanBeSeparated}
-use Rattle.compilers.specs.Table.{Entry, entry_of, longest_match}
-use Rattle.compilers.specs.declared.table.Table.{Table}
+use Rattle.compilers.specs.Table.{Entry}
 use Rattle.nvcc_calls.specs.declared.options.Purpose.{Purpose}
 use Rattle.nvcc_calls.specs.declared.options.Purpose.TheVariants.{Define, Dependencies, DependencyFile, DependencyPhonies, DependencyTarget, File, Forward, Include, Keep, KeepDirectory, Language, OptimizationInfo, Output, OutputDirectory, Passes, Phase, Plain, PreInclude, Quoted, TargetDirectory, Threads, Undefine, Unquoted}
 use Rattle.nvcc_calls.specs.declared.reason.Reason.TheVariants.{Cleans, DrivePrefix, Jobserver, Links, Measures, OtherPhase, Prints, StandardInput, TemporaryFiles}
-use Rattle.nvcc_calls.specs.declared.options.Tables.{Tables}
 
 -- entries of one purpose: names that take no value; names that take one as the next word, or after `=`, whose byte is
 -- 61; and names that take one in these two ways or right behind them
@@ -35,46 +33,36 @@ abbrev pub nvcc_entries : List (Entry Purpose)
 nvcc_entries =
     -- flags that nvcc keeps to itself or passes on
     flags Plain
-    (spaced "--allow-unsupported-compiler -allow-unsupported-compiler --compile-as-tools-patch -astoolspatch"
-    ++ spaced "--debug -g --device-debug -G --disable-warnings -w --display-error-number -err-no --dlink-time-opt"
-    ++ spaced "-dlto --dont-use-profile -noprof --expt-extended-lambda -expt-extended-lambda"
-    ++ spaced "--expt-relaxed-constexpr -expt-relaxed-constexpr --extended-lambda -extended-lambda"
-    ++ spaced "--extensible-whole-program -ewp --extra-device-vectorization -extra-device-vectorization"
-    ++ spaced "--fdevice-syntax-only -fdevice-syntax-only --force-cl-env-setup -force-cl-env-setup"
-    ++ spaced "--gen-opt-lto -gen-opt-lto --generate-line-info -lineinfo --keep-device-functions"
-    ++ spaced "-keep-device-functions --lto -lto --m64 -m64 --no-align-double --no-compress -no-compress"
-    ++ spaced "--no-device-link -nodlink --no-display-error-number -no-err-no --no-exceptions -noeh"
-    ++ spaced "--no-host-device-initializer-list -nohdinitlist --no-host-device-move-forward -nohdmoveforward"
-    ++ spaced "--profile -pg --relocatable-ptx -reloc-ptx --resource-usage -res-usage --restrict -restrict"
-    ++ spaced "--shared -shared --source-in-ptx -src-in-ptx --use-local-env -use-local-env"
-    ++ spaced "--use_fast_math -use_fast_math --Wdefault-stream-launch -Wdefault-stream-launch"
-    ++ spaced "--Wext-lambda-captures-this -Wext-lambda-captures-this --Wmissing-launch-bounds"
-    ++ spaced "-Wmissing-launch-bounds --Wno-deprecated-declarations -Wno-deprecated-declarations"
-    ++ spaced "--Wno-deprecated-gpu-targets -Wno-deprecated-gpu-targets --Wreorder -Wreorder")
+    (spaced "--allow-unsupported-compiler -allow-unsupported-compiler --compile-as-tools-patch -astoolspatch --debug -g --device-debug -G"
+    ++ spaced "--disable-warnings -w --display-error-number -err-no --dlink-time-opt -dlto --dont-use-profile -noprof --expt-extended-lambda"
+    ++ spaced "-expt-extended-lambda --expt-relaxed-constexpr -expt-relaxed-constexpr --extended-lambda -extended-lambda --extensible-whole-program"
+    ++ spaced "-ewp --extra-device-vectorization -extra-device-vectorization --fdevice-syntax-only -fdevice-syntax-only --force-cl-env-setup"
+    ++ spaced "-force-cl-env-setup --gen-opt-lto -gen-opt-lto --generate-line-info -lineinfo --keep-device-functions -keep-device-functions --lto"
+    ++ spaced "-lto --m64 -m64 --no-align-double --no-compress -no-compress --no-device-link -nodlink --no-display-error-number -no-err-no"
+    ++ spaced "--no-exceptions -noeh --no-host-device-initializer-list -nohdinitlist --no-host-device-move-forward -nohdmoveforward --profile -pg"
+    ++ spaced "--relocatable-ptx -reloc-ptx --resource-usage -res-usage --restrict -restrict --shared -shared --source-in-ptx -src-in-ptx"
+    ++ spaced "--use-local-env -use-local-env --use_fast_math -use_fast_math --Wdefault-stream-launch -Wdefault-stream-launch"
+    ++ spaced "--Wext-lambda-captures-this -Wext-lambda-captures-this --Wmissing-launch-bounds -Wmissing-launch-bounds --Wno-deprecated-declarations"
+    ++ spaced "-Wno-deprecated-declarations --Wno-deprecated-gpu-targets -Wno-deprecated-gpu-targets --Wreorder -Wreorder")
     -- flags that have nvcc forward words that it doesn't know
     ++ flags Forward
-    (spaced "--forward-unknown-opts -forward-unknown-opts --forward-unknown-to-host-compiler"
-    ++ spaced "-forward-unknown-to-host-compiler --forward-unknown-to-host-linker -forward-unknown-to-host-linker")
+    (spaced "--forward-unknown-opts -forward-unknown-opts --forward-unknown-to-host-compiler -forward-unknown-to-host-compiler"
+    ++ spaced "--forward-unknown-to-host-linker -forward-unknown-to-host-linker")
     -- options whose values nvcc passes on without quotes
     ++ valued Unquoted
-    (spaced "--archive-options -Xarchive --archiver-binary -arbin --brief-diagnostics -brief-diag --cicc-options"
-    ++ spaced "-Xcicc --compiler-bindir -ccbin --compiler-options -Xcompiler --compress-mode -compress-mode"
-    ++ spaced "--cudadevrt -cudadevrt --cudafe-options -Xcudafe --cudart -cudart --default-stream -default-stream"
-    ++ spaced "--device-entity-has-hidden-visibility -device-entity-has-hidden-visibility --device-stack-protector"
-    ++ spaced "-device-stack-protector --diag-error -diag-error --diag-suppress -diag-suppress --diag-warn"
-    ++ spaced "-diag-warn --dopt -dopt --entries -e --fatbin-options -Xfatbin --fmad -fmad --frandom-seed"
-    ++ spaced "-frandom-seed --ftemplate-backtrace-limit -ftemplate-backtrace-limit --ftemplate-depth"
-    ++ spaced "-ftemplate-depth --ftz -ftz --jump-table-density -jtd --libdevice-directory -ldir --library"
-    ++ spaced "--linker-options -Xlinker --machine -m --maxrregcount -maxrregcount --nvlink-options -Xnvlink"
-    ++ spaced "--Ofast-compile -Ofc --optimize --prec-div -prec-div --prec-sqrt -prec-sqrt --ptxas-options -Xptxas"
-    ++ spaced "--qpp-config -qpp-config --relocatable-device-code -rdc --run-args -run-args --sanitize -sanitize"
-    ++ spaced "--split-compile -split-compile --split-compile-extended -split-compile-extended"
-    ++ spaced "--static-global-template-stub -static-global-template-stub --std -std --Werror -Werror")
+    (spaced "--archive-options -Xarchive --archiver-binary -arbin --brief-diagnostics -brief-diag --cicc-options -Xcicc --compiler-bindir -ccbin"
+    ++ spaced "--compiler-options -Xcompiler --compress-mode -compress-mode --cudadevrt -cudadevrt --cudafe-options -Xcudafe --cudart -cudart"
+    ++ spaced "--default-stream -default-stream --device-entity-has-hidden-visibility -device-entity-has-hidden-visibility --device-stack-protector"
+    ++ spaced "-device-stack-protector --diag-error -diag-error --diag-suppress -diag-suppress --diag-warn -diag-warn --dopt -dopt --entries -e"
+    ++ spaced "--fatbin-options -Xfatbin --fmad -fmad --frandom-seed -frandom-seed --ftemplate-backtrace-limit -ftemplate-backtrace-limit"
+    ++ spaced "--ftemplate-depth -ftemplate-depth --ftz -ftz --jump-table-density -jtd --libdevice-directory -ldir --library --linker-options"
+    ++ spaced "-Xlinker --machine -m --maxrregcount -maxrregcount --nvlink-options -Xnvlink --Ofast-compile -Ofc --optimize --prec-div -prec-div"
+    ++ spaced "--prec-sqrt -prec-sqrt --ptxas-options -Xptxas --qpp-config -qpp-config --relocatable-device-code -rdc --run-args -run-args"
+    ++ spaced "--sanitize -sanitize --split-compile -split-compile --split-compile-extended -split-compile-extended --static-global-template-stub"
+    ++ spaced "-static-global-template-stub --std -std --Werror -Werror")
     ++ joined Unquoted (spaced "-l -O")
     -- options whose values nvcc puts in quotes, or reads itself
-    ++ valued Quoted
-    (spaced "--generate-code -gencode --gpu-architecture -arch --gpu-code -code --include-path --library-path"
-    ++ spaced "--system-include -isystem")
+    ++ valued Quoted (spaced "--generate-code -gencode --gpu-architecture -arch --gpu-code -code --include-path --library-path --system-include -isystem")
     ++ joined Quoted (spaced "-L")
     -- options that a normal form spells in its own way
     ++ long_and_short Define (codes "--define-macro") (codes "-D")
@@ -84,9 +72,7 @@ nvcc_entries =
     ++ valued OptimizationInfo (spaced "--optimization-info -opt-info")
     ++ valued TargetDirectory (spaced "--target-directory -target-dir")
     -- the phases that are split, and the file that is made
-    ++ flags Phase
-    (spaced "--compile -c --cubin -cubin --device-c -dc --device-w -dw --fatbin -fatbin --optix-ir -optix-ir"
-    ++ spaced "--ptx -ptx")
+    ++ flags Phase (spaced "--compile -c --cubin -cubin --device-c -dc --device-w -dw --fatbin -fatbin --optix-ir -optix-ir --ptx -ptx")
     ++ valued Output (spaced "--output-file -o")
     ++ valued OutputDirectory (spaced "--output-directory -odir")
     ++ valued Language (spaced "--x -x")
@@ -102,42 +88,13 @@ nvcc_entries =
     -- files with further words
     ++ valued File (spaced "--options-file -optf")
     -- options that leave the call to nvcc
-    ++ flags (Passes Prints)
-    (spaced "--dryrun -dryrun --help -h --list-gpu-arch -arch-ls --list-gpu-code -code-ls --verbose -v --version"
-    ++ spaced "-V")
+    ++ flags (Passes Prints) (spaced "--dryrun -dryrun --help -h --list-gpu-arch -arch-ls --list-gpu-code -code-ls --verbose -v --version -V")
     ++ flags (Passes Cleans) (spaced "--clean-targets -clean")
-    ++ flags (Passes Links)
-    (spaced "--augment-host-linker-script -aug-hls --device-link -dlink --lib -lib --link -link"
-    ++ spaced "--relocatable-link -r --run -run")
+    ++ flags (Passes Links) (spaced "--augment-host-linker-script -aug-hls --device-link -dlink --lib -lib --link -link --relocatable-link -r --run -run")
     ++ valued (Passes Links) (spaced "--host-linker-script -hls")
-    ++ flags (Passes OtherPhase)
-    (spaced "--cuda -cuda --generate-dependencies -M --generate-nonsystem-dependencies -MM --ltoir -ltoir"
-    ++ spaced "--preprocess -E")
+    ++ flags (Passes OtherPhase) (spaced "--cuda -cuda --generate-dependencies -M --generate-nonsystem-dependencies -MM --ltoir -ltoir --preprocess -E")
     ++ valued (Passes Measures) (spaced "--fdevice-time-trace -fdevice-time-trace --time -time")
     ++ flags (Passes TemporaryFiles) (spaced "--objdir-as-tempdir -objtemp")
     ++ flags (Passes Jobserver) (spaced "--jobserver -jobserver")
     ++ valued (Passes DrivePrefix) (spaced "--dependency-drive-prefix -ddp --drive-prefix -dp --input-drive-prefix -idp")
     ++ flags (Passes StandardInput) (spaced "-")
-
--- Several option tables that are searched as one.
-
--- the entries of one table, and of several
-abbrev pub rows_of : Table Purpose → List (Entry Purpose)
-rows_of part = map entry_of part.rows.now
-
-abbrev pub entries_in : Tables → List (Entry Purpose)
-entries_in t = flat_map rows_of t.parts
-
--- the longer of two choices, and the first if both are equally long
-abbrev pub earlier_choice : Option (Entry Purpose) → Option (Entry Purpose) → Option (Entry Purpose)
-earlier_choice None second = second
-earlier_choice (Some first) None = Some first
-earlier_choice (Some first) (Some second) = if nat_lt (length first.text) (length second.text) then Some second else Some first
-
--- the choice so far, or that of the next table if it is longer
-abbrev pub choice_with : List ℕ → Option (Entry Purpose) → Table Purpose → Option (Entry Purpose)
-choice_with word best part = earlier_choice best (longest_match (rows_of part) word)
-
--- the choice of several tables
-abbrev pub chosen_by : List ℕ → List (Table Purpose) → Option (Entry Purpose)
-chosen_by word parts = fold (choice_with word) None parts

@@ -1,27 +1,25 @@
 -- What an nvcc line says, as texts: its commands are texts for a shell.
-use Rattle.std.specs.Prelude.{ℕ, List, [], ◌∷◌, ◌++◌, Option, Some, None, codes, unwrap_or}
+use Rattle.std.specs.Prelude.{ℕ, List, [], ◌∷◌, ◌++◌, codes, unwrap_or, ◌==◌, if◌then◌else◌}
+use Rattle.std.specs.Option.{option_map_or}
+use Rattle.texts.specs.Numeral.{numeral}
 use Rattle.texts.specs.Shell.Quoting.{written}
 use Rattle.compilers.specs.declared.command.SingleCompileCommand.{SingleCompileCommand}
 use Rattle.nvcc_calls.specs.declared.outline.Outline.{Outline}
 use Rattle.nvcc_calls.specs.declared.outline_texts.OutlineTexts.{OutlineTexts}
-use Rattle.nvcc_calls.specs.Jobs.{jobs_text}
 
--- how a command's text begins: its words hold those of both variables already
-abbrev pub unsetting : List ℕ
-unsetting = codes "( unset NVCC_PREPEND_FLAGS NVCC_APPEND_FLAGS; cd "
-
--- a command's text. It runs in a shell of its own, in its directory
+-- a command's text. It runs in a shell of its own, in its directory. Its words hold those of both variables already
 abbrev pub command_text : SingleCompileCommand → List ℕ
-command_text c = unsetting ++ (written (c.cwd ∷ []) ++ (codes " && " ++ (written (c.executable ∷ c.arguments) ++ codes " )")))
+command_text c =
+    codes "( unset NVCC_PREPEND_FLAGS NVCC_APPEND_FLAGS; cd " ++ (written (c.cwd ∷ [])
+    ++ (codes " && " ++ (written (c.executable ∷ c.arguments) ++ codes " )")))
 
--- the text of a command, or empty if there is none
-abbrev pub text_if_any : Option SingleCompileCommand → List ℕ
-text_if_any None = []
-text_if_any (Some c) = command_text c
+-- the number of jobs as Ninja's `-j` takes it, or empty for Ninja's own choice
+abbrev pub jobs_text : ℕ → List ℕ
+jobs_text number = if number == 0 then [] else numeral number
 
 abbrev pub texts_of : Outline → OutlineTexts
 texts_of o = record {
-  dependencies = text_if_any o.dependencies;
+  dependencies = option_map_or command_text o.dependencies [];
   first = command_text o.first;
   second = command_text o.second;
   flag = o.flag;

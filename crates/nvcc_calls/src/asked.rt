@@ -5,9 +5,9 @@ ghost use Rattle.compilers.specs.Views.{item_viewed};
 ghost use Rattle.texts.specs.Variables.{pair_of};
 ghost use Rattle.nvcc_calls.specs.Asked as spec;
 
-use crate::files::words_of_file;
-use crate::word_tests::{
+use crate::words::{
     are_unexpanded, equals_word, has_no_operator, is_joinable, is_language, is_number,
+    words_of_file,
 };
 use crate::{Purpose, Reason, table};
 use compilers::items::{ArgParseError, Line};

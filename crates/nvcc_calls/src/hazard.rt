@@ -32,17 +32,6 @@ fn may_be_renamed(text: &str) -> bool
         || holds(text, ".cudafe1.stub.c")
 }
 
-fn may_one_be_renamed(texts: &[String]) -> bool
-    ensures { result ≡ spec.may_one_be_renamed (map string_bytes texts.now) }
-{
-    for text in texts {
-        if may_be_renamed(text.as_str()) {
-            return true;
-        }
-    }
-    false
-}
-
 // Whether a shell leaves a directory's name as it is in double quotes.
 fn is_plain_directory(path: &str) -> bool
     ensures { result ≡ spec.is_plain_directory path.now }
@@ -77,23 +66,19 @@ fn is_host_option(word: &str) -> bool
         || begins_with("-Wp,", word)
 }
 
-// Whether one of the words has each host preprocessor write a dependency file.
-fn one_writes_file(words: &[String]) -> bool
-    ensures { result ≡ list_any spec.writes_file (map string_bytes words.now) }
+// Whether preprocessors may write one file side by side, and no later command writes it again.
+fn may_share_file(call: &Call) -> bool
+    ensures { result ≡ spec.may_share_file call.now }
 {
-    for word in words {
+    if asks_object(call.flag.as_str()) {
+        return false;
+    }
+    for word in call.words.as_slice() {
         if is_host_option(word.as_str()) && holds(word.as_str(), "-M") {
             return true;
         }
     }
     false
-}
-
-// Whether preprocessors may write one file side by side, and no later command writes it again.
-fn may_share_file(call: &Call) -> bool
-    ensures { result ≡ spec.may_share_file call.now }
-{
-    !asks_object(call.flag.as_str()) && one_writes_file(call.words.as_slice())
 }
 
 // Whether a word asks nvcc to keep generated files.
@@ -134,32 +119,26 @@ fn names_open_file(text: &str) -> bool
         || (holds(text, "/proc/") && holds(text, "/fd/"))
 }
 
-fn one_names_open_file(words: &[String]) -> bool
-    ensures { result ≡ list_any spec.names_open_file (map string_bytes words.now) }
+fn uses_open_file(asked: &Asked, normal: &Call) -> bool
+    ensures { result ≡ spec.uses_open_file asked.now normal.now }
 {
-    for word in words {
+    for word in asked.kept.as_slice() {
         if names_open_file(word.as_str()) {
             return true;
         }
     }
-    false
-}
-
-fn uses_open_file(asked: &Asked, normal: &Call) -> bool
-    ensures { result ≡ spec.uses_open_file asked.now normal.now }
-{
-    names_open_file(normal.input.as_str())
-        || names_open_file(normal.output.as_str())
-        || one_names_open_file(asked.kept.as_slice())
+    names_open_file(normal.input.as_str()) || names_open_file(normal.output.as_str())
 }
 
 fn is_renamed(call: &NvccCall<'_>, normal: &Call) -> bool
     ensures { result ≡ spec.is_renamed (nvcc_of call.now) normal.now }
 {
-    may_be_renamed(call.cwd)
-        || may_be_renamed(call.tmp)
-        || may_be_renamed(call.nvcc)
-        || may_one_be_renamed(normal.words.as_slice())
+    for word in normal.words.as_slice() {
+        if may_be_renamed(word.as_str()) {
+            return true;
+        }
+    }
+    may_be_renamed(call.cwd) || may_be_renamed(call.tmp) || may_be_renamed(call.nvcc)
 }
 
 /// Why nvcc makes a call whose line could be split, if a plan of it would make something else: a text looks like the name of a

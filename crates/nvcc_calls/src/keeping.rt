@@ -1,13 +1,10 @@
 //! Whether a line keeps the options of another.
 
-ghost use Rattle.std.specs.Prelude.{◌≡◌, [], IfOk, flat_map, map, string_bytes};
-ghost use Rattle.std.specs.List.{list_all};
-ghost use Rattle.compilers.specs.Table.{Entry};
+ghost use Rattle.std.specs.Prelude.{◌≡◌, [], IfOk, map, string_bytes};
+ghost use Rattle.compilers.specs.Table.{entry_of};
 ghost use Rattle.texts.specs.Variables.{pair_of};
 ghost use Rattle.nvcc_calls.specs.Asked.{asked_of};
 ghost use Rattle.nvcc_calls.specs.Keeping as spec;
-ghost use Rattle.nvcc_calls.specs.declared.options.Purpose.{Purpose};
-ghost use Rattle.nvcc_calls.specs.Options.{rows_of};
 
 use crate::asked::Asked;
 use crate::{Purpose, table};
@@ -28,35 +25,19 @@ fn values_of(alloc: Global, name: &str, options: &[(String, String)]) -> Result<
     Ok(values)
 }
 
+// Whether each option of a table has the same values on both lines.
 fn keeps_table(
     alloc: Global,
     options: &[(String, String)],
     others: &[(String, String)],
-    part: &Table<'_, Purpose>,
+    table: &Table<'_, Purpose>,
 ) -> Result<bool, AllocError>
-    ensures { IfOk result (λ b. b ≡ list_all (λ (e : Entry Purpose). spec.has_same_values (map pair_of options.now) (map pair_of others.now) e.text) (rows_of part.now)) }
+    ensures { IfOk result (λ b. b ≡ spec.same_options (map pair_of options.now) (map pair_of others.now) (map entry_of table.now.rows.now)) }
 {
-    for row in part.rows {
+    for row in table.rows {
         let values = values_of(alloc, row.text(), options)?;
         let other = values_of(alloc, row.text(), others)?;
         if values != other {
-            return Ok(false);
-        }
-    }
-    Ok(true)
-}
-
-// Whether each of nvcc's options has the same values on both lines.
-fn keeps_values(
-    alloc: Global,
-    options: &[(String, String)],
-    others: &[(String, String)],
-    parts: &[Table<'_, Purpose>],
-) -> Result<bool, AllocError>
-    ensures { IfOk result (λ b. b ≡ list_all (λ (e : Entry Purpose). spec.has_same_values (map pair_of options.now) (map pair_of others.now) e.text) (flat_map rows_of parts.now)) }
-{
-    for part in parts {
-        if !keeps_table(alloc, options, others, part)? {
             return Ok(false);
         }
     }
@@ -77,9 +58,9 @@ impl Asked {
         if !self.begins_as(other) {
             return Ok(false);
         }
-        let tables = table();
+        let known = table();
         let (options, others) = (self.options.as_slice(), other.options.as_slice());
-        keeps_values(alloc, options, others, &tables.parts)
+        keeps_table(alloc, options, others, &known)
     }
 
     /// Whether words keep the options of a line that asks for this: nvcc reads the same phase, forwards the same words, and each of its

@@ -7,33 +7,25 @@
 
 mod answer;
 mod asked;
-mod call;
-mod command_text;
 mod directory;
-mod files;
 mod hazard;
-mod jobs;
 mod keeping;
 pub mod laws;
-pub mod normal_laws;
 mod options;
 mod outline;
 mod outline_texts;
 mod reason;
 mod settling;
-mod shell;
 mod tool_words;
 mod verdict;
-pub mod word_tests;
+mod words;
 
 pub use answer::{Answer, read_call};
 pub use asked::Asked;
-pub use call::Call;
 pub use directory::directory_name;
-pub use options::{Purpose, Tables, table};
+pub use options::{Purpose, table};
 pub use outline::Outline;
-pub use outline_texts::{OutlineTexts, texts_of};
+pub use outline_texts::{OutlineTexts, shell_text, texts_of};
 pub use reason::Reason;
-pub use settling::{extension_of_phase, has_extension};
-pub use shell::shell_text;
+pub use settling::{Call, extension_of_phase, has_extension};
 pub use verdict::{Verdict, file_names, normalize, read_line};

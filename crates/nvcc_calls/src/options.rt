@@ -1,13 +1,11 @@
 //! nvcc's options, and what each is for.
 
-ghost use Rattle.std.specs.Prelude.{◌≡◌, map, option_map, option_copied};
-ghost use Rattle.compilers.specs.Table.{entry_of, longest_match};
+ghost use Rattle.std.specs.Prelude.{◌≡◌, map};
+ghost use Rattle.compilers.specs.Table.{entry_of};
 ghost use Rattle.nvcc_calls.specs.Options as spec;
 
 use crate::reason::Reason;
-use compilers::table::{
-    ArgInfo, EITHER_WAY, EITHER_WAY_OR_EQUALS, JOINED, SearchableArgInfo, Table,
-};
+use compilers::table::{ArgInfo, EITHER_WAY, EITHER_WAY_OR_EQUALS, JOINED, Table};
 
 /// What an option is for, as far as the normal form of a line depends on it.
 #[derive(Clone, Copy, Debug)]
@@ -83,51 +81,33 @@ macro_rules! entry {
 //
 // nvcc takes a value after `=` or as the next word, whatever that is. `-D`, `-I`, `-L`, `-O`, `-U`, `-l` and `-t` take it
 // right behind them too. No other word that begins with a name is that option.
-//
-// There are several tables because checking a constant takes time that grows faster than its number of entries.
-
-// Flags that stay as they are, by their long names: A to E.
-const PLAIN_A_TO_E: [ArgInfo<Purpose>; 26] = entries![
+const OPTIONS: [ArgInfo<Purpose>; 299] = entries![
+    // Flags that nvcc keeps to itself or passes on.
     flag Purpose::Plain =>
         "--allow-unsupported-compiler" "-allow-unsupported-compiler" "--compile-as-tools-patch"
         "-astoolspatch" "--debug" "-g" "--device-debug" "-G" "--disable-warnings" "-w"
-        "--display-error-number" "-err-no" "--dlink-time-opt" "-dlto" "--dont-use-profile"
-        "-noprof" "--expt-extended-lambda" "-expt-extended-lambda" "--expt-relaxed-constexpr"
+        "--display-error-number" "-err-no" "--dlink-time-opt" "-dlto" "--dont-use-profile" "-noprof"
+        "--expt-extended-lambda" "-expt-extended-lambda" "--expt-relaxed-constexpr"
         "-expt-relaxed-constexpr" "--extended-lambda" "-extended-lambda"
         "--extensible-whole-program" "-ewp" "--extra-device-vectorization"
-        "-extra-device-vectorization";
-];
-
-// F to N.
-const PLAIN_F_TO_N: [ArgInfo<Purpose>; 27] = entries![
-    flag Purpose::Plain =>
-        "--fdevice-syntax-only" "-fdevice-syntax-only" "--force-cl-env-setup" "-force-cl-env-setup"
-        "--gen-opt-lto" "-gen-opt-lto" "--generate-line-info" "-lineinfo"
-        "--keep-device-functions" "-keep-device-functions" "--lto" "-lto" "--m64" "-m64"
-        "--no-align-double" "--no-compress" "-no-compress" "--no-device-link" "-nodlink"
-        "--no-display-error-number" "-no-err-no" "--no-exceptions" "-noeh"
-        "--no-host-device-initializer-list" "-nohdinitlist" "--no-host-device-move-forward"
-        "-nohdmoveforward";
-];
-
-// P to W, and the flags that have nvcc forward words.
-const PLAIN_P_TO_W: [ArgInfo<Purpose>; 34] = entries![
-    flag Purpose::Plain =>
-        "--profile" "-pg" "--relocatable-ptx" "-reloc-ptx" "--resource-usage" "-res-usage"
-        "--restrict" "-restrict" "--shared" "-shared"
-        "--source-in-ptx" "-src-in-ptx" "--use-local-env" "-use-local-env" "--use_fast_math"
-        "-use_fast_math" "--Wdefault-stream-launch" "-Wdefault-stream-launch"
-        "--Wext-lambda-captures-this" "-Wext-lambda-captures-this" "--Wmissing-launch-bounds"
-        "-Wmissing-launch-bounds" "--Wno-deprecated-declarations" "-Wno-deprecated-declarations"
+        "-extra-device-vectorization" "--fdevice-syntax-only" "-fdevice-syntax-only"
+        "--force-cl-env-setup" "-force-cl-env-setup" "--gen-opt-lto" "-gen-opt-lto"
+        "--generate-line-info" "-lineinfo" "--keep-device-functions" "-keep-device-functions"
+        "--lto" "-lto" "--m64" "-m64" "--no-align-double" "--no-compress" "-no-compress"
+        "--no-device-link" "-nodlink" "--no-display-error-number" "-no-err-no" "--no-exceptions"
+        "-noeh" "--no-host-device-initializer-list" "-nohdinitlist" "--no-host-device-move-forward"
+        "-nohdmoveforward" "--profile" "-pg" "--relocatable-ptx" "-reloc-ptx" "--resource-usage"
+        "-res-usage" "--restrict" "-restrict" "--shared" "-shared" "--source-in-ptx" "-src-in-ptx"
+        "--use-local-env" "-use-local-env" "--use_fast_math" "-use_fast_math"
+        "--Wdefault-stream-launch" "-Wdefault-stream-launch" "--Wext-lambda-captures-this"
+        "-Wext-lambda-captures-this" "--Wmissing-launch-bounds" "-Wmissing-launch-bounds"
+        "--Wno-deprecated-declarations" "-Wno-deprecated-declarations"
         "--Wno-deprecated-gpu-targets" "-Wno-deprecated-gpu-targets" "--Wreorder" "-Wreorder";
     flag Purpose::Forward =>
         "--forward-unknown-opts" "-forward-unknown-opts" "--forward-unknown-to-host-compiler"
         "-forward-unknown-to-host-compiler" "--forward-unknown-to-host-linker"
         "-forward-unknown-to-host-linker";
-];
-
-// Options whose values nvcc's shell sees without quotes, by their long names: A to D.
-const UNQUOTED_A_TO_D: [ArgInfo<Purpose>; 34] = entries![
+    // Options whose values nvcc's shell sees without quotes.
     EITHER_WAY_OR_EQUALS Purpose::Unquoted =>
         "--archive-options" "-Xarchive" "--archiver-binary" "-arbin" "--brief-diagnostics"
         "-brief-diag" "--cicc-options" "-Xcicc" "--compiler-bindir" "-ccbin" "--compiler-options"
@@ -135,34 +115,20 @@ const UNQUOTED_A_TO_D: [ArgInfo<Purpose>; 34] = entries![
         "--cudafe-options" "-Xcudafe" "--cudart" "-cudart" "--default-stream" "-default-stream"
         "--device-entity-has-hidden-visibility" "-device-entity-has-hidden-visibility"
         "--device-stack-protector" "-device-stack-protector" "--diag-error" "-diag-error"
-        "--diag-suppress" "-diag-suppress" "--diag-warn" "-diag-warn" "--dopt" "-dopt";
-];
-
-// E to M.
-const UNQUOTED_E_TO_M: [ArgInfo<Purpose>; 25] = entries![
-    EITHER_WAY_OR_EQUALS Purpose::Unquoted =>
-        "--entries" "-e" "--fatbin-options" "-Xfatbin" "--fmad" "-fmad" "--frandom-seed"
-        "-frandom-seed" "--ftemplate-backtrace-limit" "-ftemplate-backtrace-limit"
-        "--ftemplate-depth" "-ftemplate-depth" "--ftz" "-ftz" "--jump-table-density" "-jtd"
-        "--libdevice-directory" "-ldir" "--library" "--linker-options" "-Xlinker" "--machine" "-m"
-        "--maxrregcount" "-maxrregcount";
-];
-
-// N to W, and those with a short name alone.
-const UNQUOTED_N_TO_W: [ArgInfo<Purpose>; 33] = entries![
-    EITHER_WAY_OR_EQUALS Purpose::Unquoted =>
-        "--nvlink-options" "-Xnvlink" "--Ofast-compile" "-Ofc" "--optimize" "--prec-div"
-        "-prec-div" "--prec-sqrt" "-prec-sqrt" "--ptxas-options" "-Xptxas" "--qpp-config"
-        "-qpp-config" "--relocatable-device-code" "-rdc" "--run-args" "-run-args" "--sanitize"
-        "-sanitize" "--split-compile" "-split-compile" "--split-compile-extended"
+        "--diag-suppress" "-diag-suppress" "--diag-warn" "-diag-warn" "--dopt" "-dopt" "--entries"
+        "-e" "--fatbin-options" "-Xfatbin" "--fmad" "-fmad" "--frandom-seed" "-frandom-seed"
+        "--ftemplate-backtrace-limit" "-ftemplate-backtrace-limit" "--ftemplate-depth"
+        "-ftemplate-depth" "--ftz" "-ftz" "--jump-table-density" "-jtd" "--libdevice-directory"
+        "-ldir" "--library" "--linker-options" "-Xlinker" "--machine" "-m" "--maxrregcount"
+        "-maxrregcount" "--nvlink-options" "-Xnvlink" "--Ofast-compile" "-Ofc" "--optimize"
+        "--prec-div" "-prec-div" "--prec-sqrt" "-prec-sqrt" "--ptxas-options" "-Xptxas"
+        "--qpp-config" "-qpp-config" "--relocatable-device-code" "-rdc" "--run-args" "-run-args"
+        "--sanitize" "-sanitize" "--split-compile" "-split-compile" "--split-compile-extended"
         "-split-compile-extended" "--static-global-template-stub" "-static-global-template-stub"
         "--std" "-std" "--Werror" "-Werror";
     EITHER_WAY Purpose::Unquoted => "-l" "-O";
     JOINED Purpose::Unquoted => "-l=" "-O=";
-];
-
-// Options whose values nvcc quotes, and those that a normal form spells in its own way.
-const QUOTED: [ArgInfo<Purpose>; 26] = entries![
+    // Options whose values nvcc quotes, and those that a normal form spells in its own way.
     EITHER_WAY_OR_EQUALS Purpose::Quoted =>
         "--generate-code" "-gencode" "--gpu-architecture" "-arch" "--gpu-code" "-code"
         "--include-path" "--library-path" "--system-include" "-isystem";
@@ -179,10 +145,6 @@ const QUOTED: [ArgInfo<Purpose>; 26] = entries![
     EITHER_WAY_OR_EQUALS Purpose::PreInclude => "--pre-include" "-include";
     EITHER_WAY_OR_EQUALS Purpose::OptimizationInfo => "--optimization-info" "-opt-info";
     EITHER_WAY_OR_EQUALS Purpose::TargetDirectory => "--target-directory" "-target-dir";
-];
-
-// Phases, files, and all else that has a place of its own in a normal form.
-const PLACED: [ArgInfo<Purpose>; 41] = entries![
     flag Purpose::Phase =>
         "--compile" "-c" "--cubin" "-cubin" "--device-c" "-dc" "--device-w" "-dw" "--fatbin"
         "-fatbin" "--optix-ir" "-optix-ir" "--ptx" "-ptx";
@@ -201,22 +163,15 @@ const PLACED: [ArgInfo<Purpose>; 41] = entries![
     EITHER_WAY_OR_EQUALS Purpose::DependencyFile => "--dependency-output" "-MF";
     EITHER_WAY_OR_EQUALS Purpose::DependencyTarget => "--dependency-target-name" "-MT";
     EITHER_WAY_OR_EQUALS Purpose::File => "--options-file" "-optf";
-];
-
-// Options that leave the call to nvcc, which prints, removes or links.
-const PASSES_FOR_OUTPUT: [ArgInfo<Purpose>; 28] = entries![
+    // Options that leave the call to nvcc, and why.
     flag Purpose::Passes(Reason::Prints) =>
-        "--dryrun" "-dryrun" "--help" "-h" "--list-gpu-arch" "-arch-ls" "--list-gpu-code"
-        "-code-ls" "--verbose" "-v" "--version" "-V";
+        "--dryrun" "-dryrun" "--help" "-h" "--list-gpu-arch" "-arch-ls" "--list-gpu-code" "-code-ls"
+        "--verbose" "-v" "--version" "-V";
     flag Purpose::Passes(Reason::Cleans) => "--clean-targets" "-clean";
     flag Purpose::Passes(Reason::Links) =>
         "--augment-host-linker-script" "-aug-hls" "--device-link" "-dlink" "--lib" "-lib" "--link"
         "-link" "--relocatable-link" "-r" "--run" "-run";
     EITHER_WAY_OR_EQUALS Purpose::Passes(Reason::Links) => "--host-linker-script" "-hls";
-];
-
-// The other options that leave the call to nvcc.
-const PASSES: [ArgInfo<Purpose>; 25] = entries![
     flag Purpose::Passes(Reason::OtherPhase) =>
         "--cuda" "-cuda" "--generate-dependencies" "-M" "--generate-nonsystem-dependencies" "-MM"
         "--ltoir" "-ltoir" "--preprocess" "-E";
@@ -229,64 +184,9 @@ const PASSES: [ArgInfo<Purpose>; 25] = entries![
     flag Purpose::Passes(Reason::StandardInput) => "-";
 ];
 
-/// Several tables that are searched as one: of equally long matches the first wins.
-#[derive(Clone, Copy, Debug)]
-pub struct Tables<'a> {
-    /// The tables, in the order in which they are searched.
-    pub parts: [Table<'a, Purpose>; 10],
-}
-
-// The longer of two choices; the first if both are equally long.
-fn longer<'a>(
-    first: Option<&'a ArgInfo<Purpose>>,
-    second: Option<&'a ArgInfo<Purpose>>,
-) -> Option<&'a ArgInfo<Purpose>>
-    ensures { option_map entry_of (option_copied result)
-        ≡ spec.earlier_choice (option_map entry_of (option_copied first.entry))
-        (option_map entry_of (option_copied second.entry)) }
-{
-    match (first, second) {
-        (Some(one), Some(other)) if one.text().len() < other.text().len() => Some(other),
-        (None, second) => second,
-        (first, _) => first,
-    }
-}
-
-// The choice of some tables for a word.
-fn choose<'a>(parts: &'a [Table<'_, Purpose>], word: &str) -> Option<&'a ArgInfo<Purpose>>
-    ensures { option_map entry_of (option_copied result) ≡ spec.chosen_by word.now parts.now }
-{
-    let mut best = None;
-    for part in parts {
-        best = longer(best, part.search(word));
-    }
-    best
-}
-
-impl<'a> Tables<'a> {
-    /// The entry that `word` chooses: of those that match, the one with the longest text, and the first of equally long ones.
-    pub fn search(&self, word: &str) -> Option<&ArgInfo<Purpose>>
-        ensures { option_map entry_of (option_copied result) ≡ longest_match (spec.entries_in self.now) word.now }
-    {
-        choose(&self.parts, word)
-    }
-}
-
-// Tables of these rows.
-macro_rules! tables {
-    ($($rows:ident)+) => {
-        [$(Table { rows: &$rows }),+]
-    };
-}
-
 /// nvcc's option table.
-pub fn table() -> Tables<'static>
-    ensures { spec.entries_in result ≡ spec.nvcc_entries }
+pub fn table() -> Table<'static, Purpose>
+    ensures { map entry_of result.rows.now ≡ spec.nvcc_entries }
 {
-    Tables {
-        parts: tables![
-            PLAIN_A_TO_E PLAIN_F_TO_N PLAIN_P_TO_W UNQUOTED_A_TO_D UNQUOTED_E_TO_M
-            UNQUOTED_N_TO_W QUOTED PLACED PASSES_FOR_OUTPUT PASSES
-        ],
-    }
+    Table { rows: &OPTIONS }
 }

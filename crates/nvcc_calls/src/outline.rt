@@ -1,12 +1,14 @@
 //! What the arguments of an nvcc line say.
 
-ghost use Rattle.std.specs.Prelude.{◌≡◌, IfOk, Ok, map, string_bytes};
+ghost use Rattle.std.specs.Prelude.{◌≡◌, IfOk, Ok, codes, map, string_bytes, option_and_then};
 ghost use Rattle.texts.specs.Fault.{UnlessMemory};
+ghost use Rattle.texts.specs.Variables as variables_spec;
 ghost use Rattle.texts.specs.Variables.{pair_of};
 ghost use Rattle.compilers.specs.Calls.{nvcc_of};
-ghost use Rattle.nvcc_calls.specs.Outline as spec;
+ghost use Rattle.host_lines.specs.KeepThreads.{number_of};
+ghost use Rattle.nvcc_calls.specs.Answer as spec;
 
-use crate::jobs::{number_of_jobs, threads_asked};
+use crate::hazard::holds;
 use compilers::NvccCall;
 use compilers::arguments::ParsedArguments;
 use compilers::command::SingleCompileCommand;
@@ -60,7 +62,33 @@ fn threads(alloc: Global, cwd: &str, parsed: &ParsedArguments) -> Result<usize, 
 {
     let (kept, _) = take_keep(alloc, parsed.unhashed_args.as_slice(), cwd)?;
     let (left, number) = take_threads(alloc, kept.as_slice())?;
-    Ok(threads_asked(kept.as_slice(), left.as_slice(), number))
+    Ok(if left.len() == kept.len() { 0 } else { number })
+}
+
+fn number_in(text: &str) -> Option<usize>
+    ensures { result ≡ number_of text.now }
+{
+    text.parse::<usize>().ok()
+}
+
+fn number_given(variables: &[(String, String)]) -> Option<usize>
+    ensures { result ≡ option_and_then number_of (variables_spec.first_value (codes "ZIGRUNK_JOBS") (map pair_of variables.now)) }
+{
+    number_in(first_value(variables, "ZIGRUNK_JOBS")?)
+}
+
+// How many commands run at once, or 0 if nobody says, given the line's number of `threads` or 0.
+//
+// `ZIGRUNK_JOBS` decides if it is a number. Else, under a make that hands out jobs, one command runs at a time.
+fn number_of_jobs(variables: &[(String, String)], threads: usize) -> usize
+    ensures { result ≡ spec.jobs_of (map pair_of variables.now) threads }
+{
+    match (number_given(variables), first_value(variables, "MAKEFLAGS")) {
+        (Some(number), _) => number,
+        (None, Some(flags)) if holds(flags, "--jobserver-auth=") => 1,
+        (None, Some(flags)) if holds(flags, "--jobserver-fds=") => 1,
+        _ => threads,
+    }
 }
 
 // Whether a word asks for the source's lines in device code.

@@ -1,17 +1,44 @@
 //! Why a line's call is left to nvcc, and nvcc's reading of it if it isn't.
 
-ghost use Rattle.std.specs.Prelude.{◌≡◌, map, IfOk, OnOk, string_bytes, bytes_eq};
-ghost use Rattle.std.specs.List.{list_all};
+ghost use Rattle.std.specs.Prelude.{◌≡◌, IfOk, OnOk};
 ghost use Rattle.nvcc_calls.specs.NormalForm as spec;
 
 use crate::Reason;
 use crate::asked::{Asked, push_joined, reason_unless};
-use crate::call::Call;
+use crate::words::is_usual_name;
 use std::alloc::{AllocError, Global};
 use texts::compilation_flags::asks_object;
 use texts::extension::{extension, last, with_extension};
 use texts::text::{Text, join};
 use texts::words::Words;
+
+/// nvcc's reading of a call that compiles one source, and the line's normal form. Words and paths are UTF-8.
+#[derive(Debug, Drop)]
+pub struct Call {
+    /// The flag for the phase that the call ends with, as the line spells it: `-c`, `--ptx`, ..
+    pub flag: Text,
+    /// The source's path, as the line gives it.
+    pub input: Text,
+    /// The output's path: as the line gives it, else nvcc's default.
+    pub output: Text,
+    /// The line in its normal form: the flag, `-o` and the output, the other options in their order, and the input. Right
+    /// before the input are `-odir`, `-x`, `-t`, `-keep-dir`, `-MF` and `-MT`, in this order and each once, with its last
+    /// value. A value is in its option's word, except after `-o`, `-include`, `-MF` and `-MT`. The words of
+    /// `NVCC_PREPEND_FLAGS` and `NVCC_APPEND_FLAGS` are in it.
+    pub words: Words,
+}
+
+impl Call {
+    /// Whether two calls are equal.
+    pub fn is_same(&self, other: &Call) -> bool
+        ensures { result ≡ spec.same_call self.now other.now }
+    {
+        self.flag == other.flag
+            && self.input == other.input
+            && self.output == other.output
+            && self.words == other.words
+    }
+}
 
 // The first of some texts, and the empty text if there is none.
 fn first_of(texts: &Words) -> &str
@@ -23,8 +50,8 @@ fn first_of(texts: &Words) -> &str
     }
 }
 
-// The value of an option, and the empty text if it isn't given.
-fn value_of(option: &Option<Text>) -> &str
+/// The value of an option, and the empty text if it isn't given.
+pub fn value_of(option: &Option<Text>) -> &str
     ensures { result.now ≡ spec.value_of option.now }
 {
     match option {
@@ -63,53 +90,30 @@ fn push_next_value(
     }
 }
 
-fn are_all(text: &str, others: &[String]) -> bool
-    ensures { result ≡ list_all (bytes_eq text.now) (map string_bytes others.now) }
-{
-    for other in others {
-        if text != other.as_str() {
-            return false;
-        }
-    }
-    true
-}
-
 fn differ(texts: &Words) -> bool
     ensures { result ≡ spec.differ texts.now }
 {
-    match texts.as_slice() {
-        [] => false,
-        [first, others @ ..] => !are_all(first.as_str(), others),
+    let first = first_of(texts);
+    for text in texts.as_slice() {
+        if first != text.as_str() {
+            return true;
+        }
     }
+    false
 }
 
 // Whether the file name of a path is empty or begins with `.`.
 fn is_hidden(path: &str) -> bool
     ensures { result ≡ spec.is_hidden path.now }
 {
-    match last(path).as_bytes() {
-        [] => true,
-        [first, ..] => *first == b'.',
-    }
-}
-
-fn is_usual_name(name: &str) -> bool
-    ensures { result ≡ spec.is_usual_name name.now }
-{
-    match name.as_bytes() {
-        [] => false,
-        [first, ..] => *first != b'-',
-    }
+    matches!(last(path).as_bytes(), [] | [b'.', ..])
 }
 
 /// Whether a path has an extension.
 pub fn has_extension(wanted: &str, path: &str) -> bool
     ensures { result ≡ spec.has_extension wanted.now path.now }
 {
-    match extension(path) {
-        Some(extension) => wanted == extension,
-        None => false,
-    }
+    matches!(extension(path), Some(extension) if wanted == extension)
 }
 
 /// The extension that nvcc gives to what a phase makes.

@@ -7,8 +7,8 @@ ghost use Rattle.nvcc_calls.specs.NormalForm as spec;
 
 use crate::Reason;
 use crate::asked::Asked;
-use crate::call::Call;
-use crate::word_tests::{are_unexpanded, is_cut_at_spaces};
+use crate::settling::Call;
+use crate::words::{are_unexpanded, is_cut_at_spaces};
 use compilers::arguments::{CompilerArguments, ParsedArguments};
 use compilers::compiler::CCompilerKind;
 use compilers::table::Pair;

@@ -1,5 +1,5 @@
 use Rattle.std.proofs.Common.{◌≡◌, map, string_bytes, drop}
-use Rattle.nvcc_calls.specs.Outline.{asks_lines}
+use Rattle.nvcc_calls.specs.Answer.{asks_lines}
 use Rattle.nvcc_calls.proofs.outline.asks_lines.Given as goal
 
 abbrev pub invariant-loop-word : goal.invariant-loop-word

@@ -12,9 +12,9 @@ returns-then-not-begins_as c = not-begun c.args.self.now c.args.other.now (sym c
 
 pub returns : goal.returns
 returns c =
-    let Answers : Bool → Type 0 = λ expected. IfOk c.keeps_values.result (λ b. b ≡ expected) in
+    let Answers : Bool → Type 0 = λ expected. IfOk c.keeps_table.result (λ b. b ≡ expected) in
     let others = map pair_of c.as_slice-others.result.now in
-    let of_table = subst (λ (es : List (Entry Purpose)). Answers (same_options (map pair_of c.as_slice-options.result.now) others es)) c.table-tables.ensures c.keeps_values.ensures in
+    let of_table = subst (λ (es : List (Entry Purpose)). Answers (same_options (map pair_of c.as_slice-options.result.now) others es)) c.table-known.ensures c.keeps_table.ensures in
     let own = subst (λ (o : List (List ℕ × List ℕ)). Answers (same_options o others nvcc_entries)) c.as_slice-options.ensures of_table in
     let both = subst (λ (o : List (List ℕ × List ℕ)). Answers (same_options c.args.self.now.options o nvcc_entries)) c.as_slice-others.ensures own in
     let begun = sym c.begins_as.ensures ∙ c.if-not-begins_as.false in

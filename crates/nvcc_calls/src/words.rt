@@ -1,10 +1,14 @@
-//! Tests of words, and an option with its value in one word.
+//! Tests of words, an option with its value in one word, and the words of options files.
 
-ghost use Rattle.std.specs.Prelude.{◌≡◌, ◌∷◌, [], map, IfOk, string_bytes};
+ghost use Rattle.std.specs.Prelude.{◌≡◌, map, IfOk, string_bytes};
 ghost use Rattle.std.specs.List.{list_all};
+ghost use Rattle.texts.specs.Variables.{pair_of};
 ghost use Rattle.nvcc_calls.specs.Words as spec;
 
 use std::alloc::{AllocError, Global};
+use texts::shell::split;
+use texts::variables::first_value;
+use texts::words::Words;
 
 fn is_unexpanded(word: &[u8]) -> bool
     ensures { result ≡ spec.is_unexpanded word.now }
@@ -87,14 +91,18 @@ pub fn is_language(value: &str) -> bool
     matches!(value, "c" | "c++" | "cu")
 }
 
+/// Whether a name looks like one: it isn't empty and doesn't begin with `-`.
+pub fn is_usual_name(name: &str) -> bool
+    ensures { result ≡ spec.is_usual_name name.now }
+{
+    !matches!(name.as_bytes(), [] | [b'-', ..])
+}
+
 /// Whether a value may be right behind `-D`.
 pub fn is_joinable(value: &str) -> bool
     ensures { result ≡ spec.is_joinable value.now }
 {
-    match value.as_bytes() {
-        [] => false,
-        [first, ..] => *first != b'=',
-    }
+    !matches!(value.as_bytes(), [] | [b'=', ..])
 }
 
 /// An option and its value in one word: with `=` between them, unless the option's text ends in one.
@@ -106,4 +114,53 @@ pub fn equals_word(alloc: Global, text: &str, value: &str) -> Result<String, All
     word.push_str(if has_delimiter { "" } else { "=" })?;
     word.push_str(value)?;
     Ok(word)
+}
+
+// Whether nvcc and a shell read each byte of an options file alike.
+fn are_file_bytes(bytes: &[u8]) -> bool
+    ensures { result ≡ list_all spec.is_file_byte bytes.now }
+{
+    bytes.iter().all(|byte| is_cut_alike(*byte)
+        || *byte == b'"'
+        || *byte == b'\t'
+        || *byte == b'\n')
+}
+
+// The words of a file's text, if they are certain.
+fn words_in(alloc: Global, text: &str) -> Result<Option<Words>, AllocError>
+    ensures { IfOk result (λ words. words ≡ spec.words_in text.now) }
+{
+    if !are_file_bytes(text.as_bytes()) {
+        return Ok(None);
+    }
+    match split(alloc, text)? {
+        Some(words) => Ok(Some(Words::from_vec(words))),
+        None => Ok(None),
+    }
+}
+
+// Whether nvcc takes each byte of an option's value for one of a file's name.
+fn are_name_bytes(bytes: &[u8]) -> bool
+    ensures { result ≡ list_all spec.is_name_byte bytes.now }
+{
+    bytes.iter().all(|byte| {
+        b' ' < *byte && *byte != b'"' && *byte != b',' && *byte != b'\\' && *byte != 127
+    })
+}
+
+/// The words of the options file of a name, given the files' names and texts. `None` if no file has that name, or if nvcc may read
+/// its name or its text in a way of its own.
+pub fn words_of_file(
+    alloc: Global,
+    files: &[(String, String)],
+    name: &str,
+) -> Result<Option<Words>, AllocError>
+    ensures { IfOk result (λ words. words ≡ spec.words_of_file (map pair_of files.now) name.now) }
+{
+    match first_value(files, name) {
+        Some(text) if is_usual_name(name) && are_name_bytes(name.as_bytes()) => {
+            words_in(alloc, text)
+        }
+        _ => Ok(None),
+    }
 }

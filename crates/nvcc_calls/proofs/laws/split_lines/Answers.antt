@@ -1,5 +1,5 @@
 use Rattle.nvcc_calls.proofs.LawLemmas.{split-lines, normal-forms}
-use Rattle.nvcc_calls.proofs.normal_laws.split_lines.Goals as goal
+use Rattle.nvcc_calls.proofs.laws.split_lines.Goals as goal
 
 pub returns : goal.returns
 returns c = record { reading = split-lines; normal = normal-forms }
