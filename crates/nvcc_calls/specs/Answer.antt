@@ -46,14 +46,11 @@ is_lines_word word =
 abbrev pub asks_lines : List (List ℕ) → Bool
 asks_lines words = list_any is_lines_word words
 
--- whether the caller runs nvcc's tools in the call's own directory, and not in the temporary one, as plans have it
-abbrev pub runs_in_place : List (List ℕ × List ℕ) → Bool
-runs_in_place variables = is_some (first_value (codes "ZIGRUNK_IN_PLACE") variables)
-
--- the input's path: as the line gives it, or absolute if the line asks for the source's lines. cicc would resolve a relative
--- path from its own directory, unless that is the call's
+-- the input's path: as the line gives it, or absolute if the line asks for the source's lines. cicc would resolve a relative path from
+-- its own directory, unless that is the call's: the caller may run nvcc's tools there, and not in the temporary one, as plans have it
 abbrev pub input_of : List ℕ → ParsedArguments → List (List ℕ × List ℕ) → List ℕ
-input_of cwd p variables = if asks_lines p.common_args && not (runs_in_place variables) then joined cwd p.input else p.input
+input_of cwd p variables =
+    if asks_lines p.common_args && not (is_some (first_value (codes "ZIGRUNK_IN_PLACE") variables)) then joined cwd p.input else p.input
 
 -- the places of a line
 abbrev pub places_of : NvccOf → ParsedArguments → List (List ℕ × List ℕ) → Places

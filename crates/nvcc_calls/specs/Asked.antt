@@ -1,6 +1,6 @@
 -- What a line asks nvcc for, item by item, as nvcc reads it.
 use Rattle.std.specs.Prelude.{◌≡◌, ℕ, List, [], ◌∷◌, ◌++◌, Bool, not, ◌&&◌, ◌==◌, length, is_some, if◌then◌else◌, Option, Some, None, fold, refl, codes, bytes_eq}
-use Rattle.std.specs.Option.{option_or}
+use Rattle.std.specs.Option.{option_or, option_map_or}
 use Rattle.std.specs.List.{list_all}
 use Rattle.host_lines.specs.GccOptions.{gcc_entries}
 use Rattle.host_lines.specs.NvccOptions.{nvcc_options}
@@ -136,13 +136,9 @@ asked_after a words = fold with_item a (items nvcc_entry words)
 abbrev pub with_file_words : Asked → List (List ℕ) → Asked
 with_file_words a words = if list_all is_unexpanded words then asked_after a words else with_refusal (Some ShellCharacter) a
 
-abbrev pub with_file : Asked → List ℕ → List ℕ → Option (List (List ℕ)) → Asked
-with_file a text name None = with_option a text name File
-with_file a text name (Some words) = with_file_words a words
-
 -- one more item of a line, given the options files by name and text
 abbrev pub with_line_item : List (List ℕ × List ℕ) → Asked → Item Purpose → Asked
-with_line_item files a (with_value text File name form) = with_file a text name (words_of_file files name)
+with_line_item files a (with_value text File name form) = option_map_or (with_file_words a) (words_of_file files name) (with_option a text name File)
 with_line_item files a i = with_item a i
 
 -- what a line asks for, after what others asked for

@@ -5,10 +5,7 @@ ghost use Rattle.compilers.specs.Views.{item_viewed};
 ghost use Rattle.texts.specs.Variables.{pair_of};
 ghost use Rattle.nvcc_calls.specs.Asked as spec;
 
-use crate::words::{
-    are_unexpanded, equals_word, has_no_operator, is_joinable, is_language, is_number,
-    words_of_file,
-};
+use crate::words::{are_unexpanded, equals_word, has_no_operator, is_number, words_of_file};
 use crate::{Purpose, Reason, table};
 use compilers::items::{ArgParseError, Line};
 use compilers::table::{Pair, SearchableArgInfo};
@@ -111,11 +108,14 @@ fn value_refusal(value: &str, purpose: Purpose) -> Option<Reason>
         Purpose::Passes(reason) => Some(reason),
         Purpose::Unquoted | Purpose::Quoted if value.is_empty() => Some(Reason::BadValue),
         Purpose::Unquoted => reason_unless(has_no_operator(value), Reason::ShellCharacter),
-        Purpose::Define | Purpose::Undefine | Purpose::Include => reason_unless(
-            is_joinable(value),
-            Reason::BadValue,
-        ),
-        Purpose::Language => reason_unless(is_language(value), Reason::BadValue),
+        Purpose::Define | Purpose::Undefine | Purpose::Include => match value.as_bytes() {
+            [] | [b'=', ..] => Some(Reason::BadValue),
+            _ => None,
+        },
+        Purpose::Language => match value {
+            "c" | "c++" | "cu" => None,
+            _ => Some(Reason::BadValue),
+        },
         Purpose::Threads => reason_unless(is_number(value), Reason::BadValue),
         Purpose::File => Some(Reason::OptionsFile),
         _ => None,

@@ -1,7 +1,7 @@
 //! Why nvcc makes a call whose line could be split.
 
-ghost use Rattle.std.specs.Prelude.{◌≡◌, IfOk, map, nat_eq, string_bytes};
-ghost use Rattle.std.specs.List.{list_any, starts_with};
+ghost use Rattle.std.specs.Prelude.{◌≡◌, IfOk, map, string_bytes};
+ghost use Rattle.std.specs.List.{list_any};
 ghost use Rattle.canonical_names.specs.Alike as alike;
 ghost use Rattle.compilers.specs.Calls.{nvcc_of};
 ghost use Rattle.nvcc_calls.specs.Hazards as spec;
@@ -41,12 +41,6 @@ fn is_plain_directory(path: &str) -> bool
     })
 }
 
-fn begins_with(text: &str, word: &str) -> bool
-    ensures { result ≡ starts_with nat_eq word.now text.now }
-{
-    word.as_bytes().starts_with(text.as_bytes())
-}
-
 fn one_names_file(words: &[String]) -> bool
     ensures { result ≡ list_any tool.may_name_file (map string_bytes words.now) }
 {
@@ -61,9 +55,10 @@ fn one_names_file(words: &[String]) -> bool
 fn is_host_option(word: &str) -> bool
     ensures { result ≡ tool.begins_with_one spec.host_options word.now }
 {
-    begins_with("-Xcompiler=", word)
-        || begins_with("--compiler-options=", word)
-        || begins_with("-Wp,", word)
+    let word = word.as_bytes();
+    word.starts_with(b"-Xcompiler=")
+        || word.starts_with(b"--compiler-options=")
+        || word.starts_with(b"-Wp,")
 }
 
 // Whether preprocessors may write one file side by side, and no later command writes it again.
@@ -105,7 +100,7 @@ fn is_kept_name(alloc: Global, call: &Call) -> Result<bool, AllocError>
     let beginning = with_extension(alloc, last(call.input.as_str()), "")?;
     let output = call.output.as_str();
     Ok(
-        begins_with(beginning.as_str(), last(output))
+        last(output).as_bytes().starts_with(beginning.as_bytes())
             && !has_extension(extension_of_phase(call.flag.as_str()), output),
     )
 }

@@ -170,10 +170,7 @@ impl Asked {
         if self.language.is_some() {
             return matches!(value_of(&self.language), "c" | "c++");
         }
-        match extension(self.input()) {
-            Some(extension) => matches!(extension, "c" | "cc" | "cpp" | "cxx"),
-            None => false,
-        }
+        matches!(extension(self.input()), Some("c" | "cc" | "cpp" | "cxx"))
     }
 
     fn names_target(&self) -> bool

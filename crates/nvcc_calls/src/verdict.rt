@@ -85,21 +85,15 @@ fn agrees(reading: &CompilerArguments<ParsedArguments>, call: &Call) -> bool
     }
 }
 
-fn is_read_back(alloc: Global, call: &Call) -> Result<bool, AllocError>
-    ensures { IfOk result (λ b. b ≡ spec.is_call (spec.nvcc_call [] call.now.words) call.now) }
-{
-    match read_by_nvcc(alloc, call.words.as_slice())? {
-        Ok(again) => Ok(again.is_same(call)),
-        Err(_) => Ok(false),
-    }
-}
-
 // Whether a call's words are a normal form. Both readers read them once more, since a proof that they agree would need a fact for each of
 // some 300 options.
 fn is_normal(alloc: Global, call: &Call) -> Result<bool, AllocError>
     ensures { IfOk result (λ b. b ≡ spec.is_normal call.now) }
 {
-    let is_read_back = is_read_back(alloc, call)?;
+    let is_read_back = match read_by_nvcc(alloc, call.words.as_slice())? {
+        Ok(again) => again.is_same(call),
+        Err(_) => false,
+    };
     let reading = read_by_sccache(alloc, call.words.as_slice())?;
     let is_read_alike = agrees(&reading, call);
     // Dropped by a call: see "Explicit drops" in docs/ARCHITECTURE.md.

@@ -84,25 +84,11 @@ pub fn is_number(text: &str) -> bool
     }
 }
 
-/// Whether nvcc takes a text for a language.
-pub fn is_language(value: &str) -> bool
-    ensures { result ≡ spec.is_language value.now }
-{
-    matches!(value, "c" | "c++" | "cu")
-}
-
 /// Whether a name looks like one: it isn't empty and doesn't begin with `-`.
 pub fn is_usual_name(name: &str) -> bool
     ensures { result ≡ spec.is_usual_name name.now }
 {
     !matches!(name.as_bytes(), [] | [b'-', ..])
-}
-
-/// Whether a value may be right behind `-D`.
-pub fn is_joinable(value: &str) -> bool
-    ensures { result ≡ spec.is_joinable value.now }
-{
-    !matches!(value.as_bytes(), [] | [b'=', ..])
 }
 
 /// An option and its value in one word: with `=` between them, unless the option's text ends in one.
@@ -133,10 +119,7 @@ fn words_in(alloc: Global, text: &str) -> Result<Option<Words>, AllocError>
     if !are_file_bytes(text.as_bytes()) {
         return Ok(None);
     }
-    match split(alloc, text)? {
-        Some(words) => Ok(Some(Words::from_vec(words))),
-        None => Ok(None),
-    }
+    Ok(split(alloc, text)?.map(Words::from_vec))
 }
 
 // Whether nvcc takes each byte of an option's value for one of a file's name.
