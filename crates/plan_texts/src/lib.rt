@@ -1,7 +1,6 @@
 //! Lines and plans as text: in a fixed format, as shell scripts, as Ninja files and as pictures.
 #![tactic(auto)]
 
-mod command;
 mod dot;
 mod format;
 mod judging;
@@ -15,7 +14,6 @@ pub mod script_laws;
 mod shell;
 mod tool;
 
-pub use command::{assignments, push_command};
 pub use dot::dot_text;
 pub use format::Format;
 pub use judging::{holds_text, holds_words, judge_commands};
@@ -23,5 +21,5 @@ pub use line::show_line;
 pub use ninja::ninja_file;
 pub use plan::show_plan;
 pub use refusal::Refusal;
-pub use shell::shell_script;
+pub use shell::{assignments, push_command, shell_script};
 pub use tool::Tool;
