@@ -65,12 +65,7 @@ fn holds_command(format: Format, command: &NvccGeneratedSubcommand) -> bool
 fn lacks(byte: u8, text: &[u8]) -> bool
     ensures { result ≡ lacks byte text.now }
 {
-    for other in text {
-        if *other == byte {
-            return false;
-        }
-    }
-    true
+    !text.contains(&byte)
 }
 
 // Whether `env` takes a word for a program or for a variable's name.

@@ -37,8 +37,8 @@ fn arguments_text(
     ensures { UnlessMemory result (spec.show_command (written (spec.words_of tool) [] parsed.now cwd.now [])) }
 {
     let (command, _) = match tool {
+        Tool::Cicc | Tool::Ptxas => cicc::generate_compile_commands(alloc, "", parsed, cwd, &[])?,
         Tool::CudaFe => cudafe::generate_compile_commands(alloc, "", parsed, cwd, &[])?,
-        _ => cicc::generate_compile_commands(alloc, "", parsed, cwd, &[])?,
     };
     Ok(Some(Text::new(shown_words(alloc, command.arguments.as_slice())?)))
 }
