@@ -21,14 +21,11 @@ show_cacheable No = codes "no"
 abbrev pub show_subcommand : NvccGeneratedSubcommand → List ℕ
 show_subcommand c = show_cacheable c.cacheable ++ (codes " cd " ++ (c.cwd ++ (codes " && " ++ show_words c.exe c.args)))
 
--- the lines of a group: its number, then its commands
-abbrev pub show_group : ℕ → List NvccGeneratedSubcommand → List ℕ
-show_group number group = codes "group " ++ (numeral number ++ (10 ∷ flat_map show_subcommand group))
-
--- the lines of groups, numbered from a number on
+-- the lines of groups, numbered from a number on: the number of each, then its commands
 abbrev pub show_groups : ℕ → List (List NvccGeneratedSubcommand) → List ℕ
 show_groups number [] = []
-show_groups number (group ∷ groups) = show_group number group ++ show_groups (number + 1) groups
+show_groups number (group ∷ groups) =
+    codes "group " ++ (numeral number ++ (10 ∷ (flat_map show_subcommand group ++ show_groups (number + 1) groups)))
 
 -- the line of a dropped command: its line, its run, the reason, its program and its words
 abbrev pub show_dropped : Dropped → List ℕ

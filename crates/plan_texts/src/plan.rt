@@ -8,16 +8,6 @@ use compilers::plans::{Dropped, NvccGeneratedSubcommand, Plan};
 use std::alloc::{AllocError, Global};
 use texts::decimal::push_number;
 
-// Whether a cache may serve a command's outputs.
-fn cacheable_name(cacheable: Cacheable) -> &'static str
-    ensures { result.now ≡ spec.show_cacheable cacheable }
-{
-    match cacheable {
-        Cacheable::Yes => "yes",
-        Cacheable::No => "no",
-    }
-}
-
 // Adds a program and its words, each word after a space, and the end of the line.
 fn push_words(text: &mut String, exe: &str, words: &[String]) -> Result<(), AllocError>
     ensures { OnOk result (string_bytes text.new ≡ string_bytes text.old ++ spec.show_words exe.now (map string_bytes words.now)) }
@@ -35,29 +25,18 @@ fn push_subcommands(text: &mut String, group: &[NvccGeneratedSubcommand]) -> Res
     ensures { OnOk result (string_bytes text.new ≡ string_bytes text.old ++ flat_map spec.show_subcommand group.now) }
 {
     for command in group {
-        let (cacheable, cwd) = (cacheable_name(command.cacheable), command.cwd.as_str());
+        let cacheable = match command.cacheable {
+            Cacheable::Yes => "yes",
+            Cacheable::No => "no",
+        };
+        let cwd = command.cwd.as_str();
         write!(text, "{cacheable} cd {cwd} && ")?;
         push_words(text, command.exe.as_str(), command.args.as_slice())?;
     }
     Ok(())
 }
 
-// Adds the lines of a group: its number, then its commands.
-fn push_group(
-    alloc: Global,
-    text: &mut String,
-    number: usize,
-    group: &[NvccGeneratedSubcommand],
-) -> Result<(), AllocError>
-    ensures { OnOk result (string_bytes text.new ≡ string_bytes text.old ++ spec.show_group number group.now) }
-{
-    text.push_str("group ")?;
-    push_number(alloc, text, number)?;
-    text.push_str("\n")?;
-    push_subcommands(text, group)
-}
-
-// Adds the lines of groups, numbered from 0.
+// Adds the lines of groups, numbered from 0: the number of each, then its commands.
 fn push_groups(
     alloc: Global,
     text: &mut String,
@@ -66,31 +45,29 @@ fn push_groups(
     ensures { OnOk result (string_bytes text.new ≡ string_bytes text.old ++ spec.show_groups 0 (map vec_items groups.now)) }
 {
     for (number, group) in groups.iter().enumerate() {
-        push_group(alloc, text, number, group.as_slice())?;
+        text.push_str("group ")?;
+        push_number(alloc, text, number)?;
+        text.push_str("\n")?;
+        push_subcommands(text, group.as_slice())?;
     }
     Ok(())
 }
 
 // Adds the line of a dropped command.
-fn push_dropped(alloc: Global, text: &mut String, dropped: &Dropped) -> Result<(), AllocError>
+fn push_dropped(text: &mut String, dropped: &Dropped) -> Result<(), AllocError>
     ensures { OnOk result (string_bytes text.new ≡ string_bytes text.old ++ spec.show_dropped dropped.now) }
 {
-    text.push_str("dropped ")?;
-    push_number(alloc, text, dropped.line)?;
-    text.push_str(" run ")?;
-    push_number(alloc, text, dropped.run)?;
-    text.push_str(" ")?;
-    text.push_str(dropped.reason.name())?;
-    text.push_str(" ")?;
+    let (line, run, reason) = (dropped.line, dropped.run, dropped.reason.name());
+    write!(text, "dropped {line} run {run} {reason} ")?;
     push_words(text, dropped.exe.as_str(), dropped.args.as_slice())
 }
 
 // Adds the lines of the dropped commands.
-fn push_all_dropped(alloc: Global, text: &mut String, dropped: &[Dropped]) -> Result<(), AllocError>
+fn push_all_dropped(text: &mut String, dropped: &[Dropped]) -> Result<(), AllocError>
     ensures { OnOk result (string_bytes text.new ≡ string_bytes text.old ++ flat_map spec.show_dropped dropped.now) }
 {
     for command in dropped {
-        push_dropped(alloc, text, command)?;
+        push_dropped(text, command)?;
     }
     Ok(())
 }
@@ -103,6 +80,6 @@ pub fn show_plan(alloc: Global, plan: &Plan) -> Result<String, AllocError>
 {
     let mut text = String::new(alloc);
     push_groups(alloc, &mut text, plan.groups.as_slice())?;
-    push_all_dropped(alloc, &mut text, plan.dropped.as_slice())?;
+    push_all_dropped(&mut text, plan.dropped.as_slice())?;
     Ok(text)
 }
