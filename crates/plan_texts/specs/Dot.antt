@@ -30,10 +30,6 @@ shown_name path = shown (unwrap_or (file_name_of path) path)
 abbrev pub further_line : List ℕ → List ℕ
 further_line path = 92 ∷ 110 ∷ shown_name path
 
--- the text of a node: its program, and the files that it writes or may write
-abbrev pub label : List ℕ → CommandFiles → List ℕ
-label exe files = shown_name exe ++ (flat_map further_line files.writes ++ flat_map further_line files.may_write)
-
 -- the title of a device group, and that of any group of `count`
 abbrev pub device_title : ℕ → List ℕ
 device_title group = codes "device group " ++ numeral group
@@ -43,16 +39,15 @@ title count group =
     if group == 0 then codes "front group" else
     if count - group == 1 then codes "final group" else device_title group
 
-abbrev pub titled : ℕ → ℕ → List ℕ
-titled count group = codes " { label=\"" ++ (title count group ++ codes "\" ")
-
 -- the box of a group, in front of a node. All boxes of a group are one
 abbrev pub box : ℕ → ℕ → List ℕ
-box count group = codes "  subgraph cluster_" ++ (numeral group ++ titled count group)
+box count group = codes "  subgraph cluster_" ++ (numeral group ++ (codes " { label=\"" ++ (title count group ++ codes "\" ")))
 
--- a node, which ends its box
+-- a node, which ends its box: its program, and the files that it writes or may write
 abbrev pub node : ℕ → List ℕ → CommandFiles → List ℕ
-node number exe files = numeral number ++ (codes " [label=\"" ++ (label exe files ++ codes "\"] }\n"))
+node number exe files =
+    numeral number
+    ++ (codes " [label=\"" ++ (shown_name exe ++ (flat_map further_line files.writes ++ (flat_map further_line files.may_write ++ codes "\"] }\n"))))
 
 -- the line of a command with a number
 abbrev pub node_line : ℕ → ℕ → Listed → List ℕ
@@ -74,17 +69,10 @@ abbrev pub edges_from : ℕ → List (List ℕ) → List ℕ
 edges_from number [] = []
 edges_from number (needs ∷ more) = flat_map (edge number) needs ++ edges_from (number + 1) more
 
--- the text of a dropped command's node
-abbrev pub dropped_label : Dropped → List ℕ
-dropped_label d = shown_name d.exe ++ (92 ∷ 110 ∷ reason_name d.reason)
-
--- what a dropped command's node says, and that it is dashed
-abbrev pub dashed : Dropped → List ℕ
-dashed d = codes " [label=\"" ++ (dropped_label d ++ codes "\" style=dashed]\n")
-
--- a dropped command by its place among the dropped ones: a node without edges
+-- a dropped command by its place among the dropped ones: a dashed node without edges, with its program and the reason
 abbrev pub dropped_line : ℕ → Dropped → List ℕ
-dropped_line place d = codes "  d" ++ (numeral place ++ dashed d)
+dropped_line place d =
+    codes "  d" ++ (numeral place ++ (codes " [label=\"" ++ (shown_name d.exe ++ (92 ∷ 110 ∷ (reason_name d.reason ++ codes "\" style=dashed]\n")))))
 
 abbrev pub dropped_from : ℕ → List Dropped → List ℕ
 dropped_from place [] = []

@@ -1,12 +1,12 @@
 //! A plan as a graph that Graphviz draws.
 
-ghost use Rattle.std.specs.Prelude.{◌≡◌, ◌++◌, IfOk, OnOk, encode_utf8_all, length, map, string_bytes, vec_items, flat_map};
+ghost use Rattle.std.specs.Prelude.{◌≡◌, ◌++◌, IfOk, OnOk, encode_utf8_all, map, string_bytes, vec_items, flat_map};
+ghost use Rattle.texts.specs.Numeral.{numeral};
 ghost use Rattle.plan_texts.specs.Dot as spec;
 
 use command_files::{CommandFiles, files_of, needs};
 use compilers::plans::{Dropped, ListedCommand, Plan};
 use std::alloc::{AllocError, Global};
-use texts::decimal::push_number;
 use texts::text::file_name;
 
 // Adds a character inside quotes.
@@ -54,21 +54,22 @@ fn push_all_further(text: &mut String, paths: &[String]) -> Result<(), AllocErro
     Ok(())
 }
 
+// Adds a number in decimal digits.
+fn push_decimal(text: &mut String, number: usize) -> Result<(), AllocError>
+    ensures { OnOk result (string_bytes text.new ≡ string_bytes text.old ++ numeral number) }
+{
+    write!(text, "{number}")
+}
+
 // Adds the title of a device group.
-fn push_device_title(alloc: Global, text: &mut String, group: usize) -> Result<(), AllocError>
+fn push_device_title(text: &mut String, group: usize) -> Result<(), AllocError>
     ensures { OnOk result (string_bytes text.new ≡ string_bytes text.old ++ spec.device_title group) }
 {
-    text.push_str("device group ")?;
-    push_number(alloc, text, group)
+    write!(text, "device group {group}")
 }
 
 // Adds the title of the group numbered `group` of `count`.
-fn push_title(
-    alloc: Global,
-    text: &mut String,
-    count: usize,
-    group: usize,
-) -> Result<(), AllocError>
+fn push_title(text: &mut String, count: usize, group: usize) -> Result<(), AllocError>
     ensures { OnOk result (string_bytes text.new ≡ string_bytes text.old ++ spec.title count group) }
 {
     if group == 0 {
@@ -76,33 +77,12 @@ fn push_title(
     } else if count.saturating_sub(group) == 1 {
         text.push_str("final group")
     } else {
-        push_device_title(alloc, text, group)
+        push_device_title(text, group)
     }
-}
-
-// Adds the box of a group, in front of a node.
-fn push_box(alloc: Global, text: &mut String, count: usize, group: usize) -> Result<(), AllocError>
-    ensures { OnOk result (string_bytes text.new ≡ string_bytes text.old ++ spec.box count group) }
-{
-    text.push_str("  subgraph cluster_")?;
-    push_number(alloc, text, group)?;
-    text.push_str(" { label=\"")?;
-    push_title(alloc, text, count, group)?;
-    text.push_str("\" ")
-}
-
-// Adds the text of a node.
-fn push_label(text: &mut String, exe: &str, files: &CommandFiles) -> Result<(), AllocError>
-    ensures { OnOk result (string_bytes text.new ≡ string_bytes text.old ++ spec.label exe.now files.now) }
-{
-    push_name(text, exe)?;
-    push_all_further(text, files.writes.as_slice())?;
-    push_all_further(text, files.may_write.as_slice())
 }
 
 // Adds a node, which ends its box.
 fn push_node(
-    alloc: Global,
     text: &mut String,
     number: usize,
     exe: &str,
@@ -110,9 +90,11 @@ fn push_node(
 ) -> Result<(), AllocError>
     ensures { OnOk result (string_bytes text.new ≡ string_bytes text.old ++ spec.node number exe.now files.now) }
 {
-    push_number(alloc, text, number)?;
+    push_decimal(text, number)?;
     text.push_str(" [label=\"")?;
-    push_label(text, exe, files)?;
+    push_name(text, exe)?;
+    push_all_further(text, files.writes.as_slice())?;
+    push_all_further(text, files.may_write.as_slice())?;
     text.push_str("\"] }\n")
 }
 
@@ -126,9 +108,13 @@ fn push_line(
 ) -> Result<(), AllocError>
     ensures { OnOk result (string_bytes text.new ≡ string_bytes text.old ++ spec.node_line count number listed.now) }
 {
-    push_box(alloc, text, count, listed.group)?;
+    text.push_str("  subgraph cluster_")?;
+    push_decimal(text, listed.group)?;
+    text.push_str(" { label=\"")?;
+    push_title(text, count, listed.group)?;
+    text.push_str("\" ")?;
     let files = files_of(alloc, listed.command)?;
-    push_node(alloc, text, number, listed.command.exe.as_str(), &files)
+    push_node(text, number, listed.command.exe.as_str(), &files)
 }
 
 // Adds the lines of a plan's commands.
@@ -143,19 +129,16 @@ fn push_lines(alloc: Global, text: &mut String, plan: &Plan) -> Result<(), Alloc
     Ok(())
 }
 
-// Adds an edge.
-fn push_edge(text: &mut String, later: usize, earlier: usize) -> Result<(), AllocError>
-    ensures { OnOk result (string_bytes text.new ≡ string_bytes text.old ++ spec.edge later earlier) }
-{
-    write!(text, "  {earlier} -> {later}\n")
-}
-
 // Adds the edges of a command, given what it needs.
-fn push_edges_of(text: &mut String, number: usize, needs: &[usize]) -> Result<(), AllocError>
-    ensures { OnOk result (string_bytes text.new ≡ string_bytes text.old ++ flat_map (spec.edge number) needs.now) }
+fn push_edges_of(text: &mut String, later: usize, needs: &[usize]) -> Result<(), AllocError>
+    ensures { OnOk result (string_bytes text.new ≡ string_bytes text.old ++ flat_map (spec.edge later) needs.now) }
 {
     for earlier in needs {
-        push_edge(text, number, *earlier)?;
+        text.push_str("  ")?;
+        push_decimal(text, *earlier)?;
+        text.push_str(" -> ")?;
+        push_decimal(text, later)?;
+        text.push_str("\n")?;
     }
     Ok(())
 }
@@ -170,37 +153,25 @@ fn push_edges(text: &mut String, needs: &[Vec<usize>]) -> Result<(), AllocError>
     Ok(())
 }
 
-// Adds the text of a dropped command's node.
-fn push_dropped_label(text: &mut String, dropped: &Dropped) -> Result<(), AllocError>
-    ensures { OnOk result (string_bytes text.new ≡ string_bytes text.old ++ spec.dropped_label dropped.now) }
-{
-    push_name(text, dropped.exe.as_str())?;
-    text.push_str("\\n")?;
-    text.push_str(dropped.reason.name())
-}
-
 // Adds the node of a dropped command, which is dashed.
-fn push_dropped(
-    alloc: Global,
-    text: &mut String,
-    place: usize,
-    dropped: &Dropped,
-) -> Result<(), AllocError>
+fn push_dropped(text: &mut String, place: usize, dropped: &Dropped) -> Result<(), AllocError>
     ensures { OnOk result (string_bytes text.new ≡ string_bytes text.old ++ spec.dropped_line place dropped.now) }
 {
     text.push_str("  d")?;
-    push_number(alloc, text, place)?;
+    push_decimal(text, place)?;
     text.push_str(" [label=\"")?;
-    push_dropped_label(text, dropped)?;
+    push_name(text, dropped.exe.as_str())?;
+    text.push_str("\\n")?;
+    text.push_str(dropped.reason.name())?;
     text.push_str("\" style=dashed]\n")
 }
 
 // Adds the nodes of dropped commands.
-fn push_all_dropped(alloc: Global, text: &mut String, dropped: &[Dropped]) -> Result<(), AllocError>
+fn push_all_dropped(text: &mut String, dropped: &[Dropped]) -> Result<(), AllocError>
     ensures { OnOk result (string_bytes text.new ≡ string_bytes text.old ++ spec.dropped_from 0 dropped.now) }
 {
     for (place, command) in dropped.iter().enumerate() {
-        push_dropped(alloc, text, place, command)?;
+        push_dropped(text, place, command)?;
     }
     Ok(())
 }
@@ -219,7 +190,7 @@ pub fn dot_text(alloc: Global, plan: &Plan) -> Result<String, AllocError>
     push_lines(alloc, &mut text, plan)?;
     let needed = needs(alloc, plan)?;
     push_edges(&mut text, needed.as_slice())?;
-    push_all_dropped(alloc, &mut text, plan.dropped.as_slice())?;
+    push_all_dropped(&mut text, plan.dropped.as_slice())?;
     text.push_str("}\n")?;
     Ok(text)
 }
