@@ -1,5 +1,3 @@
-pub mod EscapedLemmas
 pub mod ReadBackLemmas
 pub mod ReadGraphLemmas
 pub mod TextLemmas
-pub mod ValueLemmas

@@ -21,16 +21,15 @@ use Rattle.plan_texts.specs.CommandText.{assignment, env_words, command_text}
 use Rattle.plan_texts.specs.Judging.{holds_text, holds_variables, holds_command, judged_command, judged_commands, and_then}
 use Rattle.plan_texts.specs.Script.{unless_refused}
 use Rattle.compilers.specs.Reasons.{reason_name}
-use Rattle.plan_texts.specs.Graph.{escaped, stamp, stamp_below, stamp_path, runner, touch, edge_command, edge_line, edge, plan_places, place_at, stamp_at, stamps_at, edges_from as written_edges, plan_edges, comment, head, graph, holds_dropped, judged_rest, ninja_answer}
+use Rattle.plan_texts.specs.Graph.{escaped, stamp_path, stamp_text, runner, touch, edge_command, edge_line, edge, plan_places, place_at, stamp_at, stamps_at, edges_from as written_edges, plan_edges, comment, head, graph, holds_dropped, judged_rest, ninja_answer}
 use Rattle.plan_texts.specs.ReadBack.{IsOfTexts}
-use Rattle.plan_texts.specs.ReadGraph.{parts_at, behind, Edge, path_of, head_behind, edges_from, edges_of, path_at, edge_at, edges_of_plan, IsDroppedText}
+use Rattle.plan_texts.specs.ReadGraph.{parts_at, behind, Edge, path_of, head_of, edges_from, edges_of, path_at, edge_at, edges_of_plan, IsDroppedText}
 use Rattle.compilers.specs.Listed.{Listed, listed}
 use Rattle.command_files.specs.Numbered.{numbered}
 use Rattle.command_files.specs.Order.{needs_at}
 use Rattle.command_files.specs.PlanNeeds.{plan_needs}
 use Rattle.texts.proofs.NumeralLemmas.{utf8-numeral}
-use Rattle.plan_texts.proofs.TextLemmas.{written_utf8}
-use Rattle.plan_texts.proofs.ValueLemmas.{value_reads_back}
+use Rattle.plan_texts.proofs.TextLemmas.{written_utf8, value_reads_back}
 
 -- ---- bytes that texts lack
 
@@ -105,10 +104,6 @@ lacks-numeral byte n other nothing = grind (arith, cond_both, lacks-digits, all_
 line-numeral : (n : ℕ) → IsLine (numeral n)
 line-numeral n = (utf8-numeral n, lacks-numeral 10 n (λ d small. ne_eqb (48 + d) 10 (λ e. omega arith)) refl)
 
--- the name of a stamp, as it stands behind a blank
-abbrev stamp_text : ℕ → ℕ → List ℕ
-stamp_text group place = codes "${tmp}/" ++ stamp group place
-
 lacks-stamp : (byte group place : ℕ) → ((d : ℕ) → d < 10 → eqb (48 + d) byte ≡ false) → lacks byte (codes "0") ≡ true → lacks byte (codes "${tmp}/zigrunk.") ≡ true → lacks byte (codes ".") ≡ true → lacks byte (stamp_text group place) ≡ true
 lacks-stamp byte group place other nothing front dot = grind (arith, lacks-append, lacks-numeral)
 
@@ -124,16 +119,14 @@ stamp-no_colon group place = lacks-stamp 58 group place (λ d small. ne_eqb (48 
 pub utf8-path : (tmp : List ℕ) (group place : ℕ) → IsUtf8 tmp → IsUtf8 (stamp_path tmp group place)
 unfolding lib.Utf8.encode
 utf8-path tmp group place is =
-    IsUtf8-append tmp (codes "/" ++ stamp group place) is
+    IsUtf8-append tmp (codes "/zigrunk." ++ (numeral group ++ (codes "." ++ numeral place))) is
     (IsUtf8-append (codes "/zigrunk.") (numeral group ++ (codes "." ++ numeral place)) (codes "/zigrunk.", (refl, refl))
     (IsUtf8-append (numeral group) (codes "." ++ numeral place) (utf8-numeral group) (IsUtf8-append (codes ".") (numeral place) (codes ".", (refl, refl)) (utf8-numeral place))))
 
 line-path : (tmp : List ℕ) (group place : ℕ) → IsLine tmp → IsLine (stamp_path tmp group place)
-unfolding lib.Utf8.encode
 line-path tmp group place is =
-    line-append tmp (codes "/" ++ stamp group place) is
-    (line-append (codes "/zigrunk.") (numeral group ++ (codes "." ++ numeral place)) ((codes "/zigrunk.", (refl, refl)), refl)
-    (line-append (numeral group) (codes "." ++ numeral place) (line-numeral group) (line-append (codes ".") (numeral place) ((codes ".", (refl, refl)), refl) (line-numeral place))))
+    let name = lacks-append 10 (numeral group) (codes "." ++ numeral place) (line-numeral group).1 (line-numeral place).1 in
+    (utf8-path tmp group place is.0, lacks-append 10 tmp (codes "/zigrunk." ++ (numeral group ++ (codes "." ++ numeral place))) is.1 name)
 
 -- ---- commands
 
@@ -205,7 +198,7 @@ pub record IsNeeds (tmp text : List ℕ) (paths : List (List ℕ)) : Type 0 wher
 abbrev number_text : List (ℕ × ℕ) → ℕ → List ℕ
 number_text places n = stamp_text (place_at places n).0 (place_at places n).1
 
-lacks-stamps : (byte : ℕ) (places : List (ℕ × ℕ)) (numbers : List ℕ) → ((group place : ℕ) → lacks byte (stamp_below group place) ≡ true) → lacks byte (stamps_at places numbers) ≡ true
+lacks-stamps : (byte : ℕ) (places : List (ℕ × ℕ)) (numbers : List ℕ) → ((group place : ℕ) → lacks byte (32 ∷ stamp_text group place) ≡ true) → lacks byte (stamps_at places numbers) ≡ true
 lacks-stamps byte places [] each = refl
 lacks-stamps byte places (n ∷ numbers) each =
     lacks-append byte (stamp_at places n) (stamps_at places numbers) (each (place_at places n).0 (place_at places n).1) (lacks-stamps byte places numbers each)
@@ -239,7 +232,7 @@ edge-lines : (output needs text rest : List ℕ) → (codes "build " ++ (output 
 edge-lines output needs text rest = simp append_assoc
 
 head-read : (tmp output needs : List ℕ) (paths : List (List ℕ)) → lacks 58 output ≡ true → IsNeeds tmp needs paths →
-    head_behind tmp (behind (codes "build ") (build_line output needs)) ≡ Some (path_of tmp output, paths)
+    head_of tmp (build_line output needs) ≡ Some (path_of tmp output, paths)
 head-read tmp output needs paths plain are = grind (arith, lacks-append, parts-past, parts-end)
 
 -- an edge, before further lines
@@ -288,12 +281,7 @@ comment-lines : (d : Dropped) (rest : List ℕ) → comment d ++ rest ≡ commen
 comment-lines d rest = simp append_assoc refl
 
 lacks-comment : (d : Dropped) → AllByRecursion IsLine (d.exe ∷ d.args) → lacks 10 (comment_line d) ≡ true
-lacks-comment d are =
-    let words = written (d.exe ∷ d.args) in
-    let reason = codes " " ++ (reason_name d.reason ++ (codes " " ++ words)) in
-    lacks-append 10 (numeral d.line) (codes " run " ++ (numeral d.run ++ reason)) (line-numeral d.line).1
-    (lacks-append 10 (numeral d.run) reason (line-numeral d.run).1
-    (lacks-append 10 (reason_name d.reason) (codes " " ++ words) (lacks-reason d.reason) (line-written (d.exe ∷ d.args) are).1))
+lacks-comment d are = grind (arith, lacks-append, lacks-reason, ((line-numeral d.line).1), ((line-numeral d.run).1), ((line-written (d.exe ∷ d.args) are).1))
 
 comments-read : (tmp : List ℕ) (dropped : List Dropped) → AllByRecursion IsDroppedText dropped → list_all holds_dropped dropped ≡ true → edges_from tmp None (parts_at 10 (flat_map comment dropped)) ≡ Some []
 comments-read tmp [] are h = refl

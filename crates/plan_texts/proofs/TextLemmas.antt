@@ -1,11 +1,14 @@
--- The characters of texts that are written of UTF-8.
-use Rattle.std.proofs.Common.{ℕ, List, [], ◌∷◌, ◌++◌, ◌≡◌, refl, sym, ap, ◌∙◌, map, true, encode_utf8_all, IsUtf8, chars, arith}
+-- The characters of texts that are written of UTF-8, and values that are read as the texts that they were written of.
+use Rattle.std.proofs.Common.{ℕ, List, [], ◌∷◌, ◌++◌, ◌≡◌, refl, sym, ap, ◌∙◌, map, Some, true, false, append-nil, append_assoc, encode_utf8_all, IsUtf8, chars, arith}
 use Rattle.std.specs.List.{AllByRecursion, flat_map}
 use Rattle.std.proofs.Math.Utf8.{scalars}
-use Rattle.std.proofs.lemmas.Bool.{cond_both}
-use Rattle.std.proofs.lemmas.Str.{chars-append, chars-encodes, scalars-chars, IsUtf8-append}
+use Rattle.std.proofs.lemmas.Bool.{cond_both, cond-false, eqb-true}
+use Rattle.std.proofs.lemmas.Grind.{flat_map-append}
+use Rattle.std.proofs.lemmas.Str.{chars-append, chars-encodes, encodes-append, encodes-chars, scalars-chars, IsUtf8-append}
 use Rattle.texts.specs.Shell.Quoting.{quoted_char, quoted_word, further, quoted, written}
 use Rattle.plan_texts.specs.CommandText.{assignment}
+use Rattle.plan_texts.specs.Graph.{escaped_char, escaped}
+use Rattle.plan_texts.specs.ReadGraph.{value_from, value_of}
 
 pub scalars_append : (xs ys : List ℕ) → scalars xs ≡ true → scalars ys ≡ true → scalars (xs ++ ys) ≡ true
 scalars_append [] ys first second = second
@@ -47,3 +50,26 @@ unfolding lib.Utf8.encode
 assignments_utf8 [] are = tt
 assignments_utf8 (p ∷ variables) are =
     (IsUtf8-append p.0 (61 ∷ p.1) are.0.0 (IsUtf8-append (61 ∷ []) p.1 (61 ∷ [], (refl, refl)) are.0.1), assignments_utf8 variables are.1)
+
+-- ---- characters that are escaped
+
+-- one more character
+pub escaped_push : (escape : ℕ → List ℕ) (old now new yielded : List ℕ) (c : ℕ) → now ≡ old ++ encode_utf8_all (flat_map escape yielded) → new ≡ now ++ encode_utf8_all (escape c) → new ≡ old ++ encode_utf8_all (flat_map escape (yielded ++ c ∷ []))
+escaped_push escape old now new yielded c before after =
+    after ∙ ap (λ t. t ++ encode_utf8_all (escape c)) before
+    ∙ append_assoc old (encode_utf8_all (flat_map escape yielded)) (encode_utf8_all (escape c))
+    ∙ ap (λ t. old ++ t) (sym (rw (flat_map-append, encodes-append) (ap (λ t. encode_utf8_all (flat_map escape yielded) ++ encode_utf8_all t) (append-nil (escape c)))))
+
+scalars_escaped : (cs : List ℕ) → scalars cs ≡ true → scalars (flat_map escaped_char cs) ≡ true
+scalars_escaped [] are = refl
+scalars_escaped (c ∷ cs) are = grind (arith, scalars_append, (scalars_escaped cs))
+
+char_read : (c : ℕ) (rest read : List ℕ) → value_from false rest ≡ Some read → value_from false (escaped_char c ++ rest) ≡ Some (c ∷ read)
+char_read c rest read found = grind (arith, cond_both, eqb-true, cond-false)
+
+chars_read : (cs : List ℕ) → value_from false (flat_map escaped_char cs) ≡ Some cs
+chars_read [] = refl
+chars_read (c ∷ cs) = char_read c (flat_map escaped_char cs) cs (chars_read cs)
+
+pub value_reads_back : (text : List ℕ) → IsUtf8 text → value_of (escaped text) ≡ Some text
+value_reads_back text is = simp (chars-encodes, scalars_escaped, scalars-chars, chars_read, encodes-chars)

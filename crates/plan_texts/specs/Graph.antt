@@ -26,17 +26,13 @@ escaped_char c = if c == 36 then 36 ∷ 36 ∷ [] else c ∷ []
 abbrev pub escaped : List ℕ → List ℕ
 escaped text = encode_utf8_all (flat_map escaped_char (chars text))
 
--- the name of a command's stamp, a file that is touched once the command is done, given its group and its place there
-abbrev pub stamp : ℕ → ℕ → List ℕ
-stamp group place = codes "zigrunk." ++ (numeral group ++ (codes "." ++ numeral place))
-
--- a space and the stamp's path in the temporary directory, which the variable `tmp` names
-abbrev pub stamp_below : ℕ → ℕ → List ℕ
-stamp_below group place = codes " ${tmp}/" ++ stamp group place
-
--- the stamp's path
+-- the path of a command's stamp, a file that is touched once the command is done, given its group and its place there
 abbrev pub stamp_path : List ℕ → ℕ → ℕ → List ℕ
-stamp_path tmp group place = tmp ++ (codes "/" ++ stamp group place)
+stamp_path tmp group place = tmp ++ (codes "/zigrunk." ++ (numeral group ++ (codes "." ++ numeral place)))
+
+-- the path in a Ninja file, in which the variable `tmp` names the temporary directory
+abbrev pub stamp_text : ℕ → ℕ → List ℕ
+stamp_text group place = stamp_path (codes "${tmp}") group place
 
 -- what runs a program: whatever one variable names at that time, and for a program whose outputs a cache may serve what
 -- another one names
@@ -59,7 +55,7 @@ edge_line text = codes "\n  line = " ++ (escaped text ++ 10 ∷ [])
 -- an edge: its stamp, the stamps that it needs, and what it runs
 abbrev pub edge : List ℕ → List ℕ → Listed → List ℕ
 edge tmp needs l =
-    codes "build" ++ (stamp_below l.group l.place ++ (codes ": run" ++ (needs ++ edge_line (edge_command tmp l.group l.place l.command))))
+    codes "build " ++ (stamp_text l.group l.place ++ (codes ": run" ++ (needs ++ edge_line (edge_command tmp l.group l.place l.command))))
 
 -- where each command is, in plan order: the number of its group, and its place there
 abbrev pub places_of : List Listed → List (ℕ × ℕ)
@@ -72,9 +68,9 @@ plan_places plan = places_of (listed plan.groups)
 abbrev pub place_at : List (ℕ × ℕ) → ℕ → ℕ × ℕ
 place_at places n = get_or places n (0, 0)
 
--- the stamps of the commands with these numbers
+-- the stamps of the commands with these numbers, each after a space
 abbrev pub stamp_at : List (ℕ × ℕ) → ℕ → List ℕ
-stamp_at places n = stamp_below (place_at places n).0 (place_at places n).1
+stamp_at places n = 32 ∷ stamp_text (place_at places n).0 (place_at places n).1
 
 abbrev pub stamps_at : List (ℕ × ℕ) → List ℕ → List ℕ
 stamps_at places numbers = flat_map (stamp_at places) numbers

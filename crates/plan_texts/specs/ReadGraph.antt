@@ -1,16 +1,45 @@
--- What Ninja reads in a written file: its edges.
-use Rattle.std.specs.Prelude.{◌≡◌, ℕ, List, [], ◌∷◌, ◌++◌, map, drop, ◌==◌, if◌then◌else◌, Option, Some, None, Ok, codes, refl, option_map}
+-- What Ninja reads in a written file, its values and its edges, and what a POSIX shell reads in what an edge runs.
+use Rattle.std.specs.Prelude.{◌≡◌, ℕ, List, [], ◌∷◌, ◌++◌, map, drop, Bool, true, false, ◌==◌, if◌then◌else◌, Option, Some, None, Ok, codes, encode_utf8_all, refl, option_map, option_and_then, unwrap_or}
 use Rattle.std.specs.List.{AllByRecursion}
 use Rattle.std.specs.Str.{IsUtf8, chars}
+use Rattle.texts.specs.Posix.{Word, Operator}
 use Rattle.compilers.specs.declared.plans.plan.Dropped.{Dropped}
+use Rattle.compilers.specs.declared.plans.plan.NvccGeneratedSubcommand.{NvccGeneratedSubcommand}
 use Rattle.compilers.specs.declared.plans.plan.Plan.{Plan}
 use Rattle.compilers.specs.Listed.{Listed, listed}
 use Rattle.command_files.specs.Numbered.{numbered}
 use Rattle.command_files.specs.Order.{needs_at}
 use Rattle.command_files.specs.PlanNeeds.{plan_needs}
-use Rattle.plan_texts.specs.Graph.{stamp_path, edge_command, plan_places, place_at, ninja_answer}
-use Rattle.plan_texts.specs.ReadBack.{IsOfTexts}
-use Rattle.plan_texts.specs.ReadValue.{value_of}
+use Rattle.plan_texts.specs.CommandText.{command_text}
+use Rattle.plan_texts.specs.Graph.{escaped, stamp_path, touch, edge_command, plan_places, place_at, ninja_answer}
+use Rattle.plan_texts.specs.ReadBack.{IsOfTexts, shell_tokens, command_tokens, in_front}
+
+-- what an edge of a Ninja file runs, with words in the place of both expansions: the command, and then `touch` with the stamp
+abbrev pub EdgesReadBack : Type 0
+EdgesReadBack =
+    (runner : List (List ℕ)) (tmp : List ℕ) (group place : ℕ) (c : NvccGeneratedSubcommand) → AllByRecursion IsUtf8 runner → IsUtf8 tmp → IsOfTexts c →
+    shell_tokens (command_text (in_front runner) c ++ touch tmp group place)
+    ≡ Some (command_tokens runner c ++ Operator (codes "&&") ∷ Word (codes "touch") ∷ Word (chars (stamp_path tmp group place)) ∷ [])
+
+-- ---- values
+
+-- The characters of a value's rest, given whether a `$` comes right before it. Only a second `$` may follow a `$` here. Ninja
+-- has other forms, as `${tmp}`, but no written value has one.
+abbrev pub value_from : Bool → List ℕ → Option (List ℕ)
+value_from false [] = Some []
+value_from true [] = None
+value_from false (c ∷ cs) = if c == 36 then value_from true cs else option_map (λ read. c ∷ read) (value_from false cs)
+value_from true (c ∷ cs) = if c == 36 then option_map (λ read. 36 ∷ read) (value_from false cs) else None
+
+-- the value of a text
+abbrev pub value_of : List ℕ → Option (List ℕ)
+value_of text = option_map encode_utf8_all (value_from false (chars text))
+
+-- Ninja reads a written value of a variable as the original text
+abbrev pub ValuesReadBack : Type 0
+ValuesReadBack = (text : List ℕ) → IsUtf8 text → value_of (escaped text) ≡ Some text
+
+-- ---- edges
 
 -- the parts of a text between occurrences of a byte
 abbrev pub onto_first : ℕ → List (List ℕ) → List (List ℕ)
@@ -34,31 +63,22 @@ pub record Edge : Type 0 where
   pub command : List ℕ
 
 -- a file's path: `${tmp}` names the temporary directory
-abbrev pub path_behind : List ℕ → List ℕ → Option (List ℕ) → List ℕ
-path_behind tmp text None = text
-path_behind tmp text (Some rest) = tmp ++ rest
-
 abbrev pub path_of : List ℕ → List ℕ → List ℕ
-path_of tmp text = path_behind tmp text (behind (codes "${tmp}") text)
+path_of tmp text = unwrap_or (option_map (λ rest. tmp ++ rest) (behind (codes "${tmp}") text)) text
 
 -- the value of a line that begins so
-abbrev pub value_behind : Option (List ℕ) → Option (List ℕ)
-value_behind None = None
-value_behind (Some text) = value_of text
+abbrev pub value_behind : List ℕ → List ℕ → Option (List ℕ)
+value_behind beginning line = option_and_then value_of (behind beginning line)
 
 -- The output and the needs on an edge's first line. After `:` come the rule's name and the needs, each after a space.
-abbrev pub needs_of : List ℕ → List ℕ → Option (List (List ℕ))
-needs_of tmp text = option_map (λ rest. map (path_of tmp) (drop 1 (parts_at 32 rest))) (behind (codes " run") text)
-
 abbrev pub head_parts : List ℕ → List (List ℕ) → Option (List ℕ × List (List ℕ))
 head_parts tmp [] = None
 head_parts tmp (output ∷ []) = None
-head_parts tmp (output ∷ needs ∷ []) = option_map (λ paths. (path_of tmp output, paths)) (needs_of tmp needs)
+head_parts tmp (output ∷ needs ∷ []) = option_map (λ rest. (path_of tmp output, map (path_of tmp) (drop 1 (parts_at 32 rest)))) (behind (codes " run") needs)
 head_parts tmp (output ∷ needs ∷ part ∷ parts) = None
 
-abbrev pub head_behind : List ℕ → Option (List ℕ) → Option (List ℕ × List (List ℕ))
-head_behind tmp None = None
-head_behind tmp (Some text) = head_parts tmp (parts_at 58 text)
+abbrev pub head_of : List ℕ → List ℕ → Option (List ℕ × List (List ℕ))
+head_of tmp line = option_and_then (λ text. head_parts tmp (parts_at 58 text)) (behind (codes "build ") line)
 
 -- an edge's first line, and then its second one, before the edges of further lines
 abbrev pub with_edge : List ℕ × List (List ℕ) → Option (List ℕ) → Option (List Edge) → Option (List Edge)
@@ -70,18 +90,13 @@ with_edge head (Some command) edges = option_map (λ es. record { output = head.
 abbrev pub edges_from : List ℕ → Option (List ℕ × List (List ℕ)) → List (List ℕ) → Option (List Edge)
 edges_from tmp None [] = Some []
 edges_from tmp (Some head) [] = None
-edges_from tmp None (line ∷ lines) = edges_from tmp (head_behind tmp (behind (codes "build ") line)) lines
-edges_from tmp (Some head) (line ∷ lines) =
-    with_edge head (value_behind (behind (codes "  line = ") line)) (edges_from tmp None lines)
+edges_from tmp None (line ∷ lines) = edges_from tmp (head_of tmp line) lines
+edges_from tmp (Some head) (line ∷ lines) = with_edge head (value_behind (codes "  line = ") line) (edges_from tmp None lines)
 
 -- the edges of a file, whose first line names the temporary directory
-abbrev pub edges_in : Option (List ℕ) → List (List ℕ) → Option (List Edge)
-edges_in None lines = None
-edges_in (Some tmp) lines = edges_from tmp None lines
-
 abbrev pub edges_of_lines : List (List ℕ) → Option (List Edge)
 edges_of_lines [] = None
-edges_of_lines (line ∷ lines) = edges_in (value_behind (behind (codes "tmp = ") line)) lines
+edges_of_lines (line ∷ lines) = option_and_then (λ tmp. edges_from tmp None lines) (value_behind (codes "tmp = ") line)
 
 abbrev pub edges_of : List ℕ → Option (List Edge)
 edges_of text = edges_of_lines (parts_at 10 text)
@@ -119,8 +134,8 @@ GraphsReadBack =
 
 -- ---- Worked examples.
 
-pub three_parts : parts_at 58 (codes "a:bc:") ≡ codes "a" ∷ codes "bc" ∷ [] ∷ []
-three_parts = refl
+pub one_dollar : value_from false (codes "a$b") ≡ None
+one_dollar = refl
 
 pub one_edge :
     edges_of (codes "tmp = /t\nrule run\nbuild ${tmp}/b: run ${tmp}/a\n  line = x $$y\n# build\n") ≡

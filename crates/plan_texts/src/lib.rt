@@ -7,10 +7,8 @@ mod judging;
 pub mod laws;
 mod line;
 mod ninja;
-pub mod ninja_laws;
 mod plan;
 mod refusal;
-pub mod script_laws;
 mod shell;
 mod tool;
 

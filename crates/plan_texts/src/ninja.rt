@@ -1,6 +1,6 @@
 //! A plan as a Ninja file.
 
-ghost use Rattle.std.specs.Prelude.{◌≡◌, ◌++◌, IfOk, OnOk, codes, encode_utf8_all, map, string_bytes, vec_items};
+ghost use Rattle.std.specs.Prelude.{◌≡◌, ◌++◌, IfOk, OnOk, encode_utf8_all, map, string_bytes, vec_items};
 ghost use Rattle.std.specs.List.{flat_map, list_all};
 ghost use Rattle.command_files.specs.Order.{needs_at};
 ghost use Rattle.plan_texts.specs.Answers.{Answers};
@@ -34,45 +34,14 @@ fn push_value(text: &mut String, value: &str) -> Result<(), AllocError>
     Ok(())
 }
 
-// Adds the name of the stamp of the command at a place: the number of its group, and its place there.
-fn push_stamp(alloc: Global, text: &mut String, at: (usize, usize)) -> Result<(), AllocError>
-    ensures { OnOk result (string_bytes text.new ≡ string_bytes text.old ++ spec.stamp at.0 at.1) }
+// Adds the path of a command's stamp in the directory `tmp`, given the number of its group, and its place there.
+fn push_stamp(text: &mut String, tmp: &str, group: usize, place: usize) -> Result<(), AllocError>
+    ensures { OnOk result (string_bytes text.new ≡ string_bytes text.old ++ spec.stamp_path tmp.now group place) }
 {
-    text.push_str("zigrunk.")?;
-    push_number(alloc, text, at.0)?;
-    text.push_str(".")?;
-    push_number(alloc, text, at.1)
+    write!(text, "{tmp}/zigrunk.{group}.{place}")
 }
 
-// Adds a space and the path of a stamp in the temporary directory.
-fn push_stamp_below(alloc: Global, text: &mut String, at: (usize, usize)) -> Result<(), AllocError>
-    ensures { OnOk result (string_bytes text.new ≡ string_bytes text.old ++ spec.stamp_below at.0 at.1) }
-{
-    text.push_str(" ${tmp}/")?;
-    push_stamp(alloc, text, at)
-}
-
-// The path of a stamp.
-fn stamp_path(alloc: Global, tmp: &str, at: (usize, usize)) -> Result<String, AllocError>
-    ensures { IfOk result (λ path. string_bytes path ≡ spec.stamp_path tmp.now at.0 at.1) }
-{
-    let mut path = String::from_str(alloc, tmp)?;
-    path.push_str("/")?;
-    push_stamp(alloc, &mut path, at)?;
-    Ok(path)
-}
-
-// What runs a program: a runner, and a launcher if a cache may serve the program's outputs.
-fn runner(cacheable: Cacheable) -> &'static str
-    ensures { result.now ≡ spec.runner cacheable }
-{
-    match cacheable {
-        Cacheable::Yes => "${ZIGRUNK_RUNNER-} ${ZIGRUNK_LAUNCHER-} ",
-        Cacheable::No => "${ZIGRUNK_RUNNER-} ",
-    }
-}
-
-// What an edge runs.
+// What an edge runs. A runner, and a launcher if a cache may serve the program's outputs, run the program.
 fn edge_command(
     alloc: Global,
     tmp: &str,
@@ -81,39 +50,17 @@ fn edge_command(
 ) -> Result<String, AllocError>
     ensures { IfOk result (λ text. string_bytes text ≡ spec.edge_command tmp.now at.0 at.1 command.now) }
 {
-    let stamp = stamp_path(alloc, tmp, at)?;
+    let mut stamp = String::new(alloc);
+    push_stamp(&mut stamp, tmp, at.0, at.1)?;
+    let launcher = match command.cacheable {
+        Cacheable::Yes => "${ZIGRUNK_RUNNER-} ${ZIGRUNK_LAUNCHER-} ",
+        Cacheable::No => "${ZIGRUNK_RUNNER-} ",
+    };
     let mut text = String::new(alloc);
-    push_command(alloc, &mut text, runner(command.cacheable), command)?;
+    push_command(alloc, &mut text, launcher, command)?;
     text.push_str(" && touch ")?;
     push_quoted(&mut text, stamp.as_str(), &[])?;
     Ok(text)
-}
-
-// Adds the line that says what an edge runs.
-fn push_edge_line(text: &mut String, command: &str) -> Result<(), AllocError>
-    ensures { OnOk result (string_bytes text.new ≡ string_bytes text.old ++ spec.edge_line command.now) }
-{
-    text.push_str("\n  line = ")?;
-    push_value(text, command)?;
-    text.push_str("\n")
-}
-
-// Adds an edge that runs a text.
-fn push_edge_text(
-    alloc: Global,
-    text: &mut String,
-    at: (usize, usize),
-    needs: &str,
-    line: &str,
-) -> Result<(), AllocError>
-    ensures { OnOk result (string_bytes text.new ≡ string_bytes text.old
-        ++ (codes "build" ++ (spec.stamp_below at.0 at.1 ++ (codes ": run" ++ (needs.now ++ spec.edge_line line.now))))) }
-{
-    text.push_str("build")?;
-    push_stamp_below(alloc, text, at)?;
-    text.push_str(": run")?;
-    text.push_str(needs)?;
-    push_edge_line(text, line)
 }
 
 // Adds the edge of a command, given the text of what it needs.
@@ -128,7 +75,13 @@ fn push_edge(
 {
     let at = (listed.group, listed.place);
     let line = edge_command(alloc, tmp, at, listed.command)?;
-    push_edge_text(alloc, text, at, needs, line.as_str())
+    text.push_str("build ")?;
+    push_stamp(text, "${tmp}", at.0, at.1)?;
+    text.push_str(": run")?;
+    text.push_str(needs)?;
+    text.push_str("\n  line = ")?;
+    push_value(text, line.as_str())?;
+    text.push_str("\n")
 }
 
 // Where each of these commands is.
@@ -144,27 +97,18 @@ fn places_of(
         .collect(alloc)
 }
 
-// Where the command with a number is. Each command has a place.
-fn place_at(places: &[(usize, usize)], number: usize) -> (usize, usize)
-    ensures { result ≡ spec.place_at places.now number }
-{
-    match places.get(number) {
-        Some(at) => *at,
-        None => (0, 0),
-    }
-}
-
-// Adds a space and the path of the stamp of the command with a number.
+// Adds a space and the path of the stamp of the command with a number. Each command has a place.
 fn push_stamp_at(
-    alloc: Global,
     text: &mut String,
     places: &[(usize, usize)],
     number: usize,
 ) -> Result<(), AllocError>
     ensures { OnOk result (string_bytes text.new ≡ string_bytes text.old ++ spec.stamp_at places.now number) }
 {
-    let at = place_at(places, number);
-    push_stamp_below(alloc, text, at)
+    match places.get(number) {
+        Some(at) => push_stamp(text, " ${tmp}", at.0, at.1),
+        None => push_stamp(text, " ${tmp}", 0, 0),
+    }
 }
 
 // The stamps of the commands with these numbers.
@@ -177,7 +121,7 @@ fn stamps_at(
 {
     let mut text = String::new(alloc);
     for number in numbers {
-        push_stamp_at(alloc, &mut text, places, *number)?;
+        push_stamp_at(&mut text, places, *number)?;
     }
     Ok(text)
 }
@@ -210,23 +154,6 @@ fn push_edges(
         push_edge(alloc, text, tmp, stamps.as_str(), listed)?;
     }
     Ok(())
-}
-
-// Adds the edges of a plan's commands.
-fn push_plan(alloc: Global, text: &mut String, tmp: &str, plan: &Plan) -> Result<(), AllocError>
-    ensures { OnOk result (string_bytes text.new ≡ string_bytes text.old ++ spec.plan_edges tmp.now plan.now) }
-{
-    let commands = plan.groups.listed(alloc)?;
-    let places = places_of(alloc, commands.as_slice())?;
-    let needs = needs(alloc, plan)?;
-    push_edges(
-        alloc,
-        text,
-        tmp,
-        places.as_slice(),
-        needs.as_slice(),
-        commands.as_slice(),
-    )
 }
 
 // Adds the reason and the words of a dropped command.
@@ -275,29 +202,29 @@ fn graph(alloc: Global, tmp: &str, plan: &Plan) -> Result<String, AllocError>
     let mut text = String::from_str(alloc, "tmp = ")?;
     push_value(&mut text, tmp)?;
     text.push_str(rule())?;
-    push_plan(alloc, &mut text, tmp, plan)?;
+    let commands = plan.groups.listed(alloc)?;
+    let places = places_of(alloc, commands.as_slice())?;
+    let needs = needs(alloc, plan)?;
+    push_edges(
+        alloc,
+        &mut text,
+        tmp,
+        places.as_slice(),
+        needs.as_slice(),
+        commands.as_slice(),
+    )?;
     push_comments(alloc, &mut text, plan.dropped.as_slice())?;
     Ok(text)
-}
-
-// Whether a comment can represent a dropped command.
-fn holds_dropped(dropped: &Dropped) -> bool
-    ensures { result ≡ spec.holds_dropped dropped.now }
-{
-    holds_text(Format::Ninja, dropped.exe.as_bytes())
-        && holds_words(Format::Ninja, dropped.args.as_slice())
 }
 
 // Whether comments can represent all dropped commands.
 fn hold_all_dropped(dropped: &[Dropped]) -> bool
     ensures { result ≡ list_all spec.holds_dropped dropped.now }
 {
-    for command in dropped {
-        if !holds_dropped(command) {
-            return false;
-        }
-    }
-    true
+    dropped.iter().all(|command| {
+        holds_text(Format::Ninja, command.exe.as_bytes())
+            && holds_words(Format::Ninja, command.args.as_slice())
+    })
 }
 
 // Why a file can't represent the temporary directory or the dropped commands, if it can't.

@@ -2,7 +2,7 @@ use Rattle.std.proofs.Common.{◌++◌, ◌∙◌, ap, sym, string_bytes, encode
 use Rattle.std.proofs.lemmas.Iterator.{YieldsList-from_chars}
 use Rattle.std.proofs.lemmas.Iterator.Consumers.{YieldsList-end}
 use Rattle.plan_texts.specs.Dot.{shown_char}
-use Rattle.plan_texts.proofs.EscapedLemmas.{escaped_push}
+use Rattle.plan_texts.proofs.TextLemmas.{escaped_push}
 use Rattle.plan_texts.proofs.dot.push_shown.Goals as goal
 
 pub loop-c-preserved : goal.loop-c-preserved
