@@ -42,48 +42,38 @@ split_at_text (c ∷ cs) [] rest e = absurd cc
 split_at_text (c ∷ cs) (d ∷ ds) rest e = grind (arith, eqb-true, (split_at_text cs ds rest))
 
 -- a plain name is the name itself, and no stamp's
-record Plain (text name : List ℕ) : Type 0 where
-  same : text ≡ name
-  no_stamp : starts_with nat_eq text (codes "zigrunk.") ≡ false
-
-plain_is : (text name : List ℕ) → plain_name text ≡ Some name → Plain text name
+plain_is : (text name : List ℕ) → plain_name text ≡ Some name → (text ≡ name) × (starts_with nat_eq text (codes "zigrunk.") ≡ false)
 plain_is text name e = at (starts_with nat_eq text (codes "zigrunk.")) (is_plain text) refl e
   where
-    at : (a b : Bool) → starts_with nat_eq text (codes "zigrunk.") ≡ a → cond a None (cond b (Some text) None) ≡ Some name → Plain text name
+    at : (a b : Bool) → starts_with nat_eq text (codes "zigrunk.") ≡ a → cond a None (cond b (Some text) None) ≡ Some name → (text ≡ name) × (starts_with nat_eq text (codes "zigrunk.") ≡ false)
     at true b is found = absurd cc
-    at false true is found = record { same = cc; no_stamp = is }
+    at false true is found = (cc, is)
     at false false is found = absurd cc
 
--- a path that has a name is made of the directory and the name
-record Split (tmp path name : List ℕ) : Type 0 where
-  path_is : path ≡ tmp ++ 47 ∷ name
-  no_stamp : starts_with nat_eq name (codes "zigrunk.") ≡ false
+-- what gives a value in two steps gives one in each
+and_then_is : {A B : Type 0} (f : A → Option B) (o : Option A) (y : B) → option_and_then f o ≡ Some y → (x : A) × (o ≡ Some x) × (f x ≡ Some y)
+and_then_is f None y e = absurd cc
+and_then_is f (Some x) y e = (x, refl, e)
 
-split : (tmp path name : List ℕ) → name_in tmp path ≡ Some name → Split tmp path name
-split tmp path name e = first (rest_after tmp path) refl e
-  where
-    second : (rest : List ℕ) (o : Option (List ℕ)) → rest_after tmp path ≡ Some rest → rest_after (codes "/") rest ≡ o → option_and_then plain_name o ≡ Some name → Split tmp path name
-    second rest None was is found = absurd cc
-    second rest (Some text) was is found =
-        let plain = plain_is text name found in
-        record {
-          path_is = split_at_text tmp path rest was ∙ ap (λ r. tmp ++ r) (split_at_text (codes "/") rest text is ∙ ap (λ t. 47 ∷ t) plain.same);
-          no_stamp = subst (λ t. starts_with nat_eq t (codes "zigrunk.") ≡ false) plain.same plain.no_stamp;
-        }
-
-    first : (o : Option (List ℕ)) → rest_after tmp path ≡ o → option_and_then plain_name (option_and_then (rest_after (codes "/")) o) ≡ Some name → Split tmp path name
-    first None is found = absurd cc
-    first (Some rest) is found = second rest (rest_after (codes "/") rest) is refl found
+-- a path that has a name is made of the directory and the name, which is no stamp's
+split : (tmp path name : List ℕ) → name_in tmp path ≡ Some name → (path ≡ tmp ++ 47 ∷ name) × (starts_with nat_eq name (codes "zigrunk.") ≡ false)
+split tmp path name e =
+    let below = and_then_is plain_name (option_and_then (rest_after (codes "/")) (rest_after tmp path)) name e in
+    let after = and_then_is (rest_after (codes "/")) (rest_after tmp path) below.0 below.1 in
+    let plain = plain_is below.0 name below.2 in (
+      split_at_text tmp path after.0 after.1 ∙ ap (λ r. tmp ++ r) (split_at_text (codes "/") after.0 below.0 after.2 ∙ ap (λ t. 47 ∷ t) plain.0),
+      subst (λ t. starts_with nat_eq t (codes "zigrunk.") ≡ false) plain.0 plain.1,
+    )
 
 stamp_unnamed : (tmp path name : List ℕ) (n : ℕ) → name_in tmp path ≡ Some name → name ≡ stamp n → ⊥
 stamp_unnamed tmp path name n e same =
-    false≢true (sym (split tmp path name e).no_stamp ∙ ap (λ t. starts_with nat_eq t (codes "zigrunk.")) same ∙ refl)
+    false≢true (sym (split tmp path name e).1 ∙ ap (λ t. starts_with nat_eq t (codes "zigrunk.")) same ∙ refl)
 
 stamp_same : (m n : ℕ) → stamp m ≡ stamp n → m ≡ n
 stamp_same m n e = numeral-same m n (append_cancel_left (codes "zigrunk.") (numeral m) (numeral n) e)
 
 one_path : (tmp p q name : List ℕ) → name_in tmp p ≡ Some name → name_in tmp q ≡ Some name → p ≡ q
-one_path tmp p q name e f = (split tmp p name e).path_is ∙ sym (split tmp q name f).path_is
+one_path tmp p q name e f = (split tmp p name e).0 ∙ sym (split tmp q name f).0
 
 -- ---- files that rules name
 
@@ -118,13 +108,11 @@ names_it side known n (p ∷ paths) path name e named is =
     let here = cond (is_named side known n p) (option_to_list (name_in known.tmp p)) [] in
     list_any-append (bytes_eq name) here (names_of side known n paths)
     ∙ in_either (bytes_eq path p) (is_among paths path)
-    (λ k. in_first (is_among here name) (is_among (names_of side known n paths) name) (at p (sym (same_bytes path p k))))
+    (λ k. in_first (is_among here name) (is_among (names_of side known n paths) name) (at p (same_bytes path p k)))
     (λ k. in_second (is_among here name) (is_among (names_of side known n paths) name) (names_it side known n paths path name k named is)) e
   where
-    at : (q : List ℕ) → q ≡ path → is_among (cond (is_named side known n q) (option_to_list (name_in known.tmp q)) []) name ≡ true
-    at q same =
-        subst (λ r. is_among (cond (is_named side known n r) (option_to_list (name_in known.tmp r)) []) name ≡ true) (sym same)
-        (rw (named, is) (in_first (bytes_eq name name) false (own_bytes name name refl)))
+    at : (q : List ℕ) → path ≡ q → is_among (cond (is_named side known n q) (option_to_list (name_in known.tmp q)) []) name ≡ true
+    at q same = grind (arith, own_bytes)
 
 -- the stamps of commands
 record Stamped (numbers : List ℕ) (name : List ℕ) : Type 0 where
@@ -143,10 +131,7 @@ stamped_by (n ∷ numbers) name e =
 
 stamps_it : (numbers : List ℕ) (n : ℕ) → is_in numbers n ≡ true → is_among (map stamp numbers) (stamp n) ≡ true
 stamps_it [] n e = absurd (false≢true e)
-stamps_it (m ∷ numbers) n e =
-    in_either (m == n) (is_in numbers n)
-    (λ k. in_first (bytes_eq (stamp n) (stamp m)) (is_among (map stamp numbers) (stamp n)) (own_bytes (stamp n) (stamp m) (ap stamp (sym (eqb-true m n k)))))
-    (λ k. in_second (bytes_eq (stamp n) (stamp m)) (is_among (map stamp numbers) (stamp n)) (stamps_it numbers n k)) e
+stamps_it (m ∷ numbers) n e = grind (arith, in_either, in_first, in_second, own_bytes, eqb-true, (stamps_it numbers n))
 
 -- who writes a file that a rule names
 made_by : (known : Known) (n : ℕ) (path : List ℕ) → is_named Made known n path ≡ true → known.writers path ≡ n ∷ []

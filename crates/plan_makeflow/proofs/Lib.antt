@@ -1,3 +1,1 @@
 pub mod DependencyLemmas
-pub mod MakeflowLemmas
-pub mod ReadBackLemmas

@@ -29,22 +29,15 @@ pub fn push_command(
     push_quoted(text, "env", words.as_slice())
 }
 
-// Whether a command's text is longer than Makeflow reads.
-fn is_long(alloc: Global, command: &NvccGeneratedSubcommand) -> Result<bool, AllocError>
-    ensures { IfOk result (λ long. long ≡ spec.is_long command.now) }
-{
-    let mut text = String::new(alloc);
-    push_command(alloc, &mut text, false, command)?;
-    Ok(MOST_BYTES < text.len())
-}
-
-/// Whether a plan has a command that Makeflow doesn't read.
+/// Whether a plan has a command whose text is longer than Makeflow reads.
 pub fn has_long_command(alloc: Global, plan: &Plan) -> Result<bool, AllocError>
     ensures { IfOk result (λ long. long ≡ spec.has_long_command plan.now) }
 {
     let commands = plan.groups.listed(alloc)?;
     for listed in &commands {
-        if is_long(alloc, listed.command)? {
+        let mut text = String::new(alloc);
+        push_command(alloc, &mut text, false, listed.command)?;
+        if MOST_BYTES < text.len() {
             return Ok(true);
         }
     }

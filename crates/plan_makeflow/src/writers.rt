@@ -1,7 +1,7 @@
 //! Which commands write a file.
 
 ghost use Rattle.std.specs.Prelude.{◌≡◌, IfOk, OnOk, map, string_bytes};
-ghost use Rattle.command_files.specs.Touched.{no_numbers, with_number, with_numbers};
+ghost use Rattle.command_files.specs.Touched.{with_number, with_numbers};
 ghost use Rattle.plan_makeflow.specs.Rules as spec;
 
 use command_files::CommandFiles;
@@ -16,15 +16,6 @@ pub struct Writers {
 }
 
 impl Writers {
-    // No files.
-    fn new(alloc: Global) -> Writers
-        ensures { spec.writers_seen result ≡ no_numbers }
-    {
-        Writers {
-            numbers: HashMap::new(alloc),
-        }
-    }
-
     // Notes that the command with a number writes `path`.
     fn add(&mut self, alloc: Global, path: &str, number: usize) -> Result<(), AllocError>
         ensures { OnOk result (spec.writers_seen self.new ≡ with_number (spec.writers_seen self.old) path.now number) }
@@ -59,7 +50,9 @@ impl Writers {
 pub fn writers_of(alloc: Global, files: &[CommandFiles]) -> Result<Writers, AllocError>
     ensures { IfOk result (λ writers. spec.writers_seen writers ≡ spec.writers_of files.now) }
 {
-    let mut writers = Writers::new(alloc);
+    let mut writers = Writers {
+        numbers: HashMap::new(alloc),
+    };
     for (number, files) in files.iter().enumerate() {
         writers.add_all(alloc, files.writes.as_slice(), number)?;
         writers.add_all(alloc, files.may_write.as_slice(), number)?;
