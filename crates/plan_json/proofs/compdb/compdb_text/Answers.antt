@@ -60,9 +60,6 @@ plain_all count (l ∷ commands) =
 database_plain : (plan : Plan) → Plain (flat_map (records_of (length plan.groups)) (listed plan.groups))
 database_plain plan = plain_all (length plan.groups) (listed plan.groups)
 
-database_within : (plan : Plan) → depth (database plan) ≤ max_depth
-database_within plan = omega (arith, (database_plain plan).within)
-
 pub returns-clause-text : goal.returns-clause-text
 returns-clause-text c =
     let plan = c.args.plan.now in
@@ -71,4 +68,5 @@ returns-clause-text c =
 pub returns-clause-reads_back : goal.returns-clause-reads_back
 returns-clause-reads_back c =
     let plan = c.args.plan.now in
-    IfOk-weaker c.to_string.result _ _ (λ text written. text_reads_back (database plan) (view c.in_ok-value.value) (string_bytes text) (database_within plan) c.in_ok-value.ensures written) c.to_string.ensures.reads_back
+    let within : depth (database plan) ≤ max_depth = omega (arith, (database_plain plan).within) in
+    IfOk-weaker c.to_string.result _ _ (λ text written. text_reads_back (database plan) (view c.in_ok-value.value) (string_bytes text) within c.in_ok-value.ensures written) c.to_string.ensures.reads_back
