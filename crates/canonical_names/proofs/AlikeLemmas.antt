@@ -14,7 +14,7 @@ use Rattle.canonical_names.specs.Generated.{head_of, core_of, class_of, class_of
 use Rattle.canonical_names.specs.Renaming.{canonical_in, canonical_name, names_of_run, canonical_file, rank, seen_after_word, seen_after}
 use Rattle.canonical_names.specs.Alike.{core_through, word_through, command_through, IsRenaming}
 use Rattle.canonical_names.specs.CanonicalNames.{AreSuffixes, core_by_all, word_by_all, command_by_all, AlikeRunsAgree, OneCanonicalRun}
-use Rattle.canonical_names.proofs.CanonicalLemmas.{HasClass, run-all, different-names, folder_and_class-stay, head-member, tail-member, find-found, find-only, two-ends, ends-split, no-member, member-cases, eqb-turned, add, bytes_eq-itself, fold-append, words-names, run-names, fold-front}
+use Rattle.canonical_names.proofs.CanonicalLemmas.{HasClass, run-all, different-names, folder_and_class-stay, head-member, tail-member, find-found, find-only, two-ends, ends-split, no-member, member-cases, eqb-turned, add, bytes_eq-itself, words-front, class-member, run-names, fold-front}
 use Rattle.canonical_names.specs.Appearances.{appearances}
 use Rattle.canonical_names.proofs.CleanLemmas.{clean-run_is_a_map}
 
@@ -189,15 +189,12 @@ module _ (suffixes names : List (List ℕ)) where
 
 -- a run by what is told of it through a renaming
 module _ (suffixes : List (List ℕ)) (lawful : AreSuffixes suffixes) (names : List (List ℕ)) (f : List ℕ → List ℕ) (renaming : IsRenaming suffixes names f) where
-  class-member : (word class : List ℕ) (b : Bool) → cond b None (class_of_name suffixes (core_of word)) ≡ Some class → Contains suffixes class
-  class-member word class b e = grind (arith, find-found)
-
   core-agrees : (seen xs : List (List ℕ)) (word : List ℕ) (o : Option (List ℕ)) → class_of suffixes word ≡ o → names ≡ fold add (with_name seen (option_map (λ (_ : List ℕ). core_of word) o)) xs →
       core_by_all (map f names) (core_through f (core_of word) o) o ≡ core_by_all names (core_of word) o
   core-agrees seen xs word None e all = refl
   core-agrees seen xs word (Some class) e all =
       let core = core_of word in
-      let hc = class-member word class (begins_with_dash core) e in
+      let hc = class-member suffixes word class (begins_with_dash core) e in
       let hn : Contains names core = within-all suffixes lawful names f renaming (add seen core) xs all core (added-member seen core) in
       ap (λ d. joined d (canonical_file (rank class (map f names) (f core)) class)) (renaming.keeps_folder core hn)
       ∙ ap (λ k. joined (folder_of core) (canonical_file k class)) (rank-mapped suffixes lawful names f renaming class core hc hn names (λ m h. h))
@@ -205,10 +202,8 @@ module _ (suffixes : List (List ℕ)) (lawful : AreSuffixes suffixes) (names : L
   words-agree : (seen words xs : List (List ℕ)) → names ≡ fold add (seen_after suffixes seen words) xs → map (word_of_told (map f names)) (map (word_through suffixes f) words) ≡ map (word_by_all suffixes names) words
   words-agree seen [] xs all = refl
   words-agree seen (word ∷ words) xs all =
-      let next = seen_after_word suffixes seen word in
-      let later = filter_map (generated_name suffixes) words ++ xs in
-      let behind : names ≡ fold add next later = all ∙ ap (λ s. fold add s xs) (words-names suffixes next words) ∙ sym (fold-append next (filter_map (generated_name suffixes) words) xs) in
-      grind (arith, core-agrees, (words-agree next words xs all))
+      let behind = all ∙ words-front suffixes (seen_after_word suffixes seen word) words xs in
+      grind (arith, core-agrees, (words-agree (seen_after_word suffixes seen word) words xs all))
 
   run-agrees : (seen : List (List ℕ)) (commands : List CommandLine) → names ≡ fold (λ seen command. seen_after suffixes seen (words_of_command command)) seen commands →
       map (command_of_told (map f names)) (map (command_through suffixes f) commands) ≡ map (command_by_all suffixes names) commands
@@ -279,11 +274,10 @@ module _ (suffixes : List (List ℕ)) (lawful : AreSuffixes suffixes) (first : L
   words-still : (seen words xs : List (List ℕ)) → all_names ≡ fold add (seen_after suffixes seen words) xs → map (word_through suffixes g) words ≡ map (word_through suffixes (λ n. n)) words
   words-still seen [] xs all = refl
   words-still seen (word ∷ words) xs all =
-      let next = seen_after_word suffixes seen word in
       let later = filter_map (generated_name suffixes) words ++ xs in
-      let behind : all_names ≡ fold add next later = all ∙ ap (λ s. fold add s xs) (words-names suffixes next words) ∙ sym (fold-append next (filter_map (generated_name suffixes) words) xs) in
+      let behind = all ∙ words-front suffixes (seen_after_word suffixes seen word) words xs in
       ap (λ t. (head_of word, class_of suffixes word, t) ∷ map (word_through suffixes g) words) (core-still seen later (core_of word) (class_of suffixes word) behind)
-      ∙ ap (λ t. word_through suffixes (λ n. n) word ∷ t) (words-still next words xs all)
+      ∙ ap (λ t. word_through suffixes (λ n. n) word ∷ t) (words-still (seen_after_word suffixes seen word) words xs all)
 
   run-still : (seen : List (List ℕ)) (commands : List CommandLine) → all_names ≡ fold (λ seen command. seen_after suffixes seen (words_of_command command)) seen commands →
       map (command_through suffixes g) commands ≡ map (command_through suffixes (λ n. n)) commands

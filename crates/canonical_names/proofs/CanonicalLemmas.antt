@@ -176,13 +176,11 @@ module _ {A : Type 0} where
   pub find-only : (test : A → Bool) (xs : List A) (x : A) → Contains xs x → test x ≡ true → ((z : A) → Contains xs z → test z ≡ true → z ≡ x) → find test xs ≡ Some x
   find-only test [] x among passes only = absurd (no-member x among)
   find-only test (y ∷ ys) x among passes only =
-      grind (
-        arith,
-        member-cases,
-        false≢true,
-        (only y (head-member y ys)),
-        (λ (more : Contains ys x). find-only test ys x more passes (λ z m p. only z (tail-member y ys z m) p)),
-      )
+      let later : Contains ys x → find test ys ≡ Some x = λ more. find-only test ys x more passes (λ z m p. only z (tail-member y ys z m) p) in
+      grind (arith, member-cases, false≢true, later, (only y (head-member y ys)))
+
+pub class-member : (suffixes : List (List ℕ)) (word class : List ℕ) (b : Bool) → cond b None (class_of_name suffixes (core_of word)) ≡ Some class → Contains suffixes class
+class-member suffixes word class b e = grind (arith, find-found)
 
 -- of two suffixes that end one text each is the other
 pub two-ends : (suffixes : List (List ℕ)) → AreSuffixes suffixes → (s t front other : List ℕ) → Contains suffixes s → Contains suffixes t → front ++ s ≡ other ++ t → s ≡ t

@@ -1,18 +1,18 @@
 -- A clean run is renamed once for all.
-use Rattle.std.proofs.Common.{◌≡◌, ℕ, zero, suc, ◌++◌, Bool, cond, List, [], ◌∷◌, Option, Some, None, map, refl, ap, sym, ◌∙◌, nat_eq, length, fold, drop, option_map, sub-one, arith}
-use Rattle.std.specs.List.{Contains, All, AllByRecursion, ends_with, filter_map}
+use Rattle.std.proofs.Common.{◌≡◌, ℕ, zero, suc, ◌++◌, List, [], ◌∷◌, Option, Some, None, map, refl, ap, sym, ◌∙◌, nat_eq, length, fold, drop, option_map, sub-one, arith}
+use Rattle.std.specs.List.{Contains, All, AllByRecursion, ends_with}
 use Rattle.std.proofs.lemmas.List.Elements.{All-nil, All-contains}
 use Rattle.texts.specs.Lists.{with_name}
 use Rattle.texts.specs.Path.{joined, folder_of}
 use Rattle.compilers.specs.CommandLines.{CommandLine, words_of_command}
 use Rattle.compilers.specs.Replacing.{replaced, replaced_past}
-use Rattle.canonical_names.specs.Generated.{head_of, core_of, class_of, class_of_name, generated_name, begins_with_dash}
+use Rattle.canonical_names.specs.Generated.{head_of, core_of, class_of, class_of_name, begins_with_dash}
 use Rattle.canonical_names.specs.Renaming.{canonical_file, canonical_name, rank, rewritten, renamed_core, renamed_words, renamed_after, renamed, seen_after_word, seen_after, names_of_run}
 use Rattle.canonical_names.specs.Alike.{core_through, IsRenaming}
 use Rattle.canonical_names.specs.CanonicalNames.{AreSuffixes, core_by_all, word_by_all, command_by_all, RenamedOnceForAll}
 use Rattle.canonical_names.proofs.CountedLemmas.{member-among}
 use Rattle.canonical_names.proofs.AlikeLemmas.{told-word, canonical-renaming, ToldWord, added-member, add-mapped, within-all, rank-mapped}
-use Rattle.canonical_names.proofs.CanonicalLemmas.{HasClass, run-all, canonical-at, head-member, tail-member, find-found, add, fold-append, words-names, run-names, fold-front, rank-found, rank-stable}
+use Rattle.canonical_names.proofs.CanonicalLemmas.{HasClass, run-all, canonical-at, head-member, tail-member, find-found, add, words-front, class-member, run-names, fold-front, rank-found, rank-stable}
 use Rattle.canonical_names.proofs.CleanLemmas.{clean-run_is_a_map}
 use Rattle.canonical_names.proofs.ReplaceLemmas.{starts-split}
 use Rattle.canonical_names.proofs.RewriteLemmas.{rewritten-same}
@@ -85,9 +85,6 @@ module _ (suffixes : List (List ℕ)) (lawful : AreSuffixes suffixes) (names : L
       ∙ sym (ap (λ (t : ToldWord). t.2) (told-word suffixes lawful names word o e)) ∙ ap (core_through f (core_of word)) e
 
   -- the new core of a word stays
-  class-member : (word class : List ℕ) (b : Bool) → cond b None (class_of_name suffixes (core_of word)) ≡ Some class → Contains suffixes class
-  class-member word class b e = grind (arith, find-found)
-
   core-stays : (seen xs : List (List ℕ)) (word : List ℕ) (o : Option (List ℕ)) → class_of suffixes word ≡ o → names ≡ fold add (with_name seen (option_map (λ (_ : List ℕ). core_of word) o)) xs →
       renamed_core suffixes (map f seen) (core_through f (core_of word) o) o ≡ core_by_all names (core_of word) o
   core-stays seen xs word None e all = text-again seen xs all (core_of word)
@@ -95,7 +92,7 @@ module _ (suffixes : List (List ℕ)) (lawful : AreSuffixes suffixes) (names : L
       let core = core_of word in
       let hn : Contains names core = within-all suffixes lawful names f renaming (add seen core) xs all core (added-member seen core) in
       let before : (n : List ℕ) → Contains seen n → Contains names n = λ n h. within-all suffixes lawful names f renaming seen (core ∷ xs) all n h in
-      let hc : Contains suffixes class = class-member word class (begins_with_dash core) e in
+      let hc : Contains suffixes class = class-member suffixes word class (begins_with_dash core) e in
       ap (λ d. joined d (canonical_file (rank class (map f seen) (f core)) class)) (renaming.keeps_folder core hn)
       ∙ ap (λ k. joined (folder_of core) (canonical_file k class))
       (rank-mapped suffixes lawful names f renaming class core hc hn seen before ∙ sym (rank-stable class core seen xs) ∙ sym (ap (λ ns. rank class ns core) all))
@@ -116,18 +113,14 @@ module _ (suffixes : List (List ℕ)) (lawful : AreSuffixes suffixes) (names : L
   words-again : (seen words xs : List (List ℕ)) → names ≡ fold add (seen_after suffixes seen words) xs → renamed_words suffixes (map f seen) (map (word_by_all suffixes names) words) ≡ map (word_by_all suffixes names) words
   words-again seen [] xs all = refl
   words-again seen (word ∷ words) xs all =
-      let next = seen_after_word suffixes seen word in
-      let later = filter_map (generated_name suffixes) words ++ xs in
-      let behind : names ≡ fold add next later = all ∙ ap (λ s. fold add s xs) (words-names suffixes next words) ∙ sym (fold-append next (filter_map (generated_name suffixes) words) xs) in
-      grind (arith, seen-again, (words-again next words xs all), head-again, class-again, core-again, core-stays)
+      let behind = all ∙ words-front suffixes (seen_after_word suffixes seen word) words xs in
+      grind (arith, seen-again, (words-again (seen_after_word suffixes seen word) words xs all), head-again, class-again, core-again, core-stays)
 
   seen-words : (seen words xs : List (List ℕ)) → names ≡ fold add (seen_after suffixes seen words) xs → seen_after suffixes (map f seen) (map (word_by_all suffixes names) words) ≡ map f (seen_after suffixes seen words)
   seen-words seen [] xs all = refl
   seen-words seen (word ∷ words) xs all =
-      let next = seen_after_word suffixes seen word in
-      let later = filter_map (generated_name suffixes) words ++ xs in
-      let behind : names ≡ fold add next later = all ∙ ap (λ s. fold add s xs) (words-names suffixes next words) ∙ sym (fold-append next (filter_map (generated_name suffixes) words) xs) in
-      grind (arith, seen-again, (seen-words next words xs all))
+      let behind = all ∙ words-front suffixes (seen_after_word suffixes seen word) words xs in
+      grind (arith, seen-again, (seen-words (seen_after_word suffixes seen word) words xs all))
 
   run-again : (seen : List (List ℕ)) (commands : List CommandLine) → names ≡ fold (λ seen command. seen_after suffixes seen (words_of_command command)) seen commands →
       renamed_after suffixes (map f seen) (map (command_by_all suffixes names) commands) ≡ map (command_by_all suffixes names) commands

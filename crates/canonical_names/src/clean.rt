@@ -42,7 +42,7 @@ fn holds_name(text: &str, commands: &[(usize, String, Vec<String>)], suffixes: &
 fn is_clean_word(word: &str, commands: &[(usize, String, Vec<String>)], suffixes: &Suffixes) -> bool
     ensures { result ≡ spec.is_clean_word suffixes.now (names_of_run suffixes.now (map line_seen commands.now)) word.now }
 {
-    if suffixes.is_generated(word) {
+    if suffixes.generated_name(word).is_some() {
         return true;
     }
     if !suffixes.stand_in(word) {

@@ -256,12 +256,6 @@ impl Suffixes {
             Some(_) => Some(name),
         }
     }
-
-    pub(crate) fn is_generated(&self, word: &str) -> bool
-        ensures { result ≡ generated.is_generated self.now word.now }
-    {
-        self.generated_name(word).is_some()
-    }
 }
 
 // Whether there is a suffix, and a text begins with what it has after its first byte.
