@@ -17,7 +17,7 @@ use Rattle.dry_runs.specs.Environment.{refers, Variable, expanded}
 use Rattle.dry_runs.specs.Reading.{IsCutAt}
 use Rattle.dry_runs.specs.Places.{behind_dollars, refers as refers_by}
 use Rattle.dry_runs.specs.declared.set_variables.Reference.{Reference}
-use Rattle.dry_runs.specs.Limit.{fitting, made, expanded_fitting, expanded_within, words_left}
+use Rattle.dry_runs.specs.Limit.{made, expanded_fitting, expanded_within, words_left}
 
 not-zero : (n : ℕ) → eqb (suc n) 0 ≡ false
 not-zero n = grind arith
@@ -97,17 +97,17 @@ pub fitting-none : (env : List Variable) → fold expanded_fitting None env ≡ 
 fitting-none [] = refl
 fitting-none (v ∷ env) = fitting-none env
 
-pub fits : (left : ℕ) (text : List ℕ) → nat_le (length text) left ≡ true → fitting left text ≡ Some text
+pub fits : (left : ℕ) (text : List ℕ) → nat_le (length text) left ≡ true → made left text ≡ Some (left - length text, text)
 fits left text h = rw h refl
 
-pub exceeds : (left : ℕ) (text : List ℕ) → nat_le (length text) left ≡ false → fitting left text ≡ None
+pub exceeds : (left : ℕ) (text : List ℕ) → nat_le (length text) left ≡ false → made left text ≡ None
 exceeds left text h = rw h refl
 
 longer : (m n left : ℕ) → nat_le m left ≡ false → nat_le (m + n) left ≡ false
 longer m n left = grind arith
 
 -- a text whose beginning is too long is too long
-pub exceeds-from : (left : ℕ) (front rest whole : List ℕ) → front ++ rest ≡ whole → nat_le (length front) left ≡ false → fitting left whole ≡ None
+pub exceeds-from : (left : ℕ) (front rest whole : List ℕ) → front ++ rest ≡ whole → nat_le (length front) left ≡ false → made left whole ≡ None
 exceeds-from left front rest whole is h = grind (arith, exceeds, length-append, longer)
 
 no-text : (t : ℕ × List ℕ) (x y : List ℕ) → None ≡ Some t → x ≡ y

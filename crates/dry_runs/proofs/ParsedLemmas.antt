@@ -13,7 +13,7 @@ use Rattle.texts.specs.Variables.{first_value}
 use Rattle.texts.proofs.RestLemmas.{rest_after-append}
 use Rattle.dry_runs.specs.DryRun.{LookUp, meaning, environment_after, fault_of, Meaning, Ignored, Assigns, Runs, Bad, meanings, run_of_meanings, run_or_fault, stated, stated_assigned, stated_by_words}
 use Rattle.dry_runs.specs.Environment.{Variable}
-use Rattle.dry_runs.specs.Reading.{meaning_stated, said_next, next_within, next_held, found_or_fault, said_parsed, said_ended}
+use Rattle.dry_runs.specs.Reading.{meaning_stated, said_next, next_within, found_or_fault, said_parsed, said_ended}
 use Rattle.dry_runs.specs.declared.reader.Said.{Said}
 use Rattle.dry_runs.specs.declared.limit.LimitedFault.TheVariants.{TooLong}
 use Rattle.dry_runs.specs.declared.statement.Statement.{Statement}
@@ -52,11 +52,6 @@ same-within left env text line same h = grind (arith, is_utf8-from_IsUtf8)
 
 pub within-text : (left : ℕ) (env : List Variable) (text line : List ℕ) (r : Result (Option (Statement × ℕ)) AllocError) → text ≡ line → IsUtf8 line → IfOk r (λ s. s ≡ marked_within left env text) → IfOk r (λ s. s ≡ stated_within left env line)
 within-text left env text line r same h told = subst (λ q. IfOk r (λ s. s ≡ q)) (same-within left env text line same h) told
-
--- A line that is read with a look-up and a working directory.
-module _ (which : LookUp) (run : ℕ) (cwd : List ℕ) where
-  pub line-fits : (left less number : ℕ) (s : Said) (line : List ℕ) (statement : Statement) → ◌≡◌ {A = Option (Statement × ℕ)} (Some (statement, less)) (stated_within left s.env line) → next_held run number less s (meaning_stated which run cwd number s.env statement) ≡ next_within run number (left_behind_line which run cwd left s.env (number, line)) (said_next s (meaning which run cwd s.env (number, line)))
-  line-fits left less number s line statement h = grind (arith, meaning-stated)
 
 -- one line, and the lines behind it
 module _ (which : LookUp) (run : ℕ) (cwd : List ℕ) where

@@ -8,13 +8,10 @@ use Rattle.dry_runs.specs.declared.snapshot.Entry.{Entry}
 use Rattle.dry_runs.specs.Candidates.{found_on}
 use Rattle.dry_runs.specs.Snapshot.{taken, tried_by, Says, IsFirstThat, IsTaken, is_among, IsSnapshotOf, AnswersAs}
 
-or-true : (b : Bool) → (b || true) ≡ true
-or-true b = grind arith
-
 module _ (post : Bor (List ℕ) → Bool → Type 0) where
   -- the first path of which a test says yes is one of the paths
   among-more : (path : List ℕ) (paths : List (List ℕ)) (found : Option (List ℕ)) → is_among paths found ≡ true → is_among (path ∷ paths) found ≡ true
-  among-more path paths found h = grind (arith, or-true)
+  among-more path paths found h = grind arith
 
   first-among : (paths : List (List ℕ)) (found : Option (List ℕ)) → IsFirstThat post paths found → is_among paths found ≡ true
   first-among [] found h = ap (is_among []) h

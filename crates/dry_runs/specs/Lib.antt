@@ -12,7 +12,6 @@ pub mod Lookup
 pub mod LookupLaws
 pub mod LookupLimit
 pub mod Parsed
-pub mod ParsedExamples
 pub mod Places
 pub mod PlainWords
 pub mod Reading

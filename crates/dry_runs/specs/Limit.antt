@@ -16,10 +16,6 @@ use Rattle.compilers.specs.Replacing.{replaced}
 use Rattle.dry_runs.specs.declared.statement.Statement.{Statement}
 use Rattle.texts.specs.Shell.Splitting.{shell_words}
 
--- a text, unless it is longer than what is left of the limit
-abbrev pub fitting : ℕ → List ℕ → Option (List ℕ)
-fitting left text = if nat_le (length text) left then Some text else None
-
 -- what is left of the limit once a text is made, which counts its bytes, and the text, unless it is longer than what was left
 abbrev pub made : ℕ → List ℕ → Option (ℕ × List ℕ)
 made left text = if nat_le (length text) left then Some (left - length text, text) else None

@@ -74,15 +74,11 @@ lines_read_within which limit run bytes cwd =
 abbrev pub parsed_within : ℕ → ℕ → List ℕ → Result ParsedRun LimitedFault
 parsed_within limit run bytes = lines_read_within question_of limit run bytes []
 
--- two runs; or else why the first couldn't be parsed, or the second if the first could
-abbrev pub both_or_limited : Result ParsedRun LimitedFault → Result ParsedRun LimitedFault → Result ParsedRuns LimitedFault
-both_or_limited (Err fault) second = Err fault
-both_or_limited (Ok first) (Err fault) = Err fault
-both_or_limited (Ok first) (Ok second) = Ok (record { first = first; second = second })
-
--- the two runs of a call, each parsed with the whole limit
+-- the two runs of a call, each parsed with the whole limit; or else why the first couldn't be parsed, or the second if the
+-- first could
 abbrev pub both_parsed_within : ℕ → List ℕ → List ℕ → Result ParsedRuns LimitedFault
-both_parsed_within limit dry1 dry2 = both_or_limited (parsed_within limit 1 dry1) (parsed_within limit 2 dry2)
+both_parsed_within limit dry1 dry2 =
+    and_then (parsed_within limit 1 dry1) (λ first. and_then (parsed_within limit 2 dry2) (λ second. Ok (record { first = first; second = second })))
 
 -- commands and environment, unless a line is bad
 abbrev pub unless_bad : List CommandLine → List Variable → Option Fault → Result (List CommandLine × List Variable) Fault

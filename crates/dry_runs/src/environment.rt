@@ -1,6 +1,6 @@
 //! The environment lines of a dry run, and the expansion of references to what they set.
 
-ghost use Rattle.std.specs.Prelude.{◌≡◌, ◌++◌, ◌<◌, ◌≤◌, Some, true, false, nat_le, length, map, fold, drop, codes, IfOk, IfSome, MatchOption, string_bytes, option_copied, option_map, chars};
+ghost use Rattle.std.specs.Prelude.{◌≡◌, ◌++◌, ◌<◌, ◌≤◌, Some, true, false, nat_le, length, map, fold, drop, codes, IfOk, IfSome, string_bytes, option_copied, option_map, chars};
 ghost use Rattle.std.specs.List.{list_all};
 ghost use Rattle.texts.specs.Lists.{rest_after};
 ghost use Rattle.texts.specs.Shell.Splitting.{shell_words};
@@ -94,60 +94,8 @@ fn piece_of<'a>(after: &'a str, name: &str, value: &'a str) -> (&'a str, &'a str
     }
 }
 
-// Writes the value where the name follows a `$`, and a `$` where it doesn't. Answers what is left to read, or `None` if
-// the text becomes longer than `left`.
-fn push_reference<'a>(
-    out: &mut String,
-    after: &'a str,
-    name: &str,
-    value: &'a str,
-    left: usize,
-) -> Result<Option<&'a str>, AllocError>
-    ensures text { IfOk result (λ found. MatchOption found
-        (limit.fitting left (string_bytes out.old ++ replacing.replaced (codes "$" ++ name.now) value.now (codes "$" ++ after.now)) ≡ None)
-        (λ rest. string_bytes out.new ++ replacing.replaced (codes "$" ++ name.now) value.now rest.now
-        ≡ string_bytes out.old ++ replacing.replaced (codes "$" ++ name.now) value.now (codes "$" ++ after.now))) }
-    ensures less { IfOk result (λ found. IfSome found (λ rest. length rest.now ≤ length after.now)) }
-{
-    let (piece, rest) = piece_of(after, name, value);
-    if push_within(out, piece, left)? {
-        Ok(Some(rest))
-    } else {
-        Ok(None)
-    }
-}
-
-// A text with each place of `$` and a variable's name replaced by its value, or `None` if that is longer than `left`.
-fn replaced(
-    alloc: Global,
-    text: &str,
-    name: &str,
-    value: &str,
-    left: usize,
-) -> Result<Option<String>, AllocError>
-    ensures { IfOk result (λ t. option_map string_bytes t ≡ limit.fitting left (replacing.replaced (codes "$" ++ name.now) value.now text.now)) }
-{
-    let room = text.len().saturating_add(value.len()).min(left);
-    let mut out = String::with_capacity(alloc, room)?;
-    let mut rest = text;
-    while let Some((front, after)) = parted(rest, '$') {
-        if !push_within(&mut out, front, left)? {
-            return Ok(None);
-        }
-        let Some(behind) = push_reference(&mut out, after, name, value, left)? else {
-            return Ok(None);
-        };
-        rest = behind;
-    }
-    if push_within(&mut out, rest, left)? {
-        Ok(Some(out))
-    } else {
-        Ok(None)
-    }
-}
-
-// What is left of the limit, and a text with the references to one variable expanded, which counts, or `None` if it
-// exceeds what was left.
+// A text with each place of `$` and a variable's name replaced by its value, and what that text leaves of the limit, or
+// `None` if it is longer than `left`.
 fn made(
     alloc: Global,
     text: &str,
@@ -157,12 +105,25 @@ fn made(
 ) -> Result<Option<(usize, String)>, AllocError>
     ensures { IfOk result (λ t. option_map limit.text_seen t ≡ limit.made left (replacing.replaced (codes "$" ++ name.now) value.now text.now)) }
 {
-    let Some(text) = replaced(alloc, text, name, value, left)? else {
+    let room = text.len().saturating_add(value.len()).min(left);
+    let mut out = String::with_capacity(alloc, room)?;
+    let mut rest = text;
+    while let Some((front, after)) = parted(rest, '$') {
+        let (piece, behind) = piece_of(after, name, value);
+        if !push_within(&mut out, front, left)? {
+            return Ok(None);
+        }
+        if !push_within(&mut out, piece, left)? {
+            return Ok(None);
+        }
+        rest = behind;
+    }
+    if !push_within(&mut out, rest, left)? {
         return Ok(None);
-    };
-    match left.checked_sub(text.len()) {
+    }
+    match left.checked_sub(out.len()) {
         None => Ok(None),
-        Some(less) => Ok(Some((less, text))),
+        Some(less) => Ok(Some((less, out))),
     }
 }
 

@@ -1,7 +1,6 @@
 //! Laws of dry runs, and runs worked out by hand, which the definitions compute.
 
-ghost use Rattle.dry_runs.specs.DryRunExamples.{OneKernelIsRead, LastLineNeedsNoNewline, NothingIsRead, UnmarkedLineIsNotText, QuoteIsOpen, CommentIsNoCommand, NoPathIsSet, DigitMakesACommand, PathIsEmpty, FirstBadLineDecides, ProgramsAreMissing, EmptyProgramIsLookedUp, ReferenceAtTheEndStays, OneReferenceExpandsAll, LetterFollowsAReference, FirstValueIsExpanded, ValuesAreExpandedInOrder, FirstPathCounts, OtherNamesAreRead, LastLineKeepsItsReturn, ByteOrderMarkUnmarks, ValuesAreKeptAsTheyStand, FirstFolderIsEmpty, FolderNeedsAPathToo, NameIsSetTwice, OtherCharactersEndAName, WordCharactersGoOn};
-ghost use Rattle.dry_runs.specs.ParsedExamples.{AllThatIsHeldCounts, TextsOnTheWayCount, FirstOfBothDecides, UnmarkedLinesAreFree, CommandsBeforeABadLine, EachRunHasTheLimit, MissingProgramIsFirst, PathCounts};
+ghost use Rattle.dry_runs.specs.DryRunExamples.{OneKernelIsRead, LastLineNeedsNoNewline, NothingIsRead, UnmarkedLineIsNotText, QuoteIsOpen, CommentIsNoCommand, NoPathIsSet, DigitMakesACommand, PathIsEmpty, FirstBadLineDecides, ProgramsAreMissing, EmptyProgramIsLookedUp, ReferenceAtTheEndStays, OneReferenceExpandsAll, LetterFollowsAReference, FirstValueIsExpanded, ValuesAreExpandedInOrder, FirstPathCounts, OtherNamesAreRead, LastLineKeepsItsReturn, ByteOrderMarkUnmarks, ValuesAreKeptAsTheyStand, FirstFolderIsEmpty, FolderNeedsAPathToo, NameIsSetTwice, OtherCharactersEndAName, WordCharactersGoOn, AllThatIsHeldCounts, TextsOnTheWayCount, FirstOfBothDecides, UnmarkedLinesAreFree, CommandsBeforeABadLine, EachRunHasTheLimit, MissingProgramIsFirst, PathCounts};
 ghost use Rattle.dry_runs.specs.Parsed.{ParsesThenResolves};
 
 pub use compilers::dry_run_laws::equality;

@@ -89,26 +89,6 @@ fn check_runs(
     Ok(())
 }
 
-// Two runs, unless the look-ups of one exceed the limit.
-fn fitting_runs(
-    alloc: Global,
-    runs: ParsedRuns,
-    folder: &str,
-    limit: usize,
-) -> Result<ParsedRuns, LimitedFault>
-    ensures answer { UnlessMemoryWithin result (spec.fitting_runs limit folder.now (Ok runs)) }
-    ensures same { IfOk result (λ fitting. fitting ≡ runs) }
-{
-    match check_runs(alloc, &runs, folder, limit) {
-        Ok(()) => Ok(runs),
-        Err(fault) => {
-            // Dropped by a call: see "Explicit drops" in docs/ARCHITECTURE.md.
-            drop(runs);
-            Err(fault)
-        }
-    }
-}
-
 /// Parses two dry runs as `parse_dry_runs_within`, and counts the paths that looking up their programs from the working
 /// directory `folder` tries.
 ///
@@ -126,5 +106,12 @@ pub fn parse_within(
     ensures whole { IfOk result (λ runs. runs ≡ both_parsed dry1.now dry2.now) }
 {
     let runs = parse_dry_runs_within(alloc, dry1, dry2, limit)?;
-    fitting_runs(alloc, runs, folder, limit)
+    match check_runs(alloc, &runs, folder, limit) {
+        Ok(()) => Ok(runs),
+        Err(fault) => {
+            // Dropped by a call: see "Explicit drops" in docs/ARCHITECTURE.md.
+            drop(runs);
+            Err(fault)
+        }
+    }
 }

@@ -6,7 +6,7 @@ ghost use Rattle.texts.specs.Variables as variables;
 ghost use Rattle.dry_runs.specs.DryRun.{dry_run_of, meaning, meaning_of_words, meaning_by_path, Assigns};
 ghost use Rattle.dry_runs.specs.Limit.{UnlessMemoryWithin, dry_run_within, left_behind_line};
 ghost use Rattle.dry_runs.specs.Parsed as spec;
-ghost use Rattle.dry_runs.specs.Reading.{dry_run_seen, dry_run_seen_within, said_parsed, said_ended, said_left, said_next, next_within, next_held, meaning_stated};
+ghost use Rattle.dry_runs.specs.Reading.{dry_run_seen, dry_run_seen_within, said_parsed, said_ended, said_left, said_next, next_within, next_held};
 
 use crate::limit::{LimitedFault, left_behind_command, left_behind_variable};
 use crate::lines::first_line;
@@ -207,31 +207,15 @@ impl Said {
             self.old.env (number, line.now)))) }
         ensures kept { OnErr result (self.new ≡ self.old) }
     {
+        let run = setting.run;
         let stated = statement_within(setting.alloc, &self.env, line, left)?;
         let Some((statement, less)) = stated else {
-            let run = setting.run;
             return Err(LimitedFault::TooLong { run, line: number });
         };
-        self.take(setting, less, number, statement)
-    }
-
-    fn take<W: Which>(
-        &mut self,
-        setting: &Setting<W>,
-        left: usize,
-        number: usize,
-        statement: Statement,
-    ) -> Result<usize, LimitedFault>
-        ensures said { UnlessMemoryWithin (said_left result self.new) (next_held setting.now.run number left self.old
-            (meaning_stated (W.answer setting.now.which.now) setting.now.run setting.now.cwd.now number
-            self.old.env statement)) }
-        ensures kept { OnErr result (self.new ≡ self.old) }
-    {
-        let run = setting.run;
         match statement {
-            Statement::Nothing => Ok(left),
-            Statement::Sets(name, value) => self.set(setting, left, number, name, value),
-            Statement::Runs(words) => self.run(setting, left, number, words.into_vec()),
+            Statement::Nothing => Ok(less),
+            Statement::Sets(name, value) => self.set(setting, less, number, name, value),
+            Statement::Runs(words) => self.run(setting, less, number, words.into_vec()),
             Statement::BadShell => Err(LimitedFault::Fault(Fault::BadShell { run, line: number })),
             Statement::NotUtf8 => Err(LimitedFault::Fault(Fault::NotUtf8 { run, line: number })),
         }
