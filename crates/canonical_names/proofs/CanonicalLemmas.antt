@@ -179,7 +179,8 @@ module _ {A : Type 0} where
       let later : Contains ys x → find test ys ≡ Some x = λ more. find-only test ys x more passes (λ z m p. only z (tail-member y ys z m) p) in
       grind (arith, member-cases, false≢true, later, (only y (head-member y ys)))
 
-pub class-member : (suffixes : List (List ℕ)) (word class : List ℕ) (b : Bool) → cond b None (class_of_name suffixes (core_of word)) ≡ Some class → Contains suffixes class
+pub class-member : (suffixes : List (List ℕ)) (word class : List ℕ) (b : Bool) →
+    cond b None (class_of_name suffixes (core_of word)) ≡ Some class → Contains suffixes class
 class-member suffixes word class b e = grind (arith, find-found)
 
 -- of two suffixes that end one text each is the other

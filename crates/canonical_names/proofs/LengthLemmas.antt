@@ -39,7 +39,8 @@ module _ (m : ℕ) where
   fold-cut (p ∷ ps) longs shorts long short =
       let short-each = insert-each size (λ q. length q.0 ≤ m) shorts p short in
       let long-each = insert-each size (λ q. m < length q.0) longs p long in
-      grind (arith, insert-short, insert-long, short-each, long-each, (fold-cut ps longs (insert_by size shorts p) long), (fold-cut ps (insert_by size longs p) shorts))
+      let later = fold-cut ps longs (insert_by size shorts p) long in
+      grind (arith, insert-short, insert-long, short-each, long-each, later, (fold-cut ps (insert_by size longs p) shorts))
 
 -- one after the other
 replaced-append : (xs ys : List Pair) (text : List ℕ) → replaced_by_all (xs ++ ys) text ≡ replaced_by_all ys (replaced_by_all xs text)

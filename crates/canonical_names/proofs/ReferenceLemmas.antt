@@ -22,7 +22,8 @@ module _ (f : List ℕ → List ℕ) where
   insert-mapped (m ∷ names) n = grind (arith, (insert-mapped names n))
 
   fold-mapped : (names sorted : List (List ℕ)) →
-      fold (insert_by {A = List ℕ × List ℕ} (λ p. length p.0)) (map (λ m. (m, f m)) sorted) (map (λ m. (m, f m)) names) ≡ map (λ m. (m, f m)) (fold (insert_by length) sorted names)
+      fold (insert_by {A = List ℕ × List ℕ} (λ p. length p.0)) (map (λ m. (m, f m)) sorted) (map (λ m. (m, f m)) names)
+      ≡ map (λ m. (m, f m)) (fold (insert_by length) sorted names)
   fold-mapped [] sorted = refl
   fold-mapped (n ∷ names) sorted =
       ap (λ ps. fold (insert_by {A = List ℕ × List ℕ} (λ p. length p.0)) ps (map (λ m. (m, f m)) names)) (insert-mapped sorted n)

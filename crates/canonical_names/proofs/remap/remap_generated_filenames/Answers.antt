@@ -58,7 +58,8 @@ loop-word-preserved c =
     let left : map string_bytes (drop c.loop-word.word-index args) ≡ word ∷ rest = ap (map string_bytes) (front at.After-remap_word) in
     let seen = after at.In_ok-new in
     let done : c.push_or_copy.new.words ≡ c.loop-word.words ++ renamed_word before.0 before.1 word ∷ [] =
-    c.in_ok-push_or_copy.ensures ∙ ap (λ t. c.loop-word.words ++ t ∷ []) (c.in_ok-new.ensures.word ∙ ap (renamed_word before.0 before.1) c.as_str-text.ensures.value) in
+    c.in_ok-push_or_copy.ensures
+    ∙ ap (λ t. c.loop-word.words ++ t ∷ []) (c.in_ok-new.ensures.word ∙ ap (renamed_word before.0 before.1) c.as_str-text.ensures.value) in
     record {
       words = rw (seen, done) (words-step before.0 before.1 c.loop-word.words (renamed_words first.0 first.1 (map string_bytes args)) rest word (subst (λ ws. c.loop-word.words ++ renamed_words before.0 before.1 ws ≡ renamed_words first.0 first.1 (map string_bytes args)) left c.loop-word.invariant.words));
       suffixes = ap (λ (r : List (List ℕ) × List (List ℕ)). r.0) seen ∙ c.loop-word.invariant.suffixes;
