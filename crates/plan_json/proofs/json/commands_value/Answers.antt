@@ -1,6 +1,5 @@
-use Rattle.std.proofs.Common.{◌≡◌, ◌+◌, ◌++◌, [], ◌∷◌, map, vec_items, drop, sym, ap, ◌∙◌, append-nil, drop_of_length-le, arith}
+use Rattle.std.proofs.Common.{◌≡◌, ◌+◌, ◌++◌, [], ◌∷◌, map, vec_items, drop, sym, ap, ◌∙◌, arith}
 use Rattle.std.proofs.lemmas.Grind.{common_steps}
-use Rattle.serde_json.proofs.Views.{view-Array}
 use Rattle.serde_json.specs.View.{view}
 use Rattle.command_files.specs.Numbered.{numbered}
 use Rattle.texts.proofs.PushedLemmas.{pushed-items, next-left}
@@ -21,6 +20,3 @@ loop-id-preserved c =
     (pushed-data view c.loop-id.list.items c.push.new.list.items _ _ is c.in_ok-push.ensures.ok)
     ∙ ap (λ cs. before ++ numbered described id cs) (sym (next-left commands id item c.loop-id-test.true c.index-commands-id.is))
     ∙ c.loop-id.invariant
-
-pub returns : goal.returns
-returns c = grind (arith, common_steps, view-Array, append-nil, drop_of_length-le)

@@ -1,6 +1,4 @@
-use Rattle.std.proofs.Common.{◌+◌, ◌++◌, [], ◌∷◌, map, drop, sym, ap, ◌∙◌, append-nil, drop_of_length-le, arith}
-use Rattle.std.proofs.lemmas.Grind.{common_steps}
-use Rattle.serde_json.proofs.Views.{view-Array}
+use Rattle.std.proofs.Common.{◌+◌, ◌++◌, [], ◌∷◌, map, drop, sym, ap, ◌∙◌}
 use Rattle.serde_json.specs.View.{view}
 use Rattle.command_files.specs.Numbered.{numbered}
 use Rattle.texts.proofs.PushedLemmas.{pushed-items, next-left}
@@ -21,6 +19,3 @@ loop-number-preserved c =
     (pushed-data view c.loop-number.list.items c.push.new.list.items _ _ c.in_ok-rule_value.ensures c.in_ok-push.ensures.ok)
     ∙ ap (λ cs. before ++ map rule_data (numbered rule n cs)) (sym (next-left commands n item c.loop-number-test.true c.index-commands-number.is))
     ∙ c.loop-number.invariant
-
-pub returns : goal.returns
-returns c = grind (arith, common_steps, view-Array, append-nil, drop_of_length-le)
