@@ -110,7 +110,7 @@ bounded ps tree states waiting below entered k h = grind (arith, entered.entrant
 
 -- A command starts.
 
--- (the code has the lists and a number under other names)
+-- the goal has the priorities as `ps`, the tree before as `was`, and the number of commands as `nobody`
 pub begun : (s : Scheduled) (dependents : List (List ℕ)) (waiting tree was after ps : List ℕ) (run below n nobody : ℕ)
     → IsCounted s dependents waiting tree run below → CanStart s n → ps ≡ s.priorities → was ≡ tree → nobody ≡ length s.priorities → length after ≡ length was → Played ps after
     → ((k : ℕ) → k < length ps → entrant ps after k ≡ cond (k == n) nobody (entrant ps was k))
@@ -163,7 +163,7 @@ run_less : (s : Scheduled) (run n : ℕ) (state : CommandState) → run ≡ runn
 run_less s run n state is can e =
     omega (arith, count-set is_running s.states n state can.there, ap (λ state. one_if (is_running state)) can.runs, ap one_if e, is)
 
--- (under other names in the code)
+-- the goal has the priorities as `ps`, the counts before as `held`, the new states as `states`, and the dependents as `those`
 pub succeeded : (s : Scheduled) (dependents : List (List ℕ)) (waiting held now tree after ps those : List ℕ) (states : List CommandState) (run below n : ℕ)
     → IsCounted s dependents waiting tree run below → CanEnd s n → ps ≡ s.priorities → held ≡ waiting → states ≡ set s.states n kinds.Succeeded → those ≡ get_or dependents n [] → length now ≡ length held
     → AreEntered ps after states now below
@@ -200,7 +200,7 @@ lowered-le GoOn below n = omega arith
 lower_by : (waits free : Bool) (low below k nobody : ℕ) → low ≤ below → unless_between low below nobody k (cond (waits && (free && nat_lt k below)) k nobody) ≡ cond (waits && (free && nat_lt k low)) k nobody
 lower_by waits free low below k nobody h = grind (arith, nat_tests)
 
--- (under other names in the code)
+-- the goal has the priorities as `ps`, the tree before as `was`, and the new bound as `low`
 pub failed : (s : Scheduled) (dependents : List (List ℕ)) (waiting tree was after ps : List ℕ) (run below low n : ℕ) (state : CommandState)
     → IsCounted s dependents waiting tree run below → CanEnd s n → is_bad state ≡ true → ps ≡ s.priorities → was ≡ tree → low ≡ lowered s.after_failure below n → length after ≡ length was → Played ps after
     → ((k : ℕ) → k < length ps → entrant ps after k ≡ unless_between low below (length ps) k (entrant ps was k))
