@@ -1,7 +1,9 @@
 //! Why a call goes to nvcc unchanged.
 
-ghost use Rattle.std.specs.Prelude.{◌≡◌};
+ghost use Rattle.std.specs.Prelude.{◌≡◌, Some};
 ghost use Rattle.nvcc_calls.specs.Reasons.{text_of};
+
+use std::fmt;
 
 /// Why a call goes to nvcc unchanged. Its text says so in a few words.
 #[derive(Clone, Copy, Debug)]
@@ -106,5 +108,13 @@ impl Reason {
             Reason::KeptName => "its output may have the name of a kept file",
             Reason::OpenFile => "it uses an open file",
         }
+    }
+}
+
+impl fmt::Display for Reason {
+    ghost output = { λ r. Some (text_of r) };
+
+    fn fmt<W: fmt::Write>(&self, f: &mut fmt::Formatter<W>) -> fmt::Result {
+        f.write_str(self.text())
     }
 }
