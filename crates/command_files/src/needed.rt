@@ -179,6 +179,7 @@ pub fn keeps_orders(alloc: Global, plan: &Plan) -> Result<bool, AllocError>
     let steps = steps_of(alloc, plan)?;
     let mut rest = steps.as_slice().iter();
     Ok(rest.all(|step| {
-        matches!(step.role, Role::Final) || step.files.complete || step.preprocesses
+        let is_final = matches!(step.role, Role::Final);
+        is_final || step.files.complete || step.preprocesses
     }))
 }
