@@ -7,6 +7,7 @@ use Rattle.texts.specs.declared.fault.Fault.{Fault}
 use Rattle.nvcc_calls.specs.declared.answer.Answer.{Answer}
 use Rattle.nvcc_calls.specs.declared.answer.Answer.TheVariants as answers
 use Rattle.nvcc_calls.specs.Answer.{nvcc_answer}
+use Rattle.nvcc_calls.specs.Reasons.{text_of}
 use Rattle.nvcc_calls.specs.Directory.{directory_name}
 use Rattle.nvcc_calls.specs.OutlineTexts.{outline_text}
 use Rattle.programs.specs.declared.stop.Stop.{Stop}
@@ -28,7 +29,7 @@ status_of call (Err stop) = 1
 -- the text of an answer, or why the program stops
 abbrev pub answer_text : Result Answer Fault → Result (List ℕ) Stop
 answer_text (Ok (answers.Split outline)) = Ok (outline_text outline)
-answer_text (Ok (answers.Pass why)) = Err (stops.ToNvcc why)
+answer_text (Ok (answers.Pass why)) = Err (stops.ToNvcc (text_of why))
 answer_text (Err fault) = Err (stops.Fault fault)
 
 -- the text of an nvcc line, given the variables and the options files, or why there is none

@@ -18,6 +18,7 @@ use programs::{
 use std::alloc::Global;
 use std::fs::Files;
 use std::io::Write;
+use texts::text::Text;
 
 fn show<W: Write>(alloc: Global, page: &str, out: &mut W) -> Result<(), Stop>
     ensures { Delivers result (Ok page.now) (W.contents out.old) (W.contents out.new) }
@@ -61,7 +62,7 @@ fn read_line<R: Files + AllocGlobal, S: Sources, W: Write>(
             drop(outline);
             deliver(Ok(text?), out)
         }
-        Answer::Pass(why) => Err(Stop::ToNvcc(why)),
+        Answer::Pass(why) => Err(Stop::ToNvcc(Text::copy_of(rt.alloc(), why.text())?)),
     }
 }
 
