@@ -104,27 +104,29 @@ fn known(tool: CommandTool) -> &'static [&'static [&'static str]] {
     }
 }
 
-/// The words of a command as a key has them, or `None` if a cache doesn't know one. Where the product goes doesn't count.
-fn counted(command: Command<'_>, lists: &[&[&str]]) -> Option<Vec<String>> {
+/// The words of a command as a key has them. Where the product goes doesn't count.
+/// Errors: the first word that a cache doesn't know.
+fn counted(command: Command<'_>, lists: &[&[&str]]) -> Result<Vec<String>, Option<String>> {
     let is_listed = |is: &dyn Fn(&str) -> bool| lists.iter().any(|list| list.iter().any(|known| is(known)));
     let path_of = |word: &str| Path::new(command.cwd()).join(word);
-    let mut counted = vec![Path::new(command.program()).file_name()?.to_str()?.to_owned()];
+    let name = Path::new(command.program()).file_name().and_then(|name| name.to_str()).ok_or(None)?;
+    let mut counted = vec![name.to_owned()];
     let mut words = command.arguments();
     while let Some(word) = words.next() {
         let has_value = is_listed(&|known| known.strip_suffix(' ') == Some(word));
         let is_known =
             has_value || is_listed(&|known| (known == word && !word.ends_with(' ')) || (known.ends_with(['=', '_']) && word.starts_with(known)));
         if !is_known && (word.starts_with('-') || !command.reads().any(|path| path_of(word) == Path::new(path))) {
-            return None;
+            return Err(Some(word.to_owned()));
         }
         counted.push(word.to_owned());
         if has_value {
-            let value = words.next()?;
+            let value = words.next().ok_or_else(|| Some(word.to_owned()))?;
             let is_product = word == "-o" && command.writes().any(|path| path_of(value) == Path::new(path));
             counted.push(if is_product { "product" } else { value }.to_owned());
         }
     }
-    Some(counted)
+    Ok(counted)
 }
 
 /// The value of a variable of a command, or an empty text. Of a name that occurs twice, the last value counts.
@@ -182,26 +184,35 @@ impl Command<'_> {
     /// module id each time; and cicc has libm compute constants such as `cos(8.2)`, whose last bit can depend on the C library and on the
     /// processor. So if machines that differ in these share a cache, hash what tells them apart, too.
     ///
-    /// `None` if a cache may not serve the command: it isn't one of cudafe++, cicc or ptxas, whose words name all that it touches; a word of it
-    /// isn't known, asks for debugging information, or names a further file; its program is a script; `LD_PRELOAD` or `LD_AUDIT` is set;
-    /// the PTX that ptxas reads has a `.file`. So ask when the commands that it needs have ended.
-    ///
     /// # Errors
     ///
-    /// If the program, its library or its PTX can't be read, or no memory is left.
-    pub fn cache_key(&self) -> io::Result<Option<CacheKey>> {
-        let Some(tool) = self.tool().filter(|_| self.is_cacheable() && self.missing().is_none()) else { return Ok(None) };
-        let Some(words) = counted(*self, known(tool)) else { return Ok(None) };
+    /// [`ErrorKind::BadLine`](crate::ErrorKind), with the reason, if a cache may not serve the command: it isn't one of cudafe++, cicc or ptxas, whose words
+    /// name all that it touches; a word of it isn't known, asks for debugging information, or names a further file; its program is a script;
+    /// `LD_PRELOAD` or `LD_AUDIT` is set; the PTX that ptxas reads has a `.file`. So ask when the commands that it needs have ended. `Io` if
+    /// the program, its library or its PTX can't be read; `OutOfMemory`.
+    pub fn cache_key(&self) -> Result<CacheKey, Error> {
+        let refused = |why| Error::uncacheable(why, None);
+        let tool = self.tool().filter(|tool| !known(*tool).is_empty()).ok_or_else(|| refused("only cudafe++, cicc and ptxas name all that they touch"))?;
+        if !self.is_cacheable() || self.missing().is_some() {
+            return Err(refused("its line can't be read"));
+        }
+        let words = counted(*self, known(tool)).map_err(|word| Error::uncacheable("unknown word", word))?;
         let program = Path::new(self.program());
-        if has_other_code(*self) || !is_binary(program)? || (tool == CommandTool::Ptxas && names_files(*self)?) {
-            return Ok(None);
+        let unread = |error| Error::io("read a file of the command", error);
+        if has_other_code(*self) {
+            return Err(refused("LD_PRELOAD or LD_AUDIT is set"));
+        }
+        if !is_binary(program).map_err(unread)? {
+            return Err(refused("its program is a script"));
+        }
+        if tool == CommandTool::Ptxas && names_files(*self).map_err(unread)? {
+            return Err(refused("its PTX names files"));
         }
         let variables: Vec<_> = self.variables().filter(|(name, _)| *name != "PWD").map(|(name, value)| Variable::new(name, value)).collect();
-        let text =
-            command_key(&KeyCall { tool, words: &words, variables: &variables, roots: &[] }).map_err(|error: Error| io::Error::other(error))?;
+        let text = command_key(&KeyCall { tool, words: &words, variables: &variables, roots: &[] })?;
         let mut files = vec![program.to_owned()];
         files.extend(libms(*self));
-        files.extend(if tool == CommandTool::Cicc { libraries(*self)? } else { Vec::new() });
-        Ok(Some(CacheKey { text, tool: files }))
+        files.extend(if tool == CommandTool::Cicc { libraries(*self).map_err(unread)? } else { Vec::new() });
+        Ok(CacheKey { text, tool: files })
     }
 }

@@ -416,6 +416,12 @@ impl std::error::Error for Error {
     }
 }
 
+impl From<ErrorKind> for Error {
+    fn from(kind: ErrorKind) -> Error {
+        Error::plain(kind)
+    }
+}
+
 impl From<OutOfMemory> for Error {
     fn from(_: OutOfMemory) -> Error {
         Error::plain(ErrorKind::OutOfMemory)

@@ -15,7 +15,7 @@ struct ByHand {
     to: &'static str,
 }
 
-const BY_HAND: [ByHand; 3] = [
+const BY_HAND: [ByHand; 4] = [
     ByHand {
         from: "call",
         to: "call",
@@ -23,6 +23,10 @@ const BY_HAND: [ByHand; 3] = [
     ByHand {
         from: "bindings/rust",
         to: "zigrunk",
+    },
+    ByHand {
+        from: "capi",
+        to: "capi",
     },
     ByHand {
         from: "driver",
