@@ -1,11 +1,12 @@
 //! Calls of nvcc.
-use crate::given::{Environment, elements, zigrunk_text, zigrunk_texts};
-use crate::made::{Made, Refusal, Room, answer, give, zigrunk_error, zigrunk_made};
-use crate::plans::{Programs, made_plan, zigrunk_found_program, zigrunk_plan};
+use crate::given::{elements, zigrunk_text, zigrunk_texts, Environment};
+use crate::made::{answer, give, not_yet, zigrunk_error, zigrunk_made, Made, Refusal, Room};
+use crate::plans::{made_plan, zigrunk_found_program, zigrunk_plan, Programs};
 use call::{Call, DryRuns, NvccCall, Run};
 use std::collections::TryReserveError;
 use std::num::NonZeroUsize;
 use std::path::Path;
+use std::ptr;
 
 /// A call of nvcc.
 #[repr(C)]
@@ -140,25 +141,27 @@ unsafe fn read(given: &zigrunk_nvcc_call) -> Result<*mut zigrunk_call, Refusal> 
     let call = Call::new(&NvccCall { nvcc, words: &words, variables: &environment.variables, cwd, tmp })?;
     let (mut room, others) = (Room::default(), copies(&environment.others)?);
     let outline = outline_of(&mut room, &call, &others)?;
-    Ok(give(zigrunk_call { made: zigrunk_made::NOT_YET, outline, call, others }, room)?)
+    Ok(give(zigrunk_call { made: not_yet(), outline, call, others }, room)?)
 }
 
 /// Reads the line of a call. `ZIGRUNK_TO_NVCC` if nvcc has to make the call itself: the message has the reason.
-#[unsafe(no_mangle)]
+#[no_mangle]
+#[must_use]
 pub unsafe extern "C" fn zigrunk_call_of(given: *const zigrunk_nvcc_call, made: *mut *mut zigrunk_call, error: *mut *mut zigrunk_error) -> i32 {
     // SAFETY: the caller ensures it.
     unsafe { answer(read(&*given), made, error) }
 }
 
 /// What the line of a call says. It is freed with the call.
-#[unsafe(no_mangle)]
+#[no_mangle]
 pub unsafe extern "C" fn zigrunk_call_outline(call: *const zigrunk_call) -> *const zigrunk_outline {
     // SAFETY: the caller ensures it.
-    unsafe { &raw const (*call).outline }
+    unsafe { ptr::addr_of!((*call).outline) }
 }
 
 /// Runs nvcc's dry runs, looks on the disk for the programs that they name, and plans.
-#[unsafe(no_mangle)]
+#[no_mangle]
+#[must_use]
 pub unsafe extern "C" fn zigrunk_call_plan(call: *const zigrunk_call, made: *mut *mut zigrunk_plan, error: *mut *mut zigrunk_error) -> i32 {
     // SAFETY: the caller ensures it.
     let call = unsafe { &*call };
@@ -182,7 +185,8 @@ unsafe fn plan_given(call: &zigrunk_call, given: &zigrunk_dry_runs) -> Result<*m
 
 /// Plans what the dry runs of a call printed, here or elsewhere. `ZIGRUNK_NO_DRY_RUN`, and the input that is at fault, if the texts aren't
 /// the dry runs of this call; `ZIGRUNK_TO_NVCC` if nvcc does something else for the line, or a command reads what no command before it writes.
-#[unsafe(no_mangle)]
+#[no_mangle]
+#[must_use]
 pub unsafe extern "C" fn zigrunk_call_plan_of(
     call: *const zigrunk_call,
     given: *const zigrunk_dry_runs,

@@ -1,11 +1,11 @@
 //! What callers pass: texts, lists of them, and numbers.
 use call::Variable;
 use std::collections::TryReserveError;
-use std::ffi::{CStr, OsStr, c_char};
+use std::ffi::{c_char, CStr, OsStr};
 use std::os::unix::ffi::OsStrExt;
 use std::slice;
 
-/// As a length: up to a NUL. As the number of texts: up to a NULL. As a command: none.
+/// As a length: up to a NUL. As the number of texts: up to a NULL. As a command: none. (cbindgen can't write it: see cbindgen.toml.)
 pub const ZIGRUNK_ALL: usize = usize::MAX;
 
 /// A text.
@@ -86,7 +86,11 @@ impl zigrunk_texts {
             // SAFETY: the caller of `listed` ensures that a NULL ends the list.
             unsafe { *self.items.add(number) }.is_null()
         };
-        if self.count == ZIGRUNK_ALL { (0..).find(ends).unwrap_or(0) } else { self.count }
+        if self.count == ZIGRUNK_ALL {
+            (0..).find(ends).unwrap_or(0)
+        } else {
+            self.count
+        }
     }
 
     /// Its texts.

@@ -12,7 +12,7 @@ mod schedules;
 mod texts;
 
 pub use calls::{zigrunk_call, zigrunk_dry_runs, zigrunk_nvcc_call, zigrunk_outline, zigrunk_run};
-pub use given::{ZIGRUNK_ALL, zigrunk_text, zigrunk_texts};
+pub use given::{zigrunk_text, zigrunk_texts, ZIGRUNK_ALL};
 pub use lines::{zigrunk_key_call, zigrunk_line, zigrunk_line_call};
 pub use made::{zigrunk_answer, zigrunk_error, zigrunk_made};
 pub use plans::{zigrunk_command, zigrunk_commands, zigrunk_found_program, zigrunk_plan, zigrunk_plan_call};
@@ -78,13 +78,13 @@ pub const ZIGRUNK_INPUT_NVCC: u32 = 9;
 pub const ZIGRUNK_INPUT_WORDS: u32 = 10;
 
 /// The number of the library's binary interface: `ZIGRUNK_ABI_VERSION` of the header that it was built with.
-#[unsafe(no_mangle)]
+#[no_mangle]
 pub extern "C" fn zigrunk_abi_version() -> u32 {
     ZIGRUNK_ABI_VERSION
 }
 
 /// The library's version, such as "0.2.0".
-#[unsafe(no_mangle)]
+#[no_mangle]
 pub extern "C" fn zigrunk_version() -> *const c_char {
     concat!(env!("CARGO_PKG_VERSION"), "\0").as_ptr().cast()
 }

@@ -1,11 +1,11 @@
 //! Lines of tools, and keys of commands that no plan has.
-use crate::given::{Environment, zigrunk_text, zigrunk_texts};
-use crate::made::{Made, Refusal, Room, answer, give, texts, zigrunk_answer, zigrunk_error, zigrunk_made};
+use crate::given::{zigrunk_text, zigrunk_texts, Environment};
+use crate::made::{answer, give, not_yet, texts, zigrunk_answer, zigrunk_error, zigrunk_made, Made, Refusal, Room};
 use crate::plans::{
-    ZIGRUNK_TOOL_CICC, ZIGRUNK_TOOL_CUDAFE, ZIGRUNK_TOOL_FATBINARY, ZIGRUNK_TOOL_HOST, ZIGRUNK_TOOL_NVC, ZIGRUNK_TOOL_NVCC,
-    ZIGRUNK_TOOL_NVCXX, ZIGRUNK_TOOL_NVLINK, ZIGRUNK_TOOL_PTXAS,
+    ZIGRUNK_TOOL_CICC, ZIGRUNK_TOOL_CUDAFE, ZIGRUNK_TOOL_FATBINARY, ZIGRUNK_TOOL_HOST, ZIGRUNK_TOOL_NVC, ZIGRUNK_TOOL_NVCC, ZIGRUNK_TOOL_NVCXX,
+    ZIGRUNK_TOOL_NVLINK, ZIGRUNK_TOOL_PTXAS,
 };
-use call::{ColorMode, CommandTool, ErrorKind, KeyCall, Language, Line, LineCall, Tool, command_key, line_records, line_words};
+use call::{command_key, line_records, line_words, ColorMode, CommandTool, ErrorKind, KeyCall, Language, Line, LineCall, Tool};
 use std::collections::TryReserveError;
 use std::ffi::OsStr;
 use std::iter;
@@ -149,7 +149,7 @@ fn record(room: &mut Room, line: &Line) -> Result<zigrunk_line, TryReserveError>
     optional.try_reserve_exact(count)?;
     optional.extend(outputs.iter().map(|output| usize::from(output.is_optional)));
     Ok(zigrunk_line {
-        made: zigrunk_made::NOT_YET,
+        made: not_yet(),
         input: room.text(line.input())?,
         compilation_flag: room.text(line.compilation_flag())?,
         output_keys: room.texts(outputs.iter().map(|output| output.key))?,
@@ -174,12 +174,9 @@ fn record(room: &mut Room, line: &Line) -> Result<zigrunk_line, TryReserveError>
 
 /// Reads a line of a tool: its input, its outputs, and its words by what they are for. `ZIGRUNK_BAD_LINE` if it compiles nothing or no cache
 /// can serve it.
-#[unsafe(no_mangle)]
-pub unsafe extern "C" fn zigrunk_line_records(
-    given: *const zigrunk_line_call,
-    made: *mut *mut zigrunk_line,
-    error: *mut *mut zigrunk_error,
-) -> i32 {
+#[no_mangle]
+#[must_use]
+pub unsafe extern "C" fn zigrunk_line_records(given: *const zigrunk_line_call, made: *mut *mut zigrunk_line, error: *mut *mut zigrunk_error) -> i32 {
     // SAFETY: the caller ensures it.
     let line = unsafe { with_line(&*given, |call| line_records(call)) };
     let line = line.and_then(|line| {
@@ -192,12 +189,9 @@ pub unsafe extern "C" fn zigrunk_line_records(
 }
 
 /// Reads a line of a tool, and lists the words that it is written back as.
-#[unsafe(no_mangle)]
-pub unsafe extern "C" fn zigrunk_line_words(
-    given: *const zigrunk_line_call,
-    made: *mut *mut zigrunk_answer,
-    error: *mut *mut zigrunk_error,
-) -> i32 {
+#[no_mangle]
+#[must_use]
+pub unsafe extern "C" fn zigrunk_line_words(given: *const zigrunk_line_call, made: *mut *mut zigrunk_answer, error: *mut *mut zigrunk_error) -> i32 {
     // SAFETY: the caller ensures it.
     unsafe { answer(with_line(&*given, |call| line_words(call)).and_then(|words| texts(words.iter())), made, error) }
 }
@@ -227,12 +221,9 @@ unsafe fn key_of(given: &zigrunk_key_call) -> Result<*mut zigrunk_answer, Refusa
 /// What a cache hashes of a command together with the contents of its files and whatever tells one version of its tool from another: its
 /// words and the variables that may change what it makes, with a mark in place of each root. `ZIGRUNK_BAD_NUMBER` for more than 26 roots,
 /// `ZIGRUNK_BAD_LINE` for a NUL.
-#[unsafe(no_mangle)]
-pub unsafe extern "C" fn zigrunk_command_key(
-    given: *const zigrunk_key_call,
-    made: *mut *mut zigrunk_answer,
-    error: *mut *mut zigrunk_error,
-) -> i32 {
+#[no_mangle]
+#[must_use]
+pub unsafe extern "C" fn zigrunk_command_key(given: *const zigrunk_key_call, made: *mut *mut zigrunk_answer, error: *mut *mut zigrunk_error) -> i32 {
     // SAFETY: the caller ensures it.
     unsafe { answer(key_of(&*given), made, error) }
 }

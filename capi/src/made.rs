@@ -61,9 +61,9 @@ impl Made for zigrunk_answer {
     }
 }
 
-impl zigrunk_made {
-    /// For a thing that isn't on the heap yet.
-    pub const NOT_YET: zigrunk_made = zigrunk_made { free: None };
+/// For a thing that isn't on the heap yet.
+pub const fn not_yet() -> zigrunk_made {
+    zigrunk_made { free: None }
 }
 
 /// Puts a thing on the heap, for the caller.
@@ -84,7 +84,7 @@ unsafe extern "C" fn free_whole<T>(thing: *mut c_void) {
 }
 
 /// Frees a thing that a function has made. Nothing happens to NULL.
-#[unsafe(no_mangle)]
+#[no_mangle]
 pub unsafe extern "C" fn zigrunk_free(thing: *mut c_void) {
     // SAFETY: each thing begins with this.
     let made = unsafe { thing.cast::<zigrunk_made>().as_ref() };
@@ -159,10 +159,7 @@ impl Room {
         Ok(zigrunk_texts { items: items[first..].as_ptr(), lengths: self.numbers.room(0)?[lengths..].as_ptr(), count })
     }
 
-    pub fn texts<'a, T: AsRef<[u8]> + ?Sized + 'a>(
-        &mut self,
-        texts: impl Iterator<Item = &'a T> + Clone,
-    ) -> Result<zigrunk_texts, TryReserveError> {
+    pub fn texts<'a, T: AsRef<[u8]> + ?Sized + 'a>(&mut self, texts: impl Iterator<Item = &'a T> + Clone) -> Result<zigrunk_texts, TryReserveError> {
         self.list(texts.map(|text| [text.as_ref()]))
     }
 
@@ -202,22 +199,22 @@ unsafe impl Sync for Static {}
 
 /// The error that needs no memory.
 static OUT_OF_MEMORY: Static = Static(zigrunk_error {
-    made: zigrunk_made::NOT_YET,
+    made: not_yet(),
     status: 1,
     input: 0,
     line: 0,
-    message: zigrunk_text { bytes: c"out of memory".as_ptr(), length: 13 },
+    message: zigrunk_text { bytes: "out of memory\0".as_ptr().cast(), length: 13 },
 });
 
 fn error_of(error: &Error) -> Result<*mut zigrunk_error, TryReserveError> {
     let mut message = Growing(Vec::new());
     if write!(message, "{error}").is_err() {
-        return Ok((&raw const OUT_OF_MEMORY.0).cast_mut());
+        return Ok(ptr::addr_of!(OUT_OF_MEMORY.0).cast_mut());
     }
     let mut room = Room::default();
     let message = room.text(&message.0)?;
     let (input, line) = error.place().map_or((0, 0), |place| (place.input.number(), place.line.unwrap_or(0)));
-    give(zigrunk_error { made: zigrunk_made::NOT_YET, status: error.status(), input, line, message }, room)
+    give(zigrunk_error { made: not_yet(), status: error.status(), input, line, message }, room)
 }
 
 /// Why there is no answer.
@@ -253,7 +250,7 @@ pub unsafe fn answer<T>(answer: Result<*mut T, Refusal>, made: *mut *mut T, erro
     let (thing, status, why) = match answer {
         Ok(thing) => (thing, 0, ptr::null_mut()),
         Err(refusal) => {
-            let lack = (&raw const OUT_OF_MEMORY.0).cast_mut();
+            let lack = ptr::addr_of!(OUT_OF_MEMORY.0).cast_mut();
             let error = match &refusal {
                 Refusal::Error(error) if error.kind() != ErrorKind::OutOfMemory => error_of(error).unwrap_or(lack),
                 _ => lack,
@@ -279,5 +276,5 @@ pub unsafe fn answer<T>(answer: Result<*mut T, Refusal>, made: *mut *mut T, erro
 pub fn texts<'a, T: AsRef<[u8]> + ?Sized + 'a>(texts: impl Iterator<Item = &'a T> + Clone) -> Result<*mut zigrunk_answer, Refusal> {
     let mut room = Room::default();
     let texts = room.texts(texts)?;
-    Ok(give(zigrunk_answer { made: zigrunk_made::NOT_YET, texts }, room)?)
+    Ok(give(zigrunk_answer { made: not_yet(), texts }, room)?)
 }

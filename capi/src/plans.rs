@@ -1,12 +1,13 @@
 //! Plans, as records and as texts.
 use crate::calls::{copies, table};
-use crate::given::{Environment, zigrunk_text, zigrunk_texts};
-use crate::made::{Made, Refusal, Room, answer, give, texts, zigrunk_answer, zigrunk_error, zigrunk_made};
+use crate::given::{zigrunk_text, zigrunk_texts, Environment};
+use crate::made::{answer, give, not_yet, texts, zigrunk_answer, zigrunk_error, zigrunk_made, Made, Refusal, Room};
 use call::{Command, CommandTool, Disk, DropReason, ErrorKind, Format, HostCompiler, Missing, OutOfMemory, Plan, PlanCall, Stage};
 use std::collections::TryReserveError;
 use std::iter;
 use std::num::NonZeroUsize;
 use std::path::Path;
+use std::ptr;
 
 /// cicc, which compiles device code to PTX.
 pub const ZIGRUNK_TOOL_CICC: u32 = 0;
@@ -290,7 +291,7 @@ pub fn made_plan(plan: Plan, others: &[Vec<u8>]) -> Result<*mut zigrunk_plan, Re
     }
     let (items, count) = (records.as_ptr(), records.len());
     let commands = zigrunk_commands { items, count, dropped: plan.dropped().len(), groups: plan.groups().len() };
-    Ok(give(zigrunk_plan { made: zigrunk_made::NOT_YET, commands, _records: records, plan }, room)?)
+    Ok(give(zigrunk_plan { made: not_yet(), commands, _records: records, plan }, room)?)
 }
 
 fn bad_number() -> Refusal {
@@ -333,22 +334,24 @@ unsafe fn planned(given: &zigrunk_plan_call) -> Result<*mut zigrunk_plan, Refusa
 }
 
 /// Plans two dry runs alone.
-#[unsafe(no_mangle)]
+#[no_mangle]
+#[must_use]
 pub unsafe extern "C" fn zigrunk_plan_of(given: *const zigrunk_plan_call, made: *mut *mut zigrunk_plan, error: *mut *mut zigrunk_error) -> i32 {
     // SAFETY: the caller ensures it.
     unsafe { answer(planned(&*given), made, error) }
 }
 
 /// The commands of a plan. They are freed with it.
-#[unsafe(no_mangle)]
+#[no_mangle]
 pub unsafe extern "C" fn zigrunk_plan_commands(plan: *const zigrunk_plan) -> *const zigrunk_commands {
     // SAFETY: the caller ensures it.
-    unsafe { &raw const (*plan).commands }
+    unsafe { ptr::addr_of!((*plan).commands) }
 }
 
 /// The plan as a text: as "json", "ninja", "shell" or "text". `ZIGRUNK_BAD_NUMBER` for another format, `ZIGRUNK_UNWRITABLE` if the format
 /// can't represent the plan.
-#[unsafe(no_mangle)]
+#[no_mangle]
+#[must_use]
 pub unsafe extern "C" fn zigrunk_plan_text(
     plan: *const zigrunk_plan,
     format: zigrunk_text,
@@ -366,7 +369,8 @@ pub unsafe extern "C" fn zigrunk_plan_text(
 /// one version of its tool from another, and of what it reads. Two commands for which all that is equal make files of equal contents, in
 /// whatever directories they run; two exceptions are in the manual. `ZIGRUNK_BAD_LINE` if a cache may not serve the command: the message says
 /// why. So ask when the commands that it needs have ended.
-#[unsafe(no_mangle)]
+#[no_mangle]
+#[must_use]
 pub unsafe extern "C" fn zigrunk_plan_key(
     plan: *const zigrunk_plan,
     command: usize,

@@ -1,9 +1,9 @@
 //! Schedules of commands.
-use crate::given::{ZIGRUNK_ALL, elements};
-use crate::made::{Made, Refusal, Room, answer, give, zigrunk_error, zigrunk_made};
+use crate::given::{elements, ZIGRUNK_ALL};
+use crate::made::{answer, give, not_yet, zigrunk_error, zigrunk_made, Made, Refusal, Room};
 use crate::plans::zigrunk_plan;
-use call::ErrorKind;
 use call::schedule::{AfterFailure, BadGraph, Outcome, PlanStatus, Refused, Schedule, ScheduledCommand};
+use call::ErrorKind;
 
 /// After a failure nothing starts.
 pub const ZIGRUNK_START_NOTHING: u32 = 0;
@@ -122,12 +122,13 @@ unsafe fn begun(given: &zigrunk_schedule_call) -> Result<*mut zigrunk_schedule, 
         Schedule::of_plans(plans.iter().map(|plan| unsafe { &(**plan).plan }), given.slots, after_failure)
     };
     let schedule = schedule.map_err(|bad| refusal(&bad))?;
-    Ok(give(zigrunk_schedule { made: zigrunk_made::NOT_YET, schedule }, Room::default())?)
+    Ok(give(zigrunk_schedule { made: not_yet(), schedule }, Room::default())?)
 }
 
 /// A schedule of commands of which none has started. `ZIGRUNK_BAD_NUMBER` if there are no slots, a command needs one that isn't before it, or
 /// a number has no meaning.
-#[unsafe(no_mangle)]
+#[no_mangle]
+#[must_use]
 pub unsafe extern "C" fn zigrunk_schedule_of(
     given: *const zigrunk_schedule_call,
     made: *mut *mut zigrunk_schedule,
@@ -138,14 +139,14 @@ pub unsafe extern "C" fn zigrunk_schedule_of(
 }
 
 /// The command to start now, which the schedule notes as started, or `ZIGRUNK_ALL` if none may start: call it until it says so.
-#[unsafe(no_mangle)]
+#[no_mangle]
 pub unsafe extern "C" fn zigrunk_schedule_start(schedule: *mut zigrunk_schedule) -> usize {
     // SAFETY: the caller ensures it.
     unsafe { &mut (*schedule).schedule }.start_next().unwrap_or(ZIGRUNK_ALL)
 }
 
 /// Notes how a command ended: `ZIGRUNK_SUCCEEDED` .. 0, or `ZIGRUNK_NO_SUCH_COMMAND` .., and the schedule is unchanged.
-#[unsafe(no_mangle)]
+#[no_mangle]
 pub unsafe extern "C" fn zigrunk_schedule_ended(schedule: *mut zigrunk_schedule, command: usize, outcome: u32) -> i32 {
     let outcome = match outcome {
         ZIGRUNK_SUCCEEDED => Outcome::Success,
@@ -163,7 +164,7 @@ pub unsafe extern "C" fn zigrunk_schedule_ended(schedule: *mut zigrunk_schedule,
 
 /// How far a schedule is, and which outputs of the commands from `first` up to `end`, which isn't one of them, may be printed: those of one
 /// plan, or of what hasn't been printed of it.
-#[unsafe(no_mangle)]
+#[no_mangle]
 pub unsafe extern "C" fn zigrunk_schedule_progress(schedule: *const zigrunk_schedule, first: usize, end: usize) -> zigrunk_progress {
     // SAFETY: the caller ensures it.
     let schedule = unsafe { &(*schedule).schedule };

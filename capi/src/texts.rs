@@ -1,7 +1,7 @@
 //! Texts in, texts out: shell words, canonical names, look-ups and headers.
 use crate::given::{zigrunk_text, zigrunk_texts};
-use crate::made::{Refusal, answer, texts, zigrunk_answer, zigrunk_error};
-use call::{ErrorKind, Lookup, candidates, headers, lookups, quote, remap, split};
+use crate::made::{answer, texts, zigrunk_answer, zigrunk_error, Refusal};
+use call::{candidates, headers, lookups, quote, remap, split, ErrorKind, Lookup};
 use std::ffi::OsStr;
 use std::iter;
 use std::num::NonZeroUsize;
@@ -27,7 +27,8 @@ unsafe fn strs<'a>(given: &zigrunk_texts) -> Result<Vec<&'a str>, Refusal> {
 
 /// Splits a text into the words that a POSIX shell reads: quotes and backslashes group characters, and nothing is expanded.
 /// `ZIGRUNK_OPEN_QUOTE` if it ends inside quotes or in a backslash.
-#[unsafe(no_mangle)]
+#[no_mangle]
+#[must_use]
 pub unsafe extern "C" fn zigrunk_split(text: zigrunk_text, made: *mut *mut zigrunk_answer, error: *mut *mut zigrunk_error) -> i32 {
     // SAFETY: the caller ensures it.
     let words = utf8(unsafe { text.os() }).and_then(|text| texts(split(text)?.iter()));
@@ -36,7 +37,8 @@ pub unsafe extern "C" fn zigrunk_split(text: zigrunk_text, made: *mut *mut zigru
 }
 
 /// Writes words as one text, which a POSIX shell and `zigrunk_split` read as these words.
-#[unsafe(no_mangle)]
+#[no_mangle]
+#[must_use]
 pub unsafe extern "C" fn zigrunk_quote(words: zigrunk_texts, made: *mut *mut zigrunk_answer, error: *mut *mut zigrunk_error) -> i32 {
     // SAFETY: the caller ensures it.
     let text = unsafe { strs(&words) }.and_then(|words| texts(iter::once(quote(words)?.as_str())));
@@ -46,7 +48,8 @@ pub unsafe extern "C" fn zigrunk_quote(words: zigrunk_texts, made: *mut *mut zig
 
 /// Lists words with canonical names for the files that nvcc generates: as many words, in their order. Pass the words of all commands of a dry
 /// run, one command behind the other. The suffixes are behind the standard ones.
-#[unsafe(no_mangle)]
+#[no_mangle]
+#[must_use]
 pub unsafe extern "C" fn zigrunk_remap(
     words: zigrunk_texts,
     suffixes: zigrunk_texts,
@@ -62,7 +65,8 @@ pub unsafe extern "C" fn zigrunk_remap(
 
 /// Lists the look-ups of programs that a plan of two dry runs needs, none twice: a program, then the value of PATH there, and so on. The limit
 /// is that of `zigrunk_dry_runs`.
-#[unsafe(no_mangle)]
+#[no_mangle]
+#[must_use]
 pub unsafe extern "C" fn zigrunk_lookups(
     dry1: zigrunk_text,
     dry2: zigrunk_text,
@@ -94,7 +98,8 @@ unsafe fn tried(program: zigrunk_text, path: zigrunk_text, cwd: zigrunk_text) ->
 }
 
 /// Lists the paths that a look-up tries from a working directory, in order: the first that is an executable file is the program.
-#[unsafe(no_mangle)]
+#[no_mangle]
+#[must_use]
 pub unsafe extern "C" fn zigrunk_candidates(
     program: zigrunk_text,
     path: zigrunk_text,
@@ -107,7 +112,8 @@ pub unsafe extern "C" fn zigrunk_candidates(
 }
 
 /// Lists the files that the output of a preprocessor names, none twice.
-#[unsafe(no_mangle)]
+#[no_mangle]
+#[must_use]
 pub unsafe extern "C" fn zigrunk_headers(output: zigrunk_text, made: *mut *mut zigrunk_answer, error: *mut *mut zigrunk_error) -> i32 {
     // SAFETY: the caller ensures it.
     unsafe { answer(texts(headers(output.bytes()).iter().map(String::as_str)), made, error) }

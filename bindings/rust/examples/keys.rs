@@ -8,14 +8,18 @@ use std::hash::{DefaultHasher, Hash, Hasher};
 use std::path::PathBuf;
 use std::{env, fs, process};
 
-use zigrunk::{Call, Command, NvccCall, variables};
+use zigrunk::{Call, Command, ErrorKind, NvccCall, variables};
 
 /// The contents of the tools' files. Each is read once.
 type Tools = HashMap<PathBuf, Vec<u8>>;
 
 /// The digest of all that a command's products depend on; none if a cache may not serve it.
 fn digest(command: Command<'_>, tools: &mut Tools) -> Result<Option<u64>, Box<dyn Error>> {
-    let Some(key) = command.cache_key()? else { return Ok(None) };
+    let key = match command.cache_key() {
+        Ok(key) => key,
+        Err(refusal) if refusal.kind() == ErrorKind::BadLine => return Ok(None),
+        Err(error) => return Err(error.into()),
+    };
     let mut digest = DefaultHasher::new();
     key.text.hash(&mut digest);
     for path in key.tool {

@@ -21,7 +21,7 @@ fn main() -> Result<(), Box<dyn Error>> {
         match call.plan_of(&DryRuns::new(read(own)?, read(first)?, read(second)?), &Disk::default(), None) {
             Ok(plan) => {
                 // (the other tools are scripts here)
-                let keyed = plan.commands().filter(|command| matches!(command.cache_key(), Ok(Some(_))));
+                let keyed = plan.commands().filter(|command| command.cache_key().is_ok());
                 let tools: Vec<_> = keyed.filter_map(|command| command.tool()).collect();
                 assert!(name != "right" || tools == [CommandTool::CudaFe], "{tools:?}");
                 println!("{name} 0 0 0");
