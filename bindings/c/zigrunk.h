@@ -39,6 +39,15 @@
 // As a length: up to a NUL. As the number of texts: up to a NULL. As a command: none.
 #define ZIGRUNK_ALL SIZE_MAX
 
+// A call whose line was read.
+typedef struct zigrunk_call zigrunk_call;
+
+// What one nvcc call runs.
+typedef struct zigrunk_plan zigrunk_plan;
+
+// Which command may start next, what a failure means, and which outputs may be printed. It starts no process.
+typedef struct zigrunk_schedule zigrunk_schedule;
+
 // What `zigrunk_abi_version` says.
 #define ZIGRUNK_ABI_VERSION 2
 
@@ -262,15 +271,6 @@
 
 // An outcome or an end has no meaning.
 #define ZIGRUNK_NO_OUTCOME 3
-
-// A call whose line was read.
-typedef struct zigrunk_call zigrunk_call;
-
-// What one nvcc call runs.
-typedef struct zigrunk_plan zigrunk_plan;
-
-// Which command may start next, what a failure means, and which outputs may be printed. It starts no process.
-typedef struct zigrunk_schedule zigrunk_schedule;
 
 // A text.
 typedef struct zigrunk_text {
@@ -544,7 +544,7 @@ typedef struct zigrunk_scheduled_command {
 // What to run: the commands of plans, the numbers of each behind those of the plans before it, or other commands.
 typedef struct zigrunk_schedule_call {
     // Plans that touch different files.
-    const struct zigrunk_plan *const *plans;
+    const zigrunk_plan *const *plans;
     // How many there are.
     size_t plans_count;
     // If there is no plan: commands.
@@ -582,24 +582,24 @@ const char *zigrunk_version(void);
 // Reads the line of a call. `ZIGRUNK_TO_NVCC` if nvcc has to make the call itself: the message has the reason.
 ZIGRUNK_CHECK_RESULT
 int32_t zigrunk_call_of(const struct zigrunk_nvcc_call *given,
-                        struct zigrunk_call **made,
+                        zigrunk_call **made,
                         struct zigrunk_error **error);
 
 // What the line of a call says. It is freed with the call.
-const struct zigrunk_outline *zigrunk_call_outline(const struct zigrunk_call *call);
+const struct zigrunk_outline *zigrunk_call_outline(const zigrunk_call *call);
 
 // Runs nvcc's dry runs, looks on the disk for the programs that they name, and plans.
 ZIGRUNK_CHECK_RESULT
-int32_t zigrunk_call_plan(const struct zigrunk_call *call,
-                          struct zigrunk_plan **made,
+int32_t zigrunk_call_plan(const zigrunk_call *call,
+                          zigrunk_plan **made,
                           struct zigrunk_error **error);
 
 // Plans what the dry runs of a call printed, here or elsewhere. `ZIGRUNK_NO_DRY_RUN`, and the input that is at fault, if the texts aren't
 // the dry runs of this call; `ZIGRUNK_TO_NVCC` if nvcc does something else for the line, or a command reads what no command before it writes.
 ZIGRUNK_CHECK_RESULT
-int32_t zigrunk_call_plan_of(const struct zigrunk_call *call,
+int32_t zigrunk_call_plan_of(const zigrunk_call *call,
                              const struct zigrunk_dry_runs *given,
-                             struct zigrunk_plan **made,
+                             zigrunk_plan **made,
                              struct zigrunk_error **error);
 
 // Reads a line of a tool: its input, its outputs, and its words by what they are for. `ZIGRUNK_BAD_LINE` if it compiles nothing or no cache
@@ -629,16 +629,16 @@ void zigrunk_free(void *thing);
 // Plans two dry runs alone.
 ZIGRUNK_CHECK_RESULT
 int32_t zigrunk_plan_of(const struct zigrunk_plan_call *given,
-                        struct zigrunk_plan **made,
+                        zigrunk_plan **made,
                         struct zigrunk_error **error);
 
 // The commands of a plan. They are freed with it.
-const struct zigrunk_commands *zigrunk_plan_commands(const struct zigrunk_plan *plan);
+const struct zigrunk_commands *zigrunk_plan_commands(const zigrunk_plan *plan);
 
 // The plan as a text: as "json", "ninja", "shell" or "text". `ZIGRUNK_BAD_NUMBER` for another format, `ZIGRUNK_UNWRITABLE` if the format
 // can't represent the plan.
 ZIGRUNK_CHECK_RESULT
-int32_t zigrunk_plan_text(const struct zigrunk_plan *plan,
+int32_t zigrunk_plan_text(const zigrunk_plan *plan,
                           struct zigrunk_text format,
                           struct zigrunk_answer **made,
                           struct zigrunk_error **error);
@@ -648,7 +648,7 @@ int32_t zigrunk_plan_text(const struct zigrunk_plan *plan,
 // whatever directories they run; two exceptions are in the manual. `ZIGRUNK_BAD_LINE` if a cache may not serve the command: the message says
 // why. So ask when the commands that it needs have ended.
 ZIGRUNK_CHECK_RESULT
-int32_t zigrunk_plan_key(const struct zigrunk_plan *plan,
+int32_t zigrunk_plan_key(const zigrunk_plan *plan,
                          size_t command,
                          struct zigrunk_answer **made,
                          struct zigrunk_error **error);
@@ -657,18 +657,18 @@ int32_t zigrunk_plan_key(const struct zigrunk_plan *plan,
 // a number has no meaning.
 ZIGRUNK_CHECK_RESULT
 int32_t zigrunk_schedule_of(const struct zigrunk_schedule_call *given,
-                            struct zigrunk_schedule **made,
+                            zigrunk_schedule **made,
                             struct zigrunk_error **error);
 
 // The command to start now, which the schedule notes as started, or `ZIGRUNK_ALL` if none may start: call it until it says so.
-size_t zigrunk_schedule_start(struct zigrunk_schedule *schedule);
+size_t zigrunk_schedule_start(zigrunk_schedule *schedule);
 
 // Notes how a command ended: `ZIGRUNK_SUCCEEDED` .. 0, or `ZIGRUNK_NO_SUCH_COMMAND` .., and the schedule is unchanged.
-int32_t zigrunk_schedule_ended(struct zigrunk_schedule *schedule, size_t command, uint32_t outcome);
+int32_t zigrunk_schedule_ended(zigrunk_schedule *schedule, size_t command, uint32_t outcome);
 
 // How far a schedule is, and which outputs of the commands from `first` up to `end`, which isn't one of them, may be printed: those of one
 // plan, or of what hasn't been printed of it.
-struct zigrunk_progress zigrunk_schedule_progress(const struct zigrunk_schedule *schedule,
+struct zigrunk_progress zigrunk_schedule_progress(const zigrunk_schedule *schedule,
                                                   size_t first,
                                                   size_t end);
 

@@ -1,16 +1,15 @@
-// An nvcc call from its words to its plan, for C++17 on POSIX systems, over zigrunk_call.h. This file is enough, with libzigrunk.
+// An nvcc call from its words to its plan, for C++17, over zigrunk.h. This file is enough, with libzigrunk.
 //
-//     zigrunk::Call call("nvcc", {"-c", "k.cu"}, zigrunk::environment(), cwd, tmp);
-//     for (const zigrunk::Command &command : call.plan().commands) ..
+//     const zigrunk::Call call("nvcc", {"-c", "k.cu"}, zigrunk::environment(), cwd, tmp);
+//     for (const zigrunk::Command &command : call.plan().commands()) ..
 //
-// What refuses throws zigrunk::Error. A Call may not be used by two threads at the same time; a Plan is a value.
+// What refuses throws zigrunk::Error. Threads may share calls and plans; a schedule is for one thread at a time. Texts may be any bytes.
 #ifndef ZIGRUNK_HPP
 #define ZIGRUNK_HPP
 
-#include <zigrunk_call.h>
+#include <zigrunk.h>
 
 #include <memory>
-#include <new>
 #include <optional>
 #include <stdexcept>
 #include <string>
@@ -23,263 +22,223 @@ namespace zigrunk {
 
 using Texts = std::vector<std::string>;
 
-// Why there is no plan. `status` is one of zigrunk.h, ZIGRUNK_CALL_NVCC if nvcc refused a dry run, or ZIGRUNK_CALL_SYSTEM. With ZIGRUNK_TO_NVCC
-// nvcc has to make the call itself. `place` says where, as zigrunk_plan_steps does.
+// Why a call is refused: ZIGRUNK_TO_NVCC if nvcc has to make it itself. `input` is ZIGRUNK_INPUT_FIRST .. or 0, `line` that of a dry run, from 1,
+// or 0.
 struct Error : std::runtime_error {
-    Error(std::int32_t status_, zigrunk_place place_, const std::string &message) : std::runtime_error(message), status(status_), place(place_) {}
+    Error(std::int32_t status_, std::uint32_t input_, std::size_t line_, const std::string &message)
+        : std::runtime_error(message), status(status_), input(input_), line(line_) {}
     std::int32_t status;
-    zigrunk_place place;
+    std::uint32_t input;
+    std::size_t line;
 };
+
+namespace own {
+
+struct Free {
+    void operator()(void *made) const { zigrunk_free(made); }
+};
+
+template <typename Made> using Owned = std::unique_ptr<Made, Free>;
+
+inline std::string text(const zigrunk_text &of) {
+    return of.length ? std::string(of.bytes, of.length) : std::string();
+}
+
+inline Texts texts(const zigrunk_texts &of) {
+    Texts made;
+    made.reserve(of.count);
+    for (std::size_t i = 0; i < of.count; ++i) {
+        made.emplace_back(of.items[i], of.lengths[i]);
+    }
+    return made;
+}
+
+inline zigrunk_text given(std::string_view text) {
+    return {text.data(), text.size()};
+}
+
+// Texts as C takes them.
+struct Given {
+    explicit Given(const Texts &texts) {
+        for (const std::string &text : texts) {
+            items.push_back(text.data()), lengths.push_back(text.size());
+        }
+    }
+    operator zigrunk_texts() const { return {items.data(), lengths.data(), items.size()}; }
+    std::vector<const char *> items;
+    std::vector<std::size_t> lengths;
+};
+
+// Calls a function, whose last two parameters are what it made and why not. Throws the latter.
+template <typename Made, typename Function, typename... Passed> Owned<Made> made(Function function, const Passed &...passed) {
+    Made *made = nullptr;
+    zigrunk_error *refused = nullptr;
+    const std::int32_t status = function(passed..., &made, &refused);
+    const Owned<Made> whole(made);
+    const Owned<zigrunk_error> error(refused);
+    if (status != ZIGRUNK_OK) {
+        throw Error(status, error->input, error->line, text(error->message));
+    }
+    return Owned<Made>(const_cast<Owned<Made> &>(whole).release());
+}
+
+template <typename Function, typename... Passed> Texts answer(Function function, const Passed &...passed) {
+    return texts(made<zigrunk_answer>(function, passed...)->texts);
+}
+
+} // namespace own
 
 // A program to run, without a shell: its name or path and its words, all of its environment as NAME=VALUE, and its directory.
 struct Run {
+    Run() = default;
+    Run(Texts words_, Texts environment_, std::string cwd_) : words(std::move(words_)), environment(std::move(environment_)), cwd(std::move(cwd_)) {}
+    explicit Run(const zigrunk_run &of) : Run(own::texts(of.words), own::texts(of.environment), own::text(of.cwd)) {}
     Texts words;
     Texts environment;
     std::string cwd;
 };
 
-// A command of a plan: zigrunk_planned has what its fields say.
+// A command of a plan: zigrunk_command says what its fields are.
 struct Command : Run {
+    explicit Command(const zigrunk_command &of)
+        : Run(own::texts(of.words), own::texts(of.environment), own::text(of.cwd)), reads(own::texts(of.reads)), writes(own::texts(of.writes)),
+          may_write(own::texts(of.may_write)), targets(own::texts(of.targets)), needs(of.needs, of.needs + of.needs_count), group(of.group),
+          dry_run(of.dry_run), line(of.line), stage(of.stage), tool(of.tool), missing(of.missing), reason(of.reason),
+          cacheable(of.is_cacheable != 0), preprocesses(of.preprocesses != 0) {}
     Texts reads, writes, may_write, targets;
     std::vector<std::size_t> needs;
-    std::size_t group = 0, dry_run = 0, line = 0;
-    std::uint32_t stage = 0, tool = 0, missing = 0, reason = 0;
-    bool cacheable = false, preprocesses = false;
+    std::size_t group, dry_run, line;
+    std::uint32_t stage, tool, missing, reason;
+    bool cacheable, preprocesses;
 };
 
-// The commands of a plan in its order, and those that it dropped, each with its reason.
-struct Plan {
-    std::vector<Command> commands;
-    std::vector<Command> dropped;
+// What a cache hashes of a command: this text, then the contents of the tool's files, and of what the command reads.
+struct Key {
+    std::string text;
+    Texts tool_files;
 };
 
-namespace own {
-
-inline Texts texts(char *const *list) {
-    Texts made;
-    for (; list && *list; ++list) {
-        made.emplace_back(*list);
+// What one nvcc call runs.
+class Plan {
+public:
+    explicit Plan(own::Owned<zigrunk_plan> plan) : plan_(std::move(plan)) {
+        const zigrunk_commands &all = *zigrunk_plan_commands(plan_.get());
+        for (std::size_t i = 0; i < all.count; ++i) {
+            (i < all.count - all.dropped ? commands_ : dropped_).emplace_back(all.items[i]);
+        }
     }
-    return made;
-}
-
-inline std::vector<char *> pointers(const Texts &list) {
-    std::vector<char *> made;
-    for (const std::string &text : list) {
-        made.push_back(const_cast<char *>(text.c_str()));
+    // The commands of its groups, in order.
+    const std::vector<Command> &commands() const { return commands_; }
+    // Those that it dropped, each with its reason.
+    const std::vector<Command> &dropped() const { return dropped_; }
+    // The plan as "json", "ninja", "shell" or "text".
+    std::string text(std::string_view format) const { return own::answer(zigrunk_plan_text, plan_.get(), own::given(format)).at(0); }
+    // The key of a command, by its number: zigrunk_plan_key says what it is for, and when it throws.
+    Key key(std::size_t number) const {
+        Texts texts = own::answer(zigrunk_plan_key, plan_.get(), number);
+        return {texts.at(0), Texts(texts.begin() + 1, texts.end())};
     }
-    made.push_back(nullptr);
-    return made;
-}
+    const zigrunk_plan *get() const { return plan_.get(); }
 
-// What a text is to C, which ends at NUL.
-inline const char *plain(const std::string &text) {
-    return text.find('\0') == std::string::npos ? text.c_str() : throw Error(ZIGRUNK_BAD_LINE, {}, "a text contains NUL");
-}
-
-inline const Texts &plain(const Texts &texts) {
-    for (const std::string &text : texts) {
-        plain(text);
-    }
-    return texts;
-}
-
-inline Run run(const zigrunk_run &of) {
-    return {texts(of.words), texts(of.environment), of.cwd ? of.cwd : ""};
-}
-
-inline Command command(const zigrunk_planned &of) {
-    Command made;
-    static_cast<Run &>(made) = run(of.run);
-    made.reads = texts(of.reads), made.writes = texts(of.writes), made.may_write = texts(of.may_write), made.targets = texts(of.targets);
-    made.needs.assign(of.needs, of.needs + of.needs_count);
-    made.group = of.group, made.dry_run = of.dry_run, made.line = of.line;
-    made.stage = of.stage, made.tool = of.tool, made.missing = of.missing, made.reason = of.reason;
-    made.cacheable = of.cacheable != 0, made.preprocesses = of.preprocesses != 0;
-    return made;
-}
-
-} // namespace own
-
-// The environment of this process.
-inline Texts environment() {
-    return own::texts(environ);
-}
-
-// Words as one text, which a POSIX shell reads as these words.
-inline std::string quote(const Texts &words) {
-    std::vector<zigrunk_text> list;
-    list.reserve(words.size() + 1); // so that it has a pointer
-    for (const std::string &word : words) {
-        list.push_back({reinterpret_cast<const std::uint8_t *>(word.data()), word.size()});
-    }
-    std::string text(256, '\0');
-    zigrunk_text_answer answer;
-    do {
-        answer = zigrunk_quote(list.data(), list.size(), reinterpret_cast<std::uint8_t *>(text.data()), text.size());
-    } while (answer.length > text.size() && (text.resize(answer.length), true));
-    text.resize(answer.length);
-    if (answer.status != ZIGRUNK_OK) {
-        throw Error(answer.status, {}, text);
-    }
-    return text;
-}
+private:
+    own::Owned<zigrunk_plan> plan_;
+    std::vector<Command> commands_, dropped_;
+};
 
 // A call of nvcc: its words without nvcc's name, all of its environment (nvcc reads NVCC_PREPEND_FLAGS and NVCC_APPEND_FLAGS there, and the
 // commands run in it), its directory, and one for temporary files, which has to be there.
 class Call {
 public:
-    Call(const std::string &nvcc, const Texts &words, const Texts &environment, const std::string &cwd, const std::string &tmp)
-        : call_(zigrunk_call_of(own::plain(nvcc), own::pointers(own::plain(words)).data(), own::pointers(own::plain(environment)).data(), own::plain(cwd),
-                    own::plain(tmp)),
-              zigrunk_call_free) {
-        if (!call_) {
-            throw std::bad_alloc();
-        }
-        check(call_->status);
+    Call(std::string_view nvcc, const Texts &words, const Texts &environment, std::string_view cwd, std::string_view tmp) {
+        const own::Given line(words), variables(environment);
+        const zigrunk_nvcc_call given{own::given(nvcc), line, variables, own::given(cwd), own::given(tmp)};
+        call_ = own::made<zigrunk_call>(zigrunk_call_of, &given);
     }
-
-    // The two dry runs. plan() runs them; to run them elsewhere, pass what they print to standard error to plan_of.
-    Run dry_run(std::size_t number) const { return own::run(call_->dry_runs[number]); }
+    // The dry runs: of the line as it is, and the two that are planned. plan() runs what it needs of them; to run them elsewhere, pass what they
+    // print to standard error to plan_of.
+    std::vector<Run> dry_runs() const { return {Run(outline().own_dry_run), Run(outline().first_dry_run), Run(outline().second_dry_run)}; }
     // What writes the dependency file, if the line asks for one. It's no command of the plan.
     std::optional<Run> dependencies() const {
-        return call_->dependencies.words ? std::optional<Run>(own::run(call_->dependencies)) : std::nullopt;
+        return outline().dependencies.words.count ? std::optional<Run>(outline().dependencies) : std::nullopt;
     }
-    std::string flag() const { return call_->flag; }
+    std::string flag() const { return own::text(outline().flag); }
+    std::optional<std::string> keep_dir() const {
+        return outline().keep_dir.bytes ? std::optional<std::string>(own::text(outline().keep_dir)) : std::nullopt;
+    }
     // How many commands may run at once, or 0 if nothing says it.
-    std::size_t jobs() const { return call_->jobs; }
-    std::string input() const { return call_->input; }
+    std::size_t jobs() const { return outline().jobs; }
+    std::string input() const { return own::text(outline().input); }
     // What the call makes: the product, and the dependency file if there is one.
-    Texts outputs() const { return own::texts(call_->outputs); }
-
-    // Runs both dry runs, and plans.
-    Plan plan() {
-        check(zigrunk_call_plan(call_.get()));
-        return planned();
-    }
-
-    // Plans what the two dry runs printed: zigrunk_call_plan_of says what it checks.
-    Plan plan_of(std::string_view dry1, std::string_view dry2, std::size_t limit = 0) {
-        const auto text = [](std::string_view of) { return zigrunk_text{reinterpret_cast<const std::uint8_t *>(of.data()), of.size()}; };
-        check(zigrunk_call_plan_of(call_.get(), text(dry1), text(dry2), limit));
-        return planned();
-    }
-
-    // What a cache hashes of a command of the last plan, by its number: zigrunk_call_key says with what, and when it throws.
-    std::string key(std::size_t number) {
-        const zigrunk_text text = zigrunk_call_key(call_.get(), &numbered(number));
-        check(call_->status);
-        return {reinterpret_cast<const char *>(text.bytes), text.length};
-    }
-
-    // The files that tell one version of its tool from another.
-    Texts tool_files(std::size_t number) {
-        char **files = zigrunk_call_tool_files(call_.get(), &numbered(number));
-        return files ? own::texts(files) : throw std::bad_alloc();
+    Texts outputs() const { return own::texts(outline().outputs); }
+    // Runs the dry runs, and plans.
+    Plan plan() const { return Plan(own::made<zigrunk_plan>(zigrunk_call_plan, call_.get())); }
+    // Plans what the dry runs printed: zigrunk_call_plan_of says what it checks.
+    Plan plan_of(std::string_view own_run, std::string_view first, std::string_view second, std::size_t limit = 0) const {
+        const zigrunk_dry_runs given{own::given(own_run), own::given(first), own::given(second), nullptr, 0, limit};
+        return Plan(own::made<zigrunk_plan>(zigrunk_call_plan_of, call_.get(), &given));
     }
 
 private:
-    const zigrunk_planned &numbered(std::size_t number) const {
-        return number < call_->count ? call_->commands[number] : throw Error(ZIGRUNK_BAD_NUMBER, {}, "the plan has no such command");
-    }
-    void check(std::int32_t status) const {
-        if (status != ZIGRUNK_OK) {
-            throw Error(status, call_->place, call_->message);
-        }
-    }
-
-    Plan planned() const {
-        Plan plan;
-        for (std::size_t i = 0; i < call_->count + call_->dropped; ++i) {
-            (i < call_->count ? plan.commands : plan.dropped).push_back(own::command(call_->commands[i]));
-        }
-        return plan;
-    }
-
-    std::unique_ptr<zigrunk_call, void (*)(zigrunk_call *)> call_;
+    const zigrunk_outline &outline() const { return *zigrunk_call_outline(call_.get()); }
+    own::Owned<zigrunk_call> call_;
 };
 
 // Which command of a plan may start next, and which outputs may be printed. It starts nothing: you say what happened. Of the commands that may
 // start, the one is next for which others wait longest, by how long such commands usually take.
 class Schedule {
 public:
-    Schedule(const Plan &plan, std::size_t slots, std::uint32_t after_failure = ZIGRUNK_START_EARLIER) : states_(plan.commands.size() + 1) {
-        for (const Command &command : plan.commands) {
-            needs_.push_back(command.needs);
-            needs_.back().reserve(1);
-            weights_.push_back(weight(command));
-        }
-        for (std::size_t i = needs_.size(); i-- > 0;) {
-            for (const std::size_t need : needs_[i]) {
-                longest(need, i);
-            }
-        }
-        commands_.reserve(needs_.size() + 1);
-        for (std::size_t i = 0; i < needs_.size(); ++i) {
-            commands_.push_back({needs_[i].data(), needs_[i].size(), 0, weights_[i] + (i < waits_.size() ? waits_[i] : 0)});
-        }
-        record_ = {commands_.data(), commands_.size(), slots, after_failure, 0};
-        check(zigrunk_schedule_begin(&record_, states_.data(), size()).status);
+    Schedule(const Plan &plan, std::size_t slots, std::uint32_t after_failure = ZIGRUNK_START_EARLIER) : size_(plan.commands().size()) {
+        const zigrunk_plan *const plans = plan.get();
+        const zigrunk_schedule_call given{&plans, 1, nullptr, 0, slots, after_failure};
+        schedule_ = own::made<zigrunk_schedule>(zigrunk_schedule_of, &given);
     }
-    Schedule(const Schedule &) = delete;
-    Schedule &operator=(const Schedule &) = delete;
-
-    std::size_t size() const { return commands_.size(); }
+    std::size_t size() const { return size_; }
     // Whether nothing runs and nothing may start.
-    bool over() const { return zigrunk_schedule_progress(&record_, states_.data(), size()).over != 0; }
+    bool over() const { return zigrunk_schedule_progress(schedule_.get(), 0, size_).is_over != 0; }
     // The next command that may start, which counts as started; none if none may.
     std::optional<std::size_t> start() {
-        const zigrunk_schedule_answer next = zigrunk_schedule_next(&record_, states_.data(), size());
-        if (next.status != ZIGRUNK_OK || next.command == size()) {
-            return std::nullopt;
-        }
-        check(zigrunk_schedule_started(&record_, states_.data(), size(), next.command).status);
-        return next.command;
+        const std::size_t command = zigrunk_schedule_start(schedule_.get());
+        return command == ZIGRUNK_ALL ? std::nullopt : std::optional<std::size_t>(command);
     }
     void ended(std::size_t command, bool succeeded) {
-        const std::uint32_t outcome = succeeded ? ZIGRUNK_SUCCEEDED : ZIGRUNK_FAILED;
-        check(zigrunk_schedule_ended(&record_, states_.data(), size(), command, outcome).status);
+        if (zigrunk_schedule_ended(schedule_.get(), command, succeeded ? ZIGRUNK_SUCCEEDED : ZIGRUNK_FAILED) != ZIGRUNK_OK) {
+            throw Error(ZIGRUNK_BAD_NUMBER, 0, 0, "the command doesn't run");
+        }
     }
     // The next command whose output may be printed: in the plan's order, up to the first that fails. None for now, or none any more.
     std::optional<std::size_t> tell() {
-        const zigrunk_told_answer told = zigrunk_schedule_told(&record_, states_.data(), size(), told_, size());
-        if (failed_ || told.status != ZIGRUNK_OK || told.end == told_) {
+        const zigrunk_progress progress = zigrunk_schedule_progress(schedule_.get(), told_, size_);
+        if (failed_ || progress.told == told_) {
             return std::nullopt;
         }
-        failed_ = told.plan == ZIGRUNK_ONE_FAILED && told.end == told_ + 1;
+        failed_ = progress.status == ZIGRUNK_ONE_FAILED && progress.told == told_ + 1;
         return told_++;
     }
 
 private:
-    static void check(std::int32_t status) {
-        if (status != ZIGRUNK_OK) {
-            throw Error(status, {}, "a call on a schedule makes no sense");
-        }
-    }
-    static std::size_t weight(const Command &command) {
-        switch (command.tool) {
-        case ZIGRUNK_TOOL_CUDAFE: return 41;
-        case ZIGRUNK_TOOL_CICC: return 33;
-        case ZIGRUNK_TOOL_PTXAS: return 2;
-        case ZIGRUNK_TOOL_HOST: return command.preprocesses ? 11 : 38;
-        default: return 1;
-        }
-    }
-    // Notes that a command waits for another.
-    void longest(std::size_t need, std::size_t command) {
-        waits_.resize(needs_.size());
-        const std::size_t waits = weights_[command] + waits_[command];
-        waits_[need] = waits_[need] < waits ? waits : waits_[need];
-    }
-
-    std::vector<std::vector<std::size_t>> needs_;
-    std::vector<std::size_t> weights_, waits_;
-    std::vector<zigrunk_scheduled_command> commands_;
-    std::vector<std::uint8_t> states_;
-    zigrunk_schedule record_{};
-    std::size_t told_ = 0;
+    own::Owned<zigrunk_schedule> schedule_;
+    std::size_t size_, told_ = 0;
     bool failed_ = false;
 };
+
+// The environment of this process.
+inline Texts environment() {
+    Texts made;
+    for (char **variable = environ; variable && *variable; ++variable) {
+        made.emplace_back(*variable);
+    }
+    return made;
+}
+
+// Words as one text, which a POSIX shell reads as these words.
+inline std::string quote(const Texts &words) {
+    return own::answer(zigrunk_quote, static_cast<zigrunk_texts>(own::Given(words))).at(0);
+}
+
+// The words that a POSIX shell reads in a text.
+inline Texts split(std::string_view text) {
+    return own::answer(zigrunk_split, own::given(text));
+}
 
 } // namespace zigrunk
 

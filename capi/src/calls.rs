@@ -77,6 +77,7 @@ pub struct zigrunk_outline {
 }
 
 /// A call whose line was read.
+#[repr(C)]
 pub struct zigrunk_call {
     made: zigrunk_made,
     outline: zigrunk_outline,

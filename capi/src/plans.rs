@@ -157,6 +157,7 @@ pub struct zigrunk_commands {
 }
 
 /// What one nvcc call runs.
+#[repr(C)]
 pub struct zigrunk_plan {
     made: zigrunk_made,
     commands: zigrunk_commands,

@@ -75,6 +75,7 @@ pub struct zigrunk_progress {
 }
 
 /// Which command may start next, what a failure means, and which outputs may be printed. It starts no process.
+#[repr(C)]
 pub struct zigrunk_schedule {
     made: zigrunk_made,
     schedule: Schedule,

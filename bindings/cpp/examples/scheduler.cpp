@@ -17,8 +17,17 @@ namespace {
 
 using zigrunk::Command, zigrunk::quote, zigrunk::Texts;
 
+std::vector<char *> pointers(const Texts &list) {
+    std::vector<char *> made;
+    for (const std::string &text : list) {
+        made.push_back(const_cast<char *>(text.c_str()));
+    }
+    made.push_back(nullptr);
+    return made;
+}
+
 pid_t start(const zigrunk::Run &run) {
-    std::vector<char *> words = zigrunk::own::pointers(run.words), environment = zigrunk::own::pointers(run.environment);
+    std::vector<char *> words = pointers(run.words), environment = pointers(run.environment);
     const pid_t process = fork();
     if (process == 0) {
         if (chdir(run.cwd.c_str()) == 0) {
@@ -54,7 +63,7 @@ Texts written(const Command &command) {
 Texts read(const zigrunk::Plan &plan, const Command &command) {
     Texts files = command.reads;
     for (std::size_t i = 0; command.missing != ZIGRUNK_NONE_MISSING && i < command.needs.size(); ++i) {
-        append(files, written(plan.commands[command.needs[i]]));
+        append(files, written(plan.commands()[command.needs[i]]));
     }
     files.erase(std::remove_if(files.begin(), files.end(), [](const std::string &path) { return !std::filesystem::exists(path); }), files.end());
     return files;
@@ -100,7 +109,7 @@ int run_plan(const zigrunk::Plan &plan, Texts free, const std::string &tmp) {
     int status = 1;
     while (!schedule.over()) {
         while (const auto number = schedule.start()) {
-            const Command &command = plan.commands[*number];
+            const Command &command = plan.commands()[*number];
             const std::string text = command.preprocesses ? script(command, said(*number)) : script_on(free.back(), plan, command, said(*number));
             running[start({{"sh", "-c", text}, zigrunk::environment(), "/"})] = {*number, free.back()};
             free.pop_back();
