@@ -1,23 +1,23 @@
-// Package zigrunk says what one nvcc call really runs, over libzigrunk and its header zigrunk_call.h, which pkg-config has to find.
+// Package zigrunk says what one nvcc call really runs, over libzigrunk, which pkg-config has to find.
 //
-// A Call is an nvcc line, its environment, and where it is made. Its Plan runs nvcc's two dry runs, finds the programs that they name, and
-// gives the commands.
+// A Call is an nvcc line, its environment, and where it is made. Its Plan runs nvcc's dry runs, finds the programs that they name, and gives the
+// commands. Goroutines may share calls and plans; a schedule is for one at a time. Texts may be any bytes.
 package zigrunk
 
 // #cgo pkg-config: zigrunk
-// #include <zigrunk_call.h>
+// #include <stdlib.h>
+// #include <zigrunk.h>
 import "C"
 
 import (
 	"runtime"
-	"strings"
 	"unsafe"
 )
 
-// Status says why there is no plan.
+// Status says why a call is refused.
 type Status int
 
-// The statuses of zigrunk.h, and two more: nvcc refused a dry run, or the system failed. After ToNvcc, nvcc has to make the call itself.
+// The statuses of zigrunk.h. After ToNvcc, nvcc has to make the call itself.
 const (
 	OutOfMemory  Status = C.ZIGRUNK_OUT_OF_MEMORY
 	NotUTF8      Status = C.ZIGRUNK_NOT_UTF8
@@ -32,8 +32,8 @@ const (
 	OverLimit    Status = C.ZIGRUNK_OVER_LIMIT
 	NoDryRun     Status = C.ZIGRUNK_NO_DRY_RUN
 	OddDirectory Status = C.ZIGRUNK_ODD_DIRECTORY
-	ByNvcc       Status = C.ZIGRUNK_CALL_NVCC
-	BySystem     Status = C.ZIGRUNK_CALL_SYSTEM
+	ByNvcc       Status = C.ZIGRUNK_NVCC
+	IO           Status = C.ZIGRUNK_IO
 )
 
 // Tool is the tool that a command runs.
@@ -61,10 +61,10 @@ const (
 	InputsMissing  Missing = C.ZIGRUNK_INPUTS_MISSING
 )
 
-// Error says why there is no plan. Field is ZIGRUNK_FIELD_DRY1 .. of zigrunk.h, or 0, and Line that of the dry run, from 1, or 0.
+// Error says why a call is refused. Input is ZIGRUNK_INPUT_FIRST .. of zigrunk.h, or 0, and Line that of a dry run, from 1, or 0.
 type Error struct {
 	Status  Status
-	Field   uint32
+	Input   uint32
 	Line    int
 	Message string
 }
@@ -91,184 +91,253 @@ type Command struct {
 	Group, DryRun, Line int
 	Tool                Tool
 	Missing             Missing
-	// Reason is why the plan dropped it (ZIGRUNK_NOT_CUDA ..), or 0.
-	Reason uint32
+	// Stage is ZIGRUNK_FRONT .. of zigrunk.h, and Reason why the plan dropped the command (ZIGRUNK_NOT_CUDA ..), or 0.
+	Stage, Reason uint32
 	// Cacheable says whether its outputs may come from a cache, Preprocesses whether it only preprocesses.
 	Cacheable, Preprocesses bool
 }
 
-// Plan has the commands in their order, and those that the plan dropped.
-type Plan struct {
-	Commands, Dropped []Command
+// owned is what a function has made, which is freed once nobody uses it.
+type owned struct{ pointer unsafe.Pointer }
+
+func own(pointer unsafe.Pointer, status C.int32_t, refused *C.zigrunk_error) (*owned, error) {
+	if status != C.ZIGRUNK_OK {
+		defer C.zigrunk_free(unsafe.Pointer(refused))
+		return nil, &Error{Status(status), uint32(refused.input), int(refused.line), text(refused.message)}
+	}
+	made := &owned{pointer}
+	runtime.SetFinalizer(made, func(made *owned) { C.zigrunk_free(made.pointer) })
+	return made, nil
 }
 
-// Call is a call of nvcc. Two goroutines may not use one at the same time.
-type Call struct {
-	// DryRuns are the two dry runs. Plan runs them; to run them elsewhere, pass what they print to standard error to PlanOf.
-	DryRuns [2]Run
-	// Dependencies is what writes the dependency file, or nil if the line asks for none. It's no command of the plan.
-	Dependencies *Run
-	// Flag is the option that says what nvcc makes, and Input the source's path, as the dry runs have it.
-	Flag, Input string
-	// Outputs are what the call makes: the product, and the dependency file if there is one.
-	Outputs []string
-	// Jobs is how many commands may run at once, or 0 if nothing says it.
-	Jobs int
-	call *C.zigrunk_call
+func text(of C.zigrunk_text) string {
+	return string(unsafe.Slice((*byte)(unsafe.Pointer(of.bytes)), of.length))
 }
 
-// texts copies a list of C that ends with NULL.
-func texts(list **C.char) []string {
-	var made []string
-	for list != nil && *list != nil {
-		made = append(made, C.GoString(*list))
-		list = (**C.char)(unsafe.Add(unsafe.Pointer(list), unsafe.Sizeof(*list)))
+func texts(of C.zigrunk_texts) []string {
+	made := make([]string, of.count)
+	items, lengths := unsafe.Slice(of.items, of.count), unsafe.Slice(of.lengths, of.count)
+	for i := range made {
+		made[i] = text(C.zigrunk_text{items[i], lengths[i]})
 	}
 	return made
 }
 
-// list makes a list for C that ends with NULL, and says how to free it.
-func list(words []string) (**C.char, func()) {
-	made := C.malloc(C.size_t(len(words)+1) * C.size_t(unsafe.Sizeof((*C.char)(nil))))
-	slots := unsafe.Slice((**C.char)(made), len(words)+1)
-	for i, word := range words {
-		slots[i] = C.CString(word)
-	}
-	slots[len(words)] = nil
-	return (**C.char)(made), func() {
-		for _, word := range slots {
-			C.free(unsafe.Pointer(word))
-		}
-		C.free(made)
+// given is memory of C for what is passed.
+type given struct{ all []unsafe.Pointer }
+
+func (g *given) room(size int) unsafe.Pointer {
+	made := C.malloc(C.size_t(size + 1))
+	g.all = append(g.all, made)
+	return made
+}
+
+func (g *given) free() {
+	for _, it := range g.all {
+		C.free(it)
 	}
 }
 
-func run(of *C.zigrunk_run) Run {
-	return Run{texts(of.words), texts(of.environment), C.GoString(of.cwd)}
+func (g *given) text(of string) C.zigrunk_text {
+	room := g.room(len(of))
+	copy(unsafe.Slice((*byte)(room), len(of)), of)
+	return C.zigrunk_text{(*C.char)(room), C.size_t(len(of))}
+}
+
+func (g *given) texts(of []string) C.zigrunk_texts {
+	items, lengths := (**C.char)(g.room(len(of)*8)), (*C.size_t)(g.room(len(of)*8))
+	for i, it := range of {
+		text := g.text(it)
+		unsafe.Slice(items, len(of))[i], unsafe.Slice(lengths, len(of))[i] = text.bytes, text.length
+	}
+	return C.zigrunk_texts{items, lengths, C.size_t(len(of))}
+}
+
+func run(of C.zigrunk_run) Run { return Run{texts(of.words), texts(of.environment), text(of.cwd)} }
+
+// Call is a call of nvcc.
+type Call struct {
+	// DryRuns are that of the line as it is, and the two that are planned. Plan runs what it needs of them; to run them elsewhere, pass what they
+	// print to standard error to PlanOf.
+	DryRuns [3]Run
+	// Dependencies is what writes the dependency file, or nil if the line asks for none. It's no command of the plan.
+	Dependencies *Run
+	// Flag is the option that says what nvcc makes, Input the source's path, as the dry runs have it, and KeepDir the directory that keeps
+	// generated files, or empty.
+	Flag, Input, KeepDir string
+	// Outputs are what the call makes: the product, and the dependency file if there is one.
+	Outputs []string
+	// Jobs is how many commands may run at once, or 0 if nothing says it.
+	Jobs int
+	call *owned
 }
 
 // NewCall reads a line of nvcc: its words without nvcc's name, all of its environment, as os.Environ gives it, its directory, and one for
 // temporary files, which has to be there. nvcc reads NVCC_PREPEND_FLAGS and NVCC_APPEND_FLAGS in the environment, and the commands run in it.
 func NewCall(nvcc string, words, environment []string, directory, tmp string) (*Call, error) {
-	for _, text := range append(append([]string{nvcc, directory, tmp}, words...), environment...) {
-		if strings.IndexByte(text, 0) >= 0 {
-			return nil, &Error{Status: BadLine, Message: "a text contains NUL"}
-		}
+	var passed given
+	defer passed.free()
+	line := C.zigrunk_nvcc_call{passed.text(nvcc), passed.texts(words), passed.texts(environment), passed.text(directory), passed.text(tmp)}
+	var made *C.zigrunk_call
+	var refused *C.zigrunk_error
+	status := C.zigrunk_call_of(&line, &made, &refused)
+	call, err := own(unsafe.Pointer(made), status, refused)
+	if err != nil {
+		return nil, err
 	}
-	var names [3]*C.char
-	for i, name := range []string{nvcc, directory, tmp} {
-		names[i] = C.CString(name)
-		defer C.free(unsafe.Pointer(names[i]))
+	outline := C.zigrunk_call_outline(made)
+	var rule *Run
+	if outline.dependencies.words.count > 0 {
+		dependencies := run(outline.dependencies)
+		rule = &dependencies
 	}
-	line, freeLine := list(words)
-	defer freeLine()
-	variables, freeVariables := list(environment)
-	defer freeVariables()
-	call := &Call{call: C.zigrunk_call_of(names[0], line, variables, names[1], names[2])}
-	if call.call == nil {
-		return nil, &Error{Status: OutOfMemory, Message: "out of memory"}
-	}
-	runtime.SetFinalizer(call, func(call *Call) { C.zigrunk_call_free(call.call) })
-	if call.call.status != C.ZIGRUNK_OK {
-		return nil, call.refused()
-	}
-	call.DryRuns = [2]Run{run(&call.call.dry_runs[0]), run(&call.call.dry_runs[1])}
-	if call.call.dependencies.words != nil {
-		rule := run(&call.call.dependencies)
-		call.Dependencies = &rule
-	}
-	call.Flag, call.Input, call.Jobs = C.GoString(call.call.flag), C.GoString(call.call.input), int(call.call.jobs)
-	call.Outputs = texts(call.call.outputs)
-	return call, nil
+	runs := [3]Run{run(outline.own_dry_run), run(outline.first_dry_run), run(outline.second_dry_run)}
+	return &Call{runs, rule, text(outline.flag), text(outline.input), text(outline.keep_dir), texts(outline.outputs), int(outline.jobs), call}, nil
 }
 
-func (c *Call) refused() error {
-	return &Error{Status(c.call.status), uint32(c.call.place.field), int(c.call.place.line), C.GoString(c.call.message)}
+// Plan is what one nvcc call runs: the commands of its groups in order, and those that it dropped.
+type Plan struct {
+	Commands, Dropped []Command
+	plan              *owned
 }
 
-// Plan runs both dry runs, and plans.
+// Plan runs the dry runs, and plans.
 func (c *Call) Plan() (*Plan, error) {
-	return c.planned(C.zigrunk_call_plan(c.call))
-}
-
-// PlanOf plans what the two dry runs printed. Each command has what it needs, or there is no plan: NoDryRun, and the place, if the texts aren't
-// the dry runs of this call; ToNvcc if a command reads a file that no command before it writes. If someone else wrote them, give it a limit on the
-// bytes that reading them makes; 0 is none.
-func (c *Call) PlanOf(dry1, dry2 []byte, limit int) (*Plan, error) {
-	first, second := C.CBytes(dry1), C.CBytes(dry2)
-	defer C.free(first)
-	defer C.free(second)
-	return c.planned(C.zigrunk_call_plan_of(c.call, C.zigrunk_text{(*C.uint8_t)(first), C.size_t(len(dry1))},
-		C.zigrunk_text{(*C.uint8_t)(second), C.size_t(len(dry2))}, C.size_t(limit)))
-}
-
-func (c *Call) planned(status C.int32_t) (*Plan, error) {
 	defer runtime.KeepAlive(c)
-	if status != C.ZIGRUNK_OK {
-		return nil, c.refused()
-	}
-	plan := &Plan{}
-	for i, of := range unsafe.Slice(c.call.commands, c.call.count+c.call.dropped) {
-		if C.size_t(i) < c.call.count {
-			plan.Commands = append(plan.Commands, command(&of))
-		} else {
-			plan.Dropped = append(plan.Dropped, command(&of))
-		}
-	}
-	return plan, nil
+	var made *C.zigrunk_plan
+	var refused *C.zigrunk_error
+	status := C.zigrunk_call_plan((*C.zigrunk_call)(c.call.pointer), &made, &refused)
+	return planned(made, status, refused)
 }
 
-func command(of *C.zigrunk_planned) Command {
-	var needs []int
-	for _, need := range unsafe.Slice(of.needs, of.needs_count) {
-		needs = append(needs, int(need))
+// PlanOf plans what the dry runs printed. NoDryRun, and the input that is at fault, if the texts aren't the dry runs of this call; ToNvcc if nvcc does
+// something else for the line, or a command reads a file that no command before it writes. If someone else wrote them, give it a limit on the bytes
+// that reading them makes; 0 is none.
+func (c *Call) PlanOf(ownRun, first, second []byte, limit int) (*Plan, error) {
+	defer runtime.KeepAlive(c)
+	var passed given
+	defer passed.free()
+	runs := C.zigrunk_dry_runs{own: passed.text(string(ownRun)), first: passed.text(string(first)), second: passed.text(string(second)), limit: C.size_t(limit)}
+	var made *C.zigrunk_plan
+	var refused *C.zigrunk_error
+	status := C.zigrunk_call_plan_of((*C.zigrunk_call)(c.call.pointer), &runs, &made, &refused)
+	return planned(made, status, refused)
+}
+
+func planned(made *C.zigrunk_plan, status C.int32_t, refused *C.zigrunk_error) (*Plan, error) {
+	plan, err := own(unsafe.Pointer(made), status, refused)
+	if err != nil {
+		return nil, err
+	}
+	all := C.zigrunk_plan_commands(made)
+	commands := make([]Command, all.count)
+	for i, of := range unsafe.Slice(all.items, all.count) {
+		commands[i] = command(of)
+	}
+	kept := all.count - all.dropped
+	return &Plan{commands[:kept:kept], commands[kept:], plan}, nil
+}
+
+func command(of C.zigrunk_command) Command {
+	needs := make([]int, of.needs_count)
+	for i, need := range unsafe.Slice(of.needs, of.needs_count) {
+		needs[i] = int(need)
 	}
 	return Command{
-		Run: run(&of.run), Reads: texts(of.reads), Writes: texts(of.writes), MayWrite: texts(of.may_write), Targets: texts(of.targets),
-		Needs: needs, Group: int(of.group), DryRun: int(of.dry_run), Line: int(of.line), Tool: Tool(of.tool), Missing: Missing(of.missing),
-		Reason: uint32(of.reason), Cacheable: of.cacheable != 0, Preprocesses: of.preprocesses != 0,
+		Run: Run{texts(of.words), texts(of.environment), text(of.cwd)}, Reads: texts(of.reads), Writes: texts(of.writes),
+		MayWrite: texts(of.may_write), Targets: texts(of.targets), Needs: needs, Group: int(of.group), DryRun: int(of.dry_run), Line: int(of.line),
+		Tool: Tool(of.tool), Missing: Missing(of.missing), Stage: uint32(of.stage), Reason: uint32(of.reason), Cacheable: of.is_cacheable != 0,
+		Preprocesses: of.preprocesses != 0,
 	}
 }
 
-func (c *Call) numbered(number int) (*C.zigrunk_planned, error) {
-	if number < 0 || C.size_t(number) >= c.call.count {
-		return nil, &Error{Status: BadNumber, Message: "the plan has no such command"}
-	}
-	return &unsafe.Slice(c.call.commands, c.call.count)[number], nil
-}
-
-// Key is what a cache hashes of a command of the call's last plan, by its number, together with the contents of ToolFiles and of what the command
-// reads. Two commands for which all that is equal make files of equal contents, in whatever directories they run. Two exceptions: if a source
-// defines no external name, cudafe++ makes up another module id each time; and cicc has libm compute constants such as cos(8.2), whose last bit can
-// depend on the C library and on the processor. So if machines that differ in these share a cache, hash what tells them apart, too.
-//
-// It's an error (BadLine) if a cache may not serve the command: it isn't one of cudafe++, cicc and ptxas, whose words name all that it touches; a
-// word of it isn't known, asks for debugging information, or names a further file; its program is a script; LD_PRELOAD or LD_AUDIT is set; the PTX
-// that ptxas reads has a .file. So ask when the commands that it needs have ended.
-func (c *Call) Key(number int) ([]byte, error) {
-	defer runtime.KeepAlive(c)
-	of, err := c.numbered(number)
+// ask calls a function that makes texts.
+func ask(call func(passed *given, made **C.zigrunk_answer, refused **C.zigrunk_error) C.int32_t) ([]string, error) {
+	var passed given
+	defer passed.free()
+	var made *C.zigrunk_answer
+	var refused *C.zigrunk_error
+	status := call(&passed, &made, &refused)
+	it, err := own(unsafe.Pointer(made), status, refused)
 	if err != nil {
 		return nil, err
 	}
-	key := C.zigrunk_call_key(c.call, of)
-	if key.length == 0 {
-		return nil, c.refused()
-	}
-	return C.GoBytes(unsafe.Pointer(key.bytes), C.int(key.length)), nil
+	defer runtime.KeepAlive(it)
+	return texts(made.texts), nil
 }
 
-// ToolFiles are the files that tell one version of a command's tool from another: its program, a libm that LD_LIBRARY_PATH has it load, and for cicc
-// the library of device code.
-func (c *Call) ToolFiles(number int) ([]string, error) {
-	defer runtime.KeepAlive(c)
-	of, err := c.numbered(number)
+func first(all []string, err error) (string, error) { return append(all, "")[0], err }
+
+// Text is the plan as "json", "ninja", "shell" or "text".
+func (p *Plan) Text(format string) (string, error) {
+	defer runtime.KeepAlive(p)
+	return first(ask(func(passed *given, made **C.zigrunk_answer, refused **C.zigrunk_error) C.int32_t {
+		return C.zigrunk_plan_text((*C.zigrunk_plan)(p.plan.pointer), passed.text(format), made, refused)
+	}))
+}
+
+// Key is what a cache hashes of a command, by its number, and the files to hash with it and with what the command reads: they tell one version of its
+// tool from another. Two commands for which all that is equal make files of equal contents, in whatever directories they run; EMBEDDING.md has two
+// exceptions. It's an error (BadLine) that says why if a cache may not serve the command. So ask when the commands that it needs have ended.
+func (p *Plan) Key(number int) (key []byte, toolFiles []string, err error) {
+	defer runtime.KeepAlive(p)
+	all, err := ask(func(_ *given, made **C.zigrunk_answer, refused **C.zigrunk_error) C.int32_t {
+		return C.zigrunk_plan_key((*C.zigrunk_plan)(p.plan.pointer), C.size_t(number), made, refused)
+	})
 	if err != nil {
-		return nil, err
+		return nil, nil, err
 	}
-	files := C.zigrunk_call_tool_files(c.call, of)
-	if files == nil {
-		return nil, &Error{Status: OutOfMemory, Message: "out of memory"}
-	}
-	return texts(files), nil
+	return []byte(all[0]), all[1:], nil
+}
+
+// Split lists the words that a POSIX shell reads in a text.
+func Split(text string) ([]string, error) {
+	return ask(func(passed *given, made **C.zigrunk_answer, refused **C.zigrunk_error) C.int32_t {
+		return C.zigrunk_split(passed.text(text), made, refused)
+	})
+}
+
+// Quote is words as one text, which a POSIX shell reads as these words.
+func Quote(words []string) (string, error) {
+	return first(ask(func(passed *given, made **C.zigrunk_answer, refused **C.zigrunk_error) C.int32_t {
+		return C.zigrunk_quote(passed.texts(words), made, refused)
+	}))
+}
+
+// Schedule says which command of a plan may start next, and which outputs may be printed. It starts nothing: you say what happened.
+type Schedule struct {
+	schedule *owned
+	size     int
+}
+
+// NewSchedule is a schedule of a plan of which nothing has started. After a failure only commands before it start.
+func NewSchedule(plan *Plan, slots int) (*Schedule, error) {
+	defer runtime.KeepAlive(plan)
+	var passed given
+	defer passed.free()
+	plans := (**C.zigrunk_plan)(passed.room(8))
+	*plans = (*C.zigrunk_plan)(plan.plan.pointer)
+	call := C.zigrunk_schedule_call{plans: plans, plans_count: 1, slots: C.size_t(slots), after_failure: C.ZIGRUNK_START_EARLIER}
+	var made *C.zigrunk_schedule
+	var refused *C.zigrunk_error
+	status := C.zigrunk_schedule_of(&call, &made, &refused)
+	schedule, err := own(unsafe.Pointer(made), status, refused)
+	return &Schedule{schedule, len(plan.Commands)}, err
+}
+
+// Start is the number of a command to start now, which counts as started, or -1 if none may start.
+func (s *Schedule) Start() int {
+	return int(C.zigrunk_schedule_start((*C.zigrunk_schedule)(s.schedule.pointer)))
+}
+
+// Ended notes how a command ended, and says whether it was running.
+func (s *Schedule) Ended(command int, succeeded bool) bool {
+	outcome := map[bool]C.uint32_t{true: C.ZIGRUNK_SUCCEEDED, false: C.ZIGRUNK_FAILED}[succeeded]
+	return C.zigrunk_schedule_ended((*C.zigrunk_schedule)(s.schedule.pointer), C.size_t(command), outcome) == C.ZIGRUNK_OK
+}
+
+// Told says up to which command the outputs from a first one on may be printed, and whether nothing runs and nothing may start.
+func (s *Schedule) Told(first int) (end int, over bool) {
+	progress := C.zigrunk_schedule_progress((*C.zigrunk_schedule)(s.schedule.pointer), C.size_t(first), C.size_t(s.size))
+	return int(progress.told), progress.is_over != 0
 }

@@ -60,17 +60,16 @@ func (c Cache) Put(of Named, _ *bool) error {
 }
 
 // keyOf is the digest of all that a command's products depend on: its key, its tool, and what it reads. There is none if no cache may serve it.
-func keyOf(call *zigrunk.Call, number int, command *zigrunk.Command) string {
-	key, err := call.Key(number)
+func keyOf(plan *zigrunk.Plan, number int, command *zigrunk.Command) string {
+	key, tool, err := plan.Key(number)
 	if err != nil {
 		return ""
 	}
-	tool, err := call.ToolFiles(number)
 	sum := sha256.New()
 	sum.Write(key)
 	for _, path := range append(tool, command.Reads...) {
 		content, missing := os.ReadFile(path)
-		if err != nil || missing != nil {
+		if missing != nil {
 			return ""
 		}
 		digest := sha256.Sum256(content)
@@ -135,11 +134,11 @@ func code(err error) int {
 }
 
 // makePlan makes the commands of a plan in its order.
-func makePlan(server *rpc.Client, call *zigrunk.Call, plan *zigrunk.Plan) int {
+func makePlan(server *rpc.Client, plan *zigrunk.Plan) int {
 	hits := 0
 	for i := range plan.Commands {
 		command := &plan.Commands[i]
-		entry, hit, err := made(server, keyOf(call, i, command), command)
+		entry, hit, err := made(server, keyOf(plan, i, command), command)
 		os.Stdout.Write(entry.Output)
 		os.Stderr.Write(entry.Errors)
 		if err != nil {
@@ -171,7 +170,7 @@ func makeCall(socket, tmp string, words []string) int {
 			return failed
 		}
 	}
-	return makePlan(server, call, plan)
+	return makePlan(server, plan)
 }
 
 func main() {
