@@ -1,0 +1,172 @@
+//! All that the crate says of the rows of `tests/callers/misuses.txt`, as `answers.c` there prints it: `answers ROOM < misuses.txt`.
+
+use std::collections::VecDeque;
+use std::error::Error;
+use std::path::PathBuf;
+use std::{env, fs, io};
+
+use zigrunk::schedule::{AfterFailure, Outcome, Schedule};
+use zigrunk::{Call, Command, CommandTool, Disk, DropReason, DryRuns, Format, Missing, NvccCall, Plan, Run, Stage, variables};
+
+fn print_text(name: &str, text: impl AsRef<[u8]>) {
+    let escaped = text.as_ref().iter().map(|&byte| match byte {
+        b'\\' | 0..=32 | 127.. => format!("\\{byte:02x}"),
+        _ => char::from(byte).to_string(),
+    });
+    println!("{name} {}", escaped.collect::<String>());
+}
+
+fn print_texts<T: AsRef<[u8]>>(name: &str, texts: impl IntoIterator<Item = T>) {
+    texts.into_iter().for_each(|text| print_text(name, text));
+}
+
+fn print_run(name: &str, run: Option<&Run>) {
+    println!("{name}");
+    if let Some(run) = run {
+        print_texts(" word", run.words());
+        print_texts(" variable", run.environment().iter().map(|(name, value)| format!("{name}={value}")));
+        print_text(" cwd", run.cwd());
+    }
+}
+
+fn print_refusal(error: &zigrunk::Error) {
+    let (input, line) = error.place().map_or((0, 0), |place| (place.input.number(), place.line.unwrap_or(0)));
+    println!("refused {} {input} {line}", error.status());
+    print_text("message", error.to_string());
+}
+
+fn print_call(call: &Call) {
+    for (name, run) in ["own", "first", "second"].iter().zip(call.dry_runs()) {
+        print_run(name, Some(run));
+    }
+    print_run("dependencies", call.dependencies());
+    print_text("flag", call.flag());
+    print_text(if call.keep_dir().is_some() { "keep_dir" } else { "no keep_dir" }, call.keep_dir().unwrap_or_default());
+    print_text("input", call.input());
+    print_texts("output", call.outputs());
+    println!("jobs {}", call.jobs().unwrap_or(0));
+}
+
+/// The numbers of `zigrunk.h`.
+fn numbers(of: Command<'_>, stage: Option<Stage>) -> [u32; 4] {
+    let stage = match stage {
+        None | Some(Stage::Front) => 0,
+        Some(Stage::Final) => 2,
+        Some(_) => 1,
+    };
+    let tool = match of.tool() {
+        Some(CommandTool::Cicc) => 0,
+        Some(CommandTool::Ptxas) => 1,
+        Some(CommandTool::CudaFe) => 2,
+        Some(CommandTool::Fatbinary) => 6,
+        Some(CommandTool::NvLink) => 7,
+        _ => 8,
+    };
+    let missing = match of.missing() {
+        None => 0,
+        Some(Missing::Headers) => 2,
+        Some(Missing::Inputs) => 3,
+        Some(_) => 1,
+    };
+    let reason = match of.reason() {
+        None => 0,
+        Some(DropReason::NoCiccGroup) => 2,
+        Some(DropReason::NoPtxasGroup) => 3,
+        Some(DropReason::Superseded) => 4,
+        Some(_) => 1,
+    };
+    [stage, tool, missing, reason]
+}
+
+fn print_command(of: Command<'_>, stage: Option<Stage>) {
+    let [stage, tool, missing, reason] = numbers(of, stage);
+    println!(
+        "command of {} group, {}, stage {stage}, tool {tool}, missing {missing}, reason {reason}, run {}, line {}, cacheable {}, preprocesses {}",
+        if of.group().is_some() { "a" } else { "no" },
+        of.group().unwrap_or(0),
+        of.run(),
+        of.line(),
+        u8::from(of.is_cacheable()),
+        u8::from(of.preprocesses())
+    );
+    print_texts(" word", of.words());
+    print_texts(" variable", of.variables().map(|(name, value)| format!("{name}={value}")));
+    print_text(" cwd", of.cwd());
+    print_texts(" reads", of.reads());
+    print_texts(" writes", of.writes());
+    print_texts(" may write", of.may_write());
+    print_texts(" target", of.targets());
+    of.needs().iter().for_each(|need| println!(" needs {need}"));
+}
+
+fn print_key(of: Command<'_>) {
+    match of.cache_key() {
+        Ok(key) => {
+            print_text(" key", key.text);
+            print_texts(" key", key.tool.iter().map(|path| path.as_os_str().as_encoded_bytes()));
+        }
+        Err(error) => print_refusal(&error),
+    }
+}
+
+/// Two slots, and the command that began first ends first.
+fn print_schedule(plan: &Plan) -> Result<(), Box<dyn Error>> {
+    let mut schedule = Schedule::of_plans([plan], 2, AfterFailure::StartEarlier)?;
+    let mut running = VecDeque::new();
+    while !schedule.is_over() {
+        for next in schedule.start_ready() {
+            println!("start {next}");
+            running.push_back(next);
+        }
+        schedule.ended(running.pop_front().ok_or("nothing runs")?, Outcome::Success)?;
+        println!("told {}", schedule.told(0..schedule.len()).commands.end);
+    }
+    Ok(())
+}
+
+fn print_plan(plan: &Plan) -> Result<(), Box<dyn Error>> {
+    for group in plan.groups() {
+        for command in group.commands() {
+            print_command(command, Some(group.stage()));
+            print_key(command);
+        }
+    }
+    plan.dropped().for_each(|command| print_command(command, None));
+    for name in ["json", "ninja", "shell", "text"] {
+        match plan.text(Format::named(name).ok_or("no such format")?) {
+            Ok(text) => print_text(name, text),
+            Err(error) => print_refusal(&error),
+        }
+    }
+    // (the crate takes no name of a format, so this is what the others say of one that isn't there)
+    print!("refused 3 0 0\nmessage a\\20number\\20has\\20no\\20meaning\n");
+    print_schedule(plan)
+}
+
+fn main() -> Result<(), Box<dyn Error>> {
+    let room = PathBuf::from(env::args_os().nth(1).ok_or("usage: answers ROOM")?);
+    let environment: Vec<_> = env::vars_os().collect();
+    for row in io::stdin().lines() {
+        let row = row?;
+        let [name, tmp, first, second, _, _, _, own] = row.split_whitespace().collect::<Vec<_>>()[..] else {
+            return Err("a short row".into());
+        };
+        println!("== {name}");
+        let (nvcc, cwd, tmp) = (room.join("bin/nvcc"), room.join("w"), room.join(tmp));
+        let words = ["-c", "kernel.cu", "-o", "kernel.o"];
+        let call = match Call::new(&NvccCall::new(&nvcc, &words).at(&cwd, &tmp).variables(&variables(&environment))) {
+            Ok(call) => call,
+            Err(error) => {
+                print_refusal(&error);
+                continue;
+            }
+        };
+        print_call(&call);
+        let read = |name: &str| fs::read(room.join(name));
+        match call.plan_of(&DryRuns::new(read(own)?, read(first)?, read(second)?), &Disk::default(), None) {
+            Ok(plan) => print_plan(&plan)?,
+            Err(error) => print_refusal(&error),
+        }
+    }
+    Ok(())
+}

@@ -1,0 +1,127 @@
+// All that the C++ layer says of the rows of misuses.txt, as answers.c prints it: `answers ROOM < misuses.txt`.
+#include <zigrunk.hpp>
+
+#include <deque>
+#include <fstream>
+#include <iostream>
+#include <iterator>
+#include <sstream>
+
+using zigrunk::Texts;
+
+static void print_text(const std::string &name, const std::string &text) {
+    static const char digits[] = "0123456789abcdef";
+    std::cout << name << ' ';
+    for (const unsigned char byte : text) {
+        if (byte < 33 || byte > 126 || byte == '\\') {
+            std::cout << '\\' << digits[byte / 16] << digits[byte % 16];
+        } else {
+            std::cout << byte;
+        }
+    }
+    std::cout << '\n';
+}
+
+static void print_texts(const std::string &name, const Texts &texts) {
+    for (const std::string &text : texts) {
+        print_text(name, text);
+    }
+}
+
+static void print_run(const std::string &name, const std::optional<zigrunk::Run> &run) {
+    std::cout << name << '\n';
+    if (run) {
+        print_texts(" word", run->words), print_texts(" variable", run->environment), print_text(" cwd", run->cwd);
+    }
+}
+
+static void print_refusal(const zigrunk::Error &error) {
+    std::cout << "refused " << error.status << ' ' << error.input << ' ' << error.line << '\n';
+    print_text("message", error.what());
+}
+
+static void print_call(const zigrunk::Call &call) {
+    const std::vector<zigrunk::Run> runs = call.dry_runs();
+    print_run("own", runs.at(0)), print_run("first", runs.at(1)), print_run("second", runs.at(2)), print_run("dependencies", call.dependencies());
+    print_text("flag", call.flag());
+    print_text(call.keep_dir() ? "keep_dir" : "no keep_dir", call.keep_dir().value_or(""));
+    print_text("input", call.input()), print_texts("output", call.outputs());
+    std::cout << "jobs " << call.jobs() << '\n';
+}
+
+static void print_command(const zigrunk::Command &of) {
+    const bool is_dropped = of.group == ZIGRUNK_ALL;
+    std::cout << "command of " << (is_dropped ? "no" : "a") << " group, " << (is_dropped ? 0 : of.group) << ", stage " << of.stage << ", tool " << of.tool
+              << ", missing " << of.missing << ", reason " << of.reason << ", run " << of.dry_run << ", line " << of.line << ", cacheable "
+              << of.cacheable << ", preprocesses " << of.preprocesses << '\n';
+    print_texts(" word", of.words), print_texts(" variable", of.environment), print_text(" cwd", of.cwd);
+    print_texts(" reads", of.reads), print_texts(" writes", of.writes), print_texts(" may write", of.may_write), print_texts(" target", of.targets);
+    for (const std::size_t need : of.needs) {
+        std::cout << " needs " << need << '\n';
+    }
+}
+
+static void print_schedule(const zigrunk::Plan &plan) {
+    zigrunk::Schedule schedule(plan, 2);
+    std::deque<std::size_t> running;
+    for (std::size_t told = 0; !schedule.over();) {
+        while (const auto next = schedule.start()) {
+            std::cout << "start " << *next << '\n';
+            running.push_back(*next);
+        }
+        schedule.ended(running.front(), true);
+        running.pop_front();
+        while (schedule.tell()) {
+            ++told;
+        }
+        std::cout << "told " << told << '\n';
+    }
+}
+
+static void print_plan(const zigrunk::Plan &plan) {
+    for (std::size_t i = 0; i < plan.commands().size(); ++i) {
+        print_command(plan.commands()[i]);
+        try {
+            const zigrunk::Key key = plan.key(i);
+            print_text(" key", key.text), print_texts(" key", key.tool_files);
+        } catch (const zigrunk::Error &error) {
+            print_refusal(error);
+        }
+    }
+    for (const zigrunk::Command &command : plan.dropped()) {
+        print_command(command);
+    }
+    for (const char *format : {"json", "ninja", "shell", "text", "none"}) {
+        try {
+            print_text(format, plan.text(format));
+        } catch (const zigrunk::Error &error) {
+            print_refusal(error);
+        }
+    }
+    print_schedule(plan);
+}
+
+static std::string content(const std::string &path) {
+    std::ifstream file(path, std::ios::binary);
+    return {std::istreambuf_iterator<char>(file), {}};
+}
+
+int main(int count, char **arguments) {
+    if (count != 2) {
+        return 2;
+    }
+    const std::string room = arguments[1];
+    for (std::string row; std::getline(std::cin, row);) {
+        std::istringstream words(row);
+        std::string name, tmp, first, second, skipped, own;
+        words >> name >> tmp >> first >> second >> skipped >> skipped >> skipped >> own;
+        std::cout << "== " << name << '\n';
+        try {
+            const zigrunk::Call call(room + "/bin/nvcc", {"-c", "kernel.cu", "-o", "kernel.o"}, zigrunk::environment(), room + "/w", room + "/" + tmp);
+            print_call(call);
+            print_plan(call.plan_of(content(room + "/" + own), content(room + "/" + first), content(room + "/" + second)));
+        } catch (const zigrunk::Error &error) {
+            print_refusal(error);
+        }
+    }
+}

@@ -1,0 +1,96 @@
+"""All that the Python layer says of the rows of misuses.txt, as answers.c prints it: answers.py ROOM < misuses.txt."""
+
+import os
+import sys
+from pathlib import Path
+from typing import Iterable, Optional, Sequence, Union
+
+import zigrunk
+
+FORMS = ("json", "ninja", "shell", "text", "none")
+
+
+def print_texts(name: str, texts: Iterable[Union[str, bytes]]) -> None:
+    for text in texts:
+        data = text if isinstance(text, bytes) else os.fsencode(text)
+        print(name, "".join(chr(it) if 32 < it < 127 and it != 92 else f"\\{it:02x}" for it in data))
+
+
+def print_run(name: str, run: Optional[zigrunk.Run]) -> None:
+    print(name)
+    if run:
+        print_texts(" word", run.words)
+        print_texts(" variable", (f"{key}={value}" for key, value in run.environment.items()))
+        print_texts(" cwd", [run.cwd])
+
+
+def print_refusal(error: zigrunk.ZigrunkError) -> None:
+    print("refused", int(error.status), int(error.input or 0), error.line or 0)
+    print_texts("message", [str(error)])
+
+
+def print_call(call: zigrunk.Call) -> None:
+    for name, run in zip(("own", "first", "second", "dependencies"), (*call.dry_runs, call.dependencies)):
+        print_run(name, run)
+    print_texts("flag", [call.flag])
+    print_texts("no keep_dir" if call.keep_dir is None else "keep_dir", [call.keep_dir or ""])
+    print_texts("input", [call.input])
+    print_texts("output", call.outputs)
+    print("jobs", call.jobs or 0)
+
+
+def print_command(of: zigrunk.Command) -> None:
+    print(f"command of {'no' if of.group is None else 'a'} group, {of.group or 0}, stage {int(of.stage)}, tool {int(of.tool)}, missing "
+          f"{int(of.missing or 0)}, reason {int(of.reason or 0)}, run {of.dry_run}, line {of.line}, cacheable {int(of.cacheable)}, "
+          f"preprocesses {int(of.preprocesses)}")
+    print_texts(" word", of.words)
+    print_texts(" variable", (f"{key}={value}" for key, value in of.environment.items()))
+    for name, texts in ((" cwd", [of.cwd]), (" reads", of.reads), (" writes", of.writes), (" may write", of.may_write), (" target", of.targets)):
+        print_texts(name, texts)
+    for need in of.needs:
+        print(" needs", need)
+
+
+def print_plan(plan: zigrunk.Plan) -> None:
+    for number, command in enumerate((*plan.commands, *plan.dropped)):
+        print_command(command)
+        if number < len(plan.commands):
+            try:
+                key = plan.key(number)
+                print_texts(" key", [key.text, *key.tool_files])
+            except zigrunk.ZigrunkError as error:
+                print_refusal(error)
+    for form in FORMS:
+        try:
+            print_texts(form, [plan.text(form)])
+        except zigrunk.ZigrunkError as error:
+            print_refusal(error)
+    print_schedule(zigrunk.Schedule([plan], 2))
+
+
+def print_schedule(schedule: zigrunk.Schedule) -> None:
+    """Two slots, and the command that began first ends first."""
+    running: list[int] = []
+    while not schedule.over:
+        for number in schedule.start_ready():
+            print("start", number)
+            running.append(number)
+        schedule.ended(running.pop(0), zigrunk.Outcome.SUCCEEDED)
+        print("told", schedule.told(0, len(schedule)).commands.stop)
+
+
+def main(arguments: Sequence[str]) -> None:
+    room = Path(arguments[0])
+    for row in sys.stdin:
+        name, tmp, first, second, *_, own = row.split()
+        print("==", name)
+        try:
+            call = zigrunk.Call(str(room / "bin/nvcc"), ["-c", "kernel.cu", "-o", "kernel.o"], os.environ, str(room / "w"), f"{room}/{tmp}")
+            print_call(call)
+            print_plan(call.plan_of(*((room / run).read_bytes() for run in (own, first, second))))
+        except zigrunk.ZigrunkError as error:
+            print_refusal(error)
+
+
+if __name__ == "__main__":
+    main(sys.argv[1:])

@@ -1,0 +1,160 @@
+// All that the Go layer says of the rows of misuses.txt, as answers.c prints it: `answers ROOM < misuses.txt`.
+package main
+
+import (
+	"bufio"
+	"errors"
+	"fmt"
+	"log"
+	"os"
+	"path/filepath"
+	"strings"
+	"zigrunk"
+)
+
+func printTexts(name string, texts ...string) {
+	for _, text := range texts {
+		fmt.Print(name, " ")
+		for _, it := range []byte(text) {
+			if it < 33 || it > 126 || it == '\\' {
+				fmt.Printf("\\%02x", it)
+			} else {
+				fmt.Print(string(rune(it)))
+			}
+		}
+		fmt.Println()
+	}
+}
+
+func printRun(name string, run *zigrunk.Run) {
+	fmt.Println(name)
+	if run != nil {
+		printTexts(" word", run.Words...)
+		printTexts(" variable", run.Environment...)
+		printTexts(" cwd", run.Directory)
+	}
+}
+
+func printRefusal(err error) {
+	refused := &zigrunk.Error{}
+	if !errors.As(err, &refused) {
+		log.Fatal(err)
+	}
+	fmt.Println("refused", int(refused.Status), refused.Input, refused.Line)
+	printTexts("message", refused.Message)
+}
+
+func printCall(call *zigrunk.Call) {
+	for i, name := range []string{"own", "first", "second"} {
+		printRun(name, &call.DryRuns[i])
+	}
+	printRun("dependencies", call.Dependencies)
+	printTexts("flag", call.Flag)
+	name := "keep_dir"
+	if call.KeepDir == "" {
+		name = "no keep_dir"
+	}
+	printTexts(name, call.KeepDir)
+	printTexts("input", call.Input)
+	printTexts("output", call.Outputs...)
+	fmt.Println("jobs", call.Jobs)
+}
+
+func one(is bool) int {
+	if is {
+		return 1
+	}
+	return 0
+}
+
+func printCommand(of *zigrunk.Command) {
+	word, group := "a", of.Group
+	if group < 0 {
+		word, group = "no", 0
+	}
+	fmt.Printf("command of %s group, %d, stage %d, tool %d, missing %d, reason %d, run %d, line %d, cacheable %d, preprocesses %d\n", word, group,
+		of.Stage, of.Tool, of.Missing, of.Reason, of.DryRun, of.Line, one(of.Cacheable), one(of.Preprocesses))
+	printTexts(" word", of.Words...)
+	printTexts(" variable", of.Environment...)
+	printTexts(" cwd", of.Directory)
+	printTexts(" reads", of.Reads...)
+	printTexts(" writes", of.Writes...)
+	printTexts(" may write", of.MayWrite...)
+	printTexts(" target", of.Targets...)
+	for _, need := range of.Needs {
+		fmt.Println(" needs", need)
+	}
+}
+
+// printSchedule: two slots, and the command that began first ends first.
+func printSchedule(plan *zigrunk.Plan) {
+	schedule, err := zigrunk.NewSchedule(plan, 2)
+	if err != nil {
+		log.Fatal(err)
+	}
+	running := []int{}
+	for _, over := schedule.Told(0); !over; _, over = schedule.Told(0) {
+		for next := schedule.Start(); next >= 0; next = schedule.Start() {
+			fmt.Println("start", next)
+			running = append(running, next)
+		}
+		if !schedule.Ended(running[0], true) {
+			log.Fatal("a command doesn't run")
+		}
+		running = running[1:]
+		told, _ := schedule.Told(0)
+		fmt.Println("told", told)
+	}
+}
+
+func printPlan(plan *zigrunk.Plan) {
+	for i := range plan.Commands {
+		printCommand(&plan.Commands[i])
+		if key, files, err := plan.Key(i); err != nil {
+			printRefusal(err)
+		} else {
+			printTexts(" key", append([]string{string(key)}, files...)...)
+		}
+	}
+	for i := range plan.Dropped {
+		printCommand(&plan.Dropped[i])
+	}
+	for _, format := range []string{"json", "ninja", "shell", "text", "none"} {
+		if text, err := plan.Text(format); err != nil {
+			printRefusal(err)
+		} else {
+			printTexts(format, text)
+		}
+	}
+	printSchedule(plan)
+}
+
+func printRow(room string, row []string) error {
+	line := []string{"-c", "kernel.cu", "-o", "kernel.o"}
+	call, err := zigrunk.NewCall(room+"/bin/nvcc", line, os.Environ(), room+"/w", room+"/"+row[1])
+	if err != nil {
+		return err
+	}
+	printCall(call)
+	var runs [3][]byte
+	for i, name := range []string{row[7], row[2], row[3]} {
+		if runs[i], err = os.ReadFile(filepath.Join(room, name)); err != nil {
+			log.Fatal(err)
+		}
+	}
+	plan, err := call.PlanOf(runs[0], runs[1], runs[2], 0)
+	if err == nil {
+		printPlan(plan)
+	}
+	return err
+}
+
+func main() {
+	for rows := bufio.NewScanner(os.Stdin); rows.Scan(); {
+		row := strings.Fields(rows.Text())
+		fmt.Println("==", row[0])
+		if err := printRow(os.Args[1], row); err != nil {
+			printRefusal(err)
+		}
+	}
+}
