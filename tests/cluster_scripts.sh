@@ -311,8 +311,7 @@ export TMPDIR
 . "$PLACES/$name.does"
 exec sh -c "$*"
 END
-    printf '%s\n' '#!/bin/sh' "echo 'first_dry_run=: second_dry_run=: flag=-c keep_dir= dependencies='" > "$scratch/far/zigrunk"
-    cat > "$scratch/far/zigrunk-plan" << 'END'
+    cat > "$scratch/far/zigrunk" << 'END'
 #!/bin/sh
 sed "s,@TMP,${ZIGRUNK_TMP:-$TMPDIR}/zigrunk-$(id -u)/call.$$,g; s,@CWD,$PWD,g; s,@TOOLS,${0%/*},g" "${0%/*}/plan"
 END
@@ -348,7 +347,7 @@ two_machines() {
 remote() {
     begin "$1"
     two_machines "$6" "$7"
-    runs ssh/remote.py PATH="$scratch/far:$PATH" ZIGRUNK_PROGRAM="$scratch/far/zigrunk" ZIGRUNK_TMP="$room/tmp" "${@:8}" -j 2 machines list
+    runs ssh/remote.py PATH="$scratch/far:$PATH" ZIGRUNK_TMP="$room/tmp" "${@:8}" -j 2 machines list
     same status "$status" "$2"
     same messages "$(cat "$room/err")" "$3"
     same product "$(cat product)" "$4"
@@ -383,7 +382,7 @@ without_disk_ended() {
     begin 'the signal TERM'
     two_machines 'export NAP=30' 'exit 255'
     mkdir "$room/tmp/own"
-    env LOG="$room/log" PLACES="$room/places" PATH="$scratch/far:$PATH" ZIGRUNK_PROGRAM="$scratch/far/zigrunk" ZIGRUNK_TMP="$room/tmp/own" \
+    env LOG="$room/log" PLACES="$room/places" PATH="$scratch/far:$PATH" ZIGRUNK_TMP="$room/tmp/own" \
         python3 "$examples/ssh/remote.py" machines list > "$room/out" 2> "$room/err" &
     process=$! last=$((SECONDS + 20))
     until grep -qx m1 "$room/log" 2> /dev/null || [ "$SECONDS" -gt "$last" ]; do sleep 0.02; done

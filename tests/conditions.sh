@@ -1,15 +1,15 @@
 #!/usr/bin/env bash
-# Runs zigrunk, cudaplan, zigrunk-nvcc and zigrunk-batch where the machine refuses something: as another user than root, with closed
+# Runs cudaplan, zigrunk-nvcc and zigrunk batch where the machine refuses something: as another user than root, with closed
 # streams, on a full disk, in a folder that takes no file, with little memory, and with few open files. A call may fail there, but it
 # says why, and no call ends with status 0 without the product that nvcc makes elsewhere. Nothing stays in TMPDIR.
 # Prints a line for each case that fails, and last 'N passed, M failed'. What this machine can't do is skipped.
 #
-#   tests/conditions.sh [ZIGRUNK [CUDAPLAN]]    the programs are those that `make build` and the gate leave, unless given
+#   tests/conditions.sh [CUDAPLAN]    the one that `make build` and the gate leave, unless given
 #
 # zigrunk-nvcc is that of DRIVER_BIN, or what `make rust` leaves. It leaves the user's folder in TMPDIR, empty.
 set -u
 cd "$(dirname "$0")/.." || exit 1
-built=$(realpath "${1:-crates/zigrunk/out/zigrunk}") other=$(realpath "${2:-crates/cudaplan/out/cudaplan}")
+built=$(realpath "${1:-crates/cudaplan/out/cudaplan}")
 runs=$PWD/tests/drivers/test_plans/data/dry_runs/one_kernel header=$PWD/tests/small/cuda_runtime.h
 . tests/lib.sh
 trap 'umount "$scratch"/disk.* 2> /dev/null; rm -rf "$scratch"' EXIT
@@ -20,7 +20,7 @@ unset NVCC_PREPEND_FLAGS NVCC_APPEND_FLAGS MAKEFLAGS "${!ZIGRUNK@}"
 # Another user reads all of this.
 chmod 755 "$scratch"
 mkdir "$scratch/bin"
-cp "$built" "$other" "$scratch/bin"
+cp "$built" "$scratch/bin/cudaplan"
 cp "$driver" "$scratch/bin/zigrunk-nvcc"
 ln -s zigrunk-nvcc "$scratch/bin/zigrunk-batch"
 export PATH=$scratch/bin:$PATH ZIGRUNK_EXPLAIN=yes
@@ -99,7 +99,6 @@ another_user() {
     plan=$(cudaplan plan /w /t -c "$runs.dry1" "$runs.dry2")
     cp "$runs".dry[12] "$room" && chmod a+r "$room"/*
     same 'a plan of another user' "$(in_room as_nobody cudaplan plan /w /t -c one_kernel.dry1 one_kernel.dry2)" "$plan"
-    same 'another plan of another user' "$(in_room as_nobody zigrunk plan /w /t -c one_kernel.dry1 one_kernel.dry2)" "$plan"
     makes "another user's call" "$room/k.o" 0 in_room as_nobody zigrunk-nvcc -c k.cu -o k.o
     split "another user's call"
     makes "another user's list" "$room/k.o" 0 in_room as_nobody zigrunk-batch list
@@ -135,15 +134,13 @@ closed_streams() {
         makes "a list without $streams" "$room/k.o" "0 $status" in_room closed "$streams" zigrunk-batch list
         in_room closed "$streams" nvcc -c bad.cu -o bad.o > /dev/null 2>&1
         makes "a bad source without $streams" "$room/bad.o" "$? 2" in_room closed "$streams" zigrunk-nvcc -c bad.cu -o bad.o
-        for word in zigrunk cudaplan; do
-            # what these print is lost, and a fault if it's on standard output
-            closed "$streams" "$word" line cicc /w k.cpp1.ii -o k.ptx > "$scratch/out" 2> "$scratch/err"
-            same "a line of $word without $streams" "$?" "$([[ $streams == *out* ]] && echo 1 || echo 0)"
-            closed "$streams" "$word" line cicc /w a > /dev/null 2>&1
-            same "a refused line of $word without $streams" "$?" 1
-            closed "$streams" "$word" no-such-verb > /dev/null 2>&1
-            same "a wrong call of $word without $streams" "$?" 2
-        done
+        # what it prints is lost, and a fault if it's on standard output
+        closed "$streams" cudaplan line cicc /w k.cpp1.ii -o k.ptx > "$scratch/out" 2> "$scratch/err"
+        same "a line without $streams" "$?" "$([[ $streams == *out* ]] && echo 1 || echo 0)"
+        closed "$streams" cudaplan line cicc /w a > /dev/null 2>&1
+        same "a refused line without $streams" "$?" 1
+        closed "$streams" cudaplan no-such-verb > /dev/null 2>&1
+        same "a wrong call without $streams" "$?" 2
     done
 }
 
@@ -170,8 +167,8 @@ full_disks() {
     makes 'an object on a full disk' "$scratch/disk.none/k.o" 1 in_room zigrunk-nvcc -c k.cu -o "$scratch/disk.none/k.o"
     echo "nvcc -c k.cu -o $scratch/disk.none/k.o" > "$room/one"
     makes 'an object of a list on a full disk' "$scratch/disk.none/k.o" 1 in_room zigrunk-batch one
-    zigrunk plan /w /t -c "$runs.dry1" "$runs.dry2" > "$scratch/disk.none/plan" 2> "$scratch/err"
-    same 'a plan on a full disk' "$? $(cat "$scratch/err")" '1 zigrunk: cannot write'
+    cudaplan plan /w /t -c "$runs.dry1" "$runs.dry2" > "$scratch/disk.none/plan" 2> "$scratch/err"
+    same 'a plan on a full disk' "$? $(cat "$scratch/err")" '1 cudaplan: cannot write'
 }
 
 # folders that take no file, with the source in them
@@ -199,8 +196,8 @@ within() {
 # A program that gets some memory, but not enough, says so. With less it doesn't start: the loader says that, or the kernel kills it.
 little_memory() {
     local size word want status out least
-    want=$(zigrunk line cicc /w k.cpp1.ii -o k.ptx)
-    for word in zigrunk cudaplan; do
+    want=$(cudaplan line cicc /w k.cpp1.ii -o k.ptx)
+    for word in cudaplan; do
         least=''
         for size in $(seq 800 100 6000); do
             out=$(within "$size" "$word" line cicc /w k.cpp1.ii -o k.ptx 2> "$scratch/err")

@@ -1,8 +1,10 @@
 //! The first words of the program, and its help.
+use crate::excerpts::excerpt;
 use crate::nearest::question;
 use crate::streams::{complain, say};
 use crate::{batch, cache, call, farm, plan_program, report};
 use std::ffi::{OsStr, OsString};
+use std::os::unix::ffi::OsStrExt;
 
 /// What the program does.
 #[derive(Clone, Copy, PartialEq, Eq, Debug)]
@@ -114,8 +116,8 @@ fn misuse(reason: &str) -> i32 {
 }
 
 fn unknown(word: &OsStr) -> i32 {
-    let word = word.to_string_lossy();
-    misuse(&format!("unknown word {word}{}", question(&word, FirstWord::ALL.map(FirstWord::name))))
+    let nearest = question(&word.to_string_lossy(), FirstWord::ALL.map(FirstWord::name));
+    misuse(&format!("unknown word {}{nearest}", excerpt(word.as_bytes(), 100)))
 }
 
 /// Prints the help of a word, or of all.

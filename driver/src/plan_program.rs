@@ -2,6 +2,7 @@
 //! nothing else.
 use crate::dry_runs::{Failed, make_planned};
 use crate::environments::Environment;
+use crate::excerpts::excerpt;
 use crate::folder::Folder;
 use crate::formats::Format;
 use crate::guard::Shared;
@@ -16,6 +17,7 @@ use crate::streams::{complain, say};
 use crate::system::{self, Signals};
 use std::env;
 use std::ffi::{OsStr, OsString};
+use std::os::unix::ffi::OsStrExt;
 
 const USAGE: &str = "usage: zigrunk plan FORMAT [--] NVCC WORD..
        zigrunk plan --dry-runs FILE FILE [OPTION].. FORMAT";
@@ -34,8 +36,16 @@ fn refusal(status: i32, text: impl Into<String>) -> Refusal {
     Refusal { status, text: text.into() }
 }
 
+/// How much of a word a message shows.
+const MOST_SHOWN: usize = 100;
+
 fn misuse(reason: &str) -> Refusal {
     refusal(2, format!("zigrunk plan: {reason}\n{USAGE}"))
+}
+
+/// A word as a message shows it.
+fn shown(word: &OsStr) -> String {
+    excerpt(word.as_bytes(), MOST_SHOWN)
 }
 
 /// A call of nvcc to plan.
@@ -103,13 +113,13 @@ impl<'a> Options<'a> {
                 let number = value(option, "a number of bytes", left)?;
                 let is_number = !number.is_empty() && number.bytes().all(|byte| byte.is_ascii_digit());
                 let limit = number.parse().ok().filter(|_| is_number);
-                self.limit = Some(limit.ok_or_else(|| misuse(&format!("--limit needs a number of bytes, not {number}")))?);
+                self.limit = Some(limit.ok_or_else(|| misuse(&format!("--limit needs a number of bytes, not {}", shown(number.as_ref()))))?);
             }
             "--keep" => self.keeps = true,
             "--whole" => self.whole = true,
             _ => {
                 let known = ["--dry-runs", "--cwd", "--tmp", "--flag", "--keep", "--whole", "--limit", "--suffix", "--formats", "--help"];
-                return Err(misuse(&format!("unexpected option {option}{}", question(option, known))));
+                return Err(misuse(&format!("unexpected option {}{}", shown(option.as_ref()), question(option, known))));
             }
         }
         Ok(())
@@ -136,7 +146,7 @@ impl<'a> Options<'a> {
 fn format_of(word: Option<&OsString>) -> Result<Format, Refusal> {
     let Some(word) = word else { return Err(misuse("a format is missing")) };
     let name = word.to_string_lossy();
-    let unknown = || misuse(&format!("unknown format {name}{}", question(&name, Format::ALL.map(Format::name))));
+    let unknown = || misuse(&format!("unknown format {}{}", shown(word), question(&name, Format::ALL.map(Format::name))));
     Format::named(&name).ok_or_else(unknown)
 }
 
@@ -153,7 +163,7 @@ fn asked(words: &[OsString]) -> Result<Asked<'_>, Refusal> {
     let behind = &left[1..];
     let behind = options.take(behind)?;
     match (options.files, options.first) {
-        (Some(_), _) if !behind.is_empty() => Err(misuse(&format!("unexpected word {}", behind[0].to_string_lossy()))),
+        (Some(_), _) if !behind.is_empty() => Err(misuse(&format!("unexpected word {}", shown(&behind[0])))),
         (Some(files), _) => Ok(Asked::Stored(format, options.stored(files)?)),
         (None, Some(option)) => Err(misuse(&format!("{option} needs --dry-runs"))),
         (None, None) => {

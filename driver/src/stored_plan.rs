@@ -3,10 +3,10 @@ use crate::excerpts::excerpt;
 use crate::formats::{Described, Format};
 use crate::planner::{Disk, list_of};
 use canonical_names::{Suffixes, all_suffixes, is_plain};
-use command_groups::{CallToPlan, plan_with_origins_within};
+use command_groups::{CallToPlan, plan_of_parsed};
 use compilers::compiler::NvccHostCompiler;
 use compilers::plans::PlanWithOrigins;
-use dry_runs::{LimitedFault, is_dry_run, parse_dry_run};
+use dry_runs::{LimitedFault, is_dry_run, parse_dry_run, parse_within};
 use rattle_std::alloc::Global;
 use std::fs;
 use std::io::{self, Read};
@@ -127,8 +127,8 @@ impl Stored {
             host_compiler: NvccHostCompiler::Gcc,
             suffixes: &suffixes,
         };
-        let planned = plan_with_origins_within(Global, runs[0], runs[1], &call, &Disk::default(), self.limit);
-        planned.map_err(|fault| self.message(runs, &fault))
+        let parsed = parse_within(Global, runs[0], runs[1], &self.cwd, self.limit).map_err(|fault| self.message(runs, &fault))?;
+        plan_of_parsed(Global, parsed, &call, &Disk::default()).map_err(|fault| self.message(runs, &LimitedFault::Fault(fault)))
     }
 
     /// The plan in a format.
