@@ -22,7 +22,7 @@ chmod 755 "$scratch"
 mkdir "$scratch/bin"
 cp "$built" "$scratch/bin/cudaplan"
 cp "$driver" "$scratch/bin/zigrunk-nvcc"
-ln -s zigrunk-nvcc "$scratch/bin/zigrunk-batch"
+ln -s zigrunk-nvcc "$scratch/bin/zigrunk"
 export PATH=$scratch/bin:$PATH ZIGRUNK_EXPLAIN=yes
 
 # begin_in FOLDER: an own folder for the sources of a case, with its products.
@@ -101,7 +101,7 @@ another_user() {
     same 'a plan of another user' "$(in_room as_nobody cudaplan plan /w /t -c one_kernel.dry1 one_kernel.dry2)" "$plan"
     makes "another user's call" "$room/k.o" 0 in_room as_nobody zigrunk-nvcc -c k.cu -o k.o
     split "another user's call"
-    makes "another user's list" "$room/k.o" 0 in_room as_nobody zigrunk-batch list
+    makes "another user's list" "$room/k.o" 0 in_room as_nobody zigrunk batch list
     planted=zigrunk-65534
     mkdir "$scratch/tmp/$planted"
     makes 'a call whose directory is another user'\''s' "$room/k.ptx" 0 in_room as_nobody zigrunk-nvcc -ptx k.cu -o k.ptx
@@ -131,7 +131,7 @@ closed_streams() {
         in_room closed "$streams" nvcc -c k.cu -o k.o > /dev/null 2>&1 || status=$?
         makes "a call without $streams" "$room/k.o" "0 $status" in_room closed "$streams" zigrunk-nvcc -c k.cu -o k.o
         [ "$status" != 0 ] || split "a call without $streams"
-        makes "a list without $streams" "$room/k.o" "0 $status" in_room closed "$streams" zigrunk-batch list
+        makes "a list without $streams" "$room/k.o" "0 $status" in_room closed "$streams" zigrunk batch list
         in_room closed "$streams" nvcc -c bad.cu -o bad.o > /dev/null 2>&1
         makes "a bad source without $streams" "$room/bad.o" "$? 2" in_room closed "$streams" zigrunk-nvcc -c bad.cu -o bad.o
         # what it prints is lost, and a fault if it's on standard output
@@ -159,14 +159,14 @@ full_disks() {
         disk "$size" "$size"
         tmp=$scratch/disk.$size
         makes "a TMPDIR of $size" "$room/k.o" '0 1 4' in_room zigrunk-nvcc -c k.cu -o k.o
-        makes "a list with a TMPDIR of $size" "$room/k.o" '0 1 2 4' in_room zigrunk-batch list
+        makes "a list with a TMPDIR of $size" "$room/k.o" '0 1 2 4' in_room zigrunk batch list
     done
     tmp=$scratch/tmp
     head -c 65536 /dev/zero > "$scratch/disk.none/full" 2> /dev/null
     # (cicc, ptxas and fatbinary end with 0 there, or die, by nvcc too)
     makes 'an object on a full disk' "$scratch/disk.none/k.o" 1 in_room zigrunk-nvcc -c k.cu -o "$scratch/disk.none/k.o"
     echo "nvcc -c k.cu -o $scratch/disk.none/k.o" > "$room/one"
-    makes 'an object of a list on a full disk' "$scratch/disk.none/k.o" 1 in_room zigrunk-batch one
+    makes 'an object of a list on a full disk' "$scratch/disk.none/k.o" 1 in_room zigrunk batch one
     cudaplan plan /w /t -c "$runs.dry1" "$runs.dry2" > "$scratch/disk.none/plan" 2> "$scratch/err"
     same 'a plan on a full disk' "$? $(cat "$scratch/err")" '1 cudaplan: cannot write'
 }
@@ -180,7 +180,7 @@ fixed_folders() {
     mount -o remount,ro "$room"
     makes 'a call in a folder that takes no file' "$scratch/work/k.ptx" 0 in_room zigrunk-nvcc -ptx k.cu -o "$scratch/work/k.ptx"
     split 'a call in a folder that takes no file'
-    makes 'a list in a folder that takes no file' "$scratch/work/k.o" 0 in_room zigrunk-batch list
+    makes 'a list in a folder that takes no file' "$scratch/work/k.o" 0 in_room zigrunk batch list
     makes 'an object in a folder that takes no file' "$room/k.o" 1 in_room zigrunk-nvcc -c k.cu
     makes 'kept files in a folder that takes no file' "$scratch/work/k.o" '0 1' in_room zigrunk-nvcc --keep -c k.cu -o "$scratch/work/k.o"
     tmp=$room/none
@@ -221,7 +221,7 @@ few_files() {
         makes "a call with $files open files" "$room/k.o" "0$([ "$files" -gt 32 ] || echo ' 1 2 126 127 255')" \
             in_room few "$files" zigrunk-nvcc -c k.cu -o k.o
         [ "$files" -lt 64 ] || split "a call with $files open files"
-        makes "a list with $files open files" "$room/k.o" "0$([ "$files" -gt 32 ] || echo ' 1 2 126 127 255')" in_room few "$files" zigrunk-batch list
+        makes "a list with $files open files" "$room/k.o" "0$([ "$files" -gt 32 ] || echo ' 1 2 126 127 255')" in_room few "$files" zigrunk batch list
     done
 }
 
