@@ -1,4 +1,4 @@
-//! zigrunk-batch: makes many calls of nvcc as zigrunk-nvcc does, in one process.
+//! zigrunk batch: makes many calls of nvcc as zigrunk-nvcc does, in one process.
 mod calls;
 mod databases;
 mod graph;
@@ -158,7 +158,7 @@ impl Calls for Told<'_> {
         }
         if made.status != 0 {
             let call = &self.calls[call];
-            complain(&format!("zigrunk-batch: {} {}: exit status {}: {}", self.list.unit, call.number, made.status, call.name));
+            complain(&format!("zigrunk batch: {} {}: exit status {}: {}", self.list.unit, call.number, made.status, call.name));
         }
     }
 }
@@ -271,7 +271,7 @@ fn status_of(outcomes: Outcomes) -> i32 {
         return 128 + signal;
     }
     if outcomes.left > 0 {
-        complain(&format!("zigrunk-batch: stopped, {} of the calls not made", outcomes.left));
+        complain(&format!("zigrunk batch: stopped, {} of the calls not made", outcomes.left));
     }
     outcomes.status
 }
@@ -286,7 +286,7 @@ fn unless_made(words: &[OsString]) -> i32 {
     let words: Vec<&OsStr> = words.iter().map(OsString::as_os_str).collect();
     let [first, ..] = words.as_slice() else { return 2 };
     let reason = crate::call::become_program(&words, &Environment::own());
-    complain(&format!("zigrunk-batch: cannot run {}: {reason}", first.to_string_lossy()));
+    complain(&format!("zigrunk batch: cannot run {}: {reason}", first.to_string_lossy()));
     127
 }
 
@@ -312,14 +312,14 @@ pub fn main(words: &[OsString]) -> i32 {
     let print = |text: String| i32::from(say(1, text.as_bytes()).is_err());
     match options::parse(words) {
         Ok(Wanted::Help) => print(format!("{USAGE}\n{HELP}\n")),
-        Ok(Wanted::Version) => print(format!("zigrunk-batch {}\n", env!("CARGO_PKG_VERSION"))),
+        Ok(Wanted::Version) => print(format!("zigrunk batch {}\n", env!("CARGO_PKG_VERSION"))),
         Ok(Wanted::UnlessMade(words)) => unless_made(&words),
         Ok(Wanted::Batch(options)) => make(&options).unwrap_or_else(|complaint| {
-            complain(&format!("zigrunk-batch: {complaint}"));
+            complain(&format!("zigrunk batch: {complaint}"));
             1
         }),
         Err(complaint) => {
-            complain(&format!("zigrunk-batch: {complaint}\n{USAGE}"));
+            complain(&format!("zigrunk batch: {complaint}\n{USAGE}"));
             2
         }
     }
