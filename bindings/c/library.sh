@@ -1,37 +1,33 @@
 #!/bin/sh
-# library.sh ARCHIVE FOLDER: makes libzigrunk in FOLDER, with its headers and the files of pkg-config and CMake, of the archive that `rt lib`
-# leaves in crates/zigrunk_c/out, or of the one that cargo leaves in out/rust/target/release.
+# library.sh ARCHIVE FOLDER: makes libzigrunk in FOLDER, with its headers and the files of pkg-config and CMake, of the archive that cargo leaves in
+# out/rust/target/release (libzigrunk_c.a).
 #
-# The names of an archive are all global. So it becomes one object, in which only the exports are. The archive of `rt lib` lacks the
-# kit's three functions over malloc, realloc and free. That of cargo has Rust's whole library, most of which nothing here needs.
+# The names of that archive are all global, and it has Rust's whole library, most of which nothing here needs. So it becomes one object, in which only
+# the functions of the header are.
 set -eu
 archive=$(realpath "$1")
 folder=$(realpath -m "$2")
 cd "$(dirname "$0")"
-kit=${KIT:-/opt/rattle}
 mkdir -p "$folder/lib/pkgconfig" "$folder/lib/cmake/zigrunk" "$folder/include"
 work=$(mktemp -d)
 trap 'rm -rf "$work"' EXIT
 
 # So that a cross build can name those of its target.
 : "${LD:=ld}" "${AR:=ar}" "${OBJCOPY:=objcopy}"
-sed -n 's/^ *\(zigrunk_[a-z_0-9]*\);$/\1/p' zigrunk.map > "$work/exports"
-if "$AR" t "$archive" | grep -q '^compiler_builtins-'; then
-    # shellcheck disable=SC2046 # a list of words
-    "$LD" -r -z noexecstack --gc-sections --force-group-allocation $(sed 's/^/-u /' "$work/exports") -o "$work/whole.o" "$archive"
-else
-    "$LD" -r -z noexecstack -o "$work/whole.o" --whole-archive "$archive" "$kit/c/liblibc_c.a"
-fi
+grep -o '\bzigrunk_[a-z_0-9]*(' zigrunk.h | tr -d '(' | LC_ALL=C sort -u > "$work/exports"
+{ echo 'ZIGRUNK_2 { global:' && sed 's/$/;/' "$work/exports" && echo 'local: *; };'; } > "$work/map"
+# shellcheck disable=SC2046 # a list of words
+"$LD" -r -z noexecstack --gc-sections --force-group-allocation $(sed 's/^/-u /' "$work/exports") -o "$work/whole.o" "$archive"
 # (Debian's rustc leaves LLVM's own form of Rust's library in these sections, which other versions of LLVM stop at)
 "$OBJCOPY" --keep-global-symbols="$work/exports" --strip-unneeded --remove-section=.llvmbc --remove-section=.llvmcmd \
     "$work/whole.o" "$work/zigrunk.o"
 
 rm -f "$folder/lib/libzigrunk.a"
 "$AR" rcsD "$folder/lib/libzigrunk.a" "$work/zigrunk.o"
-${CC:-cc} -shared -o "$folder/lib/libzigrunk.so.1" "$work/zigrunk.o" -s -Wl,--gc-sections \
-    -Wl,-soname,libzigrunk.so.1 -Wl,--version-script=zigrunk.map -static-libgcc -Wl,--no-undefined -Wl,-z,relro,-z,now,-z,noexecstack
-ln -sf libzigrunk.so.1 "$folder/lib/libzigrunk.so"
-cp zigrunk.h zigrunk_call.h ../cpp/zigrunk.hpp "$folder/include"
+${CC:-cc} -shared -o "$folder/lib/libzigrunk.so.2" "$work/zigrunk.o" -s -Wl,--gc-sections \
+    -Wl,-soname,libzigrunk.so.2 -Wl,--version-script="$work/map" -static-libgcc -Wl,--no-undefined -Wl,-z,relro,-z,now,-z,noexecstack
+ln -sf libzigrunk.so.2 "$folder/lib/libzigrunk.so"
+cp zigrunk.h ../cpp/zigrunk.hpp "$folder/include"
 version=$(cat ../../VERSION)
 cp ../cmake/zigrunk-config.cmake "$folder/lib/cmake/zigrunk"
 cat > "$folder/lib/cmake/zigrunk/zigrunk-config-version.cmake" << END

@@ -1,6 +1,6 @@
 # find_package(zigrunk) gives the target zigrunk::zigrunk, the shared library, and zigrunk::static, the archive, as far as each is installed.
 get_filename_component(_zigrunk_prefix "${CMAKE_CURRENT_LIST_DIR}/../../.." ABSOLUTE)
-foreach(_zigrunk_kind "zigrunk SHARED libzigrunk.so.1" "static STATIC libzigrunk.a")
+foreach(_zigrunk_kind "zigrunk SHARED libzigrunk.so.2" "static STATIC libzigrunk.a")
   separate_arguments(_zigrunk_kind)
   list(GET _zigrunk_kind 0 _zigrunk_name)
   list(GET _zigrunk_kind 1 _zigrunk_type)

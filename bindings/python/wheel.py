@@ -41,7 +41,7 @@ def files(library: bytes, info: str, tag: str) -> dict[str, bytes]:
     metadata = [f"Metadata-Version: 2.1\nName: zigrunk\nVersion: {setting('version')}", f"Summary: {setting('description')}",
                 "License: Apache-2.0", f"Requires-Python: {setting('requires-python')}\n"]
     wheel = f"Wheel-Version: 1.0\nGenerator: zigrunk\nRoot-Is-Purelib: false\nTag: {tag}\n"
-    return {**package, "zigrunk/libzigrunk.so.1": library, f"{info}/METADATA": "\n".join(metadata).encode(), f"{info}/WHEEL": wheel.encode()}
+    return {**package, "zigrunk/libzigrunk.so.2": library, f"{info}/METADATA": "\n".join(metadata).encode(), f"{info}/WHEEL": wheel.encode()}
 
 
 def record_of(made: dict[str, bytes], info: str) -> bytes:

@@ -5,6 +5,7 @@
 
 mod cache_key;
 mod call;
+mod compdb;
 pub mod compiler;
 mod dry_runs;
 pub mod environments;
@@ -35,7 +36,7 @@ pub use formats::Format;
 pub use headers::headers;
 pub use keys::{KeyCall, command_key};
 pub use lines::{ColorMode, Language, Line, LineCall, Output, Tool, line_records, line_words};
-pub use memory::OutOfMemory;
+pub use memory::{OutOfMemory, displayed};
 pub use nvcc_line::{FLAG_VARIABLES, NvccCall, NvccLine};
 pub use outline::{Outline, Run};
 pub use plan::{Command, CommandTool, Commands, DropReason, Group, Groups, HostCompiler, Missing, Plan, PlanCall, Stage, Variables, plan};

@@ -3,7 +3,7 @@ use rattle_std::alloc::{AllocError, AllocFailed, Global};
 use rattle_std::string::String as Text;
 use rattle_std::vec::Vec as List;
 use std::collections::TryReserveError;
-use std::fmt;
+use std::fmt::{self, Display, Write};
 
 /// An allocation failed.
 #[derive(Clone, Copy, Debug, PartialEq, Eq)]
@@ -51,6 +51,11 @@ pub(crate) fn copied_bytes(bytes: &[u8]) -> Result<Vec<u8>, OutOfMemory> {
     Ok(copy)
 }
 
+/// Copies of names and values.
+pub(crate) fn copied_pairs<'a>(pairs: impl Iterator<Item = &'a (String, String)>) -> Result<Vec<(String, String)>, OutOfMemory> {
+    listed(pairs.map(|(name, value)| Ok((copied(name)?, copied(value)?))))
+}
+
 /// The texts one behind the other.
 pub(crate) fn joined(parts: &[&str]) -> Result<String, OutOfMemory> {
     let mut whole = String::new();
@@ -59,6 +64,28 @@ pub(crate) fn joined(parts: &[&str]) -> Result<String, OutOfMemory> {
         whole.push_str(part);
     }
     Ok(whole)
+}
+
+/// A text that grows as long as memory is left.
+struct Growing(String);
+
+impl Write for Growing {
+    fn write_str(&mut self, text: &str) -> fmt::Result {
+        self.0.try_reserve(text.len()).map_err(|_| fmt::Error)?;
+        self.0.push_str(text);
+        Ok(())
+    }
+}
+
+/// What a value displays.
+///
+/// # Errors
+///
+/// [`OutOfMemory`].
+pub fn displayed(value: &impl Display) -> Result<String, OutOfMemory> {
+    let mut text = Growing(String::new());
+    write!(text, "{value}").map_err(|_| OutOfMemory)?;
+    Ok(text.0)
 }
 
 /// A list of what an iterator gives.

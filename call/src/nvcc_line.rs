@@ -1,6 +1,6 @@
 //! Lines of nvcc: their words, and where they are made.
 use crate::error::{Error, ErrorKind, Input};
-use crate::memory::{OutOfMemory, copied, listed, pairs, strings, texts};
+use crate::memory::{OutOfMemory, copied, copied_pairs, listed, pairs, strings, texts};
 use crate::outline::{Outline, Run};
 use crate::variable::Variable;
 use compilers::command::SingleCompileCommand;
@@ -11,7 +11,6 @@ use std::ffi::OsStr;
 use std::fs::{self, File};
 use std::io::Read;
 use std::path::Path;
-use std::sync::Arc;
 
 /// The variables whose words nvcc adds to a line. What runs for a line gets these words once, so it runs without these variables.
 pub const FLAG_VARIABLES: [&str; 2] = ["NVCC_PREPEND_FLAGS", "NVCC_APPEND_FLAGS"];
@@ -152,12 +151,11 @@ impl NvccLine {
 
     /// An outline in texts of our own.
     fn outline(&self, outline: &nvcc_calls::Outline) -> Result<Outline, Error> {
-        let environment = Arc::new(self.environment()?);
-        let run = |command: &SingleCompileCommand| run_of(command, &environment);
+        let run = |command: &SingleCompileCommand| self.run_of(command);
         let own = listed([&self.nvcc, "--dryrun"].into_iter().map(copied).chain(self.all_words()?.into_iter().map(Ok)))?;
         Ok(Outline {
             dependencies: outline.dependencies.as_ref().map(run).transpose()?,
-            own_dry_run: Run::new(own, copied(&self.cwd)?, Arc::clone(&environment)),
+            own_dry_run: Run::new(own, copied(&self.cwd)?, self.environment()?),
             first_dry_run: run(&outline.first)?,
             second_dry_run: run(&outline.second)?,
             flag: copied(outline.flag.as_str())?,
@@ -166,20 +164,20 @@ impl NvccLine {
         })
     }
 
+    /// A command of an outline.
+    fn run_of(&self, command: &SingleCompileCommand) -> Result<Run, OutOfMemory> {
+        let mut words = strings(command.arguments.as_slice())?;
+        words.try_reserve(1)?;
+        words.insert(0, copied(command.executable.as_str())?);
+        Ok(Run::new(words, copied(command.cwd.as_str())?, self.environment()?))
+    }
+
     /// The environment without the variables of flags.
     fn environment(&self) -> Result<Vec<(String, String)>, OutOfMemory> {
-        let kept = self.variables.iter().filter(|(name, _)| !FLAG_VARIABLES.contains(&name.as_str()));
-        listed(kept.map(|(name, value)| Ok::<_, OutOfMemory>((copied(name)?, copied(value)?))))
+        copied_pairs(self.variables.iter().filter(|(name, _)| !FLAG_VARIABLES.contains(&name.as_str())))
     }
 }
 
-/// A command of an outline.
-fn run_of(command: &SingleCompileCommand, environment: &Arc<Vec<(String, String)>>) -> Result<Run, OutOfMemory> {
-    let mut words = strings(command.arguments.as_slice())?;
-    words.try_reserve(1)?;
-    words.insert(0, copied(command.executable.as_str())?);
-    Ok(Run::new(words, copied(command.cwd.as_str())?, Arc::clone(environment)))
-}
 
 #[cfg(test)]
 mod tests {

@@ -1,18 +1,17 @@
 //! What lines of nvcc say.
-use crate::memory::{OutOfMemory, copied, listed};
+use crate::memory::{OutOfMemory, copied, copied_pairs, listed};
 use std::process::Command;
-use std::sync::Arc;
 
 /// A program to run, without a shell.
 #[derive(Clone, Debug, PartialEq, Eq)]
 pub struct Run {
     words: Vec<String>,
     cwd: String,
-    environment: Arc<Vec<(String, String)>>,
+    environment: Vec<(String, String)>,
 }
 
 impl Run {
-    pub(crate) fn new(words: Vec<String>, cwd: String, environment: Arc<Vec<(String, String)>>) -> Run {
+    pub(crate) fn new(words: Vec<String>, cwd: String, environment: Vec<(String, String)>) -> Run {
         Run { words, cwd, environment }
     }
 
@@ -46,7 +45,7 @@ impl Run {
     /// The same with further words.
     pub(crate) fn with(&self, words: &[&str]) -> Result<Run, OutOfMemory> {
         let all = self.words.iter().map(String::as_str).chain(words.iter().copied());
-        Ok(Run { words: listed(all.map(copied))?, cwd: copied(&self.cwd)?, environment: Arc::clone(&self.environment) })
+        Ok(Run { words: listed(all.map(copied))?, cwd: copied(&self.cwd)?, environment: copied_pairs(self.environment.iter())? })
     }
 
     /// The word behind an option.

@@ -2,7 +2,7 @@
 use crate::error::{Error, Input, Unfit};
 use crate::formats::Format;
 use crate::lines::Tool;
-use crate::memory::{OutOfMemory, copied, listed, pairs, texts};
+use crate::memory::{OutOfMemory, copied, joined, listed, pairs, texts};
 use crate::nvcc_line::text_in;
 use crate::programs::{Programs, Proved, within};
 use crate::variable::Variable;
@@ -568,25 +568,38 @@ impl<'a> Command<'a> {
 
     /// The target that a command of a device is for, such as `compute_80` or `sm_80`, and the targets of what a fatbinary has. Those of a
     /// preprocessor are those of the cicc commands that read what it writes.
-    #[must_use]
-    pub fn targets(&self) -> Vec<String> {
+    ///
+    /// # Errors
+    ///
+    /// [`OutOfMemory`].
+    pub fn targets(&self) -> Result<Vec<String>, OutOfMemory> {
+        let mut targets = Vec::new();
         if !self.preprocesses() {
-            return self.own_targets();
+            self.push_own_targets(&mut targets)?;
+            return Ok(targets);
         }
         let reads = |it: &Command<'_>| it.tool() == Some(CommandTool::Cicc) && it.reads().any(|path| self.writes().any(|own| own == path));
-        self.plan.commands().filter(reads).flat_map(|it| it.own_targets()).collect()
+        for reader in self.plan.commands().filter(reads) {
+            reader.push_own_targets(&mut targets)?;
+        }
+        Ok(targets)
     }
 
-    /// The targets that its own words name.
-    fn own_targets(&self) -> Vec<String> {
+    /// Adds the targets that its own words name.
+    fn push_own_targets(&self, targets: &mut Vec<String>) -> Result<(), OutOfMemory> {
+        let mut push = |parts: &[&str]| {
+            targets.try_reserve(1)?;
+            targets.push(joined(parts)?);
+            Ok(())
+        };
         match self.tool() {
-            Some(CommandTool::Fatbinary) => self.arguments().filter_map(image_target).collect(),
+            Some(CommandTool::Fatbinary) => self.arguments().filter_map(image_target).try_for_each(|target| push(&target)),
             Some(CommandTool::Cicc | CommandTool::Ptxas) => {
                 let pairs = self.arguments().zip(self.arguments().skip(1).chain([""]));
                 let named = pairs.filter_map(|(word, next)| if word == "-arch" { Some(next) } else { word.strip_prefix("-arch=") });
-                named.last().map(str::to_owned).into_iter().collect()
+                named.last().map_or(Ok(()), |target| push(&[target]))
             }
-            _ => Vec::new(),
+            _ => Ok(()),
         }
     }
 
@@ -639,10 +652,10 @@ impl<'a> Command<'a> {
     }
 }
 
-/// The target of a word of fatbinary that names an image.
-fn image_target(word: &str) -> Option<String> {
+/// The target of a word of fatbinary that names an image, in parts.
+fn image_target(word: &str) -> Option<[&str; 3]> {
     if let Some(named) = word.strip_prefix("--image=profile=") {
-        return named.split_once(',').map(|(target, _)| target.to_owned());
+        return named.split_once(',').map(|(target, _)| [target, "", ""]);
     }
     let (kind, rest) = word.strip_prefix("--image3=kind=")?.split_once(",sm=")?;
     let (target, _) = rest.split_once(',')?;
@@ -652,7 +665,7 @@ fn image_target(word: &str) -> Option<String> {
         "nvvm" => "lto",
         other => other,
     };
-    Some(format!("{kind}_{target}"))
+    Some([kind, "_", target])
 }
 
 impl fmt::Debug for Command<'_> {

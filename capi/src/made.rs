@@ -1,9 +1,8 @@
 //! What callers get: things that `zigrunk_free` frees, with the texts that they have.
 use crate::given::{zigrunk_text, zigrunk_texts};
-use call::{Error, ErrorKind, OutOfMemory};
+use call::{displayed, Error, ErrorKind, OutOfMemory};
 use std::collections::TryReserveError;
 use std::ffi::{c_char, c_void};
-use std::fmt::{self, Write};
 use std::ptr;
 
 /// What `zigrunk_free` needs. Leave it alone.
@@ -181,17 +180,6 @@ impl Room {
     }
 }
 
-/// A text that grows as long as memory is left.
-struct Growing(Vec<u8>);
-
-impl Write for Growing {
-    fn write_str(&mut self, text: &str) -> fmt::Result {
-        self.0.try_reserve(text.len()).map_err(|_| fmt::Error)?;
-        self.0.extend_from_slice(text.as_bytes());
-        Ok(())
-    }
-}
-
 struct Static(zigrunk_error);
 
 // SAFETY: nothing changes it.
@@ -207,12 +195,9 @@ static OUT_OF_MEMORY: Static = Static(zigrunk_error {
 });
 
 fn error_of(error: &Error) -> Result<*mut zigrunk_error, TryReserveError> {
-    let mut message = Growing(Vec::new());
-    if write!(message, "{error}").is_err() {
-        return Ok(ptr::addr_of!(OUT_OF_MEMORY.0).cast_mut());
-    }
+    let Ok(message) = displayed(error) else { return Ok(ptr::addr_of!(OUT_OF_MEMORY.0).cast_mut()) };
     let mut room = Room::default();
-    let message = room.text(&message.0)?;
+    let message = room.text(&message)?;
     let (input, line) = error.place().map_or((0, 0), |place| (place.input.number(), place.line.unwrap_or(0)));
     give(zigrunk_error { made: not_yet(), status: error.status(), input, line, message }, room)
 }

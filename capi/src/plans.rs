@@ -250,7 +250,8 @@ fn reason_of(command: &Command<'_>) -> u32 {
     }
 }
 
-fn record(room: &mut Room, command: &Command<'_>, stage: u32, others: &[Vec<u8>]) -> Result<zigrunk_command, TryReserveError> {
+fn record(room: &mut Room, command: &Command<'_>, stage: u32, others: &[Vec<u8>]) -> Result<zigrunk_command, Refusal> {
+    let targets = command.targets()?;
     Ok(zigrunk_command {
         words: room.texts(iter::once(command.program()).chain(command.arguments()))?,
         environment: room.environment(command.variables(), others)?,
@@ -258,7 +259,7 @@ fn record(room: &mut Room, command: &Command<'_>, stage: u32, others: &[Vec<u8>]
         reads: room.texts(command.reads())?,
         writes: room.texts(command.writes())?,
         may_write: room.texts(command.may_write())?,
-        targets: room.texts(command.targets().iter().map(String::as_str))?,
+        targets: room.texts(targets.iter().map(String::as_str))?,
         needs: room.numbers(command.needs())?,
         needs_count: command.needs().len(),
         group: command.group().unwrap_or(usize::MAX),

@@ -46,7 +46,7 @@ fn main() -> Result<(), Box<dyn Error>> {
     for command in plan.commands() {
         let key = digest(command, &mut tools)?.map_or_else(|| "-".to_owned(), |digest| format!("{digest:016x}"));
         let files: Vec<&str> = command.writes().chain(command.may_write()).collect();
-        println!("{key}\t{}\t{}\t{}", command.targets().join(","), command.program(), files.join("\t"));
+        println!("{key}\t{}\t{}\t{}", command.targets()?.join(","), command.program(), files.join("\t"));
         let mut run = process::Command::new(command.program());
         let status = run.args(command.arguments()).current_dir(command.cwd()).env_clear().envs(command.variables()).status()?;
         if !status.success() {

@@ -86,10 +86,10 @@ mod tests {
         assert_eq!(read("# Libraries: each below those that name it."), None);
         assert_eq!(read(""), None);
         let found = Crate {
-            name: String::from("zigrunk_c"),
-            folder: PathBuf::from("crates/zigrunk_c"),
-            dependencies: vec![String::from("c_texts"), String::from("c_plans")],
+            name: String::from("planner"),
+            folder: PathBuf::from("crates/planner"),
+            dependencies: vec![String::from("texts"), String::from("plans")],
         };
-        assert_eq!(read("zigrunk_c staticlib: c_texts c_plans"), Some(found));
+        assert_eq!(read("planner staticlib: texts plans"), Some(found));
     }
 }

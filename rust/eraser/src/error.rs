@@ -16,8 +16,6 @@ pub enum Error {
     NoModule(PathBuf),
     /// A crate needs a crate that isn't there.
     NoDependency { of: String, name: String },
-    /// A C function has a form that isn't known.
-    Export(String),
     /// `rustfmt` refuses the result.
     Format(String),
 }
@@ -39,7 +37,6 @@ impl fmt::Display for Error {
                 f,
                 "{of} needs {name}, which is no crate and has no stand-in"
             ),
-            Error::Export(name) => write!(f, "the C function {name} has an unknown form"),
             Error::Format(said) => write!(f, "rustfmt: {said}"),
         }
     }

@@ -9,7 +9,6 @@ mod crates;
 mod documentation;
 mod erased;
 mod error;
-mod exports;
 mod ghost;
 mod imports;
 mod layout;

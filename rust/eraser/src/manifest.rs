@@ -3,7 +3,6 @@
 use crate::crates::Crate;
 use crate::erased::ErasedCrate;
 use crate::error::Error;
-use crate::exports;
 use std::collections::BTreeSet;
 use std::path::{Path, PathBuf};
 
@@ -65,9 +64,6 @@ fn dependency(
 
 // What cargo builds of a crate. A program starts without Rust's `main`, and so it can't be a test of itself.
 fn target(of: &Crate, erased: &ErasedCrate) -> String {
-    if of.name == exports::CRATE {
-        return "[lib]\nname = \"zigrunk\"\ncrate-type = [\"cdylib\", \"staticlib\"]\ndoc = false\n\n".to_string();
-    }
     if !erased.files.contains_key(Path::new("src/main.rs")) {
         return String::new();
     }

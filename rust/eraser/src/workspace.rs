@@ -1,9 +1,8 @@
 //! The workspace of plain Rust: the erased crates, and what is written by hand for them.
 
 use crate::crates::{Crate, crates};
-use crate::erased::{ErasedCrate, erased};
+use crate::erased::erased;
 use crate::error::Error;
-use crate::exports;
 use crate::manifest::{Known, manifest, workspace};
 use crate::tree::{Tree, names};
 use std::fs;
@@ -80,15 +79,12 @@ pub fn workspace_of(root: &Path, drivers: bool) -> Result<Workspace, Error> {
 impl Workspace {
     // Adds a crate of the proved sources. There is none of theorems alone.
     fn add_crate(&mut self, root: &Path, of: &Crate, known: &Known) -> Result<(), Error> {
-        let mut erased = erased(root, of)?;
+        let erased = erased(root, of)?;
         self.record.push_str(&erased.record);
         if erased.is_empty() {
             return Ok(());
         }
         let folder = Path::new("crates").join(&of.name);
-        if of.name == exports::CRATE {
-            export(&mut erased)?;
-        }
         self.tree
             .add(folder.join("Cargo.toml"), manifest(of, &erased, known)?);
         for (path, text) in erased.files {
@@ -116,16 +112,4 @@ impl Workspace {
 fn is_member(manifest: &Path) -> bool {
     let marks = ["version.workspace = true", "\"../crates/"];
     fs::read_to_string(manifest).is_ok_and(|text| marks.iter().any(|it| text.contains(it)))
-}
-
-// Puts the C functions in place of those of the proved source.
-fn export(erased: &mut ErasedCrate) -> Result<(), Error> {
-    let root = PathBuf::from("src/lib.rs");
-    if let Some(text) = erased.files.get_mut(&root) {
-        *text = exports::exports(text)?;
-    }
-    erased
-        .files
-        .insert(PathBuf::from("src/memory.rs"), exports::MEMORY.to_string());
-    Ok(())
 }

@@ -95,7 +95,7 @@ fn print_command(of: Command<'_>, stage: Option<Stage>) {
     print_texts(" reads", of.reads());
     print_texts(" writes", of.writes());
     print_texts(" may write", of.may_write());
-    print_texts(" target", of.targets());
+    print_texts(" target", of.targets().unwrap_or_default());
     of.needs().iter().for_each(|need| println!(" needs {need}"));
 }
 

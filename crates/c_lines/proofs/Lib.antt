@@ -1,2 +1,0 @@
-pub mod LineReading
-pub mod RecordedLineLemmas

@@ -1,3 +1,0 @@
-pub mod LineRecordLaws
-pub mod LineRecords
-pub mod Lines

@@ -1,4 +1,0 @@
-pub mod RecordLemmas
-pub mod RecordReading
-pub mod StepLemmas
-pub mod StepReading

@@ -1,9 +1,0 @@
-pub mod Acceptance
-pub mod Asking
-pub mod LimitLaws
-pub mod Places
-pub mod PlanSteps
-pub mod Planning
-pub mod Records
-pub mod RecordsRead
-pub mod Steps

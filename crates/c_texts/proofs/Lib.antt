@@ -1,6 +1,0 @@
-pub mod EventLemmas
-pub mod GraphLemmas
-pub mod RangeLemmas
-pub mod ReadyLemmas
-pub mod TextLemmas
-pub mod Utf8Lemmas

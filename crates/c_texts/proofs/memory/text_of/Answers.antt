@@ -1,9 +1,0 @@
-use Rattle.std.proofs.lemmas.Str.{is_utf8-from_IsUtf8}
-use Rattle.c_texts.proofs.Utf8Lemmas.{is_utf8-false}
-use Rattle.c_texts.proofs.memory.text_of.Goals as goal
-
-pub returns-in-Err : goal.returns-in-Err
-returns-in-Err c = is_utf8-false c.args.bytes.now c.in-Err.ensures.cases.0
-
-pub returns-in-Ok : goal.returns-in-Ok
-returns-in-Ok c = (is_utf8-from_IsUtf8 c.args.bytes.now c.in-Ok.ensures.cases.1, c.in-Ok.ensures.cases.0)
