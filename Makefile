@@ -10,26 +10,26 @@ crates_from = if command -v cargo > /dev/null; then $(MAKE) rust-sources; else e
 ifeq ($(BUILT),plain)
 built = out/rust/target/release
 cudaplan = $(built)/cudaplan
-archive = $(built)/libzigrunk.a
 programs_from = $(MAKE) rust
 library_from = $(MAKE) rust
 driver_from = :
 else
 cudaplan = crates/cudaplan/out/cudaplan
-archive = crates/zigrunk_c/out/libzigrunk_c.a
 programs_from = .ci/built check programs || $(MAKE) build
-library_from = .ci/built check library || $(MAKE) lib
+library_from = $(MAKE) rust-sources && cd $(workspace) && cargo build --quiet --release -p capi
 # zigrunk is plain Rust over the proved sources.
 driver_from = if command -v cargo > /dev/null; then $(MAKE) rust-sources && cd $(workspace) && cargo build --quiet --release -p zigrunk-driver; else echo 'no cargo, so no zigrunk'; fi
 endif
 driver = $(workspace)/target/release/zigrunk-driver
+archive = $(workspace)/target/release/libzigrunk_c.a
 
-.PHONY: help demo build lib rust rust-sources rust-install check install install-programs install-library install-rust uninstall dist bench drivers fuzz-library fuzz-plain erased-kit must-fail refused-memory end-to-end odd-calls random-calls mutants-by-lot versions cache cache-edits peer cluster field platforms test-install dist-test check-docs lint one test
+.PHONY: help demo build lib header rust rust-sources rust-install check install install-programs install-library install-rust uninstall dist bench drivers erased-kit must-fail refused-memory end-to-end odd-calls random-calls mutants-by-lot versions cache cache-edits peer cluster field platforms test-install dist-test check-docs lint one test
 
 help:
 	@echo 'make demo             run cudaplan, unproved, on two calls; a minute from a fresh clone'
 	@echo 'make build            prove and build crates/cudaplan/out/cudaplan'
-	@echo 'make lib              prove and build libzigrunk for C, Rust and Python: out/lib and out/include'
+	@echo 'make lib              build libzigrunk for C, C++, Go and Python: out/lib and out/include'
+	@echo 'make header           write the header of libzigrunk anew; needs cbindgen'
 	@echo 'make rust             write the proved sources as plain Rust and build programs and library of them: out/rust; needs cargo alone'
 	@echo 'make install          install programs, library, scripts, man pages and completions; PREFIX=/usr/local, DESTDIR='
 	@echo '                      it proves and builds both, or without the kit builds the plain Rust: BUILT=proved, BUILT=plain'
@@ -42,8 +42,6 @@ help:
 	@echo 'make one CASE=TEXT    run the cases of the shell scripts and the unit tests of the driver whose names have this text'
 	@echo 'make drivers          compile the test drivers, unproved, and run their cases, or those of NAMES="test_lines"'
 	@echo 'make must-fail        check that the prover rejects the wrong bodies of all crates, or of CRATES="texts dry_runs"'
-	@echo 'make fuzz-library     fuzz libzigrunk for an hour, guided by coverage; needs clang with libFuzzer; FUZZ_SECONDS=3600'
-	@echo 'make fuzz-plain       compare the proved libzigrunk with that of plain Rust on calls drawn by lot, for an hour; FUZZ_SECONDS=3600, SEED=1'
 	@echo 'make erased-kit       compile the sources with and without contracts by the kit, and compare each function'\''s instructions; ten minutes'
 	@echo 'make refused-memory   run the test cases again and again, each time with another allocation failing'
 	@echo 'make end-to-end       compare zigrunk-nvcc with nvcc; needs nvcc, ninja and cargo on the path'
@@ -88,11 +86,13 @@ build:
 check:
 	@tests/quick $(CRATE) $(FUNCTION)
 
-# The planner for programs in C, Rust and Python (docs/EMBEDDING.md).
+# The planner for programs in C, C++, Go and Python (docs/EMBEDDING.md).
 lib:
-	cd crates/zigrunk_c && rt lib
-	@.ci/built record library
-	bindings/c/library.sh crates/zigrunk_c/out/libzigrunk_c.a "$(CURDIR)/out"
+	@$(library_from)
+	bindings/c/library.sh $(archive) "$(CURDIR)/out"
+
+header: rust-sources
+	cd $(workspace)/capi && cbindgen --quiet --config cbindgen.toml --crate capi --output $(CURDIR)/bindings/c/zigrunk.h .
 
 # The proved sources as crates of plain Rust (docs/PLAIN_RUST.md), and programs and library of them: no kit, no network.
 rust: rust-sources
@@ -110,18 +110,6 @@ rust-install:
 
 bench:
 	tests/drivers.sh --run cudabench line 100000 cicc /w --device-c -arch compute_80 --module_id_file_name kernel.module_id kernel.cpp1.ii --simt-only -o kernel.ptx
-
-# libzigrunk by libFuzzer, with code that counts its branches. It keeps inputs and figures in out/fuzz.
-FUZZ_SECONDS ?= 3600
-fuzz-library:
-	tests/fuzz/library.sh out/fuzz $(FUZZ_SECONDS)
-
-# It takes the proved archive if out/ has it, otherwise one that the kit compiled without proof.
-fuzz-plain: rust
-	@archive=crates/zigrunk_c/out/libzigrunk_c.a && \
-	if ! .ci/built check library; then echo 'the library of the kit is not proved here'; \
-		archive=out/fuzz/unproved.a && tests/peer/unproved_archive.py "$$archive"; fi && \
-	tests/plain_fuzz.sh "$$archive" $(workspace)/target/release/libzigrunk.a $(FUZZ_SECONDS) 1000000000
 
 # Once a release: contracts have no say in what the kit's compiler makes.
 erased-kit:
@@ -212,7 +200,6 @@ dist-test:
 
 test-install:
 	@.ci/built check programs || $(MAKE) build
-	@.ci/built check library || $(MAKE) lib
 	@tests/install.sh
 
 # rt ci: every proof, wrong bodies, tests and programs. Beside it all other tests, of what it built.

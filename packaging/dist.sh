@@ -62,7 +62,7 @@ build() {
         cd "$sources"
         export "$linker=$2gcc" CARGO_TARGET_DIR="$top/out/dist/target"
         words=(build --quiet --release --offline --locked --target "$1")
-        cargo "${words[@]}" -p zigrunk_c
+        cargo "${words[@]}" -p capi
         RUSTFLAGS='-C target-feature=+crt-static -C strip=symbols' cargo "${words[@]}" --target-dir "$top/out/dist/static" --bins
     )
 }
@@ -70,7 +70,7 @@ build() {
 # install TARGET PREFIX ROOT FOLDER: what was built for a target.
 install_built() {
     local made=$top/out/dist
-    make -s -C "$sources" install built="$made/static/$1/release" archive="$made/target/$1/release/libzigrunk.a" programs_from=: library_from=: \
+    make -s -C "$sources" install built="$made/static/$1/release" archive="$made/target/$1/release/libzigrunk_c.a" programs_from=: library_from=: \
         CC="$2gcc" LD="$2ld" AR="$2ar" OBJCOPY="$2objcopy" DESTDIR="$3" PREFIX="$4"
 }
 
@@ -87,7 +87,7 @@ Version: $version
 Architecture: $1
 Maintainer: Zigrunk maintainers <maintainers@users.noreply.zigrunk.example>
 Installed-Size: $(find "$2/usr" -type f -printf '%s\n' | awk '{ size += $1 } END { print int(size / 1024) + 1 }')
-Depends: libc6 (>= $(newest_glibc "$2/usr/lib/libzigrunk.so.1"))
+Depends: libc6 (>= $(newest_glibc "$2/usr/lib/libzigrunk.so.2"))
 Suggests: python3, sccache, slurm-client
 Section: devel
 Priority: optional
@@ -118,7 +118,7 @@ debianize() {
     done > "$root/usr/share/lintian/overrides/zigrunk"
     mv "$root/usr/share/zsh/site-functions/_zigrunk" "$root/usr/share/zsh/vendor-completions"
     rmdir "$root/usr/share/zsh/site-functions"
-    chmod 644 "$root/usr/lib/libzigrunk.so.1"
+    chmod 644 "$root/usr/lib/libzigrunk.so.2"
     for page in "$root"/usr/share/man/man[13]/*; do
         if [ -h "$page" ]; then
             ln -s "$(readlink "$page").gz" "$page.gz" && rm "$page"
@@ -140,13 +140,13 @@ package() {
     build "$2" "$3"
     install_built "$2" "$3" "$root" /usr
     debianize "$root"
-    if ! needs_libc_alone "$root/usr/lib/libzigrunk.so.1"; then
-        echo 'Depends names libc6, but libzigrunk.so.1 needs the above too' >&2
+    if ! needs_libc_alone "$root/usr/lib/libzigrunk.so.2"; then
+        echo 'Depends names libc6, but libzigrunk.so.2 needs the above too' >&2
         exit 1
     fi
-    bindings/python/wheel.py "$root/usr/lib/libzigrunk.so.1" dist > /dev/null
+    bindings/python/wheel.py "$root/usr/lib/libzigrunk.so.2" dist > /dev/null
     mkdir "$root/DEBIAN"
-    echo "libzigrunk 1 zigrunk (>= $version)" > "$root/DEBIAN/shlibs"
+    echo "libzigrunk 2 zigrunk (>= $version)" > "$root/DEBIAN/shlibs"
     echo 'activate-noawait ldconfig' > "$root/DEBIAN/triggers"
     control "$1" "$root" > "$root/DEBIAN/control"
     (cd "$root" && find usr -type f -print0 | sort -z | xargs -0 md5sum > DEBIAN/md5sums)
@@ -174,7 +174,7 @@ else
     echo 'no package for arm64: rustc lacks its library, or there is no aarch64-linux-gnu-gcc'
 fi
 # (rt ci leaves no object files of programs that an earlier run proved)
-if .ci/built check programs && .ci/built check library && [ -s crates/cudaplan/out/cudaplan.o ]; then
+if .ci/built check programs && [ -s crates/cudaplan/out/cudaplan.o ]; then
     pack_proved
 else
     echo "no $name-x86_64-linux.tar.gz: crates/*/out lack what these sources make; make build and make lib prove and build it"

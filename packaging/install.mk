@@ -28,14 +28,14 @@ install-library:
 	@$(library_from)
 	umask 022 && bindings/c/library.sh $(archive) "$(target)"
 	install -D -m 644 man/zigrunk.h.3 "$(target)/share/man/man3/zigrunk.h.3"
-	find bindings/c bindings/cpp bindings/go bindings/python -type f ! -path '*/c/library.sh' ! -path '*/c/zigrunk*' ! -name zigrunk.hpp ! -path '*/__pycache__/*' | while read -r file; do \
+	find bindings/c bindings/cpp bindings/go bindings/python -type f ! -path '*/c/library.sh' ! -path '*/c/zigrunk.h' ! -name zigrunk.hpp ! -path '*/__pycache__/*' | while read -r file; do \
 		install -D -m 644 "$$file" "$(target)/share/zigrunk/$${file#bindings/}" || exit 1; done
 
 # The crate for Rust, with the crates that it is made of: `cargo add --path PREFIX/share/zigrunk/rust/zigrunk`.
 install-rust:
 	@$(crates_from)
 	if [ -d $(workspace)/crates ]; then to=$$(realpath -m "$(target)") && cd $(workspace) && \
-		find Cargo.toml crates stand call zigrunk driver -type f | while read -r file; do \
+		find Cargo.toml crates stand call zigrunk capi driver -type f | while read -r file; do \
 		install -D -m 644 "$$file" "$$to/share/zigrunk/rust/$$file" || exit 1; done; fi
 
 uninstall:
@@ -45,7 +45,7 @@ uninstall:
 	rm -f "$(target)/share/bash-completion/completions/zigrunk" "$(target)/share/bash-completion/completions/cudaplan"
 	rm -f "$(target)/share/man/man3/zigrunk.h.3"
 	rm -f "$(target)/share/zsh/site-functions/_zigrunk"
-	rm -f "$(target)/lib/libzigrunk.a" "$(target)/lib/libzigrunk.so" "$(target)/lib/libzigrunk.so.1"
+	rm -f "$(target)/lib/libzigrunk.a" "$(target)/lib/libzigrunk.so" "$(target)/lib/libzigrunk.so.1" "$(target)/lib/libzigrunk.so.2"
 	rm -f "$(target)/lib/pkgconfig/zigrunk.pc"
 	for name in zigrunk.h zigrunk_call.h zigrunk.hpp; do rm -f "$(target)/include/$$name"; done
 	rm -rf "$(target)/lib/cmake/zigrunk"

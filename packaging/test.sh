@@ -104,9 +104,9 @@ programs() {
 in_c() {
     # shellcheck disable=SC2016 # for sh
     check "$1: the example in C" inside env "PKG_CONFIG_PATH=$2/lib/pkgconfig" sh -c \
-        'cc -o example "$1/share/zigrunk/c/example.c" $(pkg-config --cflags --libs zigrunk)' _ "$2"
+        'cc -o example "$1/share/zigrunk/c/plan.c" $(pkg-config --cflags --libs zigrunk)' _ "$2"
     check "$1: what it prints" prints $'0: a\n1: \'b c\'' inside env "LD_LIBRARY_PATH=$2/lib" ./example 'a "b c"'
-    check "$1: the example with the archive" inside cc -o archived "-I$2/include" "$2/share/zigrunk/c/example.c" "$2/lib/libzigrunk.a"
+    check "$1: the example with the archive" inside cc -o archived "-I$2/include" "$2/share/zigrunk/c/plan.c" "$2/lib/libzigrunk.a"
     check "$1: what that prints" prints $'0: a\n1: \'b c\'' inside ./archived 'a "b c"'
     # shellcheck disable=SC2016 # for sh
     check "$1: a plan by a program in C" inside env "PKG_CONFIG_PATH=$2/lib/pkgconfig" "LD_LIBRARY_PATH=$2/lib" sh -c \
@@ -122,7 +122,7 @@ package() {
     check "$1: Ninja" inside apt-get install -y --no-install-recommends ninja-build
     check "$1: a plan that Ninja runs" inside sh -c 'zigrunk plan --dry-runs one_target.dry1 one_target.dry2 --tmp /root/t ninja > build.ninja && ninja'
     check "$1: zigrunk-nvcc, for a call that isn't split" prints '--preprocess k.cu' inside env ZIGRUNK_NVCC=echo zigrunk-nvcc --preprocess k.cu
-    check "$1: what the library needs" all_found inside ldd -r /usr/lib/libzigrunk.so.1
+    check "$1: what the library needs" all_found inside ldd -r /usr/lib/libzigrunk.so.2
     check "$1: a compiler" inside apt-get install -y --no-install-recommends gcc libc6-dev pkg-config
     in_c "$1" /usr
     check "$1: what its pages name" named_files
