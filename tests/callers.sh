@@ -18,15 +18,15 @@ if [ "${1-}" = --first ]; then
     shift
 fi
 installed=$(realpath -m "${1:-out}")
-if ! [ -f "$installed/lib/libzigrunk.so.1" ] && [ -f out/rust/target/release/libzigrunk.a ]; then
+if ! [ -f "$installed/lib/libzigrunk.so.2" ] && [ -f out/rust/target/release/libzigrunk_c.a ]; then
     installed=$scratch/installed
-    bindings/c/library.sh out/rust/target/release/libzigrunk.a "$installed"
+    bindings/c/library.sh out/rust/target/release/libzigrunk_c.a "$installed"
 fi
-[ -f "$installed/lib/libzigrunk.so.1" ] || skip_all 'the call layers' "there is no library in $installed: make rust"
+[ -f "$installed/lib/libzigrunk.so.2" ] || skip_all 'the call layers' "there is no library in $installed: make rust"
 python=$PWD/bindings/python go=$PWD/bindings/go
 [ ! -d "$installed/share/zigrunk/go" ] || python=$installed/share/zigrunk/python go=$installed/share/zigrunk/go
 export PKG_CONFIG_PATH=$installed/lib/pkgconfig LD_LIBRARY_PATH=$installed/lib PYTHONPATH=$python
-export ZIGRUNK_LIBRARY=$installed/lib/libzigrunk.so.1 PYTHONDONTWRITEBYTECODE=1
+export ZIGRUNK_LIBRARY=$installed/lib/libzigrunk.so.2 PYTHONDONTWRITEBYTECODE=1
 strict=(-Wall -Wextra -Wpedantic -Werror -O1 -g)
 room=$scratch/room
 make_room "$room"
@@ -91,39 +91,15 @@ first_plans() {
 # has_ten_lines LANGUAGE: whether the program has at most ten.
 has_ten_lines() { [ "$(block "$1" | grep -c '')" -le 10 ] && [ "$(block "$1" | grep -c '')" -gt 2 ]; }
 
-# misuses COMMAND..: whether a program says of each misuse what the table says.
-misuses() {
-    diff <(misuse_rows | awk '{print $1, $5, $6, $7}') <(misuse_rows | "$@" "$room")
+# answers PROGRAM..: what a program says of the rows of the table, and of pairs of dry runs by lot, if they are alike what C says.
+answers() { env -i PATH="$PATH" HOME="$HOME" "${python_environment[@]}" "$@" "$room" < "$scratch/rows"; }
+alike() { diff "$scratch/answers" <(answers "$@"); }
+
+# told: what C says. Some of the pairs by lot are planned, and some aren't.
+told() {
+    answers "$scratch/answers_c" > "$scratch/answers" &&
+        awk '/^== lot/ { all++ } /^refused 1[02] / && !/ 0 0$/ { refused++ } /^start 0$/ { planned++ } END { exit !(all && refused > all / 4 && planned > 2) }' "$scratch/answers"
 }
-
-# told_of_lot: what the program for C, which has the checks of the compiler, says of pairs of dry runs by lot. Some of both kinds are among them: those
-# that are planned, and those that aren't. (A pair frees half a MB. By default, ASan keeps back 256 MB of what was freed last, and then each allocation
-# waits for memory that isn't in a processor's cache.)
-told_of_lot() {
-    ASAN_OPTIONS=${ASAN_OPTIONS-quarantine_size_mb=4} "$scratch/misuses_c" "$room" < "$scratch/lot" > "$scratch/said_of_lot" &&
-        grep -q ' 0 0 0$' "$scratch/said_of_lot" &&
-        [ "$(grep -vc ' 0 0 0$' "$scratch/said_of_lot")" -ge $((pairs / 2)) ] && [ "$(grep -c '' "$scratch/said_of_lot")" = "$pairs" ]
-}
-
-# alike PROGRAM..: whether another program says the same of them.
-alike() { diff "$scratch/said_of_lot" <("$@" "$room" < "$scratch/lot"); }
-
-# sanitized FILE OUT: with the checks of the compiler.
-sanitized() { cc -std=c99 -D_POSIX_C_SOURCE=200809L -fsanitize=address,undefined -fno-sanitize-recover "${strict[@]}" "$1" -o "$2" "${flags[@]}"; }
-
-# without_memory: if one allocation fails, whichever, a call says so, or is as ever.
-without_memory() {
-    local number status
-    cc -shared -fPIC -O1 -o "$scratch/refuse_nth.so" tests/refuse_nth.c -ldl && built_c tests/callers/misuses.c "$scratch/plain_misuses" "${flags[@]}" &&
-        misuse_rows | head -n 1 > "$scratch/row" || return 1
-    for number in $(seq 1 "$most_refused"); do
-        REFUSED=$number LD_PRELOAD=$scratch/refuse_nth.so "$scratch/plain_misuses" "$room" < "$scratch/row" > "$scratch/one" 2>&1 9> /dev/null
-        status=$?
-        # 2: there was no call at all; 3: only the second of its two plans lacked memory
-        case "$status $(cat "$scratch/one")" in '0 right 0 0 0' | '0 right 1 0 0' | '2 ' | '3 ') ;; *) echo "allocation $number: $status"; return 1 ;; esac
-    done
-}
-most_refused=700
 
 # by_cmake: a project finds the library, as it is shared and as an archive.
 by_cmake() {
@@ -172,7 +148,7 @@ sys.exit(page.rows != 8)" "$scratch/audit.html"
 # in_wheel: a wheel has all that the package needs.
 in_wheel() {
     mkdir -p "$scratch/wheel/all"
-    python3 bindings/python/wheel.py "$installed/lib/libzigrunk.so.1" "$scratch/wheel" && (cd "$scratch/wheel" && python3 -m zipfile -e ./*.whl all) &&
+    python3 bindings/python/wheel.py "$installed/lib/libzigrunk.so.2" "$scratch/wheel" && (cd "$scratch/wheel" && python3 -m zipfile -e ./*.whl all) &&
         ZIGRUNK_LIBRARY='' LD_LIBRARY_PATH='' PYTHONPATH=$scratch/wheel/all plans python3 "$scratch/first.py"
 }
 
@@ -194,18 +170,20 @@ if [ -n "$only_first" ]; then
 fi
 check 'C: the program with the archive' built_c "$scratch/first.c" "$scratch/first_static" -static "${static_flags[@]}"
 check 'C: its plan with the archive' plans "$scratch/first_static"
-check 'C: the header, by a compiler of C++' c++ -x c++ -std=c++11 "${strict[@]}" -fsyntax-only tests/callers/misuses.c "${flags[@]}"
-check 'C: misuses, with the checks of the compiler' sanitized tests/callers/misuses.c "$scratch/misuses_c"
-check 'C: what comes of them' misuses "$scratch/misuses_c"
-check 'C: without memory' without_memory
 pairs=${PAIRS:-100}
-python3 tests/callers/mutated.py "$room" "${SEED:-1}" "$pairs" > "$scratch/lot"
-check "C: $pairs pairs of dry runs by lot" told_of_lot
-check 'C++: misuses' built_cpp tests/callers/misuses.cpp "$scratch/misuses_cpp" "${flags[@]}"
-check 'C++: what comes of them' misuses "$scratch/misuses_cpp"
-check "C++: $pairs pairs of dry runs by lot" alike "$scratch/misuses_cpp"
-check 'Python: misuses' misuses python3 tests/callers/misuses.py
-check "Python: $pairs pairs of dry runs by lot" alike python3 tests/callers/misuses.py
+python_environment=(LD_LIBRARY_PATH="$LD_LIBRARY_PATH" ZIGRUNK_LIBRARY="$ZIGRUNK_LIBRARY" PYTHONPATH="$PYTHONPATH" PYTHONDONTWRITEBYTECODE=1 LC_CTYPE=C.UTF-8)
+{ misuse_rows && python3 tests/callers/mutated.py "$room" "${SEED:-1}" "$pairs"; } > "$scratch/rows"
+check 'C: answers.c' built_c tests/callers/answers.c "$scratch/answers_c" "${flags[@]}"
+check "C: what it says of the table and of $pairs pairs by lot" told
+check 'C++: answers.cpp' built_cpp tests/callers/answers.cpp "$scratch/answers_cpp" "${flags[@]}"
+check 'C++: the same' alike "$scratch/answers_cpp"
+check 'Python: the same' alike python3 tests/callers/answers.py
+if command -v cargo > /dev/null && [ -d "${WORKSPACE:-out/rust}/zigrunk" ]; then
+    check 'Rust: answers' cargo build --quiet --offline --release --manifest-path "${WORKSPACE:-out/rust}/Cargo.toml" -p zigrunk --example answers
+    check 'Rust: the same' alike "${CARGO_TARGET_DIR:-${WORKSPACE:-out/rust}/target}/release/examples/answers"
+else
+    skip 'Rust: answers' 'there is no cargo, or no workspace: make rust'
+fi
 check 'Python: a wheel' in_wheel
 check 'Python: the auditor' audits
 check 'the lines of the scheduler' at_most 150 bindings/cpp/examples/scheduler.cpp
@@ -214,15 +192,14 @@ check 'the lines of the key maker' at_most 60 bindings/rust/examples/keys.rs
 check 'the lines of the cache server' at_most 200 bindings/go/examples/cacheserver/main.go
 check 'C++: the scheduler' built_cpp bindings/cpp/examples/scheduler.cpp "$scratch/scheduler" "${flags[@]}"
 if command -v go > /dev/null; then
-    mkdir -p "$scratch/misuses_go"
-    cp tests/callers/go/misuses.go "$scratch/misuses_go"
+    mkdir -p "$scratch/answers_go"
+    cp tests/callers/go/answers.go "$scratch/answers_go"
     check 'Go: the format' prints '' gofmt -l bindings/go tests/callers/go
     mkdir -p "$scratch/server"
     cp bindings/go/examples/cacheserver/main.go "$scratch/server"
     check 'Go: the cache server' built_go "$scratch/server" "$scratch/server/cacheserver"
-    check 'Go: misuses' built_go "$scratch/misuses_go" "$scratch/misuses_go/misuses"
-    check 'Go: what comes of them' misuses "$scratch/misuses_go/misuses"
-    check "Go: $pairs pairs of dry runs by lot" alike "$scratch/misuses_go/misuses"
+    check 'Go: answers.go' built_go "$scratch/answers_go" "$scratch/answers_go/answers"
+    check 'Go: the same' alike "$scratch/answers_go/answers"
 fi
 if command -v cmake > /dev/null; then
     check 'a project of CMake' by_cmake

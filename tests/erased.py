@@ -7,7 +7,7 @@ Usage: tests/erased.py [OUT [SOURCE]]     OUT: what `make rust` wrote, out/rust 
 
 It knows nothing of the program that wrote them. For each crate it reads the source and the output by tokens: the output's have to be the
 source's in their order, but for ghost text, whose forms `rust_reading` lists, for imports that only ghost text used, and for the rewrites
-of REWRITES and `exported`. Documentation is compared too, other comments aren't. Each file has to be there, and no other, nor a crate that
+of REWRITES. Documentation is compared too, other comments aren't. Each file has to be there, and no other, nor a crate that
 has laws alone. No file may join a `let` with `&&`, which Rust 1.85 doesn't have.
 """
 
@@ -97,78 +97,6 @@ def differences(source: list[Token], output: list[Token]) -> Iterator[str]:
             return
 
 
-# The exports of libzigrunk. In Rattle an export takes slices, and an allocator that C doesn't see. In plain Rust a slice is a pointer and
-# a number of elements. The function trusts both, so it is unsafe, and its documentation says so.
-
-EXPORT = re.compile(r"#\[unsafe\(no_mangle\)\]pub extern \"C\" fn (?P<name>\w+)\((?P<parameters>[^()]*)\)->(?P<answer>\w+)"
-                    r"\{(?P<callee>\w+::\w+)\((?P<arguments>[^()]*)\)\}")
-SAFETY = ["///", "/// # Safety", "///", "/// `zigrunk.h` says what the caller ensures."]
-# What makes slices of them, in a file of its own, which is the only one without a source.
-MEMORY = """
-use core::slice;
-pub(crate) unsafe fn list<'a, T>(pointer: *const T, size: usize) -> &'a [T] {
-    if size == 0 { return &[]; }
-    unsafe { slice::from_raw_parts(pointer, size) }
-}
-pub(crate) unsafe fn list_mut<'a, T>(pointer: *mut T, size: usize) -> &'a mut [T] {
-    if size == 0 { return &mut []; }
-    unsafe { slice::from_raw_parts_mut(pointer, size) }
-}
-"""
-MEMORY_FILE = "zigrunk_c/src/memory.rs"
-MEMORY_MODULE = "mod memory ;".split()
-MEMORY_IMPORTS = {"memory::list", "memory::list_mut"}
-
-
-def spelled(tokens: list[Token]) -> str:
-    """Returns the tokens as one text, with a blank only between two words."""
-    return re.sub(r"(?<=[\w\"']) (?![\w\"'])|(?<![\w\"']) ", "", " ".join(token.text for token in tokens))
-
-
-def exported(export: list[Token]) -> tuple[str, bool] | None:
-    """Returns how plain Rust spells an export, without its documentation, and whether it is unsafe. None if this is no export."""
-    match = EXPORT.fullmatch(spelled(code_of(export)))
-    if match is None:
-        return None
-    parameters, arguments = list[str](), list[str]()
-    pairs = re.findall(r"(\w+):([^,]+)", match["parameters"])
-    for name, kind in pairs:
-        if slice_of := re.fullmatch(r"&(mut)?\[(.*)\]", kind):
-            parameters += [f"{name}: *{slice_of[1] or 'const'} {slice_of[2]}", f"{name}_size: usize"]
-            arguments.append(f"{'list_mut' if slice_of[1] else 'list'}({name}, {name}_size)")
-        else:
-            parameters += [] if kind == "Global" else [f"{name}: {kind}"]
-            arguments.append("Global" if kind == "Global" else name)
-    if match["arguments"].rstrip(",") != ",".join(name for name, _ in pairs):
-        return None
-    is_unsafe, call = "list" in str(arguments), f"{match['callee']}({', '.join(arguments)})"
-    head = f'extern "C" fn {match["name"]}({", ".join(parameters)}) -> {match["answer"]}'
-    words = ("pub unsafe", f"unsafe {{ {call} }}") if is_unsafe else ("pub", call)
-    return f"#[unsafe(no_mangle)] {words[0]} {head} {{ {words[1]} }}", is_unsafe
-
-
-def documentation_of(tokens: list[Token]) -> list[str]:
-    return [token.text for token in tokens if token.kind == "doc"]
-
-
-def code_of(tokens: list[Token]) -> list[Token]:
-    return [token for token in tokens if token.kind != "doc"]
-
-
-def different_exports(source: Reading, output: Reading) -> Iterator[str]:
-    """Exports that aren't spelled as those of the source have to be, in the same order."""
-    if len(source.exports) != len(output.exports):
-        yield f"{len(output.exports)} exports, not {len(source.exports)}"
-    for wanted, got in zip(source.exports, output.exports):
-        spelling = exported(wanted)
-        if spelling is None:
-            yield f"line {wanted[0].line} of the source: an export of no known form"
-            continue
-        yield from differences(tokens_of(spelling[0]), code_of(got))
-        if documentation_of(got) != [*documentation_of(wanted), *(SAFETY if spelling[1] else [])]:
-            yield f"line {got[0].line}: other documentation than its source's and `Safety`"
-
-
 def different_imports(source: Reading, output: Reading) -> Iterator[str]:
     """Imports that the output lacks, though code may use them, and those that the source doesn't have."""
     def key(it: Import) -> tuple[str, str, str]:
@@ -179,7 +107,7 @@ def different_imports(source: Reading, output: Reading) -> Iterator[str]:
         if wanted[key(it)] > got[key(it)] and not is_idle(it, source):
             yield f"`use {it.path}` of line {it.line} of the source is left out, and code may use it"
     for it in output.imports:
-        if got[key(it)] > wanted[key(it)] and not (source.exports and it.path in MEMORY_IMPORTS):
+        if got[key(it)] > wanted[key(it)]:
             yield f"line {it.line}: `{it.before} use {it.path}` isn't in the source"
 
 
@@ -196,7 +124,7 @@ def different_modules(source: Reading, output: Reading, laws: set[str]) -> Itera
     for name in {*source.modules, *output.modules}:
         wanted = [token.text for token in source.modules.get(name, [])] if name not in laws else []
         got = [token.text for token in output.modules.get(name, [])]
-        if wanted != got and not (source.exports and got == MEMORY_MODULE):
+        if wanted != got:
             yield f"`{' '.join(got) or 'nothing'}` declares the module {name}, not `{' '.join(wanted) or 'nothing'}`"
 
 
@@ -204,9 +132,8 @@ def compared(source: str, output: str, laws: set[str], counts: Counter[str]) -> 
     """Returns what differs between the text of a source and that of its output. `laws` are the modules of it that have laws alone."""
     try:
         wanted, got = Reader(source, True).read(), Reader(output, False).read()
-        found = [*differences(plain(wanted.code, counts), got.code), *different_exports(wanted, got)]
+        found = [*differences(plain(wanted.code, counts), got.code)]
         found += [*different_imports(wanted, got), *different_modules(wanted, got, laws)]
-        counts["rewritten export"] += len(wanted.exports)
         counts.update(wanted.counts)
         counts["kept token"] += len(wanted.code)
         return found
@@ -269,18 +196,12 @@ def read_crate(source: Path, out: Path, name: str) -> Crate:
 def different_files(crate: Crate, there: set[str]) -> Iterator[str]:
     """Files that a crate of these lacks, and those that it has beyond its sources' and a manifest."""
     wanted = {f"src/{place}.rs" for place in {*crate.sources} - crate.laws} | {"Cargo.toml"}
-    wanted |= {MEMORY_FILE.partition("/")[2]} if MEMORY_FILE.startswith(f"{crate.name}/") else set()
     yield from (f"{place} isn't there" for place in sorted(wanted - there))
     yield from (f"{place} has no source" for place in sorted(there - wanted))
 
 
 def files_of(folder: Path) -> set[str]:
     return {str(path.relative_to(folder)) for path in folder.rglob("*") if not path.is_dir()}
-
-
-def different_memory(text: str) -> Iterator[str]:
-    """What the one file without a source has beyond two functions."""
-    yield from differences(tokens_of(MEMORY), code_of(tokens_of(text)))
 
 
 def different_manifest(text: str, needs: set[str], crates: set[str]) -> Iterator[str]:
@@ -307,8 +228,7 @@ def check_crate(crate: Crate, folder: Path, needs: set[str], crates: set[str], c
         counts.case(f"{crate.name}/Cargo.toml", different_manifest(manifest, needs, crates))
     for place in sorted({*crate.sources} & {*crate.outputs} - crate.laws):
         counts.case(f"{crate.name}/src/{place}.rs", compared(crate.sources[place], crate.outputs[place], crate.laws_below(place), found))
-    if "src/memory.rs" in there and f"{crate.name}/src/memory.rs" == MEMORY_FILE:
-        counts.case(MEMORY_FILE, different_memory(crate.outputs["memory"]))
+
 
 
 def let_chains(tokens: list[Token]) -> Iterator[int]:

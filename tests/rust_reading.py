@@ -58,13 +58,12 @@ class Import:
 
 @dataclass
 class Reading:
-    """What was read of a file: its code without imports, these, the modules of files that it declares, its exports for C, and what was
-    left out: its tokens, its parts with where they begin and end, and how many there are of each kind."""
+    """What was read of a file: its code without imports, these, the modules of files that it declares, and what was left
+    out: its tokens, its parts with where they begin and end, and how many there are of each kind."""
 
     code: list[Token] = field(default_factory=list)
     imports: list[Import] = field(default_factory=list)
     modules: dict[str, list[Token]] = field(default_factory=dict)
-    exports: list[list[Token]] = field(default_factory=list)
     ghost: list[Token] = field(default_factory=list)
     left_out: list[tuple[str, int, int]] = field(default_factory=list)
     counts: Counter[str] = field(default_factory=Counter)
@@ -248,16 +247,12 @@ class Reader:
             self.leave_out("law on values" if self.has(noun + 1, ON_VALUES) else "law", start, behind)
             return behind
         self.reading.items += 1
-        first = len(self.reading.code)
         self.keep_prefix(start, at)
         self.head(at, body, self.has(noun, "fn"))
         self.keep(body, body + 1)
         if self.has(body, "{"):
             self.body(noun, body + 1, behind - 1)
             self.keep(behind - 1, behind)
-        if any(token.text == "no_mangle" for token in self.tokens[start:at]):
-            self.reading.exports.append(self.reading.code[first:])
-            del self.reading.code[first:]
         return behind
 
     def find_body(self, noun: int, end: int) -> int:

@@ -39,7 +39,7 @@ def main() -> None:
             # (the same edit of both, where both are changed)
             text = mutated(right[run], others, random.Random(f"{seed} {number} edit"))
             (room / f"lot{number}.dry{run + 1}").write_bytes(text)
-        print(f"lot{number} t", *(f"{f'lot{number}' if run in changed else 'one'}.dry{run + 1}" for run in (0, 1)), "-")
+        print(f"lot{number} t", *(f"{f'lot{number}' if run in changed else 'one'}.dry{run + 1}" for run in (0, 1)), "- - - one.own")
 
 
 if __name__ == "__main__":

@@ -18,11 +18,8 @@ namespace {
 using zigrunk::Command, zigrunk::quote, zigrunk::Texts;
 
 std::vector<char *> pointers(const Texts &list) {
-    std::vector<char *> made;
-    for (const std::string &text : list) {
-        made.push_back(const_cast<char *>(text.c_str()));
-    }
-    made.push_back(nullptr);
+    std::vector<char *> made(list.size() + 1);
+    std::transform(list.begin(), list.end(), made.begin(), [](const std::string &text) { return const_cast<char *>(text.c_str()); });
     return made;
 }
 
@@ -49,9 +46,7 @@ int made(const zigrunk::Run &run) {
     return WIFEXITED(status) ? WEXITSTATUS(status) : 128 + WTERMSIG(status);
 }
 
-void append(Texts &to, const Texts &more) {
-    to.insert(to.end(), more.begin(), more.end());
-}
+void append(Texts &to, const Texts &more) { to.insert(to.end(), more.begin(), more.end()); }
 
 Texts written(const Command &command) {
     Texts files = command.writes;

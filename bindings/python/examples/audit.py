@@ -27,7 +27,7 @@ def of_command(number: int, command: zigrunk.Command, tmp: str) -> Dict[str, Any
 
     return {
         "number": number,
-        "tool": Path(command.program).name,
+        "tool": Path(command.words[0]).name,
         "targets": list(command.targets),
         "needs": list(command.needs),
         "cacheable": command.cacheable,
@@ -45,7 +45,7 @@ def audited(words: List[str], tmp: str) -> Dict[str, Any]:
     try:
         call = zigrunk.Call("nvcc", words, os.environ, os.getcwd(), tmp)
         plan = call.plan()
-    except (zigrunk.ZigrunkError, zigrunk.NvccError) as error:
+    except zigrunk.ZigrunkError as error:
         return {**made, "error": str(error)}
     made.update(source=call.input, makes=list(call.outputs))
     made["commands"] = [of_command(number, command, tmp) for number, command in enumerate(plan.commands)]
