@@ -26,6 +26,9 @@ driver_from = if command -v cargo > /dev/null; then $(MAKE) rust-sources && cd $
 endif
 driver = $(workspace)/target/release/zigrunk-driver
 
+# $(call needs_kit,COMMANDS): ends a target that proves, if the Rattle kit isn't there: what to run instead.
+needs_kit = $(if $(shell command -v rt),,$(error make $@ needs the Rattle kit, whose rt is not on PATH. Without it, run: $(1)))
+
 .PHONY: help demo build lib rust rust-sources rust-install check install install-programs install-library install-rust uninstall dist bench drivers fuzz-library fuzz-plain erased-kit must-fail refused-memory end-to-end odd-calls random-calls mutants-by-lot versions cache cache-edits peer cluster field platforms test-install dist-test check-docs lint one test
 
 help:
@@ -83,16 +86,19 @@ endif
 
 # rt builds a program only when it runs it, and leaves it in out/. So each program makes a short call, whose output is thrown away.
 build:
+	$(call needs_kit,make rust)
 	cd crates/cudaplan && rt check && rt run -- line cicc /w x.cpp1.ii -o x.ptx > /dev/null
 	cd crates/zigrunk && rt check && rt run -- --version > /dev/null
 	@.ci/built record programs
 
 # What you want after each edit. It keeps what it proves outside the clone.
 check:
+	$(call needs_kit,make rust)
 	@tests/quick $(CRATE) $(FUNCTION)
 
 # The planner for programs in C, Rust and Python (docs/EMBEDDING.md).
 lib:
+	$(call needs_kit,make rust)
 	cd crates/zigrunk_c && rt lib
 	@.ci/built record library
 	bindings/c/library.sh crates/zigrunk_c/out/libzigrunk_c.a "$(CURDIR)/out"
@@ -132,10 +138,12 @@ erased-kit:
 
 # The programs that run cases, the tests of what no case can say, and cudabench, none of them proved.
 drivers:
+	$(call needs_kit,make rust && tests/driver.sh)
 	@tests/drivers.sh $(NAMES)
 
 # The prover has to reject each wrong body in crates/NAME/must-fail and crates/NAME/wrong-bodies. It notes in tests/must_fail.tried what it tried.
 must-fail:
+	$(call needs_kit,make rust && tests/driver.sh)
 	tests/must_fail.py $(CRATES)
 
 # The test cases and calls of the programs, with the first allocation failing, then the second, and so on.
@@ -215,10 +223,12 @@ dist-test:
 	@packaging/test.sh $(ROOTS)
 
 test-install:
+	$(call needs_kit,make rust-install PREFIX=/tmp/zigrunk)
 	@.ci/built check programs || $(MAKE) build
 	@.ci/built check library || $(MAKE) lib
 	@tests/install.sh
 
 # rt ci: every proof, wrong bodies, tests and programs. Beside it all other tests, of what it built.
 test:
+	$(call needs_kit,make rust lint check-docs && tests/driver.sh && tests/driver_batch.sh)
 	@.ci/gate

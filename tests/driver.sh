@@ -15,7 +15,6 @@ unset NVCC_PREPEND_FLAGS NVCC_APPEND_FLAGS CDPATH MAKEFLAGS MFLAGS "${!ZIGRUNK@}
 export ZIGRUNK_LATE=0
 user=$(id -u)
 shell=(driver)
-end_shell() { summary; exit 1; }
 
 # unit: the unit tests, each as a case.
 unit() {
@@ -49,7 +48,7 @@ for tool in gcc cudafe++ ptxas fatbinary; do ln -s "$stand_ins/tool" "$CUDA/bin/
 ln -s "$stand_ins/tool" "$CUDA/nvvm/bin/cicc"
 ln -s "$stand_ins/nvcc" "$CUDA/bin/nvcc"
 cp "$driver" "$scratch/bin/zigrunk-nvcc"
-for name in plan report; do ln -s zigrunk-nvcc "$scratch/bin/zigrunk-$name"; done
+for name in plan report cache; do ln -s zigrunk-nvcc "$scratch/bin/zigrunk-$name"; done
 nvcc_driver=$scratch/bin/zigrunk-nvcc
 usual_path=$PATH
 export PATH=$CUDA/bin:$PATH
@@ -97,7 +96,7 @@ within() {
 has_begun() { grep -q "^+ $1" "$room/log"; }
 # waits_for_cudafe: whether cudafe++ alone still runs of a call that $waits holds up.
 waits_for_cudafe() { has_begun cudafe++ && [ "$(grep -c '^- ptxas' "$room/log")" = 2 ]; }
-none_run() { ! pgrep -f "$room" > /dev/null; }
+none_run() { [ -z "$(running "$room")" ]; }
 # has_guard: whether the call has its guard, which is $guard then.
 has_guard() { guard=$(pgrep -P "$process" -f zigrunk-nvcc | head -n 1) && [ -n "$guard" ]; }
 
@@ -110,7 +109,7 @@ ended() {
     local ended=$?
     same status "$ended" "$1"
     [ "$ended" = "$1" ] || problems+="  it says: $(head -c 500 "$room/err")"$'\n'
-    within 5 none_run || problems+="  processes: $(pgrep -af "$room")"$'\n'
+    within 5 none_run || problems+="  processes: $(shown $(running "$room"))"$'\n'
 }
 
 # end: counts the case. Nothing stays but the user's folder and the slots.
@@ -264,6 +263,26 @@ ROOM/work/../tmp:ROOM/tmp
 ROWS
         end
     fi
+    if case_of 'a TMPDIR by a link and back'; then
+        mkdir -p a "$room/other/below" "$room/other/t"
+        ln -s "$room/other/below" a/link
+        for form in a/link/../t "$room/work/a/link/../t"; do
+            call TMPDIR="$form" TOOL_DOES="$notes" -c k.cu -o k.o
+            splits "with $form"
+            same "where with $form" "$(sed 's,/zigrunk-[0-9]*/.*,,' "$room/log.cicc.80")" "$room/other/t"
+            # the same again, beside a directory that the text alone would mean
+            mkdir -p a/t
+        done
+        same 'files in the other' "$(ls -A a/t)" ''
+        end
+    fi
+    if case_of 'zigrunk-cache without a folder'; then
+        for word in stats clear limit; do
+            status=$(env -u HOME -u XDG_CACHE_HOME "$scratch/bin/zigrunk-cache" $word > "$room/out" 2>&1; echo $?)
+            same "status and messages of $word" "$status $(cat "$room/out")" '1 zigrunk-cache: there is no folder: set ZIGRUNK_CACHE'
+        done
+        end
+    fi
     if case_of 'a TMPDIR that is missing'; then
         call "${plain[@]}" TMPDIR="$room/missing" -c k.cu -o k.o
         same 'status and reason' "$status $(head -n 1 "$room/err")" '5 zigrunk-nvcc: nvcc itself: no temporary directory'
@@ -300,9 +319,10 @@ ROWS
         for number in $(seq 64); do
             [ "$number" != 1 ] || number=''
             exec {lock}> "$base${number:+-$number}.lock" && flock "$lock" && locks+=("$lock")
-            case $number in 63 | 64) call TOOL_DOES="$notes" -c k.cu -o k.o; splits "$number"; sed "s,^$base,," "$room/log.cicc.80" >> "$room/places" ;; esac
+            case $number in 63 | 64) call ZIGRUNK_LOG="$room/calls" TOOL_DOES="$notes" -c k.cu -o k.o; splits "$number"; sed "s,^$base,," "$room/log.cicc.80" >> "$room/places" ;; esac
         done
         same 'where' "$(sed 's,/zigrunk\.[0-9a-f]\{6\}$,/RANDOM,; s,^.*/RANDOM,RANDOM,' "$room/places" | paste -sd ' ')" '-64 RANDOM'
+        same 'the hint' "$(grep '^{"hint"' "$room/calls")" '{"hint":"remove directories that killed calls left in TMPDIR"}'
         for lock in "${locks[@]}"; do exec {lock}>&-; done
         rm -f "$base"*.lock
         end
@@ -333,7 +353,7 @@ ROWS
         end
     fi
     if case_of 'the call and its guard are killed'; then
-        start TOOL_DOES='[ "$name" != cudafe++ ] || exec sleep 300' -c k.cu -o k.o
+        start CHILDLESS=1 TOOL_DOES='[ "$name" != cudafe++ ] || exec sleep 300' -c k.cu -o k.o
         within 20 has_begun cudafe++
         within 20 has_guard
         kill -KILL "$guard" "$process"
@@ -391,7 +411,7 @@ early_starts() {
     if case_of 'cudafe++ fails, and cicc has begun'; then
         call ZIGRUNK_SLOTS=8 EARLY=cicc.80 TOOL_DOES="[ \"\$name\" != cudafe++ ] || { $begins; exit 5; }; $reads" -c k.cu -o k.o
         same 'status and what ended' "$status $(grep -c '^- cicc' "$room/log")" '5 0'
-        within 5 none_run || problems+="  processes: $(pgrep -af "$room")"$'\n'
+        within 5 none_run || problems+="  processes: $(shown $(running "$room"))"$'\n'
         end
     fi
     if case_of 'cicc has begun, and cudafe++ writes nothing for it'; then
@@ -416,6 +436,14 @@ late_starts() {
         call "${late[@]}" EARLY=gcc-S TOOL_DOES="case \$name in cicc.90) $begins ;; esac; $reads" -c k.cu -o k.o
         same 'status, messages and product' "$status$(cat "$room/err" k.o)" 0made
         same 'what the compiler includes' "$(sed "s,$room/tmp/.*/,TMP/," "$room/log.read.gcc-S")" $'made\n# 1 "TMP/kernel.compute_90.cudafe1.stub.c"'
+        end
+    fi
+    if case_of 'the last compile waits for ZIGRUNK_LATE=0 alone'; then
+        for value in '' 1 00; do
+            call "${late[@]}" ZIGRUNK_LATE="$value" TOOL_DOES="$reads" -c k.cu -o k.o
+            same "status, messages and product with '$value'" "$status$(cat "$room/err" k.o)" 0made
+            same "what begins with '$value'" "$(grep -c '^+ gcc-S' "$room/log") $(grep -c '^+ gcc-c' "$room/log")" '1 1'
+        done
         end
     fi
     if case_of 'the last compile waits'; then
@@ -489,6 +517,18 @@ ROWS
             call "$settings" "${plain[@]}" k.cu
             by_nvcc 'it links'
         done
+        end
+    fi
+    if case_of 'an nvcc by a path from the working directory'; then
+        mkdir sub && printf '%s\n' '#!/bin/sh' 'echo sub >> "$LOG"' "exec $stand_ins/nvcc \"\$@\"" > sub/nvcc && chmod +x sub/nvcc
+        call ZIGRUNK_NVCC=sub/nvcc -c k.cu -o k.o
+        splits
+        same 'dry runs by it' "$(grep -c '^sub' "$room/log")" 2
+        call "${plain[@]}" ZIGRUNK_NVCC=sub/nvcc k.cu
+        by_nvcc 'it links'
+        same 'calls by it' "$(grep -c '^sub' "$room/log")" 1
+        call ZIGRUNK_NVCC=sub/missing -V
+        same 'one that is missing' "$status $(cat "$room/err")" '127 zigrunk-nvcc: cannot find sub/missing in PATH'
         end
     fi
     if case_of 'which nvcc is the next'; then
@@ -668,7 +708,7 @@ outputs() {
     fi
     while IFS='|' read -r what wanted does; do
         case_of "a command fails: $what" || continue
-        call TOOL_DOES="$does" -c k.cu -o k.o
+        call CHILDLESS=1 TOOL_DOES="$does" -c k.cu -o k.o
         same 'status and messages' "$status $(cat "$room/err")" "$wanted"
         end
     done << 'ROWS'
@@ -681,7 +721,7 @@ ROWS
     if case_of 'a command fails: each signal that a shell names'; then
         for signal in '132 ILL Illegal instruction' '134 ABRT Aborted' '135 BUS Bus error' '136 FPE Floating point exception' '137 KILL Killed' '143 TERM Terminated'; do
             read -r wanted number text <<< "$signal"
-            call TOOL_DOES="[ \$name != cudafe++ ] || { ulimit -c 0; kill -$number \$\$; }" -c k.cu -o k.o
+            call CHILDLESS=1 TOOL_DOES="[ \$name != cudafe++ ] || { ulimit -c 0; kill -$number \$\$; }" -c k.cu -o k.o
             same "status and messages, $number" "$status $(cat "$room/err")" "$wanted $text"
         done
         end
@@ -774,7 +814,7 @@ products() {
 signals() {
     for signal in HUP:129 INT:130 TERM:143; do
         case_of "the signal ${signal%:*}" || continue
-        start TOOL_DOES='if [ "$name" = cudafe++ ]; then trap "sleep 0.3; echo stopped >> $LOG.stopped; exit 2" HUP INT TERM; echo "+ trap" >> "$LOG"; sleep 300 & wait; fi' -c k.cu -o k.o
+        start TOOL_DOES='if [ "$name" = cudafe++ ]; then trap "sleep 0.3; echo stopped >> $LOG.stopped; exit 2" HUP INT TERM; echo "+ trap" >> "$LOG"; env --default-signal=INT sleep 300 & wait; fi' -c k.cu -o k.o
         within 20 has_begun trap
         kill -s "${signal%:*}" "$process"
         ended "${signal#*:}"
@@ -1113,7 +1153,7 @@ slots() {
         export LOG=$room/log TMPDIR=$room/tmp XDG_RUNTIME_DIR=$room/run ZIGRUNK_SLOTS=2
         RANDOM=20261127
         for _ in 1 2 3; do
-            for number in $(seq 8); do TOOL_DOES='sleep 0.05' "$nvcc_driver" -c "$number.cu" -o "$number.o" > said 2>&1 & done
+            for number in $(seq 8); do CHILDLESS=1 TOOL_DOES='sleep 0.05' "$nvcc_driver" -c "$number.cu" -o "$number.o" > said 2>&1 & done
             for _ in $(seq 20); do
                 mapfile -t victims < <(jobs -pr; pgrep -f "$room")
                 [ "${#victims[@]}" -eq 0 ] || kill -KILL "${victims[RANDOM % ${#victims[@]}]}" 2> /dev/null

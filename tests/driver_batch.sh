@@ -15,7 +15,6 @@ unset NVCC_PREPEND_FLAGS NVCC_APPEND_FLAGS CDPATH MAKEFLAGS MFLAGS "${!ZIGRUNK@}
 export ZIGRUNK_LATE=0
 user=$(id -u)
 shell=(driver)
-end_shell() { summary; exit 1; }
 driver=$(realpath "${1:-out/rust/target/release/zigrunk-driver}")
 [ -x "$driver" ] || skip_all 'the batch' "there is no $driver: tests/driver.sh builds it"
 stand_ins=$PWD/tests/driver
@@ -99,7 +98,7 @@ within() {
         sleep 0.02
     done
 }
-none_run() { ! pgrep -f "$room" > /dev/null; }
+none_run() { [ -z "$(running "$room")" ]; }
 
 lists() {
     if case_of 'calls that are split, and one that is not'; then
@@ -328,6 +327,11 @@ HELP
         batch -j 1 -k1 -- -
         same 'status, -k' "$status $(sort made | tr '\n' ' ')" '6 1 '
         same 'messages, -k' "$(complained)" $'zigrunk-nvcc: a command failed with status 6 and without a message\nzigrunk-batch: line 2: exit status 6: -c 2.cu -o 2.o\nzigrunk-batch: stopped, 3 of the calls not made'
+        rm -f made
+        list=${list%$'\n-c 4.cu'*}
+        batch -j 1 -k1
+        same 'messages, -k, of one call' "$status $(complained | tail -n 1)" '6 zigrunk-batch: stopped, 1 of the calls not made'
+        list+=$'\n-c 4.cu -o 4.o\n-c whole.cu -o 5.o'
         rm -f made
         batch -j2 -k 0
         same 'status and calls, -k 0' "$status $(sort made | tr '\n' ' ')" '6 1 3 4 5 '
@@ -585,6 +589,10 @@ END
         list='[{"directory": "missing", "file": "x", "command": "true"}]'
         batch
         same 'a folder that is missing' "$status $(complained | head -n 1)" "2 zigrunk-batch: no folder $PWD/missing"
+        : > file
+        list='[{"directory": "file", "file": "x", "command": "true"}]'
+        batch
+        same 'a file in place of a folder' "$status $(complained | head -n 1)" "2 zigrunk-batch: no folder $PWD/file"
         end
     fi
 }
@@ -664,7 +672,7 @@ stops() {
     { wait "$process"; } 2> /dev/null
     same status "$?" "$2"
     [ $((${EPOCHREALTIME/./} - ${begun/./})) -lt 18000000 ] || problems+='  it takes longer than three seconds of an idle machine'$'\n'
-    within 5 none_run || problems+="  processes: $(pgrep -af "$room")"$'\n'
+    within 5 none_run || problems+="  processes: $(shown $(running "$room"))"$'\n'
     [ ! -e made ] || problems+='  a command goes on'$'\n'
     end
 }
@@ -678,7 +686,7 @@ killed() {
     within 20 started started 1 || problems+='  no command starts'$'\n'
     kill -KILL $!
     { wait $!; } 2> /dev/null
-    within 10 none_run || problems+="  processes: $(pgrep -af "$room")"$'\n'
+    within 10 none_run || problems+="  processes: $(shown $(running "$room"))"$'\n'
     [ ! -e made ] || problems+='  a command goes on'$'\n'
     within 10 eval '[ ! -e "$room/tmp/zigrunk-$user/batch" ]' || problems+='  its directory stays'$'\n'
     # What the call left goes with the next equal one.
@@ -699,6 +707,24 @@ reports() {
         if command -v python3 > /dev/null; then
             same 'the trace' "$(python3 -c 'import json, sys; print(len(json.load(open(sys.argv[1]))["traceEvents"]))' "$room/trace")" "$(($(grep -o '"kind"' "$room/calls" | wc -l) + 1))"
         fi
+        end
+    fi
+    if case_of 'the log of a batch has a hint once'; then
+        write a.cu ':'
+        list=$'--keep --keep-dir missing -c a.cu -o a.o\n--keep --keep-dir missing -c a.cu -o b.o\n-c a.cu -o c.o'
+        batch ZIGRUNK_LOG="$room/calls"
+        same 'status, lines and hints' "$status $(wc -l < "$room/calls") $(grep '^{"hint"' "$room/calls")" '0 4 {"hint":"make the directory that --keep-dir names"}'
+        same 'the report' "$("$scratch/bin/zigrunk-report" "$room/calls" | sed -n 2,4p)" $'split: 1 of 3 (33 %)\n       2  to nvcc: the keep directory is missing\n  hint: make the directory that --keep-dir names'
+        end
+    fi
+    if case_of 'a log without commands'; then
+        write whole.cu ':'
+        list='-c whole.cu -o w.o'
+        batch ZIGRUNK_LOG="$room/calls"
+        "$scratch/bin/zigrunk-report" --trace "$room/trace" --html "$room/page" "$room/calls" > "$room/report" 2>&1
+        same 'status and first lines' "$? $(sed -n 1,3p "$room/report")" $'0 calls: 1, failed: 0\nsplit: 0 of 1 (0 %)\n       1  to nvcc: a dry run fails'
+        same 'lines on commands' "$(grep -c '^commands:\|^the slowest:' "$room/report")" 0
+        same 'the page' "$(grep -c '<h2>Why nvcc' "$room/page") $(grep -c 'NaN\|inf' "$room/page") $(tail -n 1 "$room/page")" '1 0 </html>'
         end
     fi
     if case_of 'logs that are cut, missing or no logs'; then

@@ -14,7 +14,6 @@ trap 'kill $(jobs -p) 2> /dev/null; rm -rf "$scratch"' EXIT
 unset NVCC_PREPEND_FLAGS NVCC_APPEND_FLAGS CDPATH MAKEFLAGS MFLAGS "${!ZIGRUNK@}" "${!SLURM@}"
 user=$(id -u)
 shell=(farm)
-end_shell() { summary; exit 1; }
 driver=$(realpath "${1:-out/rust/target/release/zigrunk-driver}")
 [ -x "$driver" ] || skip_all 'the farm' "there is no $driver: tests/driver.sh builds it"
 require 'the farm' cc python3
@@ -94,7 +93,7 @@ within() {
         sleep 0.02
     done
 }
-none_run() { ! pgrep -f "$room|$scratch/bin/zigrunk-worker" > /dev/null; }
+none_run() { [ -z "$(running "$room")" ] && ! pgrep -f "$scratch/bin/zigrunk-worker" > /dev/null; }
 said() { grep -q "$1" "$room/err"; }
 has_drafts() { [ -n "$(find . -name '.zigrunk.*')" ]; }
 has_objects() { [ "$(find . -maxdepth 1 -name '*.o' 2> /dev/null | wc -l)" -ge "$1" ]; }
