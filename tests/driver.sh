@@ -322,7 +322,7 @@ ROWS
             case $number in 63 | 64) call ZIGRUNK_LOG="$room/calls" TOOL_DOES="$notes" -c k.cu -o k.o; splits "$number"; sed "s,^$base,," "$room/log.cicc.80" >> "$room/places" ;; esac
         done
         same 'where' "$(sed 's,/zigrunk\.[0-9a-f]\{6\}$,/RANDOM,; s,^.*/RANDOM,RANDOM,' "$room/places" | paste -sd ' ')" '-64 RANDOM'
-        same 'the hint' "$(grep '^{"hint"' "$room/calls")" '{"hint":"remove directories that killed calls left in TMPDIR"}'
+        same 'the hint' "$(grep '^{"hint"' "$room/calls")" '{"hint":"make zigrunk-UID below TMPDIR yours alone, with mode 700: the same call then always has the same directory"}'
         for lock in "${locks[@]}"; do exec {lock}>&-; done
         rm -f "$base"*.lock
         end
@@ -639,6 +639,7 @@ the kept one fails|a dry run fails|KEPT_STATUS=1
 other commands|nvcc reads the line otherwise|OWN_FORM='s,-arch=sm_80,-arch=sm_86,'
 another command|nvcc reads the line otherwise|OWN_DOES='echo "#\$ ptxas k.ptx" >&2'
 a preprocessor more|nvcc reads the line otherwise|OWN_DOES='echo "#\$ gcc -E k.cu -o \"k.cpp4.ii\" " >&2'
+the host compiler writes a dependency file|several commands may write one dependency file|OWN_FORM='s,-D__CUDACC__,-MD -MF x.d &,' KEPT_FORM='s,-D__CUDACC__,-MD -MF x.d &,'
 it fails for several threads, and for one|a dry run fails|OWN_STATUS=1 WARNING='Could not open input file /tmp/tmpxft_00a1-10_8ed_stdout'
 ROWS
     while IFS='|' read -r what dry_runs settings; do
@@ -956,7 +957,7 @@ signals() {
         end
     fi
     if case_of 'TERM to a call that nvcc makes, with a log'; then
-        start ZIGRUNK_LOG="$room/calls" NVCC_DOES='trap "echo ended > $LOG.ended; exit 3" TERM; echo "+ nvcc" >> "$LOG"; sleep 300 & wait' k.cu
+        start ZIGRUNK_LOG="$room/calls" NVCC_DOES='trap "echo ended > $LOG.ended; kill \$!; exit 3" TERM; echo "+ nvcc" >> "$LOG"; sleep 300 & wait' k.cu
         within 20 has_begun nvcc
         kill "$process"
         ended 3

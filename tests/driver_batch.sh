@@ -249,7 +249,7 @@ failures() {
         write a.cu 'kill -KILL $$'
         list='-c a.cu -o a.o'
         for settings in ZIGRUNK_RUNNER= ZIGRUNK_RUNNER=env "ZIGRUNK_LOG=$room/calls"; do
-            batch "$settings"
+            batch CHILDLESS=1 "$settings"
             same "status and messages, $settings" "$status $(complained)" $'137 Killed\nzigrunk-batch: line 1: exit status 137: -c a.cu -o a.o'
         done
         same 'commands in the log' "$(grep -o '"status":137' "$room/calls" | wc -l)" 2
@@ -406,7 +406,7 @@ HELP
             0,* | 2,'/bin/sh: 0: '*'Invalid argument'* | 1,*'zigrunk-batch: no process for '* | 1,*'zigrunk-batch: no temporary directory: '* | 1,*'Too many open files'*) ;;
             *) problems+="  with $number files: $(head -c 300 "$room/err")"$'\n' ;;
             esac
-            within 5 none_run || problems+="  processes with $number files"$'\n'
+            within 5 none_run || problems+="  processes with $number files: $(shown $(running "$room"))"$'\n'
         done
         find "$room/tmp/zigrunk-$user" -mindepth 1 -maxdepth 1 -exec touch -d '11 minutes ago' {} +
         batch

@@ -143,6 +143,9 @@ impl Call<'_> {
         if commands.iter().any(PlannedCommand::writes_long_name) {
             return by_nvcc("a generated file's name is too long");
         }
+        if commands.iter().filter(|command| writes_own_rule(command)).count() > 1 {
+            return by_nvcc("several commands may write one dependency file");
+        }
         if !commands.last().is_some_and(PlannedCommand::can_write) {
             return by_nvcc("its output can't be written");
         }
@@ -235,6 +238,20 @@ impl Call<'_> {
         let room = products::lack_of_room(self.settings.plans());
         format!("zigrunk-nvcc: a command failed with status {status} and without a message{room}\n")
     }
+}
+
+/// Options by which a host compiler writes a dependency file, or prints its text.
+const RULE_OPTIONS: [&str; 9] =
+    ["-M", "-MM", "-MD", "-MMD", "-MJ", "--dependencies", "--user-dependencies", "--write-dependencies", "--write-user-dependencies"];
+
+/// Whether a command has its host compiler write a dependency file, which no record has, so nothing keeps two of them in order. nvcc's own option for
+/// such a file isn't among the words of its commands.
+fn writes_own_rule(command: &PlannedCommand) -> bool {
+    let is_rule = |word: &str| {
+        let option = word.split_once('=').map_or(word, |(option, _)| option);
+        RULE_OPTIONS.contains(&option) || word.strip_prefix("-Wp,").is_some_and(|words| words.split(',').any(|word| RULE_OPTIONS.contains(&word)))
+    };
+    command.words.iter().any(|word| is_rule(word))
 }
 
 /// How the voice of a call speaks that has these tasks, and that may still go to nvcc once all have run.
@@ -388,6 +405,17 @@ mod tests {
         for (outline, wanted) in cases {
             assert_eq!(check(&outline), wanted, "{outline:?}");
         }
+    }
+
+    #[test]
+    fn host_compilers_may_write_rules_of_their_own() {
+        let writes = |line: &str| writes_own_rule(&PlannedCommand { words: words(line).words, ..PlannedCommand::default() });
+        for option in RULE_OPTIONS {
+            assert!(writes(&format!("-E {option} -MF x.d k.cu")), "{option}");
+        }
+        assert!(["-c --write-dependencies=x.d k.cpp", "-E -Wp,-MD,x.d k.cu", "-E -Wp,-DA,-MMD,x.d k.cu", "-Xpreprocessor -MD k.cu"].into_iter().all(writes));
+        let others = ["-E -x c++ k.cu -o k.ii", "-m64 -MF x.d", "-MT a -MP", "-Wp,-DMD,-MP k.cu", "-I-MD/x -DM=-M", "a-MD", "-MDx", "-W,-MD"];
+        assert!(!others.into_iter().any(writes));
     }
 
     #[test]
