@@ -223,7 +223,7 @@ products() {
         printf '%s\n' '#!/bin/sh' 'echo "sleep $1" >> "$LOG"' '[ "$1" != 2 ] || echo made > p' > "$room/bin/sleep"
         chmod +x "$room/bin/sleep"
         list='gcc -c a.c -o p'
-        batch PATH="$room/bin:$PATH" LOSE=1 ZIGRUNK_RUNNER=runner
+        batch CHILDLESS=1 PATH="$room/bin:$PATH" LOSE=1 ZIGRUNK_RUNNER=runner
         same 'status, messages and pauses' "$status$(complained) $(grep sleep "$room/log" | paste -sd ' ')" '0 sleep 1 sleep 2'
         rm -f p
         same 'files left beside it' "$(ls -A)" ''
