@@ -936,7 +936,7 @@ signals() {
         end
     fi
     if case_of 'KILL to a call that nvcc makes, with a log'; then
-        start ZIGRUNK_LOG="$room/calls" NVCC_DOES='trap "echo ended > $LOG.ended; kill \$!; exit 3" TERM; echo "+ nvcc" >> "$LOG"; sleep 300 & wait' k.cu
+        start ZIGRUNK_LOG="$room/calls" NVCC_DOES='trap "echo ended > $LOG.ended; kill -KILL \$!; exit 3" TERM; echo "+ nvcc" >> "$LOG"; sleep 300 & wait' k.cu
         within 20 has_begun nvcc
         kill -KILL "$process"
         wait "$process" 2> /dev/null
@@ -957,7 +957,7 @@ signals() {
         end
     fi
     if case_of 'TERM to a call that nvcc makes, with a log'; then
-        start ZIGRUNK_LOG="$room/calls" NVCC_DOES='trap "echo ended > $LOG.ended; kill \$!; exit 3" TERM; echo "+ nvcc" >> "$LOG"; sleep 300 & wait' k.cu
+        start ZIGRUNK_LOG="$room/calls" NVCC_DOES='trap "echo ended > $LOG.ended; kill -KILL \$!; exit 3" TERM; echo "+ nvcc" >> "$LOG"; sleep 300 & wait' k.cu
         within 20 has_begun nvcc
         kill "$process"
         ended 3
