@@ -183,7 +183,7 @@ end_shell() {
 # running FOLDER: the numbers of the processes that have a folder in their words, and of those that a case there started: they have its log in
 # their variables. A tool's own children name no folder.
 running() {
-    { pgrep -f "$1"; grep -lsz "^LOG=$1/" /proc/[0-9]*/environ | cut -d / -f 3; } | sort -u
+    { pgrep -f "$1"; env -u LOG grep -lsz "^LOG=$1/" /proc/[0-9]*/environ | cut -d / -f 3; } | sort -u
 }
 
 # shown PROCESS..: these processes with their words.

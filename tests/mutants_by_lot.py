@@ -121,6 +121,8 @@ SCRIPT: dict[str, list[tuple[str, str]]] = {
 }
 # What no test sees: a time that is longer or shorter by one, and whether a time may be over to the nanosecond.
 NEAR = re.compile(r"\bDuration::(from_\w+|new)\(")
+# These values are the default ones.
+EMPTY = re.compile(r"=> (\w+::(default|new)\(\)|None|false|0|0\.0|\(\)|\"\"),$")
 BORDER = re.compile(r"\b(?:elapsed|silence)\(\) [<>]=? ")
 NO_CODE = re.compile(r"\s*(//|#\[|#!\[|#|use |pub use |pub\(crate\) use |mod |pub mod |import |from |extern |\"\"\"|[^\w]*$)")
 
@@ -395,7 +397,8 @@ class Lot:
         """Whether it is known that no test could see an edit."""
         is_near = edit.operator == "another number" and NEAR.search(edit.old) is not None
         is_exact = BORDER.sub("", edit.old) == BORDER.sub("", edit.new)
-        return is_near or is_exact or (str(edit.path), edit.old.strip(), edit.new.strip()) in self.known
+        is_same = "Default::default()," in edit.new and EMPTY.search(edit.old) is not None
+        return is_near or is_exact or is_same or (str(edit.path), edit.old.strip(), edit.new.strip()) in self.known
 
     def edit(self, number: int, lane: Lane | None) -> Edit:
         """The edit of a number, built in a lane."""

@@ -287,6 +287,15 @@ mod tests {
     }
 
     #[test]
+    fn a_long_call_is_cut() {
+        let mut log = small();
+        log.calls.truncate(1);
+        log.calls[0].words = vec!["nvcc".into(), "-c".into(), format!("{}END", "é".repeat(391))];
+        let title = commands(&log).split("title=\"").nth(1).unwrap().split('"').next().unwrap().to_owned();
+        assert_eq!((title.chars().count(), title.ends_with("éE")), (400, true), "{title}");
+    }
+
+    #[test]
     fn texts_of_a_log_are_no_code_of_the_page() {
         let mut log = Log::default();
         log.add(SMALL.replace("a.cu", "<b>&amp;\\u0022.cu").replace("it links", "<script>").as_bytes());

@@ -289,6 +289,16 @@ mod tests {
     }
 
     #[test]
+    fn a_bar_names_so_much_of_its_call() {
+        let mut log = small();
+        log.calls.truncate(1);
+        log.calls[0].words = vec!["x".repeat(159), "yz".into()];
+        let bars = bars(&log);
+        let title = Drawn::new(&bars[0], 0.0, 1.0).title;
+        assert!(title.ends_with(&format!("  of  {} ", "x".repeat(159))), "{title}");
+    }
+
+    #[test]
     fn an_axis_has_few_marks() {
         let steps = [0.5, 1.0, 11.0, 60.0, 3600.0, 1e7].map(step);
         for (seconds, step) in [0.5, 1.0, 11.0, 60.0, 3600.0, 1e7].iter().zip(steps) {
