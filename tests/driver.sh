@@ -109,7 +109,7 @@ ended() {
     local ended=$?
     same status "$ended" "$1"
     [ "$ended" = "$1" ] || problems+="  it says: $(head -c 500 "$room/err")"$'\n'
-    within 5 none_run || problems+="  processes: $(shown $(running "$room"))"$'\n'
+    within 5 none_run || problems+="  processes: $(shown "$room")"$'\n'
 }
 
 # end: counts the case. Nothing stays but the user's folder and the slots.
@@ -411,7 +411,7 @@ early_starts() {
     if case_of 'cudafe++ fails, and cicc has begun'; then
         call ZIGRUNK_SLOTS=8 EARLY=cicc.80 TOOL_DOES="[ \"\$name\" != cudafe++ ] || { $begins; exit 5; }; $reads" -c k.cu -o k.o
         same 'status and what ended' "$status $(grep -c '^- cicc' "$room/log")" '5 0'
-        within 5 none_run || problems+="  processes: $(shown $(running "$room"))"$'\n'
+        within 5 none_run || problems+="  processes: $(shown "$room")"$'\n'
         end
     fi
     if case_of 'cicc has begun, and cudafe++ writes nothing for it'; then

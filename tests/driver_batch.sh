@@ -406,7 +406,7 @@ HELP
             0,* | 2,'/bin/sh: 0: '*'Invalid argument'* | 1,*'zigrunk-batch: no process for '* | 1,*'zigrunk-batch: no temporary directory: '* | 1,*'Too many open files'*) ;;
             *) problems+="  with $number files: $(head -c 300 "$room/err")"$'\n' ;;
             esac
-            within 5 none_run || problems+="  processes with $number files: $(shown $(running "$room"))"$'\n'
+            within 5 none_run || problems+="  processes with $number files: $(shown "$room")"$'\n'
         done
         find "$room/tmp/zigrunk-$user" -mindepth 1 -maxdepth 1 -exec touch -d '11 minutes ago' {} +
         batch
@@ -672,7 +672,7 @@ stops() {
     { wait "$process"; } 2> /dev/null
     same status "$?" "$2"
     [ $((${EPOCHREALTIME/./} - ${begun/./})) -lt 18000000 ] || problems+='  it takes longer than three seconds of an idle machine'$'\n'
-    within 5 none_run || problems+="  processes: $(shown $(running "$room"))"$'\n'
+    within 5 none_run || problems+="  processes: $(shown "$room")"$'\n'
     [ ! -e made ] || problems+='  a command goes on'$'\n'
     end
 }
@@ -686,7 +686,7 @@ killed() {
     within 20 started started 1 || problems+='  no command starts'$'\n'
     kill -KILL $!
     { wait $!; } 2> /dev/null
-    within 10 none_run || problems+="  processes: $(shown $(running "$room"))"$'\n'
+    within 10 none_run || problems+="  processes: $(shown "$room")"$'\n'
     [ ! -e made ] || problems+='  a command goes on'$'\n'
     within 10 eval '[ ! -e "$room/tmp/zigrunk-$user/batch" ]' || problems+='  its directory stays'$'\n'
     # What the call left goes with the next equal one.

@@ -93,7 +93,7 @@ within() {
         sleep 0.02
     done
 }
-none_run() { [ -z "$(running "$room")" ] && ! pgrep -f "$scratch/bin/zigrunk-worker" > /dev/null; }
+none_run() { ! pgrep -f "$room|$scratch/bin/zigrunk-worker" > /dev/null; }
 said() { grep -q "$1" "$room/err"; }
 has_drafts() { [ -n "$(find . -name '.zigrunk.*')" ]; }
 has_objects() { [ "$(find . -maxdepth 1 -name '*.o' 2> /dev/null | wc -l)" -ge "$1" ]; }

@@ -1,6 +1,6 @@
 #!/usr/bin/env bash
-# Tests how the gate starts rt ci (.ci/prove), with stand-ins for the rt of each kind of kit, what is said without a kit, and how scripts end that
-# stop early (tests/lib.sh). The last line is 'N passed, M failed'.
+# Tests how the gate starts rt ci (.ci/prove), with stand-ins for the rt of each kind of kit, what is said without a kit, and what
+# tests/mutants_by_lot.py takes for a success. The last line is 'N passed, M failed'.
 set -u
 cd "$(dirname "$0")/.." || exit 1
 . tests/lib.sh
@@ -57,17 +57,6 @@ without_kit 'make test-install' 2 'run: make rust-install' make test-install
 without_kit 'the gate' 2 'run: make rust' .ci/gate
 without_kit 'tests/quick' 1 'make rust' tests/quick dry_runs
 
-# stops WANTED STOP_EARLY: two cases of a script, of which the first fails.
-stops() {
-    same "how a script ends with STOP_EARLY='$2'" "$(STOP_EARLY=$2 ONLY='' bash -c '. tests/lib.sh
-        shell=(x) room=$scratch/room
-        begin one && same text 1 2 && end_case
-        begin two && end_case
-        summary'; echo $?)" "$1"
-}
-stops $'x: one: text: \'1\', not \'2\'\n1 passed, 1 failed\n1' ''
-stops $'x: one: text: \'1\', not \'2\'\n0 passed, 1 failed\n1' yes
-same 'scripts with an end of their own' "$(grep -l '^ *end_shell()' tests/*.sh)" tests/lib.sh
 check 'what edits by lot take for a success' python3 - << 'END_OF_PROGRAM'
 import sys
 sys.path.insert(0, "tests")

@@ -149,7 +149,7 @@ inherit() (
 # words of $shell start the shell. SHELLS, if set, names the shells instead, as SHELLS='dash bash'. STOP_EARLY, if set, ends the
 # cases of a shell at the first failure.
 by_shells() {
-    local choice tried=() good bad
+    local choice tried=() good bad counted_by_shell=yes
     for choice in ${SHELLS-dash bash busybox}; do
         shell=("$choice")
         [ "$choice" != busybox ] || shell=(busybox sh)
@@ -160,7 +160,7 @@ by_shells() {
         tried+=("$choice")
         room=$scratch/$choice/room
         mkdir "$scratch/$choice"
-        (counted_by_shell=yes; "$1"; end_shell) &
+        ("$1"; end_shell) &
     done
     wait
     for choice in "${tried[@]}"; do
@@ -186,10 +186,10 @@ running() {
     { pgrep -f "$1"; env -u LOG grep -lsz "^LOG=$1/" /proc/[0-9]*/environ | cut -d / -f 3; } | sort -u
 }
 
-# shown PROCESS..: these processes with their words.
+# shown FOLDER: the same with their words.
 shown() {
     local process
-    for process; do echo "$process $(tr '\0' ' ' 2> /dev/null < "/proc/$process/cmdline")"; done
+    for process in $(running "$1"); do echo "$process $(tr '\0' ' ' 2> /dev/null < "/proc/$process/cmdline")"; done
 }
 
 # begin NAME: begins a case, whose working directory is $room/work.
