@@ -639,7 +639,7 @@ the kept one fails|a dry run fails|KEPT_STATUS=1
 other commands|nvcc reads the line otherwise|OWN_FORM='s,-arch=sm_80,-arch=sm_86,'
 another command|nvcc reads the line otherwise|OWN_DOES='echo "#\$ ptxas k.ptx" >&2'
 a preprocessor more|nvcc reads the line otherwise|OWN_DOES='echo "#\$ gcc -E k.cu -o \"k.cpp4.ii\" " >&2'
-the host compiler writes a dependency file|several commands may write one dependency file|OWN_FORM='s,-D__CUDACC__,-MD -MF x.d &,' KEPT_FORM='s,-D__CUDACC__,-MD -MF x.d &,'
+the host compiler writes a dependency file|several preprocessors may write one file|OWN_FORM='s,-D__CUDACC__,-MD -MF x.d &,' KEPT_FORM='s,-D__CUDACC__,-MD -MF x.d &,'
 it fails for several threads, and for one|a dry run fails|OWN_STATUS=1 WARNING='Could not open input file /tmp/tmpxft_00a1-10_8ed_stdout'
 ROWS
     while IFS='|' read -r what dry_runs settings; do

@@ -144,7 +144,7 @@ impl Call<'_> {
             return by_nvcc("a generated file's name is too long");
         }
         if commands.iter().filter(|command| writes_own_rule(command)).count() > 1 {
-            return by_nvcc("several commands may write one dependency file");
+            return by_nvcc("several preprocessors may write one file");
         }
         if !commands.last().is_some_and(PlannedCommand::can_write) {
             return by_nvcc("its output can't be written");
