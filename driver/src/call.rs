@@ -103,6 +103,7 @@ impl Call<'_> {
         let temporary = absolute(self.settings.plans(), &cwd);
         let taken = CallFolder::take(&temporary, &planner::directory_of(&line)?);
         let folder = Rc::new(taken.map_err(|_| NO_DIRECTORY.to_owned())?);
+        folder.tell_if_taken(&temporary);
         self.folder = Some(Rc::clone(&folder));
         let refusals = Refusals::default();
         let at_once = system::processors() + 2;

@@ -956,7 +956,8 @@ mod tests {
 
     #[test]
     fn the_machine_is_as_the_kernel_says() {
-        assert_eq!(processors(), number_in("/proc/self/status", "Cpus_allowed:", 16).count_ones() as usize);
+        let allowed = number_in("/proc/self/status", "Cpus_allowed:", 16).count_ones() as usize;
+        assert!((1..=allowed).contains(&processors()), "a control group may allow fewer");
         assert_eq!((process().unsigned_abs(), user()), (std::process::id(), fs::metadata("/proc/self").unwrap().uid()));
         let most = usize::try_from(number_in("/proc/self/limits", "Max open files", 10)).unwrap();
         // Other tests open some files meanwhile.

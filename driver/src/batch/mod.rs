@@ -202,6 +202,7 @@ fn make(options: &Options, settings: Settings) -> Result<Ended, String> {
     let records = opened.map_err(|_| format!("cannot make {}", folder_of_records.display()))?;
     let temporary = absolute(settings.plans(), &working_directory().unwrap_or_default());
     let folder = Rc::new(CallFolder::take(&temporary, "batch").map_err(|error| format!("no temporary directory: {error}"))?);
+    folder.tell_if_taken(&temporary);
     let scratch = settings.shared.is_none().then(|| folder.path().join("tmp"));
     let made = scratch.as_ref().map_or(Ok(()), fs::create_dir).map_err(|error| error.to_string());
     let limits = limits(options, &settings);
