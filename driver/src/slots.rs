@@ -434,6 +434,18 @@ mod tests {
     }
 
     #[test]
+    fn a_folder_that_is_taken_has_no_slots_and_that_is_said() {
+        use std::os::unix::fs::PermissionsExt;
+        let [taken, free] = [TestFolder::new(), TestFolder::new()];
+        let said = |place: &TestFolder| place.join(format!("zigrunk-{}", system::user())).join("said-slots").exists();
+        let folder = taken.join(folder_name());
+        fs::create_dir(&folder).unwrap();
+        fs::set_permissions(&folder, fs::Permissions::from_mode(0o777)).unwrap();
+        assert!(Slots::open(1, 1, &[taken.to_owned(), free.to_owned()]).is_some() && !said(&taken), "another place has them");
+        assert!(Slots::open(1, 1, &[taken.to_owned()]).is_none() && said(&taken));
+    }
+
+    #[test]
     fn an_older_call_keeps_only_the_slots_that_it_shares() {
         let room = Room(TestFolder::new());
         let (mut one, mut two, mut last) = (room.slots(1, 1), room.slots(2, 2), room.slots(4, 9));
