@@ -55,7 +55,7 @@ impl HeadStart {
 
 /// Whether commands of a call may begin so. A launcher, a runner and workers get the plan's own commands.
 pub fn is_on(settings: &Settings) -> bool {
-    !settings.keeps_order && settings.launcher.is_empty() && settings.runs_here()
+    !settings.waits.for_needs && settings.launcher.is_empty() && settings.runs_here()
 }
 
 /// The place behind an option among the words of a command of this program.

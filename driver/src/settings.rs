@@ -15,6 +15,15 @@ pub enum AskedCache {
     Folder(PathBuf),
 }
 
+/// What commands wait for, though they can begin without it.
+#[derive(Clone, Copy, PartialEq, Eq, Debug, Default)]
+pub struct Waits {
+    /// Each for the end of all that it needs.
+    pub for_needs: bool,
+    /// The last host compile for the fatbin.
+    pub for_fatbin: bool,
+}
+
 /// The variables `ZIGRUNK_..` and `TMPDIR`.
 #[derive(Clone, PartialEq, Eq, Debug, Default)]
 pub struct Settings {
@@ -43,10 +52,7 @@ pub struct Settings {
     pub log: Option<PathBuf>,
     /// Whether to say why nvcc makes a call.
     pub explains: bool,
-    /// Whether each command waits until all that it needs has ended.
-    pub keeps_order: bool,
-    /// Whether the last host compile waits for the fatbin.
-    pub awaits_fatbin: bool,
+    pub waits: Waits,
     /// The nvccs through which this call came.
     pub inside: OsString,
 }
@@ -152,8 +158,7 @@ impl Settings {
             temporary: of("TMPDIR").map_or_else(|| "/tmp".into(), PathBuf::from),
             log: of("ZIGRUNK_LOG").map(PathBuf::from),
             explains: switch(of, "ZIGRUNK_EXPLAIN", false)?,
-            keeps_order: !switch(of, "ZIGRUNK_EARLY", true)?,
-            awaits_fatbin: !switch(of, "ZIGRUNK_LATE", true)?,
+            waits: Waits { for_needs: !switch(of, "ZIGRUNK_EARLY", true)?, for_fatbin: !switch(of, "ZIGRUNK_LATE", true)? },
             inside: of("ZIGRUNK_INSIDE").unwrap_or_default(),
         })
     }
@@ -250,8 +255,7 @@ mod tests {
             temporary: "/t".into(),
             log: Some("log".into()),
             explains: true,
-            keeps_order: true,
-            awaits_fatbin: true,
+            waits: Waits { for_needs: true, for_fatbin: true },
             inside: "/a:/b".into(),
         };
         let none = Settings { nvcc: "nvcc".into(), temporary: "/tmp".into(), ..Settings::default() };
@@ -300,7 +304,7 @@ mod tests {
         for (words, wanted) in [("1 true on yes YES True oN", true), ("0 false off no NO False oFF", false)] {
             for word in words.split(' ') {
                 let of = |name: &str| with(name, word.as_ref()).unwrap();
-                let found = [of("ZIGRUNK_EXPLAIN").explains, !of("ZIGRUNK_EARLY").keeps_order, !of("ZIGRUNK_LATE").awaits_fatbin];
+                let found = [of("ZIGRUNK_EXPLAIN").explains, !of("ZIGRUNK_EARLY").waits.for_needs, !of("ZIGRUNK_LATE").waits.for_fatbin];
                 assert_eq!(found, [wanted; 3], "{word}");
                 assert_eq!(of("ZIGRUNK_CACHE").cache, if wanted { AskedCache::Users } else { AskedCache::None }, "{word}");
             }

@@ -75,8 +75,11 @@ pub fn own_seconds(call: &Call) -> Option<f64> {
 mod tests {
     use super::*;
 
-    fn call(commands: &[(f64, f64, f64, &[usize])]) -> Call {
-        let command = |&(asked, begin, end, needs): &(f64, f64, f64, &[usize])| Command {
+    /// When a command asked for a slot, began and ended, and what it needed.
+    type Row<'a> = (f64, f64, f64, &'a [usize]);
+
+    fn call(commands: &[Row<'_>]) -> Call {
+        let command = |&(asked, begin, end, needs): &Row<'_>| Command {
             kind: "x".into(),
             asked,
             begin,
@@ -105,7 +108,7 @@ mod tests {
 
     #[test]
     fn only_the_rest_of_a_command_that_began_early_counts() {
-        let cases: [(&[(f64, f64, f64, &[usize])], &[usize], f64); 5] = [
+        let cases: [(&[Row<'_>], &[usize], f64); 5] = [
             (&[(1.0, 1.0, 4.0, &[]), (1.0, 1.0, 2.0, &[]), (2.0, 2.0, 6.0, &[0, 1])], &[1, 2], 5.0),
             (&[(1.0, 1.0, 4.0, &[]), (2.0, 2.0, 7.0, &[0])], &[0, 1], 6.0),
             (&[(1.0, 1.0, 5.0, &[]), (2.0, 2.0, 4.0, &[0]), (5.0, 5.0, 6.0, &[1])], &[0, 1, 2], 5.0),
