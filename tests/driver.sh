@@ -48,7 +48,7 @@ for tool in gcc cudafe++ ptxas fatbinary; do ln -s "$stand_ins/tool" "$CUDA/bin/
 ln -s "$stand_ins/tool" "$CUDA/nvvm/bin/cicc"
 ln -s "$stand_ins/nvcc" "$CUDA/bin/nvcc"
 cp "$driver" "$scratch/bin/zigrunk-nvcc"
-for name in plan report cache; do ln -s zigrunk-nvcc "$scratch/bin/zigrunk-$name"; done
+for name in batch cache plan report; do ln -s zigrunk-nvcc "$scratch/bin/zigrunk-$name"; done
 nvcc_driver=$scratch/bin/zigrunk-nvcc
 usual_path=$PATH
 export PATH=$CUDA/bin:$PATH
@@ -104,8 +104,8 @@ has_ended() { [[ $(cut -d ' ' -f 3 "/proc/$process/stat" 2> /dev/null) != [A-Ya-
 
 # ended STATUS: a problem, unless the driver ends within eight seconds of an idle machine, with this status.
 ended() {
-    within 8 has_ended || { problems+='  it ends late'$'\n'; kill -KILL "$process"; }
-    { wait "$process"; } 2> /dev/null
+    # (the shell would say by which signal it ended)
+    { within 8 has_ended || { problems+='  it ends late'$'\n'; kill -KILL "$process"; }; wait "$process"; } 2> /dev/null
     local ended=$?
     same status "$ended" "$1"
     [ "$ended" = "$1" ] || problems+="  it says: $(head -c 500 "$room/err")"$'\n'
@@ -294,9 +294,16 @@ ROWS
             [[ $way != chown* || $user == 0 ]] || continue
             rm -rf "$base" "$base.x" && mkdir -m 700 "$base" && eval "$way"
             call TOOL_DOES="$notes" -c k.cu -o k.o
+            cat "$room/err" >> "$room/errs"
+            : > "$room/err"
             splits "with $way"
             same "where with $way" "$(grep -c "^$room/tmp/zigrunk\.......\$" "$room/log.cicc.80")" 1
         done
+        same 'messages of one day' "$(sed "s,$base,BASE," "$room/errs")" 'zigrunk-nvcc: cannot use BASE, so temporary directories have random names: its mode is 755, not 700'
+        touch -d '2 days ago' "$room/run/zigrunk-$user/said-folder"
+        rm -rf "$base" && : > "$base"
+        for _ in 1 2; do call -c k.cu -o k.o; cat "$room/err"; done > "$room/errs"
+        same 'messages of another day' "$(sed "s,$base,BASE," "$room/errs")" 'zigrunk-nvcc: cannot use BASE, so temporary directories have random names: it is no folder'
         rm -rf "$base" "$base.x"
         end
     fi
@@ -812,6 +819,15 @@ products() {
     fi
 }
 
+# A program for Python that starts a command, and notes its process, and how it ended, in a file.
+reports_end='
+import subprocess, sys
+with open(sys.argv[1], "w", buffering=1) as noted:
+    with subprocess.Popen(sys.argv[2:]) as process:
+        print(process.pid, file=noted)
+        print(process.wait(), file=noted)
+'
+
 signals() {
     for signal in HUP:129 INT:130 TERM:143; do
         case_of "the signal ${signal%:*}" || continue
@@ -822,6 +838,33 @@ signals() {
         same 'the command' "$(cat "$room/log.stopped")" stopped
         end
     done
+    if case_of 'a call ends by the signal that ends it'; then
+        for signal in HUP:1 INT:2 TERM:15; do
+            command -v python3 > /dev/null || break
+            : > "$room/log"
+            env --default-signal=HUP,INT,TERM LOG="$room/log" TMPDIR="$room/tmp" XDG_RUNTIME_DIR="$room/run" TOOL_DOES="$waits" \
+                python3 -c "$reports_end" "$room/ended" "$nvcc_driver" -c k.cu -o k.o > "$room/out" 2> "$room/err" &
+            process=$!
+            within 20 has_begun cudafe++
+            kill -s "${signal%:*}" "$(head -n 1 "$room/ended")"
+            wait "$process"
+            same "end by ${signal%:*}" "$(tail -n 1 "$room/ended")$(cat "$room/err")" "-${signal#*:}"
+        done
+        end
+    fi
+    if case_of 'INT ends the loop of a shell, too'; then
+        : > "$room/log"
+        set -m
+        (exec 5>&-; exec env --default-signal=HUP,INT,TERM LOG="$room/log" TMPDIR="$room/tmp" XDG_RUNTIME_DIR="$room/run" TOOL_DOES="$waits" \
+            bash -c 'for _ in 1 2; do "$0" -c k.cu -o k.o; echo "$?" >> statuses; done' "$nvcc_driver") > "$room/out" 2> "$room/err" &
+        process=$!
+        set +m
+        within 20 has_begun cudafe++
+        kill -INT -- "-$process"
+        ended 130
+        same 'calls after which the loop went on' "$(cat statuses 2> /dev/null)" ''
+        end
+    fi
     if case_of 'a command that ignores TERM'; then
         start TOOL_DOES='if [ "$name" = cudafe++ ]; then trap "" TERM; echo "+ trap" >> "$LOG"; sleep 300; sleep 300; fi' -c k.cu -o k.o
         within 20 has_begun trap
@@ -1053,10 +1096,23 @@ slots() {
         ran 120 2 2
         end
     fi
-    if case_of 'slots: the processors are the limit, and no number'; then
+    if case_of 'slots: the processors are the limit'; then
         graph 4
-        many ZIGRUNK_SLOTS=some taskset -c "$(taskset -cp $$ | sed 's/.*[:,-] *//')" ninja -j4
+        many taskset -c "$(taskset -cp $$ | sed 's/.*[:,-] *//')" ninja -j4
         ran 40 1
+        end
+    fi
+    if case_of 'slots: a quota of processor time is the limit'; then
+        group=/sys/fs/cgroup/cpu/zigrunk-$$
+        if mkdir "$group" 2> /dev/null && echo 100000 > "$group/cpu.cfs_period_us" && echo 100000 > "$group/cpu.cfs_quota_us"; then
+            before_group=/sys/fs/cgroup/cpu$(sed -n 's/^[0-9]*:cpu\(,cpuacct\)\?://p' /proc/self/cgroup)
+            graph 4
+            echo $$ > "$group/tasks"
+            many ninja -j4
+            echo $$ > "$before_group/tasks"
+            ran 40 1
+        fi
+        rmdir "$group" 2> /dev/null
         end
     fi
     if case_of 'slots: no limit'; then
@@ -1266,6 +1322,44 @@ jobservers() {
     fi
 }
 
+# refused [NAME=VALUE..] WORD..: a problem, unless the program refuses its settings, before anything is made.
+refused() {
+    call "$@"
+    same "status of $1" "$status$(cat "$room/log" "$room/out")" 2
+    same "what is made with $1" "$(ls -A "$room/tmp" "$room/run" | grep -v :)" ''
+}
+
+settings() {
+    case_of 'a setting that cannot be' || return
+    while IFS='|' read -r setting allowed; do
+        for program in nvcc plan batch cache; do
+            words=()
+            case $program in nvcc) words=(-c k.cu -o k.o) ;; plan) words=(json nvcc -c k.cu) ;; batch) words=(/dev/null) ;; cache) words=(stats) ;; esac
+            as=$scratch/bin/zigrunk-$program refused "$setting" "${words[@]}"
+            same "messages of $program with $setting" "$(cat "$room/err")" "zigrunk-$program: $setting: expected $allowed"
+        done
+    done << 'ROWS'
+ZIGRUNK_CACHE=cache|yes, no, or a folder's path with a slash, such as ./cache
+ZIGRUNK_CACHE_SIZE=5x|a number of bytes, or one with K, M, G or T, such as 5G
+ZIGRUNK_JOBS=abc|a number of commands, such as 8
+ZIGRUNK_SLOTS=-1|a number of commands, such as 8, or 0 for no limit
+ZIGRUNK_EXPLAIN=please|yes or no (or 1, 0, true, false, on, off)
+ZIGRUNK_EARLY=never|yes or no (or 1, 0, true, false, on, off)
+ZIGRUNK_LATE=never|yes or no (or 1, 0, true, false, on, off)
+ZIGRUNK_CALLS=never|yes or no (or 1, 0, true, false, on, off)
+ROWS
+    for program in nvcc batch; do
+        as=$scratch/bin/zigrunk-$program refused ZIGRUNK_JOBS=abc ZIGRUNK_SLOTS=x "${words[@]}"
+    done
+    for program in batch cache plan; do
+        as=$scratch/bin/zigrunk-$program call ZIGRUNK_JOBS=abc --help
+        same "status of $program --help" "$status$(cat "$room/err")" 0
+    done
+    call ZIGRUNK_EXPLAIN=off NVCC_STATUS=5 k.cu
+    same 'messages with ZIGRUNK_EXPLAIN=off' "$status $(cat "$room/err")" '5 nvcc says'
+    end
+}
+
 logs() {
     if case_of 'the log'; then
         call ZIGRUNK_LOG="$room/calls" -c k.cu -o k.o
@@ -1282,7 +1376,7 @@ logs() {
             awk 'NF && !call { call = $1; end = $2 } NF && call != $1 && (call > $1 || $1 > $2 || $2 > $3 || $3 > end) { print "odd" } END { print NR }')" 12
         same 'needs' "$(head -n 1 "$room/calls" | grep -o '"needs":[^]]*' | cut -d '[' -f 2 | paste -sd ' ')" ' 0  1,2 3  1,5 6 0,1,2,3,4,5,6,7 0,1,2,3,4,5,6,7,8'
         "$scratch/bin/zigrunk-report" "$room/calls" > "$room/report" 2>&1
-        same 'the report' "$(sed -n 1,2p "$room/report")" $'calls: 5, failed: 2\nsplit: 2 of 5 (40 %)'
+        same 'the report' "$(sed -n 1,4p "$room/report")" $'calls: 5, failed: 2\n  status 7: nvcc k.cu a "b\n  status 6: nvcc -c k.cu -o k.o\nsplit: 2 of 5 (40 %)'
         { call ZIGRUNK_LOG="$room/calls" NVCC_DOES='kill -TERM $$' k.cu; } 2> /dev/null
         same 'a signal of nvcc' "$status $(tail -n 1 "$room/calls" | grep -o '"status":[0-9]*')" '143 "status":143'
         end
@@ -1365,5 +1459,5 @@ plans() {
     fi
 }
 
-for part in ${PARTS-unit end_to_end folders early_starts late_starts compilers to_nvcc outputs products signals logs plans slots jobservers}; do "$part"; done
+for part in ${PARTS-unit end_to_end folders early_starts late_starts compilers to_nvcc outputs products signals settings logs plans slots jobservers}; do "$part"; done
 summary

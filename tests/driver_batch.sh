@@ -702,8 +702,9 @@ reports() {
         list=$'-c a.cu -o a.o\n-c b.cu -o b.o\n-c whole.cu -o "w<.o"'
         batch ZIGRUNK_LOG="$room/calls"
         "$scratch/bin/zigrunk-report" --trace "$room/trace" --html "$room/page" "$room/calls" > "$room/report" 2>&1
-        same 'status and first lines' "$? $(sed -n 1,3p "$room/report")" $'0 calls: 3, failed: 1\nsplit: 2 of 3 (67 %)\n       1  to nvcc: a dry run fails'
-        same 'the page' "$(grep -c '<h2>' "$room/page") $(grep -c 'Longest chain' "$room/page") $(tail -n 1 "$room/page") $(grep -c '<script\|http' "$room/page")" '7 1 </html> 0'
+        same 'status and first lines' "$? $(sed -n '1p; 3,4p' "$room/report")" $'0 calls: 3, failed: 1\nsplit: 2 of 3 (67 %)\n       1  to nvcc: a dry run fails'
+        same 'calls that failed' "$(sed -n 2p "$room/report" | grep -c '^  status 3: [^ ]*nvcc -c b.cu -o b.o$')" 1
+        same 'the page' "$(grep -c '<h2>' "$room/page") $(grep -c 'Longest chain' "$room/page") $(tail -n 1 "$room/page") $(grep -c '<script\|http' "$room/page")" '8 1 </html> 0'
         if command -v python3 > /dev/null; then
             same 'the trace' "$(python3 -c 'import json, sys; print(len(json.load(open(sys.argv[1]))["traceEvents"]))' "$room/trace")" "$(($(grep -o '"kind"' "$room/calls" | wc -l) + 1))"
         fi
@@ -730,8 +731,14 @@ reports() {
     if case_of 'logs that are cut, missing or no logs'; then
         head -c 300 < /dev/urandom > junk
         printf '{"begin":1,"end":2,"status":0,"commands":[],"words":["nvcc"]}\n{"begin":1,"en' > short
-        "$scratch/bin/zigrunk-report" junk short --html page > report 2>&1
+        { cat short; echo; cat junk; } > mixed
+        "$scratch/bin/zigrunk-report" mixed --html page > report 2>&1
         same 'a cut log and junk' "$? $(head -n 1 report) $(tail -n 1 report | grep -c 'lines are no entries of such a log') $(tail -n 1 page)" '0 calls: 1, failed: 0 1 </html>'
+        "$scratch/bin/zigrunk-report" short junk > report 2>&1
+        same 'junk alone' "$? $(cat report)" '1 zigrunk-report: junk is no log of ZIGRUNK_LOG: none of its lines is an entry'
+        : > empty
+        "$scratch/bin/zigrunk-report" empty > report 2>&1
+        same 'an empty log' "$? $(cat report)" $'0 calls: 0, failed: 0\nsplit: 0 of 0'
         "$scratch/bin/zigrunk-report" missing > report 2>&1
         same 'no log' "$? $(cat report)" '1 zigrunk-report: cannot read missing: No such file or directory'
         "$scratch/bin/zigrunk-report" --html missing/page short > report 2>&1
@@ -749,6 +756,23 @@ reports() {
 }
 
 stopped() {
+    if case_of 'a batch ends by the signal that ends it' && command -v python3 > /dev/null; then
+        write a.cu 'echo >> started; sleep 300'
+        echo '-c a.cu -o a.o' > list
+        for signal in HUP:1 INT:2 TERM:15; do
+            : > started
+            env --default-signal=HUP,INT,TERM LOG="$room/log" TMPDIR="$room/tmp" XDG_RUNTIME_DIR="$room/run" python3 -c '
+import subprocess, sys
+with subprocess.Popen(sys.argv[1:]) as process:
+    print(process.pid, flush=True)
+    print(process.wait())' "$scratch/bin/zigrunk-batch" list > "$room/ended" 2> "$room/err" &
+            within 20 started started 1 || problems+='  no command starts'$'\n'
+            kill -s "${signal%:*}" "$(head -n 1 "$room/ended")"
+            wait $!
+            same "end by ${signal%:*}" "$(tail -n 1 "$room/ended")$(cat "$room/err")" "-${signal#*:}"
+        done
+        end
+    fi
     stops TERM 143
     stops INT 130
     stops HUP 129 env

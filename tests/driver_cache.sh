@@ -345,7 +345,7 @@ stand_ins() {
         end
     fi
     if case_of 'what is not asked for'; then
-        for value in '' no; do
+        for value in '' no OFF 0; do
             call ZIGRUNK_CACHE=$value -c k.cu -o k.o
             ran_all "with '$value'"
         done
@@ -355,7 +355,9 @@ stand_ins() {
         same 'the folder' "$([ -e "$room/cache" ] || echo none)" none
         call ZIGRUNK_CACHE=yes XDG_CACHE_HOME="$room/users" -c k.cu -o k.o
         same "the user's folder" "$(ls "$room/users")" zigrunk
-        call ZIGRUNK_CACHE=relative -c k.cu -o k.o
+        call ZIGRUNK_CACHE=True XDG_CACHE_HOME="$room/users" -c k.cu -o k.o
+        same 'commands with True' "$(grep -c '^+ ptxas' "$room/log")" 0
+        call ZIGRUNK_CACHE=./relative -c k.cu -o k.o
         same 'a relative folder' "$(find relative -type f | wc -l)" "$(find "$room/users/zigrunk" -type f -not -path '*/programs/*' | wc -l)"
         end
     fi

@@ -41,9 +41,16 @@ struct Call<'a> {
     folder: Option<Rc<CallFolder>>,
 }
 
-/// Makes a call, given the name by which the program was started and its words. Says its status.
+/// Makes a call, given the name by which the program was started and its words. Says its status. If a signal ends the call, it ends this
+/// process too.
 pub fn make(own_name: &OsStr, words: &[OsString]) -> i32 {
-    let settings = Settings::of_environment();
+    let settings = match Settings::of_environment() {
+        Ok(settings) => settings,
+        Err(complaint) => {
+            complain(&format!("zigrunk-nvcc: {complaint}"));
+            return 2;
+        }
+    };
     let (compiler, words) = match programs::compiler(&settings, own_name, words) {
         Ok(found) => found,
         Err(complaint) => {
@@ -56,9 +63,15 @@ pub fn make(own_name: &OsStr, words: &[OsString]) -> i32 {
         return call.become_nvcc(&[]);
     }
     match call.split() {
-        Ok(status) => call.end(status),
+        Ok(status) => {
+            call.leave();
+            status
+        }
         Err(Stop::ByNvcc(reason)) => call.by_nvcc(&reason),
-        Err(Stop::Signal(number)) => call.end(128 + number),
+        Err(Stop::Signal(number)) => {
+            call.leave();
+            system::end_by(number)
+        }
     }
 }
 
@@ -90,6 +103,7 @@ impl Call<'_> {
         let temporary = absolute(self.settings.plans(), &cwd);
         let taken = CallFolder::take(&temporary, &planner::directory_of(&line)?);
         let folder = Rc::new(taken.map_err(|_| NO_DIRECTORY.to_owned())?);
+        folder.tell_if_taken(&temporary);
         self.folder = Some(Rc::clone(&folder));
         let refusals = Refusals::default();
         let at_once = system::processors() + 2;
@@ -147,12 +161,7 @@ impl Call<'_> {
         [self.compiler.name.as_os_str()].into_iter().chain(self.words.iter().map(OsString::as_os_str)).collect()
     }
 
-    /// Leaves nothing behind, and says the status.
-    fn end(&mut self, status: i32) -> i32 {
-        self.leave();
-        status
-    }
-
+    /// Leaves nothing behind.
     fn leave(&mut self) {
         if let Some(folder) = self.folder.take() {
             folder.remove();
@@ -209,10 +218,7 @@ impl Call<'_> {
         let (reason, words) = (Some(reason), &self.logged_words());
         let call = LoggedCall { begun: self.begun, status: status.code, reason, hint_on: reason, commands: &[], counted: None, words };
         log::append(file, &call);
-        if let Some(number) = status.signal {
-            system::end_by(number);
-        }
-        status.code
+        status.signal.map_or(status.code, system::end_by)
     }
 }
 

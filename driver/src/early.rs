@@ -11,7 +11,6 @@ use crate::streams::{content_of, write_file};
 use crate::tasks::{OWN, program_of};
 use early_starts::renamed;
 use rattle_std::alloc::Global;
-use std::env;
 use std::io;
 use std::path::{Path, PathBuf};
 
@@ -56,8 +55,7 @@ impl HeadStart {
 
 /// Whether commands of a call may begin so. A launcher, a runner and workers get the plan's own commands.
 pub fn is_on(settings: &Settings) -> bool {
-    let is_off = env::var_os("ZIGRUNK_EARLY").is_some_and(|value| value == "0");
-    !is_off && settings.launcher.is_empty() && settings.runs_here()
+    !settings.waits.for_needs && settings.launcher.is_empty() && settings.runs_here()
 }
 
 /// The place behind an option among the words of a command of this program.

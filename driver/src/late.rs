@@ -42,8 +42,7 @@ const ODD_VARIABLE: &str = "GCC_COMPARE_DEBUG";
 
 /// Whether a call's commands may be begun so. A launcher, a runner and workers get the plan's own.
 pub fn is_on(settings: &Settings) -> bool {
-    let is_off = env::var_os("ZIGRUNK_LATE").is_some_and(|value| value == "0");
-    !is_off && env::var_os(ODD_VARIABLE).is_none() && settings.launcher.is_empty() && settings.runs_here()
+    !settings.waits.for_fatbin && env::var_os(ODD_VARIABLE).is_none() && settings.launcher.is_empty() && settings.runs_here()
 }
 
 /// Where the files go that begin a call's last host compile early.

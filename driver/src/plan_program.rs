@@ -65,7 +65,8 @@ fn line_of(asked: &Asked<'_>) -> Result<Line, Refusal> {
 
 /// The path of the directory that the call itself would have. It isn't made.
 fn directory_of(line: &Line) -> Result<String, Refusal> {
-    let above = absolute(Settings::of_environment().plans(), line.cwd.as_ref());
+    let settings = Settings::of_environment().map_err(|complaint| refusal(2, format!("zigrunk-plan: {complaint}")))?;
+    let above = absolute(settings.plans(), line.cwd.as_ref());
     let name = planner::directory_of(line).map_err(|reason| refusal(1, format!("zigrunk-plan: {reason}")))?;
     let path = above.join(format!("zigrunk-{}", system::user())).join(name);
     path.into_os_string().into_string().map_err(|_| refusal(1, "zigrunk-plan: the temporary directory isn't UTF-8"))

@@ -10,6 +10,7 @@ use crate::cache::source::words_of;
 use crate::cache::store::Store;
 use crate::cache::{put, terminal};
 use crate::planner::Line;
+use crate::settings;
 use crate::split::Said;
 use crate::system::may_write;
 use std::env;
@@ -155,9 +156,9 @@ fn key(line: &Line, nvcc: &Path, folder: Option<&str>, variables: impl Iterator<
     hasher.finish()
 }
 
-/// Whether calls are kept whole: unless `ZIGRUNK_CALLS` is 0.
+/// Whether calls are kept whole: unless `ZIGRUNK_CALLS` is no.
 pub fn is_on() -> bool {
-    env::var_os("ZIGRUNK_CALLS").is_none_or(|value| value != "0")
+    settings::keeps_calls()
 }
 
 /// Makes what the store has of a whole call, and gives what it said. `None` if the call has to be made.

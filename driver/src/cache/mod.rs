@@ -52,7 +52,7 @@ use tool::{Kind, Run, Tools};
 
 /// The store that a call uses, if it uses one. A launcher or a runner takes commands elsewhere.
 pub fn store_of(settings: &Settings, cwd: &str) -> Option<Store> {
-    let store = place::asked(Path::new(cwd))?;
+    let store = place::asked(settings, Path::new(cwd))?;
     let is_own = settings.launcher.is_empty() && settings.runner.is_empty();
     if !is_own && settings.explains {
         complain("zigrunk-nvcc: ZIGRUNK_CACHE doesn't count beside ZIGRUNK_LAUNCHER or ZIGRUNK_RUNNER");

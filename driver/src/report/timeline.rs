@@ -37,7 +37,7 @@ impl Phase {
             ("ptxas", _) => Phase::Assemble,
             ("fatbinary" | "nvlink", _) => Phase::Join,
             (_, Some("-E")) => Phase::Preprocess,
-            (_, Some("-c")) => Phase::HostCompile,
+            (_, Some("-c" | "-S")) => Phase::HostCompile,
             _ => Phase::Whole,
         }
     }
@@ -233,6 +233,7 @@ mod tests {
             ("ptxas sm_90a", Phase::Assemble, Some("90a")),
             ("fatbinary", Phase::Join, None),
             ("gcc -c __CUDA_ARCH__=900", Phase::HostCompile, None),
+            ("g++-12 -S __CUDA_ARCH__=900", Phase::HostCompile, None),
             ("nvcc -M", Phase::Whole, None),
             ("", Phase::Whole, None),
         ];
