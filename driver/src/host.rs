@@ -709,6 +709,35 @@ mod tests {
         });
     }
 
+    /// Starts a job that reads a file by its name, which gets this text through a pipe. Says how it ended, and whether it has read all.
+    fn fed(host: &mut Host, path: &Path, script: &str, text: &[u8]) -> ((usize, i32, String), bool) {
+        let _ = fs::remove_file(path);
+        let piped = Piped::new(path).unwrap();
+        let job = Job { inherits: Some(piped.reader()), ..shell(&format!("file={}; {script}", path.display())) };
+        start(host, 3, &job);
+        let mut piped = piped;
+        piped.fill(text.to_vec());
+        host.fill(3, piped);
+        let end = next_end(host);
+        (end, !host.has_left(3))
+    }
+
+    #[test]
+    fn a_job_reads_what_comes_through_its_pipe() {
+        let room = Room(TestFolder::new());
+        in_own_process(|| {
+            let (mut host, path) = (plain_host(), room.path("file"));
+            let text = "0123456789abcde\n".repeat(20_000);
+            let mut read = |script: &str, text: &str| fed(&mut host, &path, script, text.as_bytes());
+            assert_eq!(read("sleep 0.1; cat $file", &text), ((3, 0, text.clone()), true));
+            assert_eq!(read("cat $file > /dev/null; cat $file", &text), ((3, 0, text.clone()), true), "it reads a plain file then");
+            assert_eq!(read("head -c 5 $file; exit 7", &text), ((3, 7, "01234".into()), false), "it has read a part");
+            assert_eq!(read(":", "x"), ((3, 0, String::new()), false));
+            assert_eq!(read("cat $file", ""), ((3, 137, String::new()), false), "it ends before it hears that there is nothing");
+            assert!(host.pipes.is_empty());
+        });
+    }
+
     #[test]
     fn a_terminal_is_read_to_its_end() {
         in_own_process(|| {
