@@ -55,6 +55,7 @@ pub const SMALL_PIPE: usize = 4096;
 const CREATE: c_int = 0o100;
 const EXCLUSIVE: c_int = 0o200;
 const TRUNCATE: c_int = 0o1000;
+const APPEND: c_int = 0o2000;
 pub const UNBLOCKED: c_int = 0o4000;
 const CLOSE_ON_EXEC: c_int = 0o2_000_000;
 #[cfg(target_arch = "aarch64")]
@@ -207,6 +208,8 @@ pub enum Access {
     New,
     /// For reading and writing what is there.
     Both,
+    /// For writing behind what is there.
+    Append,
 }
 
 /// Opens a file by its path. In contrast to std's, a call that is interrupted again and again ends, with that error.
@@ -216,6 +219,7 @@ pub fn open(path: &Path, access: Access) -> io::Result<File> {
         Access::Write => 1 | CREATE | TRUNCATE,
         Access::New => 2 | CREATE | EXCLUSIVE,
         Access::Both => 2,
+        Access::Append => 1 | CREATE | APPEND,
     };
     let name = CString::new(path.as_os_str().as_bytes())?;
     let mut tries = 0;
@@ -1038,8 +1042,42 @@ mod tests {
         let files =
             [read, write, open_fifo(&path).unwrap(), open_unblocked(&path, false).unwrap(), program, memory_file().unwrap().into(), owner.into()];
         assert_eq!(files.each_ref().map(is_inherited), [false; 7]);
+        let (read, write) = small_pipe().unwrap();
+        let file = open(&scratch.0.join("new"), Access::New).unwrap();
+        assert_eq!([is_inherited(&read), is_inherited(&write), is_inherited(&file)], [false; 3]);
         let kinds = [Opening::Kept, Opening::Pipe, Opening::PipeToWrite].map(|how| is_inherited(&scratch.open("pipe", how).unwrap()));
         assert_eq!((kinds, is_inherited(&scratch.open(".", Opening::Folder).unwrap())), ([false; 3], false));
+    }
+
+    #[test]
+    fn a_file_is_opened_by_its_path() {
+        let scratch = Scratch::new();
+        let path = scratch.0.join("file");
+        let text = || fs::read_to_string(&path).unwrap();
+        assert!([Access::Read, Access::Both].iter().all(|&how| open(&path, how).unwrap_err().kind() == io::ErrorKind::NotFound));
+        open(&path, Access::New).unwrap().write_all(b"first").unwrap();
+        assert_eq!(open(&path, Access::New).unwrap_err().kind(), io::ErrorKind::AlreadyExists);
+        open(&path, Access::Both).unwrap().write_all(b"F").unwrap();
+        open(&path, Access::Append).unwrap().write_all(b"!").unwrap();
+        assert_eq!(text(), "First!");
+        assert!(open(&path, Access::Read).unwrap().write(b"x").is_err());
+        open(&path, Access::Write).unwrap().write_all(b"new").unwrap();
+        assert_eq!(text(), "new");
+        assert!(open(Path::new("a\0b"), Access::Write).is_err());
+    }
+
+    #[test]
+    fn a_small_pipe_takes_a_part_once_it_is_empty() {
+        let (read, write) = small_pipe().unwrap();
+        let [mut reader, mut writer] = [read, write].map(File::from);
+        let left = |writer: &File| unread(writer.as_fd()).unwrap();
+        for size in [1, 100, SMALL_PIPE] {
+            assert_eq!((left(&writer), wait_for_streams(&[(writer.as_raw_fd(), true)], 0)), (0, vec![[false, true]]));
+            assert_eq!(writer.write(&vec![7; size]).unwrap(), size);
+            assert_eq!((left(&writer), wait_for_streams(&[(writer.as_raw_fd(), true)], 0)), (size, vec![[false, false]]));
+            reader.read_exact(&mut vec![0; size]).unwrap();
+        }
+        assert!(unread(File::open("/dev/null").unwrap().as_fd()).is_err());
     }
 
     #[test]

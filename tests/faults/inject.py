@@ -58,6 +58,15 @@ class Process(NamedTuple):
     role: str
 
 
+class Setup(NamedTuple):
+    """Whether a call has a jobserver of make, whether its last host compile is in two halves, and how many slots there are. With three, commands
+    rarely begin before what they need has ended."""
+
+    has_make: bool
+    is_late: bool
+    slots: int
+
+
 class Room:
     """The folders of the trials of one run, and the toolkit of stand-ins."""
 
@@ -86,18 +95,17 @@ class Room:
     def path(self, name: str) -> Path:
         return self.folder / "trial" / name
 
-    def environment(self, mark: str, has_make: bool, is_late: bool) -> dict[str, str]:
+    def environment(self, mark: str, setup: Setup) -> dict[str, str]:
         kept = {name: value for name, value in os.environ.items() if not name.startswith(("ZIGRUNK", "NVCC", "MAKE"))}
         kept.update(LOG=str(self.log), TMPDIR=str(self.path("tmp")), XDG_RUNTIME_DIR=str(self.path("run")), CUDA=str(self.cuda), DATA=str(DRY_RUNS),
-                    PATH=f"{self.cuda}/bin:{kept['PATH']}", TRIAL=mark, ZIGRUNK_SLOTS="3", ZIGRUNK_LATE="1" if is_late else "0", PAUSE="15")
-        if has_make:
+                    PATH=f"{self.cuda}/bin:{kept['PATH']}", TRIAL=mark, ZIGRUNK_SLOTS=str(setup.slots), ZIGRUNK_LATE=str(int(setup.is_late)), PAUSE="15")
+        if setup.has_make:
             kept["MAKEFLAGS"] = f" -j4 --jobserver-auth=fifo:{self.path('jobs')}"
         return kept
 
-    def start(self, mark: str, has_make: bool, is_late: bool, before: list[str]) -> "subprocess.Popen[bytes]":
+    def start(self, mark: str, setup: Setup, before: list[str]) -> "subprocess.Popen[bytes]":
         said = self.path(f"said.{mark}").open("wb")
-        environment = self.environment(mark, has_make, is_late)
-        return subprocess.Popen([*before, self.bin / "zigrunk-nvcc", *WORDS], cwd=self.path("work"), env=environment,
+        return subprocess.Popen([*before, self.bin / "zigrunk-nvcc", *WORDS], cwd=self.path("work"), env=self.environment(mark, setup),
                                 stdin=subprocess.DEVNULL, stdout=said, stderr=said, process_group=0)
 
     def made(self) -> tuple[bytes | None, bytes | None]:
@@ -155,8 +163,7 @@ class Trial:
     def __init__(self, room: Room, number: int, seed: int, kinds: list[str], length: float) -> None:
         self.room, self.number, self.draw = room, number, random.Random(f"{seed}.{number}")
         self.kind = self.draw.choice(kinds)
-        self.has_make = self.draw.random() < 0.5
-        self.is_late = self.draw.random() < 0.5
+        self.setup = Setup(self.draw.random() < 0.5, self.draw.random() < 0.5, self.draw.choice([3, 8]))
         self.wait = self.draw.uniform(0, length * 1.1)
         self.what = ""
         self.may_leave_part = self.may_read_part = False
@@ -243,7 +250,7 @@ class Trial:
         room.renew()
         jobs = self.jobs()
         mark = f"{os.getpid()}.{self.number}"
-        call = room.start(mark, self.has_make, self.is_late, self.before())
+        call = room.start(mark, self.setup, self.before())
         self.fault(call, mark)
         status = self.end(call, mark)
         product, rule = room.made()
@@ -263,7 +270,7 @@ class Trial:
 
     def jobs(self) -> int | None:
         """The jobserver of the trial, with jobs for the call."""
-        if not self.has_make:
+        if not self.setup.has_make:
             return None
         os.mkfifo(self.room.path("jobs"))
         pipe = os.open(self.room.path("jobs"), os.O_RDWR | os.O_NONBLOCK)
@@ -307,7 +314,6 @@ class Trial:
             self.problem(f"jobs of make: {held!r}")
         os.close(jobs)
         self.room.path("jobs").unlink(missing_ok=True)
-        self.has_make = False
 
     def check_next(self, wanted: tuple[bytes | None, bytes | None]) -> None:
         """Makes the equal call once more, without a fault."""
@@ -317,7 +323,7 @@ class Trial:
         for name in ("tmp", "run"):
             room.path(name).mkdir(mode=0o700, exist_ok=True)
         mark = f"{os.getpid()}.{self.number}.next"
-        call = room.start(mark, False, self.is_late, [])
+        call = room.start(mark, self.setup._replace(has_make=False), [])
         try:
             status = wait_for(call)
         except subprocess.TimeoutExpired:
@@ -340,7 +346,7 @@ def reference(room: Room, is_late: bool) -> tuple[tuple[bytes | None, bytes | No
     for number in range(3):
         room.renew()
         began = time.monotonic()
-        status = room.start(f"reference.{number}", False, is_late, []).wait()
+        status = room.start(f"reference.{number}", Setup(False, is_late, 3), []).wait()
         lengths.append(time.monotonic() - began)
         if status != 0 or None in room.made():
             sys.exit(f"a call without faults: status {status}: " + room.path(f"said.reference.{number}").read_text())
@@ -372,11 +378,11 @@ def main() -> int:
             sys.exit("no host compile is in two halves")
         for number in range(args.first, args.first + args.trials):
             trial = Trial(room, number, args.seed, kinds, references[False][1])
-            ends[trial.run(references[trial.is_late][0])] += 1
+            ends[trial.run(references[trial.setup.is_late][0])] += 1
             failed += bool(trial.problems)
             for text in trial.problems:
-                more = (", with make" if trial.has_make else "") + (", late" if trial.is_late else "")
-                print(f"trial {number}, {trial.kind}, after {trial.wait:.3f} s{more}: {trial.what}: {text}", flush=True)
+                more = (", with make" if trial.setup.has_make else "") + (", late" if trial.setup.is_late else "")
+                print(f"trial {number}, {trial.kind}, {trial.setup.slots} slots{more}, after {trial.wait:.3f} s: {trial.what}: {text}", flush=True)
     for how, count in sorted(ends.items()) if args.tally else []:
         print(f"{count:5} {how}")
     print(f"{args.trials - failed} passed, {failed} failed")
