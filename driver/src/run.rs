@@ -238,7 +238,8 @@ pub fn run<M: Machine, W: Watch>(machine: &mut M, watch: &mut W, tasks: &[Task],
     let instead = vec![None; tasks.len()];
     let done = vec![Done::default(); tasks.len()];
     let (again, early) = (Vec::new(), BTreeMap::new());
-    let mut run = Run { machine, watch, tasks, schedule, at_once, done, again, started, early, is_piped, is_held, is_void, launched, asked_for, instead };
+    let mut run =
+        Run { machine, watch, tasks, schedule, at_once, done, again, started, early, is_piped, is_held, is_void, launched, asked_for, instead };
     let ended = run.run_all();
     if let Err(stopped) = &ended {
         run.machine.end_all(if let Stopped::Signal(number) = stopped { *number } else { crate::system::TERM });

@@ -582,14 +582,7 @@ impl<'a> Image<'a> {
     /// Until it runs the program, the child has this process's memory, and this process waits: to copy the memory would take longer than
     /// many a command.
     /// Errors: those of `clone`. If the program can't be run, the child says so on its standard error and ends with 127.
-    pub fn start(
-        &self,
-        streams: [RawFd; 3],
-        inherited: Option<RawFd>,
-        signals: &Signals,
-        group: *mut i32,
-        complaint: &CStr,
-    ) -> io::Result<i32> {
+    pub fn start(&self, streams: [RawFd; 3], inherited: Option<RawFd>, signals: &Signals, group: *mut i32, complaint: &CStr) -> io::Result<i32> {
         let (argv, envp) = (pointers(&self.argv), pointers(&self.envp));
         let script: Vec<*const c_char> = [c"sh".as_ptr(), self.program.as_ptr()].into_iter().chain(argv.iter().copied().skip(1)).collect();
         let mut child = Child { image: self, argv, script, envp, streams, inherited, signals, group, complaint, parent: process() };

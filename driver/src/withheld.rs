@@ -28,7 +28,9 @@ fn is_patient() -> io::Result<bool> {
 fn is_kept(information: &[u8]) -> bool {
     let text = String::from_utf8_lossy(information);
     let mut locks = text.lines().filter_map(|line| line.strip_prefix("lock:"));
-    locks.any(|lock| matches!(lock.split_whitespace().skip(1).take(3).collect::<Vec<_>>()[..], ["LEASE", "BREAKING", _] | ["LEASE", "ACTIVE", "WRITE"]))
+    locks.any(|lock| {
+        matches!(lock.split_whitespace().skip(1).take(3).collect::<Vec<_>>()[..], ["LEASE", "BREAKING", _] | ["LEASE", "ACTIVE", "WRITE"])
+    })
 }
 
 impl Withheld {

@@ -11,7 +11,8 @@ A trial starts a call for two targets with stand-ins for nvcc and its tools, and
     vanish   removes a folder that the call uses
     refuse   has the kernel refuse system calls of the driver (by strace)
 
-Half of the calls have a jobserver of make, and half of them make their last host compile in two halves. What has to hold: the call ends within twenty seconds and leaves no process, slot or job of make.
+Half of the calls have a jobserver of make, and half of them make their last host compile in two halves. What has to hold: the call ends within
+twenty seconds and leaves no process, slot or job of make.
 A job may be lost only if the driver and its guard are killed at once.
 With status 0 its product and dependency file are those that a call without faults makes, or nvcc's. With another there is no part of one,
 unless the host compiler itself was killed. No command reads what another wrote in part, but for one that dies with a killed driver, which lets
@@ -98,15 +99,17 @@ class Room:
     def environment(self, mark: str, setup: Setup) -> dict[str, str]:
         kept = {name: value for name, value in os.environ.items() if not name.startswith(("ZIGRUNK", "NVCC", "MAKE"))}
         kept.update(LOG=str(self.log), TMPDIR=str(self.path("tmp")), XDG_RUNTIME_DIR=str(self.path("run")), CUDA=str(self.cuda), DATA=str(DRY_RUNS),
-                    PATH=f"{self.cuda}/bin:{kept['PATH']}", TRIAL=mark, ZIGRUNK_SLOTS=str(setup.slots), ZIGRUNK_LATE=str(int(setup.is_late)), PAUSE="15")
+                    PATH=f"{self.cuda}/bin:{kept['PATH']}", TRIAL=mark, PAUSE="15",
+                    ZIGRUNK_SLOTS=str(setup.slots), ZIGRUNK_LATE=str(int(setup.is_late)))
         if setup.has_make:
             kept["MAKEFLAGS"] = f" -j4 --jobserver-auth=fifo:{self.path('jobs')}"
         return kept
 
     def start(self, mark: str, setup: Setup, before: list[str]) -> "subprocess.Popen[bytes]":
         said = self.path(f"said.{mark}").open("wb")
-        return subprocess.Popen([*before, self.bin / "zigrunk-nvcc", *WORDS], cwd=self.path("work"), env=self.environment(mark, setup),
-                                stdin=subprocess.DEVNULL, stdout=said, stderr=said, process_group=0)
+        words = [*before, str(self.bin / "zigrunk-nvcc"), *WORDS]
+        return subprocess.Popen(words, cwd=self.path("work"), env=self.environment(mark, setup), stdin=subprocess.DEVNULL, stdout=said, stderr=said,
+                                process_group=0)
 
     def made(self) -> tuple[bytes | None, bytes | None]:
         """The product and the dependency file."""

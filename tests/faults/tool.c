@@ -2,8 +2,8 @@
 // without the mark, because somebody wrote that in part only, and says so in the file PARTIAL of LOG's folder. As gcc, it includes cicc's stub file,
 // and its assembler or a whole compile includes what fatbinary writes, which has the form of nvcc 13.
 //
-// PAUSE, or PAUSE_cicc for cicc, is how many milliseconds it takes between the halves of what it writes. SIZE is how many bytes more stand between
-// them, none unless set.
+// PAUSE, or PAUSE_cicc for cicc, is how many milliseconds it takes between the halves of what it writes. BEFORE_cicc is how many it takes before it
+// reads. SIZE is how many bytes more stand between the halves, none unless set. RAN, if set, is a file that gets a line with its name and phase.
 #include <fcntl.h>
 #include <signal.h>
 #include <stdint.h>
@@ -161,6 +161,29 @@ static void remove_outputs(int number) {
     raise(number);
 }
 
+// The variable that begins so and ends with this tool's name.
+static const char *variable_of(const char *begin, const char *name) {
+    char variable[64];
+    snprintf(variable, sizeof variable, "%s_%s", begin, name);
+    return getenv(variable);
+}
+
+static void wait_for(long milliseconds) {
+    nanosleep(&(struct timespec){.tv_sec = milliseconds / 1000, .tv_nsec = milliseconds % 1000 * 1000000}, NULL);
+}
+
+static void note_run(const char *name, int count, char **words) {
+    const char *ran = getenv("RAN"), *phase = "";
+    for (int at = 1; at < count; at++) {
+        phase = strlen(words[at]) == 2 && strchr("EcS", words[at][1]) && words[at][0] == '-' ? words[at] : phase;
+    }
+    int file = ran ? open(ran, O_CREAT | O_WRONLY | O_APPEND, 0666) : -1;
+    if (file >= 0) {
+        dprintf(file, "%s %s\n", name, phase);
+        close(file);
+    }
+}
+
 // As compilers do, it needs a folder for temporary files.
 static void check_temporary(void) {
     struct stat status;
@@ -174,6 +197,9 @@ static void check_temporary(void) {
 int main(int count, char **words) {
     const char *name = base(words[0]);
     check_temporary();
+    note_run(name, count, words);
+    const char *before = variable_of("BEFORE", name);
+    wait_for(before ? atol(before) : 0);
     int preprocesses = 0, compiles_whole = 0, is_gcc = strcmp(name, "gcc") == 0;
     for (int at = 1; at < count; at++) {
         preprocesses |= strcmp(words[at], "-E") == 0;
@@ -192,7 +218,10 @@ int main(int count, char **words) {
         const char *last = words[at - 1];
         int is_name = strncmp(last, "--orig_src_", 11) == 0 || strcmp(last, "--stub_file_name") == 0 || strcmp(last, "--include_file_name") == 0;
         if (path[0] != '-') {
-            add(base(path), strlen(base(path)));
+            // (a cicc that begins early has another name for the module id's file)
+            if (strcmp(last, "--module_id_file_name") != 0) {
+                add(base(path), strlen(base(path)));
+            }
             if (!is_name) {
                 read_input(path);
             }
@@ -227,10 +256,8 @@ int main(int count, char **words) {
             fail();
         }
     }
-    const char *own = strcmp(name, "cicc") == 0 ? getenv("PAUSE_cicc") : NULL;
-    const char *given = own ? own : getenv("PAUSE");
-    long pause = given ? atol(given) : 20;
-    nanosleep(&(struct timespec){.tv_sec = pause / 1000, .tv_nsec = pause % 1000 * 1000000}, NULL);
+    const char *own = variable_of("PAUSE", name), *given = own ? own : getenv("PAUSE");
+    wait_for(given ? atol(given) : 20);
     for (int at = 0; at < output_count; at++) {
         const char *end = is_embedded_fatbin(outputs[at]) ? fatbin_tail : mark;
         if (write(files[at], end, strlen(end)) != (ssize_t)strlen(end) || close(files[at]) != 0) {
