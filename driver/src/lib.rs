@@ -20,6 +20,7 @@ mod json_values;
 mod late;
 mod log;
 mod machine;
+mod piped;
 mod places;
 mod plan_program;
 mod planner;

@@ -4,8 +4,8 @@ use crate::entries::{hint, json};
 use crate::host;
 use crate::run::{Done, Task};
 use crate::streams::{complain, content_of, write_all};
+use crate::system::{self, Access};
 use std::ffi::OsStr;
-use std::fs::OpenOptions;
 use std::os::unix::ffi::OsStrExt;
 use std::path::Path;
 
@@ -55,7 +55,7 @@ pub fn append(file: &Path, call: &LoggedCall<'_>) {
             text.extend(line);
         }
     }
-    let written = OpenOptions::new().append(true).create(true).open(file).and_then(|log| write_all(&log, &text));
+    let written = system::open(file, Access::Append).and_then(|log| write_all(&log, &text));
     if let Err(error) = written {
         complain(&format!("zigrunk-nvcc: cannot write {}: {error}", file.display()));
     }

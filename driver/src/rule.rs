@@ -4,13 +4,12 @@ use crate::cache::calls::Product;
 use crate::machine::Ended;
 use crate::planner::{PlannedCommand, Words, list_of};
 use crate::run::{Done, Step, Watch};
-use crate::streams::{complain, content_of, write_all};
+use crate::streams::{complain, content_of, write_file};
 use crate::voice::Voice;
 use dependency_rules::{order_of, rule_asked, rule_text};
 use rattle_std::alloc::{AllocError, Global};
 use rattle_std::vec::Collect;
 use std::collections::BTreeSet;
-use std::fs::File;
 use std::path::Path;
 use std::sync::Mutex;
 use texts::bytes::Bytes;
@@ -51,7 +50,7 @@ impl RuleMaker<'_, '_> {
         let rule = rule_asked(&words)?;
         let text = rule_text(Global, &rule, &self.written()?).ok()??;
         let path = Path::new(&command.folder).join(rule.file);
-        write_all(&File::create(&path).ok()?, text.as_slice()).ok()?;
+        write_file(&path, text.as_slice()).ok()?;
         Some(Product { path, is_new: false, text: text.as_slice().to_vec() })
     }
 }

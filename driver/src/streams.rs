@@ -1,14 +1,12 @@
 //! Reading and writing whole files and streams. A call that a signal interrupts again and again ends with an error, and not never.
-use crate::system;
-use std::fs::File;
+use crate::system::{self, Access, MOST_TRIES};
+use std::fs::{self, File};
 use std::io::{self, ErrorKind, Write};
 use std::mem::ManuallyDrop;
 use std::os::fd::{AsRawFd, FromRawFd};
 use std::os::unix::fs::FileExt;
 use std::path::Path;
 
-/// How often a call that is interrupted is made again.
-const MOST_TRIES: usize = 1000;
 /// How much memory is taken at once because a file says that it has so many bytes.
 const MOST_EXPECTED: usize = 1 << 26;
 /// How many milliseconds to wait for the reader of a stream that takes no more just now.
@@ -38,7 +36,7 @@ pub fn content(file: &File) -> io::Result<Vec<u8>> {
 /// All that the file of a path holds.
 /// Errors: those of opening and reading.
 pub fn content_of(path: &Path) -> io::Result<Vec<u8>> {
-    content(&File::open(path)?)
+    content(&system::open(path, Access::Read)?)
 }
 
 /// Writes a whole text.
@@ -64,7 +62,14 @@ pub fn write_all(mut file: &File, text: &[u8]) -> io::Result<()> {
 /// Writes a whole text to the file of a path, in place of what is there.
 /// Errors: those of opening and writing.
 pub fn write_file(path: impl AsRef<Path>, text: impl AsRef<[u8]>) -> io::Result<()> {
-    write_all(&File::create(path)?, text.as_ref())
+    write_all(&system::open(path.as_ref(), Access::Write)?, text.as_ref())
+}
+
+/// Puts a file with this text in the place of whatever has its path, a link too, which isn't followed.
+/// Errors: those of writing and renaming.
+pub fn replace_file(path: &Path, text: &[u8]) -> io::Result<()> {
+    let beside = path.with_extension("new");
+    write_file(&beside, text).and_then(|()| fs::rename(&beside, path)).inspect_err(|_| drop(fs::remove_file(&beside)))
 }
 
 /// Writes a text to a standard stream: 1 for output, 2 for messages.

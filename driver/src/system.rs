@@ -33,8 +33,11 @@ pub const STOP: i32 = 19;
 pub const TSTP: i32 = 20;
 const URG: i32 = 23;
 
+const SET_FLAGS: c_int = 2;
 const SET_SIGNAL: c_int = 10;
 const SET_LEASE: c_int = 1024;
+const SET_PIPE_SIZE: c_int = 1031;
+const COUNT_UNREAD: c_ulong = 0x541b;
 
 /// The error of a file that is no program.
 const NO_FORMAT: i32 = 8;
@@ -46,8 +49,15 @@ const CHILD_STACK: usize = 4096;
 
 /// How often a pipe that can't be read is tried again.
 const MOST_FAILURES: usize = 1000;
+/// How often a call is made again that a signal interrupts.
+pub const MOST_TRIES: usize = 1000;
+/// How many bytes a small pipe takes at once.
+pub const SMALL_PIPE: usize = 4096;
 
 const CREATE: c_int = 0o100;
+const EXCLUSIVE: c_int = 0o200;
+const TRUNCATE: c_int = 0o1000;
+const APPEND: c_int = 0o2000;
 pub const UNBLOCKED: c_int = 0o4000;
 const CLOSE_ON_EXEC: c_int = 0o2_000_000;
 #[cfg(target_arch = "aarch64")]
@@ -86,6 +96,7 @@ unsafe extern "C" {
     fn getppid() -> c_int;
     fn getrlimit(what: c_int, limit: *mut [c_ulong; 2]) -> c_int;
     fn grantpt(fd: c_int) -> c_int;
+    fn ioctl(fd: c_int, what: c_ulong, ...) -> c_int;
     fn kill(pid: c_int, signal: c_int) -> c_int;
     fn memfd_create(name: *const c_char, flags: c_uint) -> c_int;
     fn mkdirat(folder: c_int, name: *const c_char, mode: c_uint) -> c_int;
@@ -169,6 +180,55 @@ pub fn pipe() -> io::Result<(OwnedFd, OwnedFd)> {
     let mut ends = [0; 2];
     checked(unsafe { pipe2(&raw mut ends, CLOSE_ON_EXEC) })?;
     Ok(unsafe { (OwnedFd::from_raw_fd(ends[0]), OwnedFd::from_raw_fd(ends[1])) })
+}
+
+/// Both ends of a pipe that takes a part only if it's empty, and at most `SMALL_PIPE` bytes. No end waits for the other.
+pub fn small_pipe() -> io::Result<(OwnedFd, OwnedFd)> {
+    let (read, write) = pipe()?;
+    // (a kernel's page may be larger, but a part always takes a whole one)
+    checked(unsafe { fcntl(write.as_raw_fd(), SET_PIPE_SIZE, SMALL_PIPE) })?;
+    set_unblocked(write.as_raw_fd())?;
+    Ok((read, write))
+}
+
+/// How many bytes of a pipe nobody has read yet.
+pub fn unread(pipe: BorrowedFd<'_>) -> io::Result<usize> {
+    let mut count: c_int = 0;
+    checked(unsafe { ioctl(pipe.as_raw_fd(), COUNT_UNREAD, &raw mut count) })?;
+    usize::try_from(count).map_err(|_| io::ErrorKind::InvalidData.into())
+}
+
+/// How a file is opened by its path.
+#[derive(Clone, Copy)]
+pub enum Access {
+    Read,
+    /// For writing what takes the place of all that is there.
+    Write,
+    /// For reading and writing, if there's no such file yet.
+    New,
+    /// For reading and writing what is there.
+    Both,
+    /// For writing behind what is there.
+    Append,
+}
+
+/// Opens a file by its path. In contrast to std's, a call that is interrupted again and again ends, with that error.
+pub fn open(path: &Path, access: Access) -> io::Result<File> {
+    let flags = match access {
+        Access::Read => 0,
+        Access::Write => 1 | CREATE | TRUNCATE,
+        Access::New => 2 | CREATE | EXCLUSIVE,
+        Access::Both => 2,
+        Access::Append => 1 | CREATE | APPEND,
+    };
+    let name = CString::new(path.as_os_str().as_bytes())?;
+    let mut tries = 0;
+    loop {
+        match owned(unsafe { openat(-100, name.as_ptr(), flags | CLOSE_ON_EXEC, 0o666) }) {
+            Err(error) if error.kind() == io::ErrorKind::Interrupted && tries < MOST_TRIES => tries += 1,
+            opened => return opened.map(File::from),
+        }
+    }
 }
 
 /// How a file below a folder is opened.
@@ -519,15 +579,15 @@ impl<'a> Image<'a> {
     }
 
     /// Starts the program with these standard streams, in a process group of its own whose number goes to `group`, a place that other
-    /// processes may see. It gets TERM if this process ends. Says its number.
+    /// processes may see. It gets TERM if this process ends, and has the file `inherited` open too, by its number. Says its number.
     ///
     /// Until it runs the program, the child has this process's memory, and this process waits: to copy the memory would take longer than
     /// many a command.
     /// Errors: those of `clone`. If the program can't be run, the child says so on its standard error and ends with 127.
-    pub fn start(&self, streams: [RawFd; 3], signals: &Signals, group: *mut i32, complaint: &CStr) -> io::Result<i32> {
+    pub fn start(&self, streams: [RawFd; 3], inherited: Option<RawFd>, signals: &Signals, group: *mut i32, complaint: &CStr) -> io::Result<i32> {
         let (argv, envp) = (pointers(&self.argv), pointers(&self.envp));
         let script: Vec<*const c_char> = [c"sh".as_ptr(), self.program.as_ptr()].into_iter().chain(argv.iter().copied().skip(1)).collect();
-        let mut child = Child { image: self, argv, script, envp, streams, signals, group, complaint, parent: process() };
+        let mut child = Child { image: self, argv, script, envp, streams, inherited, signals, group, complaint, parent: process() };
         let mut stack: Vec<u128> = Vec::with_capacity(CHILD_STACK);
         // SAFETY: the stack and what the child uses stay until it has become the program, since this process waits for that.
         let number = checked(unsafe {
@@ -546,6 +606,7 @@ struct Child<'a> {
     script: Vec<*const c_char>,
     envp: Vec<*const c_char>,
     streams: [RawFd; 3],
+    inherited: Option<RawFd>,
     signals: &'a Signals,
     group: *mut i32,
     complaint: &'a CStr,
@@ -565,6 +626,9 @@ extern "C" fn become_child(child: *mut c_void) -> c_int {
         }
         for (number, &stream) in (0..3).zip(&child.streams) {
             dup2(stream, number);
+        }
+        if let Some(file) = child.inherited {
+            fcntl(file, SET_FLAGS, 0);
         }
         child.signals.give_back();
         let entered = child.image.folder.as_ref().is_none_or(|folder| chdir(folder.as_ptr()) == 0);
@@ -871,7 +935,7 @@ mod tests {
             // A page begins at a multiple of its size.
             #[allow(clippy::cast_ptr_alignment)]
             let page = shared_page().unwrap().cast::<i32>();
-            let child = image.start([null.as_raw_fd(), out.as_raw_fd(), errors.as_raw_fd()], &signals, page, c"it cannot run\n").unwrap();
+            let child = image.start([null.as_raw_fd(), out.as_raw_fd(), errors.as_raw_fd()], None, &signals, page, c"it cannot run\n").unwrap();
             // SAFETY: the page is there.
             assert_eq!(unsafe { page.read_volatile() }, child);
             loop {
@@ -974,8 +1038,42 @@ mod tests {
         let files =
             [read, write, open_fifo(&path).unwrap(), open_unblocked(&path, false).unwrap(), program, memory_file().unwrap().into(), owner.into()];
         assert_eq!(files.each_ref().map(is_inherited), [false; 7]);
+        let (read, write) = small_pipe().unwrap();
+        let file = open(&scratch.0.join("new"), Access::New).unwrap();
+        assert_eq!([is_inherited(&read), is_inherited(&write), is_inherited(&file)], [false; 3]);
         let kinds = [Opening::Kept, Opening::Pipe, Opening::PipeToWrite].map(|how| is_inherited(&scratch.open("pipe", how).unwrap()));
         assert_eq!((kinds, is_inherited(&scratch.open(".", Opening::Folder).unwrap())), ([false; 3], false));
+    }
+
+    #[test]
+    fn a_file_is_opened_by_its_path() {
+        let scratch = Scratch::new();
+        let path = scratch.0.join("file");
+        let text = || fs::read_to_string(&path).unwrap();
+        assert!([Access::Read, Access::Both].iter().all(|&how| open(&path, how).unwrap_err().kind() == io::ErrorKind::NotFound));
+        open(&path, Access::New).unwrap().write_all(b"first").unwrap();
+        assert_eq!(open(&path, Access::New).unwrap_err().kind(), io::ErrorKind::AlreadyExists);
+        open(&path, Access::Both).unwrap().write_all(b"F").unwrap();
+        open(&path, Access::Append).unwrap().write_all(b"!").unwrap();
+        assert_eq!(text(), "First!");
+        assert!(open(&path, Access::Read).unwrap().write(b"x").is_err());
+        open(&path, Access::Write).unwrap().write_all(b"new").unwrap();
+        assert_eq!(text(), "new");
+        assert!(open(Path::new("a\0b"), Access::Write).is_err());
+    }
+
+    #[test]
+    fn a_small_pipe_takes_a_part_once_it_is_empty() {
+        let (read, write) = small_pipe().unwrap();
+        let [mut reader, mut writer] = [read, write].map(File::from);
+        let left = |writer: &File| unread(writer.as_fd()).unwrap();
+        for size in [1, 100, SMALL_PIPE] {
+            assert_eq!((left(&writer), wait_for_streams(&[(writer.as_raw_fd(), true)], 0)), (0, vec![[false, true]]));
+            assert_eq!(writer.write(&vec![7; size]).unwrap(), size);
+            assert_eq!((left(&writer), wait_for_streams(&[(writer.as_raw_fd(), true)], 0)), (size, vec![[false, false]]));
+            reader.read_exact(&mut vec![0; size]).unwrap();
+        }
+        assert!(unread(File::open("/dev/null").unwrap().as_fd()).is_err());
     }
 
     #[test]
