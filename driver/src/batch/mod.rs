@@ -57,6 +57,8 @@ fn asked(words: Vec<String>, settings: &Settings) -> Asked {
     let stem = name.rsplit_once('-').filter(|(_, version)| version.starts_with(|digit: char| digit.is_ascii_digit())).map_or(name, |(stem, _)| stem);
     if name == "zigrunk-nvcc" {
         Asked::Nvcc(words[1..].to_vec())
+    } else if name == "zigrunk" && words.get(1).is_some_and(|word| word == "nvcc") {
+        Asked::Nvcc(words[2..].to_vec())
     } else if first.starts_with('-') || programs::is_nvcc(first.as_bytes()) || settings.nvcc == *first {
         Asked::Nvcc(words)
     } else if ["gcc", "++", "clang"].iter().any(|end| stem.ends_with(end)) || name == "cc" {
@@ -343,6 +345,8 @@ mod tests {
             ("/opt/nvcc -c", "nvcc 2"),
             ("zigrunk-nvcc -c", "nvcc 1"),
             ("/a/zigrunk-nvcc /opt/nvcc -c", "nvcc 2"),
+            ("/a/zigrunk nvcc -c k.cu", "nvcc 2"),
+            ("zigrunk plan", "program 2"),
             ("-c a.cu", "nvcc 2"),
             ("my-compiler -c", "nvcc 2"),
             ("gcc -c", "compiler 2"),
