@@ -10,19 +10,17 @@ crates_from = if command -v cargo > /dev/null; then $(MAKE) rust-sources; else e
 ifeq ($(BUILT),plain)
 built = out/rust/target/release
 cudaplan = $(built)/cudaplan
-zigrunk = $(built)/zigrunk
 archive = $(built)/libzigrunk.a
 programs_from = $(MAKE) rust
 library_from = $(MAKE) rust
 driver_from = :
 else
 cudaplan = crates/cudaplan/out/cudaplan
-zigrunk = crates/zigrunk/out/zigrunk
 archive = crates/zigrunk_c/out/libzigrunk_c.a
 programs_from = .ci/built check programs || $(MAKE) build
 library_from = .ci/built check library || $(MAKE) lib
-# zigrunk-nvcc is plain Rust over the proved sources.
-driver_from = if command -v cargo > /dev/null; then $(MAKE) rust-sources && cd $(workspace) && cargo build --quiet --release -p zigrunk-driver; else echo 'no cargo, so no zigrunk-nvcc'; fi
+# zigrunk is plain Rust over the proved sources.
+driver_from = if command -v cargo > /dev/null; then $(MAKE) rust-sources && cd $(workspace) && cargo build --quiet --release -p zigrunk-driver; else echo 'no cargo, so no zigrunk'; fi
 endif
 driver = $(workspace)/target/release/zigrunk-driver
 
@@ -33,7 +31,7 @@ needs_kit = $(if $(shell command -v rt),,$(error make $@ needs the Rattle kit, w
 
 help:
 	@echo 'make demo             run cudaplan, unproved, on two calls; a minute from a fresh clone'
-	@echo 'make build            prove and build the programs: crates/cudaplan/out/cudaplan and crates/zigrunk/out/zigrunk'
+	@echo 'make build            prove and build crates/cudaplan/out/cudaplan'
 	@echo 'make lib              prove and build libzigrunk for C, Rust and Python: out/lib and out/include'
 	@echo 'make rust             write the proved sources as plain Rust and build programs and library of them: out/rust; needs cargo alone'
 	@echo 'make install          install programs, library, scripts, man pages and completions; PREFIX=/usr/local, DESTDIR='
@@ -84,11 +82,10 @@ demo:
 	@cd crates/cudaplan && rt try --data one_target.dry1=../../$(DRY_RUNS)/one_target.dry1 --data one_target.dry2=../../$(DRY_RUNS)/one_target.dry2 --cases ../../demo
 endif
 
-# rt builds a program only when it runs it, and leaves it in out/. So each program makes a short call, whose output is thrown away.
+# rt builds a program only when it runs it, and leaves it in out/. So it makes a short call, whose output is thrown away.
 build:
 	$(call needs_kit,make rust)
 	cd crates/cudaplan && rt check && rt run -- line cicc /w x.cpp1.ii -o x.ptx > /dev/null
-	cd crates/zigrunk && rt check && rt run -- --version > /dev/null
 	@.ci/built record programs
 
 # What you want after each edit. It keeps what it proves outside the clone.
@@ -106,7 +103,7 @@ lib:
 # The proved sources as crates of plain Rust (docs/PLAIN_RUST.md), and programs and library of them: no kit, no network.
 rust: rust-sources
 	cd out/rust && cargo build --release
-	for name in nvcc plan batch report cache worker; do ln -sf zigrunk-driver out/rust/target/release/zigrunk-$$name; done
+	for name in zigrunk zigrunk-nvcc; do ln -sf zigrunk-driver out/rust/target/release/$$name; done
 
 rust-sources:
 	cargo run --quiet --manifest-path rust/Cargo.toml -p eraser -- . out/rust
@@ -174,7 +171,6 @@ mutants-by-lot: rust-sources
 
 # Other versions of nvcc, with host compilers that suit. docs/VERSIONS.md says what differs.
 versions: rust
-	@.ci/built check programs || $(MAKE) build
 	@tests/versions.sh
 
 # In PARTS, of `edits libraries alone jobs`, those to measure. SCCACHE is sccache, if it isn't on the path. docs/PERFORMANCE.md has what came out.

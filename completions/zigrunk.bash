@@ -1,4 +1,4 @@
-# Completion for zigrunk, cudaplan, zigrunk-nvcc, zigrunk-batch and zigrunk-cache in bash.
+# Completion for zigrunk, cudaplan and zigrunk-nvcc in bash.
 
 # Offers the words of $1 that begin like the current one.
 _zigrunk_words() {
@@ -15,75 +15,67 @@ _zigrunk_directories() {
     mapfile -t COMPREPLY < <(compgen -d -- "$current")
 }
 
-# $1 is the position among CWD TMP FLAG DRY1 DRY2 SUFFIX.., from 1.
-_zigrunk_plan() {
-    case $1 in
-    1 | 2) _zigrunk_directories ;;
-    3) _zigrunk_words '-c -dc -dw -ptx -cubin -fatbin -optix-ir' ;;
-    4 | 5) _zigrunk_files ;;
-    *) _zigrunk_words '.ptx .cubin .fatbin .fatbin.c .module_id .cudafe1.gpu' ;;
-    esac
-}
+_zigrunk_flags='-c -dc -dw -ptx -cubin -fatbin -optix-ir'
+_zigrunk_suffixes='.ptx .cubin .fatbin .fatbin.c .module_id .cudafe1.gpu'
 
-# Drops the options that words begins with, up to the current one, which is at place, from 1. Fails if that is the number of --limit.
-_zigrunk_drop_options() {
-    while [ "$place" -gt 1 ]; do
-        case ${words[0]} in
-        --keep | --whole) words=("${words[@]:1}") place=$((place - 1)) ;;
-        --limit)
-            [ "$place" -gt 2 ] || return
-            words=("${words[@]:2}") place=$((place - 2))
-            ;;
-        *) break ;;
-        esac
-    done
+# The words of zigrunk plan: $1 is the program, which lists its formats.
+_zigrunk_plan() {
+    local before=${COMP_WORDS[COMP_CWORD - 1]} two_before=${COMP_WORDS[COMP_CWORD - 2]}
+    case $before,$two_before in
+    --cwd,* | --tmp,*) _zigrunk_directories ;;
+    --flag,*) _zigrunk_words "$_zigrunk_flags" ;;
+    --suffix,*) _zigrunk_words "$_zigrunk_suffixes" ;;
+    --limit,*) ;;
+    --dry-runs,* | *,--dry-runs) _zigrunk_files ;;
+    *)
+        if [[ $current == -* ]]; then
+            _zigrunk_words '--dry-runs --cwd --tmp --flag --keep --whole --limit --suffix --formats --help'
+        elif [ "$COMP_CWORD" -eq 2 ] || [[ " ${COMP_WORDS[*]} " == *' --dry-runs '* ]]; then
+            _zigrunk_words "$("$1" plan --formats 2> /dev/null)"
+        else
+            _zigrunk_files
+        fi
+        ;;
+    esac
 }
 
 _zigrunk() {
-    local current=${COMP_WORDS[COMP_CWORD]} words=("${COMP_WORDS[@]:1}") place=$COMP_CWORD forms='line plan' options=''
+    local current=${COMP_WORDS[COMP_CWORD]}
     COMPREPLY=()
-    if [ "${1##*/}" != cudaplan ]; then
-        forms='shell ninja json dot compdb makeflow text calls directory line plan -h --help --version' options='--limit --keep --whole'
-        _zigrunk_drop_options || return
-    fi
-    local form=${words[0]-}
-    if [ "$place" -eq 1 ]; then
-        _zigrunk_words "$forms $options"
+    if [ "$COMP_CWORD" -eq 1 ]; then
+        _zigrunk_words 'nvcc plan batch report cache worker help --help --version'
         return
     fi
-    case " $forms " in
-    *" $form "*) ;;
-    *) return ;;
-    esac
-    words=("${words[@]:1}") place=$((place - 1))
-    case $form in
-    shell | ninja | json | dot | compdb | makeflow | text)
-        _zigrunk_drop_options || return
-        if [ "$place" -eq 1 ] && [[ $current == -* ]]; then
-            _zigrunk_words "$options"
+    case ${COMP_WORDS[1]} in
+    plan) _zigrunk_plan "$1" ;;
+    cache) [ "$COMP_CWORD" -ne 2 ] || _zigrunk_words 'stats clear limit' ;;
+    help) _zigrunk_words 'nvcc plan batch report cache worker' ;;
+    report) if [[ $current == -* ]]; then _zigrunk_words '--trace --html --help'; else _zigrunk_files; fi ;;
+    worker) _zigrunk_words '-j --name --version --help' ;;
+    batch)
+        if [[ $current == -* ]]; then
+            _zigrunk_words '-j -k --progress --incremental --workers --wait --give-up --timeout --send-files --unless-made --version --help'
         else
-            _zigrunk_plan "$place"
+            _zigrunk_files
         fi
         ;;
-    plan) _zigrunk_plan "$place" ;;
-    line)
-        case $place in
-        1) _zigrunk_words 'cicc cudafe++ ptxas' ;;
-        2) _zigrunk_directories ;;
-        *) _zigrunk_files ;;
-        esac
-        ;;
-    calls | directory)
-        [ "$form" = calls ] || [ "$place" -eq 1 ] || place=$((place + 1))
-        case $place in
-        1 | 2) _zigrunk_directories ;;
-        3) mapfile -t COMPREPLY < <(compgen -c -- "$current") ;;
-        *) _zigrunk_files ;;
-        esac
-        ;;
+    *) _zigrunk_files ;;
     esac
 }
 
-complete -F _zigrunk zigrunk cudaplan
-complete -W 'stats clear limit' zigrunk-cache
-complete -o default zigrunk-nvcc zigrunk-batch
+_cudaplan() {
+    local current=${COMP_WORDS[COMP_CWORD]} place=$COMP_CWORD
+    COMPREPLY=()
+    case $place,${COMP_WORDS[1]-} in
+    1,*) _zigrunk_words 'line plan' ;;
+    2,line) _zigrunk_words 'cicc cudafe++ ptxas' ;;
+    3,line | 2,plan | 3,plan) _zigrunk_directories ;;
+    4,plan) _zigrunk_words "$_zigrunk_flags" ;;
+    *,line | 5,plan | 6,plan) _zigrunk_files ;;
+    *) _zigrunk_words "$_zigrunk_suffixes" ;;
+    esac
+}
+
+complete -F _zigrunk zigrunk
+complete -F _cudaplan cudaplan
+complete -o default zigrunk-nvcc

@@ -1,7 +1,4 @@
-"""Reads a list of calls of nvcc and plans them, for makeflow/build.py and ssh/remote.py.
-
-ZIGRUNK_PROGRAM is zigrunk's path or name; zigrunk-plan is on PATH.
-"""
+"""Reads a list of calls of nvcc and plans them, for ssh/remote.py. zigrunk is on PATH."""
 import json
 import os
 import shlex
@@ -10,10 +7,9 @@ import sys
 from types import FrameType
 from typing import Any, NoReturn
 
-# nvcc's own files that somebody wants to keep are in the plan's directory.
-SETTINGS = 'eval "$("$0" calls "$@")" && printf "%s\\0%s" "$keep_dir" "$dependencies"'
-PROGRAM = os.environ.get("ZIGRUNK_PROGRAM", "zigrunk")
-PLANNER = "zigrunk-plan"
+# How words begin that ask for a dependency file or nvcc's own files, which no plan makes, or name a file of words that may.
+MORE = ("-M", "-gen", "--gen", "-dependency", "--dependency", "-keep", "--keep", "-optf", "--options-file")
+VARIABLES = ("NVCC_PREPEND_FLAGS", "NVCC_APPEND_FLAGS")
 
 
 class Call:
@@ -75,20 +71,23 @@ def output_of(program: list[str], folder: str) -> str:
     return run.stdout.decode("utf-8", "surrogateescape") if run.returncode == 0 else ""
 
 
-def plan(call: Call) -> tuple[Any, str]:
-    """The plan of a call, whose directory this makes, and the line of shell that writes its dependency file, if it asks for one. A call that isn't
-    split has no plan, nor has one that keeps nvcc's own files."""
-    text = output_of([PLANNER, "json", "--", *call.words], call.folder) if call.words and call.words[0].endswith("nvcc") else ""
+def makes_more(call: Call) -> bool:
+    """Whether a call makes more files than its plan says."""
+    words = [*call.words, *(word for name in VARIABLES for word in os.environ.get(name, "").split())]
+    return any(word.startswith(MORE) for word in words)
+
+
+def plan(call: Call) -> Any:
+    """The plan of a call, whose directory this makes. A call that isn't split has no plan, nor has one that makes more files than that."""
+    is_nvcc = bool(call.words) and call.words[0].endswith("nvcc") and not makes_more(call)
+    text = output_of(["zigrunk", "plan", "json", "--", *call.words], call.folder) if is_nvcc else ""
     if not text:
-        return None, ""
+        return None
     made = json.loads(text)
-    keep_dir, dependencies = output_of(["sh", "-c", SETTINGS, PROGRAM, call.folder, made["tmp"], *call.words], call.folder).split("\0")
-    if keep_dir:
-        return None, ""
     os.makedirs(made["tmp"])
     folder, name = os.path.split("".join(made["commands"][-1]["writes"][:1]))
     call.product = os.path.join(os.path.realpath(folder), name)
-    return made, dependencies
+    return made
 
 
 def check_products(calls: list[Call]) -> None:

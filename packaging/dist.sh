@@ -156,13 +156,11 @@ package() {
 
 # pack_proved: the proved programs and library. The kit's linker asks for symbols of glibc 2.34, so their object files are linked once more.
 pack_proved() {
-    local kit folder=$scratch/$name-x86_64-linux program
+    local kit folder=$scratch/$name-x86_64-linux
     kit=$(dirname "$(dirname "$(readlink -f "$(command -v rt)")")")
     make -s install BUILT=proved DESTDIR="$scratch/" PREFIX="$(basename "$folder")"
-    for program in cudaplan zigrunk; do
-        cc -static -s -o "$folder/bin/$program" "crates/$program/out/$program.o" "$kit/c/libos_c.a" "$kit/c/liblibc_c.a"
-    done
-    install -m 755 out/dist/static/x86_64-unknown-linux-gnu/release/zigrunk-driver "$folder/bin/zigrunk-nvcc"
+    cc -static -s -o "$folder/bin/cudaplan" crates/cudaplan/out/cudaplan.o "$kit/c/libos_c.a" "$kit/c/liblibc_c.a"
+    install -m 755 out/dist/static/x86_64-unknown-linux-gnu/release/zigrunk-driver "$folder/bin/zigrunk"
     install -m 644 packaging/README LICENSE NOTICE CHANGELOG.md "$folder"
     pack "$folder"
 }
@@ -176,7 +174,7 @@ else
     echo 'no package for arm64: rustc lacks its library, or there is no aarch64-linux-gnu-gcc'
 fi
 # (rt ci leaves no object files of programs that an earlier run proved)
-if .ci/built check programs && .ci/built check library && [ -s crates/cudaplan/out/cudaplan.o ] && [ -s crates/zigrunk/out/zigrunk.o ]; then
+if .ci/built check programs && .ci/built check library && [ -s crates/cudaplan/out/cudaplan.o ]; then
     pack_proved
 else
     echo "no $name-x86_64-linux.tar.gz: crates/*/out lack what these sources make; make build and make lib prove and build it"

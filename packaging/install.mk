@@ -1,29 +1,22 @@
 # The rules that install and uninstall. The Makefile of the repository and that of the source tarball say where the programs and the
-# archive of the library are (cudaplan, zigrunk, driver, archive), where the workspace of plain Rust is (workspace), and what makes them
-# (programs_from, driver_from, library_from, crates_from). The driver has several names; each but the first is a link. Nothing is proved again if out/ holds what these sources make. Otherwise each part builds what
+# archive of the library are (cudaplan, driver, archive), where the workspace of plain Rust is (workspace), and what makes them
+# (programs_from, driver_from, library_from, crates_from). zigrunk-nvcc, for build systems, is a link to zigrunk. Nothing is proved again if out/ holds what these sources make. Otherwise each part builds what
 # it installs, so that those who want one part don't wait for the other.
 install: install-programs install-library install-rust
 
 install-programs:
 	@$(programs_from)
 	install -D -m 755 $(cudaplan) "$(target)/bin/cudaplan"
-	install -D -m 755 $(zigrunk) "$(target)/bin/zigrunk"
 	@$(driver_from)
-	if [ -x $(driver) ]; then install -D -m 755 $(driver) "$(target)/bin/zigrunk-nvcc"; \
-		for name in plan batch report cache worker; do ln -sf zigrunk-nvcc "$(target)/bin/zigrunk-$$name"; done; fi
-	install -D -m 644 man/zigrunk.1 "$(target)/share/man/man1/zigrunk.1"
-	install -D -m 644 man/zigrunk-nvcc.1 "$(target)/share/man/man1/zigrunk-nvcc.1"
-	install -D -m 644 man/zigrunk-batch.1 "$(target)/share/man/man1/zigrunk-batch.1"
-	install -D -m 644 man/zigrunk-cache.1 "$(target)/share/man/man1/zigrunk-cache.1"
-	ln -sf zigrunk.1 "$(target)/share/man/man1/cudaplan.1"
+	if [ -x $(driver) ]; then install -D -m 755 $(driver) "$(target)/bin/zigrunk" && ln -sf zigrunk "$(target)/bin/zigrunk-nvcc"; fi
+	for page in zigrunk zigrunk-nvcc zigrunk-plan zigrunk-batch zigrunk-cache; do \
+		install -D -m 644 man/$$page.1 "$(target)/share/man/man1/$$page.1" || exit 1; done
+	ln -sf zigrunk-plan.1 "$(target)/share/man/man1/cudaplan.1"
 	ln -sf zigrunk-nvcc.1 "$(target)/share/man/man1/zigrunk-report.1"
-	ln -sf zigrunk-nvcc.1 "$(target)/share/man/man1/zigrunk-plan.1"
 	ln -sf zigrunk-batch.1 "$(target)/share/man/man1/zigrunk-worker.1"
 	install -D -m 644 completions/zigrunk.bash "$(target)/share/bash-completion/completions/zigrunk"
 	ln -sf zigrunk "$(target)/share/bash-completion/completions/cudaplan"
 	ln -sf zigrunk "$(target)/share/bash-completion/completions/zigrunk-nvcc"
-	ln -sf zigrunk "$(target)/share/bash-completion/completions/zigrunk-batch"
-	ln -sf zigrunk "$(target)/share/bash-completion/completions/zigrunk-cache"
 	install -D -m 644 completions/_zigrunk "$(target)/share/zsh/site-functions/_zigrunk"
 	find examples -type f ! -path '*/__pycache__/*' | while read -r file; do \
 		[ -x "$$file" ] && mode=755 || mode=644; install -D -m "$$mode" "$$file" "$(target)/share/zigrunk/$$file" || exit 1; done
@@ -46,13 +39,11 @@ install-rust:
 		install -D -m 644 "$$file" "$$to/share/zigrunk/rust/$$file" || exit 1; done; fi
 
 uninstall:
-	rm -f "$(target)/bin/cudaplan" "$(target)/bin/zigrunk" "$(target)/bin/zigrunk-nvcc" "$(target)/bin/zigrunk-batch"
-	rm -f "$(target)/share/man/man1/zigrunk.1" "$(target)/share/man/man1/zigrunk-nvcc.1" "$(target)/share/man/man1/cudaplan.1"
-	for name in slot report plan cache worker; do rm -f "$(target)/bin/zigrunk-$$name" "$(target)/share/man/man1/zigrunk-$$name.1"; done
-	rm -f "$(target)/share/man/man1/zigrunk-batch.1" "$(target)/share/man/man3/zigrunk.h.3"
+	rm -f "$(target)/bin/cudaplan" "$(target)/bin/zigrunk" "$(target)/share/man/man1/zigrunk.1" "$(target)/share/man/man1/cudaplan.1"
+	for name in nvcc plan batch report cache worker slot; do rm -f "$(target)/bin/zigrunk-$$name" \
+		"$(target)/share/man/man1/zigrunk-$$name.1" "$(target)/share/bash-completion/completions/zigrunk-$$name"; done
 	rm -f "$(target)/share/bash-completion/completions/zigrunk" "$(target)/share/bash-completion/completions/cudaplan"
-	rm -f "$(target)/share/bash-completion/completions/zigrunk-nvcc" "$(target)/share/bash-completion/completions/zigrunk-batch" \
-		"$(target)/share/bash-completion/completions/zigrunk-cache"
+	rm -f "$(target)/share/man/man3/zigrunk.h.3"
 	rm -f "$(target)/share/zsh/site-functions/_zigrunk"
 	rm -f "$(target)/lib/libzigrunk.a" "$(target)/lib/libzigrunk.so" "$(target)/lib/libzigrunk.so.1"
 	rm -f "$(target)/lib/pkgconfig/zigrunk.pc"

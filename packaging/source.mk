@@ -5,7 +5,6 @@ CARGO ?= cargo
 target = $(DESTDIR)$(PREFIX)
 built ?= target/release
 cudaplan = $(built)/cudaplan
-zigrunk = $(built)/zigrunk
 driver = $(built)/zigrunk-driver
 archive = $(built)/libzigrunk.a
 programs_from ?= $(MAKE) build

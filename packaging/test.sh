@@ -83,10 +83,6 @@ nothing_stays() {
     prints '' find "$root/usr" "$root/etc" "$root/var" -name '*zigrunk*' -o -name '*cudaplan*'
 }
 
-# shellcheck disable=SC2016 # for sh
-first_commands='eval "$(zigrunk calls /w /t nvcc -c k.cu -o k.o)"; echo "$flag"; echo "$first_dry_run" | grep -o -e --dryrun'
-dry_runs=$'-c\n--dryrun'
-
 # prepare: the dry runs of a call, and stand-ins for the tools that they name.
 prepare() {
     local tool
@@ -101,8 +97,7 @@ prepare() {
 programs() {
     check "$1: the version" prints "zigrunk $version" inside zigrunk --version
     check "$1: a plan" inside cudaplan plan /w /t -c one_target.dry1 one_target.dry2
-    check "$1: both dry runs of a call" prints "$dry_runs" inside sh -c "$first_commands"
-    check "$1: a plan as JSON" inside zigrunk json /root /root/t -c one_target.dry1 one_target.dry2
+    check "$1: a plan as JSON" inside zigrunk plan --dry-runs one_target.dry1 one_target.dry2 --tmp /root/t json
 }
 
 # in_c NAME PREFIX: programs in C with the installed library.
@@ -125,7 +120,7 @@ package() {
     check "$1: the package installs" inside apt-get install -y --no-install-recommends "/root/${2##*/}"
     programs "$1"
     check "$1: Ninja" inside apt-get install -y --no-install-recommends ninja-build
-    check "$1: a plan that Ninja runs" inside sh -c 'zigrunk ninja /root /root/t -c one_target.dry1 one_target.dry2 > build.ninja && ninja'
+    check "$1: a plan that Ninja runs" inside sh -c 'zigrunk plan --dry-runs one_target.dry1 one_target.dry2 --tmp /root/t ninja > build.ninja && ninja'
     check "$1: zigrunk-nvcc, for a call that isn't split" prints '--preprocess k.cu' inside env ZIGRUNK_NVCC=echo zigrunk-nvcc --preprocess k.cu
     check "$1: what the library needs" all_found inside ldd -r /usr/lib/libzigrunk.so.1
     check "$1: a compiler" inside apt-get install -y --no-install-recommends gcc libc6-dev pkg-config

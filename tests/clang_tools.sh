@@ -1,12 +1,12 @@
 #!/usr/bin/env bash
-# Has clangd and clang-tidy read the compilation databases that `zigrunk-plan compdb` prints, with a CUDA toolkit that they know: clang 14
+# Has clangd and clang-tidy read the compilation databases that `zigrunk plan compdb` prints, with a CUDA toolkit that they know: clang 14
 # knows those before 12.0, clang 19 those before 13.0. The last line is 'N passed, M failed'.
 #
-#   DRIVER_BIN=FOLDER   where zigrunk-plan is, else where `make rust` leaves it. tests/versions.sh runs this.
+#   DRIVER_BIN=FOLDER   where zigrunk is, else where `make rust` leaves it. tests/versions.sh runs this.
 cd "$(dirname "$0")/.." || exit 1
 . tests/lib.sh
 require 'clang'\''s tools' nvcc clangd clang-tidy python3
-plan=${DRIVER_BIN:-$PWD/out/rust/target/release}/zigrunk-plan
+zigrunk=${DRIVER_BIN:-$PWD/out/rust/target/release}/zigrunk
 unset NVCC_PREPEND_FLAGS NVCC_APPEND_FLAGS
 mkdir "$scratch/project" "$scratch/project/a folder"
 cd "$scratch/project" || exit 1
@@ -28,7 +28,7 @@ readonly LINE=(nvcc -std=c++17 -rdc=true -gencode 'arch=compute_80,code=sm_80' -
 
 # database WORD..: writes the database of a call with these words more.
 database() {
-    "$plan" compdb "${LINE[@]}" "$@" -c kernel.cu -o kernel.o > compile_commands.json
+    "$zigrunk" plan compdb "${LINE[@]}" "$@" -c kernel.cu -o kernel.o > compile_commands.json
 }
 
 # halves: which halves of the source the records are for, in order.

@@ -3,8 +3,7 @@
 # Prints a line for each check that fails, the times of builds, and last 'N passed, M failed'; the status is 1 if one failed.
 # docs/CLUSTER.md names the packages.
 #
-#   tests/cluster.sh [PROGRAM]    PROGRAM is the zigrunk that `make build` leaves, or else `make rust`, unless given. zigrunk-nvcc is that of
-#                                 DRIVER_BIN, or what `make rust` leaves
+#   tests/cluster.sh    zigrunk is that of DRIVER_BIN, or what `make rust` leaves
 #
 # First come the parts whose times count, one after the other. Then come the deaths, side by side, in lanes that have nodes of their own.
 #
@@ -18,10 +17,7 @@ for tool in slurmctld:slurm-wlm slurmd:slurm-wlm munged:munge salloc:slurm-wlm i
 done
 [ "$(id -u)" = 0 ] || skip_all cluster 'network namespaces and a Slurm of its own take root'
 [ "$(nproc)" -ge 3 ] || skip_all cluster 'three nodes take three cores'
-program=${DRIVER_BIN:-out/rust/target/release}/zigrunk
-[ ! -x crates/zigrunk/out/zigrunk ] || program=crates/zigrunk/out/zigrunk
-ZIGRUNK_PROGRAM=$(realpath "${1:-${ZIGRUNK_PROGRAM:-$program}}")
-[ -x "$ZIGRUNK_PROGRAM" ] || skip_all cluster 'make build or make rust makes zigrunk first'
+[ -x "${DRIVER_BIN:-out/rust/target/release}/zigrunk" ] || skip_all cluster 'make rust makes zigrunk first'
 unset NVCC_PREPEND_FLAGS NVCC_APPEND_FLAGS MAKEFLAGS "${!SLURM@}" "${!SBATCH@}" "${!STEP_@}"
 unset ZIGRUNK_RUNNER ZIGRUNK_LAUNCHER ZIGRUNK_PLAN ZIGRUNK_JOBS ZIGRUNK_BATCH
 examples=$PWD/examples here=$PWD/tests
@@ -30,13 +26,17 @@ chmod 755 "$scratch"
 top=$scratch run=$scratch/run partitions='1-3 4-6 7-9 10-21 22-33 34-36 37-39 40-42' compiled=${CALLS:-8} sleeping=${NAPS:-10}
 mkdir "$run" "$scratch/work" "$scratch/tmp"
 bindings/c/library.sh "${DRIVER_BIN:-out/rust/target/release}/libzigrunk.a" "$scratch/library" > /dev/null || skip_all cluster 'make rust makes the library first'
+# the words of zigrunk that the parts type, as links
+mkdir "$scratch/links"
+for name in zigrunk zigrunk-nvcc zigrunk-batch zigrunk-worker zigrunk-cache zigrunk-report; do
+    ln -s "$(realpath "${DRIVER_BIN:-out/rust/target/release}/zigrunk")" "$scratch/links/$name"
+done
 # a python3 that starts at once stands first
-export ZIGRUNK_PROGRAM ZIGRUNK_LIBRARY=$scratch/library/lib/libzigrunk.so.1 ZIGRUNK_TMP=$scratch/tmp PATH=${DRIVER_BIN:-$PWD/out/rust/target/release}:/usr/bin:$PATH
+export ZIGRUNK_LIBRARY=$scratch/library/lib/libzigrunk.so.1 ZIGRUNK_TMP=$scratch/tmp PATH=$scratch/links:/usr/bin:$PATH
 SEED=${SEED:-$RANDOM}
 . tests/cluster/nodes.bash
 . tests/cluster/slurm.bash
 . tests/cluster/ssh.bash
-. tests/cluster/makeflow.bash
 . tests/cluster/deaths.bash
 . tests/cluster/jobs.bash
 . tests/cluster/sent.bash
@@ -166,7 +166,7 @@ compile_error() {
     code=$?
     batch 3 by_batch
     same 'status of a compile error' $? "$code"
-    same 'text of a compile error' "$(grep -v '^zigrunk-batch: ' err)" "$(cat wanted)"
+    same 'text of a compile error' "$(grep -v '^zigrunk batch: ' err)" "$(cat wanted)"
 }
 
 # temporary: how many directories of a batch and of its calls there are.
@@ -255,12 +255,8 @@ on_nodes() {
 # shellcheck disable=SC2046 # several names
 one_by_one() {
     first=1 second=2 partition=from1
-    [ -z "$(chosen by_array by_batch_form makeflow_sizes makeflow_deaths makeflow_transfer by_files shared_cache)" ] || try by_nvcc
+    [ -z "$(chosen by_array by_batch_form by_files shared_cache)" ] || try by_nvcc
     try $(chosen by_array by_batch_form sleeping_batch by_sending costs)
-    first=47 second=48
-    with_makeflow=''
-    ! makeflow_here || with_makeflow=1
-    [ -z "$with_makeflow" ] || try $(chosen makeflow_sizes)
 }
 
 # side_by_side: the other parts, in lanes.
@@ -275,7 +271,6 @@ side_by_side() {
     beside jobs 37 $(chosen interrupted requeued preempted shared_cache)
     beside arrays 40 $(chosen array_task_cancelled array_no_share array_interrupted)
     beside ssh 43 $(chosen by_ssh by_files)
-    [ -z "$with_makeflow" ] || beside makeflow 47 $(chosen makeflow_deaths makeflow_transfer makeflow_errors)
     beside controller 50 $(chosen controller)
     join_lanes
     # Slurm still ends a job whose node has just come back

@@ -1,6 +1,6 @@
 #!/usr/bin/env bash
 # Runs examples/slurm/step.sh, examples/slurm/array.sh and examples/ssh/parallel.sh with stand-ins for Slurm, ssh and GNU parallel, by each of dash, bash and busybox
-# sh that is installed, and examples/ssh/remote.py with stand-ins for ssh and zigrunk, and the library that `make rust` leaves, whose zigrunk-batch
+# sh that is installed, and examples/ssh/remote.py with stand-ins for ssh and zigrunk, and the library that `make rust` leaves, whose zigrunk
 # array.sh starts. Prints a line for each case that fails, and last 'N passed, M failed'; the status is 1 if one failed.
 #
 #   tests/cluster_scripts.sh [FOLDER]    FOLDER is examples, unless given
@@ -12,7 +12,7 @@ examples=$(realpath "${1:-examples}")
 . tests/lib.sh
 trap 'kill $(jobs -p) 2> /dev/null; rm -rf "$scratch"' EXIT
 built=$(realpath "${DRIVER_BIN:-out/rust/target/release}")
-[ -x "$built/zigrunk-batch" ] || skip_all 'scripts of clusters' 'make rust makes zigrunk-batch first'
+[ -x "$built/zigrunk" ] || skip_all 'scripts of clusters' 'make rust makes zigrunk first'
 unset STEP_LOG STEP_WRAPPER "${!ZIGRUNK@}"
 
 # The stand-in for srun takes the first node of $NODES that isn't left out, logs it, and does what $PLACES/NODE says: it may run the
@@ -205,7 +205,7 @@ arrays() {
         array_case "an array job, ${limits% *}"
         array "${limits% *}" list "--comment=a 'b" -Q -c2
         same 'status and output' "$status $(tr '\n' , < "$room/out")" '4 1,2,4,5,7,'
-        same messages "$(cat "$room/err")" $'zigrunk-batch: line 2: exit status 4: echo 2; exit 4\nzigrunk-batch: line 6: exit status 3: sh -c \'exit 3\''
+        same messages "$(cat "$room/err")" $'zigrunk batch: line 2: exit status 4: echo 2; exit 4\nzigrunk batch: line 6: exit status 3: sh -c \'exit 3\''
         same 'the array' "$(sed -n "s/.*\[-n1\].* \[--array=1-\([0-9]*\)\] \[--comment=a 'b\] \[-c2\] \[--wrap\].*/\1/p" "$room/log")" "${limits#* }"
         for _ in $(seq 400); do ! tail -n 1 "$room/log" | grep -qx 'scancel -Q 7' || break; sleep 0.05; done
         same 'what leaves the queue' "$(tail -n 1 "$room/log")" 'scancel -Q 7'
@@ -213,7 +213,7 @@ arrays() {
     done
     array_case 'an array job that Slurm refuses'
     array REFUSES=1 list
-    same 'status and messages' "$status $(grep -v 'what starts workers' "$room/err")" $'1 sbatch: error: no such partition\nzigrunk-batch: there is no worker'
+    same 'status and messages' "$status $(grep -v 'what starts workers' "$room/err")" $'1 sbatch: error: no such partition\nzigrunk batch: there is no worker'
     end_case
     array_case 'an array job, without an answer of scontrol'
     array ARRAY=x list
@@ -311,8 +311,7 @@ export TMPDIR
 . "$PLACES/$name.does"
 exec sh -c "$*"
 END
-    printf '%s\n' '#!/bin/sh' "echo 'first_dry_run=: second_dry_run=: flag=-c keep_dir= dependencies='" > "$scratch/far/zigrunk"
-    cat > "$scratch/far/zigrunk-plan" << 'END'
+    cat > "$scratch/far/zigrunk" << 'END'
 #!/bin/sh
 sed "s,@TMP,${ZIGRUNK_TMP:-$TMPDIR}/zigrunk-$(id -u)/call.$$,g; s,@CWD,$PWD,g; s,@TOOLS,${0%/*},g" "${0%/*}/plan"
 END
@@ -348,7 +347,7 @@ two_machines() {
 remote() {
     begin "$1"
     two_machines "$6" "$7"
-    runs ssh/remote.py PATH="$scratch/far:$PATH" ZIGRUNK_PROGRAM="$scratch/far/zigrunk" ZIGRUNK_TMP="$room/tmp" "${@:8}" -j 2 machines list
+    runs ssh/remote.py PATH="$scratch/far:$PATH" ZIGRUNK_TMP="$room/tmp" "${@:8}" -j 2 machines list
     same status "$status" "$2"
     same messages "$(cat "$room/err")" "$3"
     same product "$(cat product)" "$4"
@@ -383,7 +382,7 @@ without_disk_ended() {
     begin 'the signal TERM'
     two_machines 'export NAP=30' 'exit 255'
     mkdir "$room/tmp/own"
-    env LOG="$room/log" PLACES="$room/places" PATH="$scratch/far:$PATH" ZIGRUNK_PROGRAM="$scratch/far/zigrunk" ZIGRUNK_TMP="$room/tmp/own" \
+    env LOG="$room/log" PLACES="$room/places" PATH="$scratch/far:$PATH" ZIGRUNK_TMP="$room/tmp/own" \
         python3 "$examples/ssh/remote.py" machines list > "$room/out" 2> "$room/err" &
     process=$! last=$((SECONDS + 20))
     until grep -qx m1 "$room/log" 2> /dev/null || [ "$SECONDS" -gt "$last" ]; do sleep 0.02; done

@@ -1,15 +1,15 @@
 #!/usr/bin/env bash
-# Runs zigrunk, cudaplan, zigrunk-nvcc and zigrunk-batch where the machine refuses something: as another user than root, with closed
+# Runs cudaplan, zigrunk-nvcc and zigrunk batch where the machine refuses something: as another user than root, with closed
 # streams, on a full disk, in a folder that takes no file, with little memory, and with few open files. A call may fail there, but it
 # says why, and no call ends with status 0 without the product that nvcc makes elsewhere. Nothing stays in TMPDIR.
 # Prints a line for each case that fails, and last 'N passed, M failed'. What this machine can't do is skipped.
 #
-#   tests/conditions.sh [ZIGRUNK [CUDAPLAN]]    the programs are those that `make build` and the gate leave, unless given
+#   tests/conditions.sh [CUDAPLAN]    the one that `make build` and the gate leave, unless given
 #
 # zigrunk-nvcc is that of DRIVER_BIN, or what `make rust` leaves. It leaves the user's folder in TMPDIR, empty.
 set -u
 cd "$(dirname "$0")/.." || exit 1
-built=$(realpath "${1:-crates/zigrunk/out/zigrunk}") other=$(realpath "${2:-crates/cudaplan/out/cudaplan}")
+built=$(realpath "${1:-crates/cudaplan/out/cudaplan}")
 runs=$PWD/tests/drivers/test_plans/data/dry_runs/one_kernel header=$PWD/tests/small/cuda_runtime.h
 . tests/lib.sh
 trap 'umount "$scratch"/disk.* 2> /dev/null; rm -rf "$scratch"' EXIT
@@ -20,9 +20,9 @@ unset NVCC_PREPEND_FLAGS NVCC_APPEND_FLAGS MAKEFLAGS "${!ZIGRUNK@}"
 # Another user reads all of this.
 chmod 755 "$scratch"
 mkdir "$scratch/bin"
-cp "$built" "$other" "$scratch/bin"
+cp "$built" "$scratch/bin/cudaplan"
 cp "$driver" "$scratch/bin/zigrunk-nvcc"
-ln -s zigrunk-nvcc "$scratch/bin/zigrunk-batch"
+ln -s zigrunk-nvcc "$scratch/bin/zigrunk"
 export PATH=$scratch/bin:$PATH ZIGRUNK_EXPLAIN=yes
 
 # begin_in FOLDER: an own folder for the sources of a case, with its products.
@@ -99,10 +99,9 @@ another_user() {
     plan=$(cudaplan plan /w /t -c "$runs.dry1" "$runs.dry2")
     cp "$runs".dry[12] "$room" && chmod a+r "$room"/*
     same 'a plan of another user' "$(in_room as_nobody cudaplan plan /w /t -c one_kernel.dry1 one_kernel.dry2)" "$plan"
-    same 'another plan of another user' "$(in_room as_nobody zigrunk plan /w /t -c one_kernel.dry1 one_kernel.dry2)" "$plan"
     makes "another user's call" "$room/k.o" 0 in_room as_nobody zigrunk-nvcc -c k.cu -o k.o
     split "another user's call"
-    makes "another user's list" "$room/k.o" 0 in_room as_nobody zigrunk-batch list
+    makes "another user's list" "$room/k.o" 0 in_room as_nobody zigrunk batch list
     planted=zigrunk-65534
     mkdir "$scratch/tmp/$planted"
     makes 'a call whose directory is another user'\''s' "$room/k.ptx" 0 in_room as_nobody zigrunk-nvcc -ptx k.cu -o k.ptx
@@ -132,18 +131,16 @@ closed_streams() {
         in_room closed "$streams" nvcc -c k.cu -o k.o > /dev/null 2>&1 || status=$?
         makes "a call without $streams" "$room/k.o" "0 $status" in_room closed "$streams" zigrunk-nvcc -c k.cu -o k.o
         [ "$status" != 0 ] || split "a call without $streams"
-        makes "a list without $streams" "$room/k.o" "0 $status" in_room closed "$streams" zigrunk-batch list
+        makes "a list without $streams" "$room/k.o" "0 $status" in_room closed "$streams" zigrunk batch list
         in_room closed "$streams" nvcc -c bad.cu -o bad.o > /dev/null 2>&1
         makes "a bad source without $streams" "$room/bad.o" "$? 2" in_room closed "$streams" zigrunk-nvcc -c bad.cu -o bad.o
-        for word in zigrunk cudaplan; do
-            # what these print is lost, and a fault if it's on standard output
-            closed "$streams" "$word" line cicc /w k.cpp1.ii -o k.ptx > "$scratch/out" 2> "$scratch/err"
-            same "a line of $word without $streams" "$?" "$([[ $streams == *out* ]] && echo 1 || echo 0)"
-            closed "$streams" "$word" line cicc /w a > /dev/null 2>&1
-            same "a refused line of $word without $streams" "$?" 1
-            closed "$streams" "$word" no-such-verb > /dev/null 2>&1
-            same "a wrong call of $word without $streams" "$?" 2
-        done
+        # what it prints is lost, and a fault if it's on standard output
+        closed "$streams" cudaplan line cicc /w k.cpp1.ii -o k.ptx > "$scratch/out" 2> "$scratch/err"
+        same "a line without $streams" "$?" "$([[ $streams == *out* ]] && echo 1 || echo 0)"
+        closed "$streams" cudaplan line cicc /w a > /dev/null 2>&1
+        same "a refused line without $streams" "$?" 1
+        closed "$streams" cudaplan no-such-verb > /dev/null 2>&1
+        same "a wrong call without $streams" "$?" 2
     done
 }
 
@@ -162,16 +159,16 @@ full_disks() {
         disk "$size" "$size"
         tmp=$scratch/disk.$size
         makes "a TMPDIR of $size" "$room/k.o" '0 1 4' in_room zigrunk-nvcc -c k.cu -o k.o
-        makes "a list with a TMPDIR of $size" "$room/k.o" '0 1 2 4' in_room zigrunk-batch list
+        makes "a list with a TMPDIR of $size" "$room/k.o" '0 1 2 4' in_room zigrunk batch list
     done
     tmp=$scratch/tmp
     head -c 65536 /dev/zero > "$scratch/disk.none/full" 2> /dev/null
     # (cicc, ptxas and fatbinary end with 0 there, or die, by nvcc too)
     makes 'an object on a full disk' "$scratch/disk.none/k.o" 1 in_room zigrunk-nvcc -c k.cu -o "$scratch/disk.none/k.o"
     echo "nvcc -c k.cu -o $scratch/disk.none/k.o" > "$room/one"
-    makes 'an object of a list on a full disk' "$scratch/disk.none/k.o" 1 in_room zigrunk-batch one
-    zigrunk plan /w /t -c "$runs.dry1" "$runs.dry2" > "$scratch/disk.none/plan" 2> "$scratch/err"
-    same 'a plan on a full disk' "$? $(cat "$scratch/err")" '1 zigrunk: cannot write'
+    makes 'an object of a list on a full disk' "$scratch/disk.none/k.o" 1 in_room zigrunk batch one
+    cudaplan plan /w /t -c "$runs.dry1" "$runs.dry2" > "$scratch/disk.none/plan" 2> "$scratch/err"
+    same 'a plan on a full disk' "$? $(cat "$scratch/err")" '1 cudaplan: cannot write'
 }
 
 # folders that take no file, with the source in them
@@ -183,7 +180,7 @@ fixed_folders() {
     mount -o remount,ro "$room"
     makes 'a call in a folder that takes no file' "$scratch/work/k.ptx" 0 in_room zigrunk-nvcc -ptx k.cu -o "$scratch/work/k.ptx"
     split 'a call in a folder that takes no file'
-    makes 'a list in a folder that takes no file' "$scratch/work/k.o" 0 in_room zigrunk-batch list
+    makes 'a list in a folder that takes no file' "$scratch/work/k.o" 0 in_room zigrunk batch list
     makes 'an object in a folder that takes no file' "$room/k.o" 1 in_room zigrunk-nvcc -c k.cu
     makes 'kept files in a folder that takes no file' "$scratch/work/k.o" '0 1' in_room zigrunk-nvcc --keep -c k.cu -o "$scratch/work/k.o"
     tmp=$room/none
@@ -199,8 +196,8 @@ within() {
 # A program that gets some memory, but not enough, says so. With less it doesn't start: the loader says that, or the kernel kills it.
 little_memory() {
     local size word want status out least
-    want=$(zigrunk line cicc /w k.cpp1.ii -o k.ptx)
-    for word in zigrunk cudaplan; do
+    want=$(cudaplan line cicc /w k.cpp1.ii -o k.ptx)
+    for word in cudaplan; do
         least=''
         for size in $(seq 800 100 6000); do
             out=$(within "$size" "$word" line cicc /w k.cpp1.ii -o k.ptx 2> "$scratch/err")
@@ -224,7 +221,7 @@ few_files() {
         makes "a call with $files open files" "$room/k.o" "0$([ "$files" -gt 32 ] || echo ' 1 2 126 127 255')" \
             in_room few "$files" zigrunk-nvcc -c k.cu -o k.o
         [ "$files" -lt 64 ] || split "a call with $files open files"
-        makes "a list with $files open files" "$room/k.o" "0$([ "$files" -gt 32 ] || echo ' 1 2 126 127 255')" in_room few "$files" zigrunk-batch list
+        makes "a list with $files open files" "$room/k.o" "0$([ "$files" -gt 32 ] || echo ' 1 2 126 127 255')" in_room few "$files" zigrunk batch list
     done
 }
 

@@ -20,7 +20,7 @@ newest_glibc() {
 has_library() {
     local file
     for file in lib/libzigrunk.a lib/libzigrunk.so lib/libzigrunk.so.1 lib/pkgconfig/zigrunk.pc include/zigrunk.h share/zigrunk/c/example.c \
-        share/zigrunk/rust/zigrunk/src/lib.rs share/zigrunk/examples/slurm/step.sh share/zigrunk/examples/makeflow/build.py share/doc/zigrunk/CLUSTER.md share/doc/zigrunk/plan.schema.json; do
+        share/zigrunk/rust/zigrunk/src/lib.rs share/zigrunk/examples/slurm/step.sh share/doc/zigrunk/CLUSTER.md share/doc/zigrunk/plan.schema.json; do
         [ -f "$1/$file" ] || { echo "missing: $file" && return 1; }
     done
     [ -s "$1/share/man/man3/zigrunk.h.3" ] || [ -s "$1/share/man/man3/zigrunk.h.3.gz" ]

@@ -38,7 +38,7 @@ build() {
 
 workspace=out/rust
 if [ -n "${1-}" ]; then driver=$(realpath "$1") workspace=${driver%/target/*}; else require 'the driver' cargo; build; fi
-data=$PWD/tests/drivers/test_plans/data/dry_runs
+data=$PWD/tests/drivers/test_plans/data/dry_runs manual=$PWD/man
 stand_ins=$PWD/tests/driver
 
 # The toolkit of the stand-ins.
@@ -48,7 +48,7 @@ for tool in gcc cudafe++ ptxas fatbinary; do ln -s "$stand_ins/tool" "$CUDA/bin/
 ln -s "$stand_ins/tool" "$CUDA/nvvm/bin/cicc"
 ln -s "$stand_ins/nvcc" "$CUDA/bin/nvcc"
 cp "$driver" "$scratch/bin/zigrunk-nvcc"
-for name in batch cache plan report; do ln -s zigrunk-nvcc "$scratch/bin/zigrunk-$name"; done
+ln -s zigrunk-nvcc "$scratch/bin/zigrunk"
 nvcc_driver=$scratch/bin/zigrunk-nvcc
 usual_path=$PATH
 export PATH=$CUDA/bin:$PATH
@@ -276,10 +276,10 @@ ROWS
         same 'files in the other' "$(ls -A a/t)" ''
         end
     fi
-    if case_of 'zigrunk-cache without a folder'; then
+    if case_of 'zigrunk cache without a folder'; then
         for word in stats clear limit; do
-            status=$(env -u HOME -u XDG_CACHE_HOME "$scratch/bin/zigrunk-cache" $word > "$room/out" 2>&1; echo $?)
-            same "status and messages of $word" "$status $(cat "$room/out")" '1 zigrunk-cache: there is no folder: set ZIGRUNK_CACHE'
+            status=$(env -u HOME -u XDG_CACHE_HOME "$scratch/bin/zigrunk" cache $word > "$room/out" 2>&1; echo $?)
+            same "status and messages of $word" "$status $(cat "$room/out")" '1 zigrunk cache: there is no folder: set ZIGRUNK_CACHE'
         done
         end
     fi
@@ -603,8 +603,8 @@ ROWS
         mkdir gone && cd gone && rmdir "$room/work/gone"
         call "${plain[@]}" -c k.cu -o k.o
         same reason "$(head -n 1 "$room/err")" 'zigrunk-nvcc: nvcc itself: there is no working directory'
-        as=$scratch/bin/zigrunk-plan call json nvcc -c k.cu -o k.o
-        same 'of a plan' "$status $(cat "$room/err")" '1 zigrunk-plan: there is no working directory'
+        as=$scratch/bin/zigrunk call plan json nvcc -c k.cu -o k.o
+        same 'of a plan' "$status $(cat "$room/err")" '1 zigrunk plan: there is no working directory'
         cd "$room/work" || return
         end
     fi
@@ -613,8 +613,8 @@ ROWS
         mkdir "$odd"
         call "${plain[@]}" TMPDIR="$odd" -c k.cu -o k.o
         same reason "$(head -n 1 "$room/err")" "zigrunk-nvcc: nvcc itself: the temporary directory isn't UTF-8"
-        as=$scratch/bin/zigrunk-plan call TMPDIR="$odd" json nvcc -c k.cu -o k.o
-        same 'of a plan' "$status $(cat "$room/err")" "1 zigrunk-plan: the temporary directory isn't UTF-8"
+        as=$scratch/bin/zigrunk call TMPDIR="$odd" plan json nvcc -c k.cu -o k.o
+        same 'of a plan' "$status $(cat "$room/err")" "1 zigrunk plan: the temporary directory isn't UTF-8"
         rmdir "$odd/zigrunk-$user" "$odd"
         end
     fi
@@ -1375,7 +1375,7 @@ logs() {
         same 'times in order' "$(head -n 1 "$room/calls" | tr '{' '\n' | sed 's/"[a-z]*":\([0-9.]*\),/\1 /g; s/"kind":"[^"]*",//' |
             awk 'NF && !call { call = $1; end = $2 } NF && call != $1 && (call > $1 || $1 > $2 || $2 > $3 || $3 > end) { print "odd" } END { print NR }')" 12
         same 'needs' "$(head -n 1 "$room/calls" | grep -o '"needs":[^]]*' | cut -d '[' -f 2 | paste -sd ' ')" ' 0  1,2 3  1,5 6 0,1,2,3,4,5,6,7 0,1,2,3,4,5,6,7,8'
-        "$scratch/bin/zigrunk-report" "$room/calls" > "$room/report" 2>&1
+        "$scratch/bin/zigrunk" report "$room/calls" > "$room/report" 2>&1
         same 'the report' "$(sed -n 1,4p "$room/report")" $'calls: 5, failed: 2\n  status 7: nvcc k.cu a "b\n  status 6: nvcc -c k.cu -o k.o\nsplit: 2 of 5 (40 %)'
         { call ZIGRUNK_LOG="$room/calls" NVCC_DOES='kill -TERM $$' k.cu; } 2> /dev/null
         same 'a signal of nvcc' "$status $(tail -n 1 "$room/calls" | grep -o '"status":[0-9]*')" '143 "status":143'
@@ -1422,39 +1422,64 @@ ROWS
     fi
 }
 
+# prints NAME OUTPUT WORD..: a call of the program that prints this.
+prints() {
+    as=$zigrunk call "${@:3}"
+    same "$1" "$status $(cat "$room/out" "$room/err")" "0 $2"
+}
+
+# refuses NAME MESSAGE WORD..: a call that is wrong usage.
+refuses() {
+    as=$zigrunk call "${@:3}"
+    same "$1" "$status $(head -n 1 "$room/err") $(grep -c ^usage "$room/err")" "2 $2 1"
+}
+
+# listed_in PAGE: the formats that a page of the manual lists.
+listed_in() {
+    sed -n '/^\.SH FORMATS/,/^\.SH [^F]/p' "$1" | sed -n '/^\.TP/{ n; s/^\.B //p }'
+}
+
 plans() {
-    as_plan=$scratch/bin/zigrunk-plan
-    if case_of 'zigrunk-plan'; then
-        as=$as_plan call text -- nvcc -c k.cu -o k.o
+    local zigrunk=$scratch/bin/zigrunk format
+    if case_of 'zigrunk plan'; then
+        as=$zigrunk call plan text -- nvcc -c k.cu -o k.o
         same 'status and messages' "$status$(cat "$room/err")" 0
         same 'calls of nvcc' "$(grep -c '^nvcc' "$room/log") $(grep -c dryrun "$room/log") $(grep -c '^+' "$room/log")" '2 2 0'
-        same 'the plan' "$(grep -c "$room/tmp/zigrunk-$user/zigrunk-" "$room/out") $(ls -A "$room/tmp")" "$(grep -c "$room/tmp" "$room/out") "
-        as=$as_plan call ninja nvcc -c k.cu -o k.o
+        same 'the plan' "$(grep -c "$room/tmp/zigrunk-$user/zigrunk-" "$room/out") $(stat -c '%n %a' "$room/tmp"/*)" \
+            "$(grep -c "$room/tmp" "$room/out") $room/tmp/zigrunk-$user 700"
+        as=$zigrunk call plan ninja nvcc -c k.cu -o k.o
         same 'descriptions' "$(sed -n 's/^  description = //p' "$room/out" | paste -sd ,)" \
             'gcc,cudafe++,gcc 800,cicc compute_80,ptxas sm_80,gcc 900,cicc compute_90,ptxas sm_90,fatbinary,gcc 900'
-        for format in json ninja dot shell compdb makeflow text; do
-            as=$as_plan call "$format" nvcc -c k.cu -o k.o
+        for format in $("$zigrunk" plan --formats); do
+            as=$zigrunk call plan "$format" nvcc -c k.cu -o k.o
             same "status, messages and product in $format" "$status$(cat "$room/err") $(grep -c 'k\.o\|k\.cu' "$room/out" | sed 's/[1-9][0-9]*/some/')" '0 some'
         done
-        as=$as_plan call NVCC_APPEND_FLAGS=-DAPPENDED json nvcc -c k.cu -o k.o
+        as=$zigrunk call NVCC_APPEND_FLAGS=-DAPPENDED plan json nvcc -c k.cu -o k.o
         same 'words of a variable' "$(grep -c '^nvcc .*--dryrun.*\[-DAPPENDED\]\|^nvcc .*\[-DAPPENDED\].*--dryrun' "$room/log")" 2
-        as=$as_plan call NVCC_PREPEND_FLAGS=-DPREPENDED json nvcc -c k.cu -o k.o
+        as=$zigrunk call NVCC_PREPEND_FLAGS=-DPREPENDED plan json nvcc -c k.cu -o k.o
         same 'words of the other variable' "$(grep -c '^nvcc .*\[-DPREPENDED\]' "$room/log")" 2
-        for words in ':a format is missing' '--json nvcc:unexpected option --json' 'odd nvcc:unknown format odd' 'json:nvcc and its words are missing' 'json --:nvcc and its words are missing'; do
-            # shellcheck disable=SC2086 # several words, or none
-            as=$as_plan call ${words%:*}
-            same "status and messages with '${words%:*}'" "$status $(head -n 1 "$room/err")$(grep -c ^usage "$room/err")" "2 zigrunk-plan: ${words#*:}1"
-        done
-        for word in -h --help; do
-            as=$as_plan call $word
-            same "status and output with $word" "$status $(cat "$room/out")" '0 usage: zigrunk-plan json|ninja|dot|shell|compdb|makeflow|text [--] NVCC WORD..'
-        done
-        as=$as_plan call json nvcc -c $'k\xff.cu'
-        same 'a word that is no text' "$status $(cat "$room/err")" "2 zigrunk-plan: a word isn't UTF-8"
-        as=$as_plan call json nvcc k.cu
-        same 'a line that goes to nvcc' "$status $(cat "$room/out" "$room/err")" '3 zigrunk: goes to nvcc: it links'
-        as=$as_plan call KEPT_STATUS=1 DRY_RUN_DOES='echo bad >&2' json nvcc -c k.cu
-        same 'a dry run that fails' "$status$(cat "$room/out") $(cat "$room/err")" $'1 bad\nzigrunk-plan: a dry run fails'
+        as=$zigrunk call plan json nvcc -c $'k\xff.cu'
+        same 'a word that is no text' "$status $(cat "$room/err")" "2 zigrunk plan: a word isn't UTF-8"
+        as=$zigrunk call plan json nvcc k.cu
+        same 'a line that goes to nvcc' "$status $(cat "$room/out" "$room/err")" '3 zigrunk plan: goes to nvcc: it links'
+        as=$zigrunk call KEPT_STATUS=1 DRY_RUN_DOES='echo bad >&2' plan json nvcc -c k.cu
+        same 'a dry run that fails' "$status$(cat "$room/out") $(cat "$room/err")" $'1 bad\nzigrunk plan: a dry run fails'
+        end
+    fi
+    if case_of 'words of zigrunk'; then
+        refuses 'no word' 'zigrunk: a word is missing'
+        refuses 'a mistyped word' 'zigrunk: unknown word pln; did you mean plan?' pln
+        refuses 'another word' 'zigrunk: unknown word compile' compile
+        refuses 'no format' 'zigrunk plan: a format is missing' plan
+        refuses 'a mistyped format' 'zigrunk plan: unknown format jsn; did you mean json?' plan jsn nvcc
+        refuses 'an option in place of a format' 'zigrunk plan: unexpected option --json' plan --json nvcc
+        refuses 'no nvcc' 'zigrunk plan: nvcc and its words are missing' plan json --
+        prints 'a version' 'zigrunk 0.1.0' --version
+        prints 'the same help' "$("$zigrunk" help)" --help
+        prints 'the help of a word' "$("$zigrunk" plan --help)" help plan
+        same 'lines and columns of the help' "$("$zigrunk" help | awk 'length > 80 || NR > 24' | wc -l)" 0
+        same 'formats in the manual' "$(listed_in "$manual/zigrunk-plan.1")" "$("$zigrunk" plan --formats)"
+        same 'formats in the help' "$("$zigrunk" help plan | sed -n 's/^  \([a-z]*\)  .*/\1/p' | grep -vx nvcc)" "$("$zigrunk" plan --formats)"
         end
     fi
 }

@@ -1,5 +1,5 @@
 #!/usr/bin/env bash
-# Tests of zigrunk-batch and zigrunk-report as parts of the compiled driver, with stand-ins for nvcc and its tools (tests/driver/).
+# Tests of zigrunk batch and zigrunk report as parts of the compiled driver, with stand-ins for nvcc and its tools (tests/driver/).
 # Prints a line for each case that fails, and last 'N passed, M failed'; the status is 1 if one failed.
 #
 #   tests/driver_batch.sh [DRIVER]    DRIVER is a built zigrunk-driver; else the one that tests/driver.sh builds
@@ -142,10 +142,10 @@ lists() {
         write a.cu 'echo a >> made'
         list=$'\n-c a.cu -o sub/a.o\n# no call\n-c whole.cu -o b.o\n-c a.cu -o ./near/../near/a.o'
         batch
-        same 'status and messages' "$status $(complained)" "1 zigrunk-batch: lines 2 and 5 make one file: $room/work/sub/a.o"
+        same 'status and messages' "$status $(complained)" "1 zigrunk batch: lines 2 and 5 make one file: $room/work/sub/a.o"
         list="[{\"directory\": \"$room/work\", \"file\": \"a.cu\", \"command\": \"nvcc -c a.cu\"}, {\"directory\": \"sub\", \"file\": \"a.cu\", \"command\": \"gcc -c a.c -o ../a.o\"}]"
         batch
-        same 'status and messages, entries' "$status $(complained)" "1 zigrunk-batch: entries 1 and 2 make one file: $room/work/a.o"
+        same 'status and messages, entries' "$status $(complained)" "1 zigrunk batch: entries 1 and 2 make one file: $room/work/a.o"
         [ ! -e made ] || problems+='  a command runs'$'\n'
         end
     fi
@@ -159,7 +159,7 @@ lists() {
         same status "$status" 4
         same made "$(sort made | tr '\n' ,) $(cat ran text quoted | tr '\n' ' ')$(said)" $'before,before,sub,value, run text in quotes if\nend\n1.txt 2.txt 2 before'
         same 'by the runner' "$(logged '^runner sh -c ')" 10
-        same messages "$(complained)" "zigrunk-batch: line 5: exit status 4: echo text > text; exit 4"$'\n''zigrunk-batch: line 7: exit status 1: ! true'
+        same messages "$(complained)" "zigrunk batch: line 5: exit status 4: echo text > text; exit 4"$'\n''zigrunk batch: line 7: exit status 1: ! true'
         same 'calls of nvcc, none of them split' "$(logged '^nvcc ') $(logged '^+')" '4 0'
         end
     fi
@@ -177,7 +177,7 @@ lists() {
         list=$'sh -c "echo out; echo err >&2; exit 4"\ntrue'
         batch ZIGRUNK_RUNNER=runner
         same 'status and output' "$status $(said)" '4 out'
-        same messages "$(complained)" $'err\nzigrunk-batch: line 1: exit status 4: sh -c "echo out; echo err >&2; exit 4"'
+        same messages "$(complained)" $'err\nzigrunk batch: line 1: exit status 4: sh -c "echo out; echo err >&2; exit 4"'
         same 'by the runner' "$(logged '^runner')" 2
         end
     fi
@@ -186,7 +186,7 @@ lists() {
 # lost WHAT PRODUCT: a list of one call whose product isn't made, though all that runs ends with 0.
 lost() {
     same "status, $1" "$status" 1
-    same "messages, $1" "$(complained)" "zigrunk-batch: no new $PWD/$2, though the call ended with 0"$'\n'"zigrunk-batch: line 1: exit status 1: $list"
+    same "messages, $1" "$(complained)" "zigrunk batch: no new $PWD/$2, though the call ended with 0"$'\n'"zigrunk batch: line 1: exit status 1: $list"
 }
 
 products() {
@@ -241,8 +241,8 @@ failures() {
         for at in one two three whole four; do list+="nvcc -c $at.cu -o $at.o"$'\n'; done
         batch
         same 'status and output' "$status $(said)" $'7 one also\nthree fails\nfour'
-        same messages "$(complained)" "$(printf '%s\n' 'one says' 'two fails' 'zigrunk-batch: line 2: exit status 7: nvcc -c two.cu -o two.o' \
-            'zigrunk-batch: line 3: exit status 5: nvcc -c three.cu -o three.o' 'nvcc fails' 'zigrunk-batch: line 4: exit status 9: nvcc -c whole.cu -o whole.o')"
+        same messages "$(complained)" "$(printf '%s\n' 'one says' 'two fails' 'zigrunk batch: line 2: exit status 7: nvcc -c two.cu -o two.o' \
+            'zigrunk batch: line 3: exit status 5: nvcc -c three.cu -o three.o' 'nvcc fails' 'zigrunk batch: line 4: exit status 9: nvcc -c whole.cu -o whole.o')"
         end
     fi
     if case_of 'a command that a signal ends'; then
@@ -250,7 +250,7 @@ failures() {
         list='-c a.cu -o a.o'
         for settings in ZIGRUNK_RUNNER= ZIGRUNK_RUNNER=env "ZIGRUNK_LOG=$room/calls"; do
             batch CHILDLESS=1 "$settings"
-            same "status and messages, $settings" "$status $(complained)" $'137 Killed\nzigrunk-batch: line 1: exit status 137: -c a.cu -o a.o'
+            same "status and messages, $settings" "$status $(complained)" $'137 Killed\nzigrunk batch: line 1: exit status 137: -c a.cu -o a.o'
         done
         same 'commands in the log' "$(grep -o '"status":137' "$room/calls" | wc -l)" 2
         end
@@ -260,7 +260,7 @@ failures() {
         list=$'-c \'a.cu -o a.o\n-c a.cu -o a.o\nmissing-program -c'
         batch
         same 'status and output' "$status $(said)" '2 a'
-        same messages "$(grep '^zigrunk-batch' "$room/err" | cut -c 1-40)" $'zigrunk-batch: line 1: exit status 2: -c\nzigrunk-batch: line 3: exit status 127: '
+        same messages "$(grep '^zigrunk batch' "$room/err" | cut -c 1-40)" $'zigrunk batch: line 1: exit status 2: -c\nzigrunk batch: line 3: exit status 127: '
         end
     fi
     if case_of 'closed streams'; then
@@ -269,11 +269,11 @@ failures() {
         printf '%s\n' '-c a.cu -o a.o' '-c whole.cu -o w.o' > list
         export LOG=$room/log TMPDIR=$room/tmp XDG_RUNTIME_DIR=$room/run
         "$scratch/bin/zigrunk-batch" list 2> "$room/err" >&-
-        same 'status and messages, standard output' "$? $(complained)" '3 zigrunk-batch: line 2: exit status 3: -c whole.cu -o w.o'
+        same 'status and messages, standard output' "$? $(complained)" '3 zigrunk batch: line 2: exit status 3: -c whole.cu -o w.o'
         "$scratch/bin/zigrunk-batch" list > "$room/out" 2>&-
         same 'status and output, standard error' "$? $(said)" '3 a'
         "$scratch/bin/zigrunk-batch" list > /dev/full 2> "$room/err"
-        same 'status and messages, a full disk' "$? $(complained | tail -n 1)" '3 zigrunk-batch: line 2: exit status 3: -c whole.cu -o w.o'
+        same 'status and messages, a full disk' "$? $(complained | tail -n 1)" '3 zigrunk batch: line 2: exit status 3: -c whole.cu -o w.o'
         unset LOG TMPDIR XDG_RUNTIME_DIR
         end
     fi
@@ -281,11 +281,11 @@ failures() {
         for words in 'one two:one list at a time, not two too' '-x:unexpected option -x' '-j:-j needs a number' '-j 0:-j needs a number from 1, not 0' '-k 01:-k needs a number from 1, not 01'; do
             # shellcheck disable=SC2086 # several words
             batch ${words%:*}
-            same "status and messages, $words" "$status $(cat "$room/err")" "2 zigrunk-batch: ${words##*:}"$'\n''usage: zigrunk-batch [-j N] [-k N] [--progress] [--incremental] [--workers COMMAND].. [FILE]'
+            same "status and messages, $words" "$status $(cat "$room/err")" "2 zigrunk batch: ${words##*:}"$'\n''usage: zigrunk batch [-j N] [-k N] [--progress] [--incremental] [--workers COMMAND].. [FILE]'
         done
         batch --help
         same 'status and help' "$status $(cat "$room/out")" "0 $(cat << 'HELP'
-usage: zigrunk-batch [-j N] [-k N] [--progress] [--incremental] [--workers COMMAND].. [FILE]
+usage: zigrunk batch [-j N] [-k N] [--progress] [--incremental] [--workers COMMAND].. [FILE]
 
 Makes the calls of a list, split into their commands, side by side.
 
@@ -294,7 +294,7 @@ FILE          a call on each line, as you would type it, or a compile_commands.j
 -k N          start nothing more once N calls have failed; 0, as without it, makes all other calls
 --progress    say how far it is, also if standard error is no terminal
 --incremental leave out the calls whose words, products and files are as they were when --incremental made them last
---workers COMMAND    run all commands on the machines where COMMAND starts zigrunk-worker; give it again for more machines
+--workers COMMAND    run all commands on the machines where COMMAND starts zigrunk worker; give it again for more machines
 --wait N      fail once there has been no worker for N seconds; 120, unless set
 --give-up N   run a worker's commands elsewhere once it has said nothing for N seconds; 10, unless set
 --timeout N   end a worker's command once it takes N seconds; without it, there is no limit
@@ -307,16 +307,16 @@ The status is that of the first call in the list that failed. man zigrunk-batch 
 HELP
 )"
         batch --version
-        same 'status and version' "$status $(grep -c '^zigrunk-batch [0-9.]*$' "$room/out")" '0 1'
+        same 'status and version' "$status $(grep -c '^zigrunk batch [0-9.]*$' "$room/out")" '0 1'
         mkdir directory
         for name in directory missing; do
             batch "$name"
-            same "status and messages, $name" "$status $(cat "$room/err")" "1 zigrunk-batch: cannot read $name"
+            same "status and messages, $name" "$status $(cat "$room/err")" "1 zigrunk batch: cannot read $name"
         done
         write a.cu :
         list='-c a.cu'
         batch TMPDIR="$room/missing"
-        same 'status without a TMPDIR' "$status$(complained | grep -c '^zigrunk-batch: no temporary directory')" 11
+        same 'status without a TMPDIR' "$status$(complained | grep -c '^zigrunk batch: no temporary directory')" 11
         end
     fi
     if case_of 'options'; then
@@ -326,11 +326,11 @@ HELP
         write whole.cu 'echo 5 >> made'
         batch -j 1 -k1 -- -
         same 'status, -k' "$status $(sort made | tr '\n' ' ')" '6 1 '
-        same 'messages, -k' "$(complained)" $'zigrunk-nvcc: a command failed with status 6 and without a message\nzigrunk-batch: line 2: exit status 6: -c 2.cu -o 2.o\nzigrunk-batch: stopped, 3 of the calls not made'
+        same 'messages, -k' "$(complained)" $'zigrunk-nvcc: a command failed with status 6 and without a message\nzigrunk batch: line 2: exit status 6: -c 2.cu -o 2.o\nzigrunk batch: stopped, 3 of the calls not made'
         rm -f made
         list=${list%$'\n-c 4.cu'*}
         batch -j 1 -k1
-        same 'messages, -k, of one call' "$status $(complained | tail -n 1)" '6 zigrunk-batch: stopped, 1 of the calls not made'
+        same 'messages, -k, of one call' "$status $(complained | tail -n 1)" '6 zigrunk batch: stopped, 1 of the calls not made'
         list+=$'\n-c 4.cu -o 4.o\n-c whole.cu -o 5.o'
         rm -f made
         batch -j2 -k 0
@@ -364,7 +364,7 @@ HELP
         write whole.cu 'exit 3'
         list=$'-c a.cu -o a.o\n-c whole.cu -o w.o'
         batch --progress
-        same 'status and its last line' "$status $(grep ' of ' "$room/err" | tail -n 1 | sed 's/[0-9.]* a second/N a second/')" '3 zigrunk-batch: 2 of 2 calls, 1 failed, 11 commands, N a second: -c a.cu -o a.o'
+        same 'status and its last line' "$status $(grep ' of ' "$room/err" | tail -n 1 | sed 's/[0-9.]* a second/N a second/')" '3 zigrunk batch: 2 of 2 calls, 1 failed, 11 commands, N a second: -c a.cu -o a.o'
         same 'a failure while others run' "$(grep -n '1 of 2 calls, 1 failed' "$room/err" | head -n 1 | wc -l)" 1
         if command -v script > /dev/null; then
             printf '%s\n' '-c a.cu -o a.o' > list
@@ -403,7 +403,7 @@ HELP
             with_few_files "$number" ZIGRUNK_SLOTS=0 -j 30
             # (a stand-in for nvcc is a script, which dash can't open with ten files)
             case $?,$(cat "$room/err") in
-            0,* | 2,'/bin/sh: 0: '*'Invalid argument'* | 1,*'zigrunk-batch: no process for '* | 1,*'zigrunk-batch: no temporary directory: '* | 1,*'Too many open files'*) ;;
+            0,* | 2,'/bin/sh: 0: '*'Invalid argument'* | 1,*'zigrunk batch: no process for '* | 1,*'zigrunk batch: no temporary directory: '* | 1,*'Too many open files'*) ;;
             *) problems+="  with $number files: $(head -c 300 "$room/err")"$'\n' ;;
             esac
             within 5 none_run || problems+="  processes with $number files: $(shown "$room")"$'\n'
@@ -514,7 +514,7 @@ incremental() {
         touch .zigrunk-batch
         list='-c a.cu -o a.o'
         batch --incremental
-        same 'status and messages' "$status $(complained)" "1 zigrunk-batch: cannot make $PWD/.zigrunk-batch"
+        same 'status and messages' "$status $(complained)" "1 zigrunk batch: cannot make $PWD/.zigrunk-batch"
         end
     fi
     if case_of 'calls that a batch has made'; then
@@ -553,7 +553,7 @@ databases() {
 END
         batch compile_commands.json
         same 'status and output' "$status $(said)" "6 a in $room/work/o dd"$'\n'"b in $room/work/sub"$'\nother *'
-        same messages "$(complained)" 'zigrunk-batch: entry 2: exit status 6: b.cu'
+        same messages "$(complained)" 'zigrunk batch: entry 2: exit status 6: b.cu'
         same words "$(logged '^nvcc \[--dryrun\] \[-c\] \[a b.cu\] \[-DQ=\*;x\] \[-o\]')$(logged '^nvcc \[-c\] \[b.cu\] \[-DT=two$')" 11
         end
     fi
@@ -580,19 +580,19 @@ END
     if case_of 'no compile_commands.json'; then
         for list in '{"directory": "/"}' ' { "file": 1}' '{}'; do
             batch
-            same "status and messages, $list" "$status $(complained)" '1 zigrunk-batch: standard input is no compile_commands.json: it is a JSON object, not an array'
+            same "status and messages, $list" "$status $(complained)" '1 zigrunk batch: standard input is no compile_commands.json: it is a JSON object, not an array'
         done
         for list in '[' '[1]' '[{}]' '[{"directory": "/", "file": "x"}]' '[{"directory": "/", "file": "x", "command": "nvcc '\''"}]' '[{"directory": "/", "file": "x", "arguments": []}]'; do
             batch
-            same "status and lines of messages, $list" "$status $(grep -c '^zigrunk-batch: standard input is no compile_commands.json: ' "$room/err") $(wc -l < "$room/err")" '1 1 1'
+            same "status and lines of messages, $list" "$status $(grep -c '^zigrunk batch: standard input is no compile_commands.json: ' "$room/err") $(wc -l < "$room/err")" '1 1 1'
         done
         list='[{"directory": "missing", "file": "x", "command": "true"}]'
         batch
-        same 'a folder that is missing' "$status $(complained | head -n 1)" "2 zigrunk-batch: no folder $PWD/missing"
+        same 'a folder that is missing' "$status $(complained | head -n 1)" "2 zigrunk batch: no folder $PWD/missing"
         : > file
         list='[{"directory": "file", "file": "x", "command": "true"}]'
         batch
-        same 'a file in place of a folder' "$status $(complained | head -n 1)" "2 zigrunk-batch: no folder $PWD/file"
+        same 'a file in place of a folder' "$status $(complained | head -n 1)" "2 zigrunk batch: no folder $PWD/file"
         end
     fi
 }
@@ -623,9 +623,9 @@ places() {
     if case_of 'no directory, and no nvcc'; then
         write a.cu ':' && list='-c a.cu -o a.o'
         batch TMPDIR="$room/missing"
-        same 'no temporary directory' "$status $(cat "$room/err")" '1 zigrunk-batch: no temporary directory: No such file or directory (os error 2)'
+        same 'no temporary directory' "$status $(cat "$room/err")" '1 zigrunk batch: no temporary directory: No such file or directory (os error 2)'
         "$scratch/bin/zigrunk-batch" --unless-made missing-nvcc -c a.cu > said 2>&1
-        same 'no nvcc' "$? $(cat said)" '127 zigrunk-batch: cannot run missing-nvcc: not found'
+        same 'no nvcc' "$? $(cat said)" '127 zigrunk batch: cannot run missing-nvcc: not found'
         "$scratch/bin/zigrunk-batch" --unless-made > said 2>&1
         same 'no words' "$?$(cat said)" 2
         mkdir "$room/own" && ln -s "$scratch/bin/zigrunk-batch" "$room/own/nvcc"
@@ -633,7 +633,7 @@ places() {
         same 'no other nvcc' "$status $(head -n 1 "$room/err")" '127 zigrunk-nvcc: nvcc is zigrunk-nvcc itself, and PATH has no other nvcc'
         mkdir gone && cd gone && rmdir "$room/work/gone"
         batch PWD="$room/work/gone"
-        same 'no working directory' "$status $(grep zigrunk "$room/err")" '1 zigrunk-batch: there is no working directory'
+        same 'no working directory' "$status $(grep zigrunk "$room/err")" '1 zigrunk batch: there is no working directory'
         cd "$room/work" || return
         end
     fi
@@ -735,22 +735,22 @@ reports() {
         "$scratch/bin/zigrunk-report" mixed --html page > report 2>&1
         same 'a cut log and junk' "$? $(head -n 1 report) $(tail -n 1 report | grep -c 'lines are no entries of such a log') $(tail -n 1 page)" '0 calls: 1, failed: 0 1 </html>'
         "$scratch/bin/zigrunk-report" short junk > report 2>&1
-        same 'junk alone' "$? $(cat report)" '1 zigrunk-report: junk is no log of ZIGRUNK_LOG: none of its lines is an entry'
+        same 'junk alone' "$? $(cat report)" '1 zigrunk report: junk is no log of ZIGRUNK_LOG: none of its lines is an entry'
         : > empty
         "$scratch/bin/zigrunk-report" empty > report 2>&1
         same 'an empty log' "$? $(cat report)" $'0 calls: 0, failed: 0\nsplit: 0 of 0'
         "$scratch/bin/zigrunk-report" missing > report 2>&1
-        same 'no log' "$? $(cat report)" '1 zigrunk-report: cannot read missing: No such file or directory'
+        same 'no log' "$? $(cat report)" '1 zigrunk report: cannot read missing: No such file or directory'
         "$scratch/bin/zigrunk-report" --html missing/page short > report 2>&1
-        same 'a page that cannot be written' "$? $(cat report)" '1 zigrunk-report: cannot write missing/page: No such file or directory'
+        same 'a page that cannot be written' "$? $(cat report)" '1 zigrunk report: cannot write missing/page: No such file or directory'
         "$scratch/bin/zigrunk-report" - > report 2>&1
-        same 'a log of the name -' "$? $(cat report)" '1 zigrunk-report: cannot read -: No such file or directory'
+        same 'a log of the name -' "$? $(cat report)" '1 zigrunk report: cannot read -: No such file or directory'
         "$scratch/bin/zigrunk-report" --odd short > report 2>&1
-        same 'wrong usage' "$? $(cat report)" $'2 zigrunk-report: unexpected option --odd\nusage: zigrunk-report [--trace OUT] [--html OUT] FILE..'
+        same 'wrong usage' "$? $(cat report)" $'2 zigrunk report: unexpected option --odd\nusage: zigrunk report [--trace OUT] [--html OUT] FILE..'
         "$scratch/bin/zigrunk-report" --help > report 2>&1
-        same 'help' "$? $(head -n 3 report; grep -c '^--trace OUT .*\|^--html OUT .*' report)" $'0 usage: zigrunk-report [--trace OUT] [--html OUT] FILE..\n\nSummarises logs of ZIGRUNK_LOG.\n2'
+        same 'help' "$? $(head -n 3 report; grep -c '^--trace OUT .*\|^--html OUT .*' report)" $'0 usage: zigrunk report [--trace OUT] [--html OUT] FILE..\n\nSummarises logs of ZIGRUNK_LOG.\n2'
         "$scratch/bin/zigrunk-report" short 2> report > /dev/full
-        same 'a full disk' "$? $(cat report)" '1 zigrunk-report: cannot write: No space left on device'
+        same 'a full disk' "$? $(cat report)" '1 zigrunk report: cannot write: No space left on device'
         end
     fi
 }

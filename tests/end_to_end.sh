@@ -9,13 +9,13 @@
 #
 #   tests/end_to_end.sh [--all] [PROGRAM]
 #
-# PROGRAM is the zigrunk that `make build` and the gate leave, unless given. zigrunk-nvcc is that of DRIVER_BIN, or what `make rust` leaves. With
+# PROGRAM is the cudaplan that `make build` and the gate leave, unless given. zigrunk is that of DRIVER_BIN, or what `make rust` leaves. With
 # --all it makes all calls, builds CMake projects (tests/cmake.sh, tests/builds.sh), and isolates the commands of five calls; the gate makes the
 # quick calls and isolates the commands of one. Both build a fatbin twenty times (tests/needs.sh).
 cd "$(dirname "$0")/.." || exit 1
 all=''
 [ "${1-}" != --all ] || { all=yes && shift; }
-program=$(realpath -m "${1:-crates/zigrunk/out/zigrunk}")
+program=$(realpath -m "${1:-crates/cudaplan/out/cudaplan}")
 . tests/lib.sh
 trap 'kill $(jobs -p) 2> /dev/null; rm -rf "$scratch"' EXIT
 declare -A parts
@@ -128,7 +128,7 @@ else
     start late tests/late.sh
     start early tests/early.sh
     start signals interrupts TERM INT HUP
-    start isolated tests/isolated.py "${alone[@]}" "$program"
+    start isolated tests/isolated.py "${alone[@]}" "$wrapper"
     start conditions tests/conditions.sh "$program"
     start own_commands nice tests/own_commands.py "${calls[@]}"
     start calls nice tests/compare_calls.py --scratch "$scratch" --jobs "$(nproc)" "${calls[@]}"

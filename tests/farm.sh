@@ -62,7 +62,7 @@ products() {
 worker() { echo "exec ${*:2} $scratch/bin/zigrunk-worker --name $1 -j2"; }
 
 # after_left_out: the shell's words that wait until the batch has said that a machine gets no work. The machine itself says it to the same file.
-after_left_out() { echo "until grep -qs '^zigrunk-batch: [a-z0-9]* gets no work' $room/err; do sleep 0.05; done"; }
+after_left_out() { echo "until grep -qs '^zigrunk batch: [a-z0-9]* gets no work' $room/err; do sleep 0.05; done"; }
 
 # farm WORD..: runs the batch with these words.
 farm() {
@@ -127,7 +127,7 @@ work() {
         printf '%s\n' '[{"directory": "sub folder", "file": "a", "arguments": ["sh", "-c", "pwd; printf \"[%s]\" \"$@\" \"$NAME\"; echo; echo err >&2; cat; exit 4", "x", "a b", "", "\"", "é\\n"]}]' > calls.json
         NAME=$'two\nlines' farm --workers "$(worker n1)" calls.json < /dev/zero
         same 'status and output' "$status $(cat "$room/out")" "4 $PWD/sub folder"$'\n[a b][]["][é\\n][two\nlines]'
-        same messages "$(cat "$room/err")" $'err\nzigrunk-batch: entry 1: exit status 4: a'
+        same messages "$(cat "$room/err")" $'err\nzigrunk batch: entry 1: exit status 4: a'
         end
     fi
     if case_of 'much output'; then
@@ -191,13 +191,13 @@ time.sleep(100)'
     if case_of 'wrong usage'; then
         echo true > list
         ZIGRUNK_TMP='' farm --workers true list
-        same 'no shared directory' "$status $(cat "$room/err")" '1 zigrunk-batch: --workers needs ZIGRUNK_TMP, a directory that all machines share, or --send-files'
+        same 'no shared directory' "$status $(cat "$room/err")" '1 zigrunk batch: --workers needs ZIGRUNK_TMP, a directory that all machines share, or --send-files'
         ZIGRUNK_RUNNER='env' farm --workers true list
-        same 'a runner' "$status $(cat "$room/err")" '1 zigrunk-batch: --workers and ZIGRUNK_RUNNER exclude each other'
+        same 'a runner' "$status $(cat "$room/err")" '1 zigrunk batch: --workers and ZIGRUNK_RUNNER exclude each other'
         zigrunk-worker < /dev/null 2> "$room/err"
-        same 'no invitation' "$? $(cat "$room/err")" '2 zigrunk-worker: neither ZIGRUNK_WORKERS nor standard input says where the batch is: zigrunk-batch --workers starts it'
+        same 'no invitation' "$? $(cat "$room/err")" '2 zigrunk worker: neither ZIGRUNK_WORKERS nor standard input says where the batch is: zigrunk batch --workers starts it'
         zigrunk-worker --odd 2> "$room/err"
-        same 'an odd word' "$? $(cat "$room/err")" $'2 zigrunk-worker: unexpected word --odd\nusage: zigrunk-worker [-j N] [--name NAME]'
+        same 'an odd word' "$? $(cat "$room/err")" $'2 zigrunk worker: unexpected word --odd\nusage: zigrunk worker [-j N] [--name NAME]'
         same help "$(zigrunk-worker --help | grep -c '^-j N\|^--name NAME\|^usage: ')" 3
         end
     fi
@@ -273,13 +273,13 @@ deaths() {
             products
             # A worker that comes later to this machine would remove it.
             [ "$whom" = node ] || rm -rf "$room/tmp/zigrunk-$user"/worker*
-            said '^zigrunk-batch: n1 has \(gone\|been silent for 3 seconds\), so [0-9]* commands\? of it run elsewhere$' || problems+="  messages: $(cat "$room/err")"$'\n'
+            said '^zigrunk batch: n1 has \(gone\|been silent for 3 seconds\), so [0-9]* commands\? of it run elsewhere$' || problems+="  messages: $(cat "$room/err")"$'\n'
             end
         fi
         if case_of "a stopped worker that goes on once all is made, $whom"; then
             two_nodes
             signal n1 "$whom" STOP
-            within 30 said '^zigrunk-batch: n1 has been silent for 3 seconds, so ' || problems+="  messages: $(cat "$room/err")"$'\n'
+            within 30 said '^zigrunk batch: n1 has been silent for 3 seconds, so ' || problems+="  messages: $(cat "$room/err")"$'\n'
             within 60 has_objects 6 || problems+='  the others make less'$'\n'
             # shellcheck disable=SC2086 # several ids
             kill -s CONT $ids 2> /dev/null
@@ -301,7 +301,7 @@ deaths() {
     if case_of 'a network that is gone for longer than a worker may be silent'; then
         two_nodes "$proxy" ../hole
         touch "$room/hole"
-        within 30 said '^zigrunk-batch: n1 has been silent' || problems+="  messages: $(cat "$room/err")"$'\n'
+        within 30 said '^zigrunk batch: n1 has been silent' || problems+="  messages: $(cat "$room/err")"$'\n'
         within 10 eval '! runs_at n1' || problems+='  commands of the worker go on'$'\n'
         rm "$room/hole"
         ended 0
@@ -313,7 +313,7 @@ deaths() {
         start --give-up 3 --workers "$(worker n1 "$proxy" ../hole)" list
         within 30 runs_at n1 || problems+='  n1 gets no commands'$'\n'
         touch "$room/hole"
-        within 30 said '^zigrunk-batch: n1 has been silent' || problems+="  messages: $(cat "$room/err")"$'\n'
+        within 30 said '^zigrunk batch: n1 has been silent' || problems+="  messages: $(cat "$room/err")"$'\n'
         rm "$room/hole"
         ended 0
         same 'commands that ran, without those that ran again' "$(($(wc -l < ran) >= 40)) $(sort -u ran | wc -l)" '1 1'
@@ -332,15 +332,15 @@ deaths() {
         signal n2 all_of KILL
         ended 1
         rm -rf "$room/tmp/zigrunk-$user"/worker*
-        said '^zigrunk-batch: there is no worker$' || problems+="  messages: $(cat "$room/err")"$'\n'
+        said '^zigrunk batch: there is no worker$' || problems+="  messages: $(cat "$room/err")"$'\n'
         end
     fi
     if case_of 'no worker ever comes'; then
         echo 'echo made >> made' > list
         farm --wait 2 --workers 'sleep 300' list
-        same 'status and messages' "$status $(cat "$room/err")" '1 zigrunk-batch: there has been no worker for 2 seconds'
+        same 'status and messages' "$status $(cat "$room/err")" '1 zigrunk batch: there has been no worker for 2 seconds'
         farm --workers 'echo "no such cluster" >&2; exit 7' list
-        same 'what starts workers fails' "$status $(cat "$room/err")" $'1 zigrunk-batch: what starts workers has ended with status 7: echo "no such cluster" >&2; exit 7\nno such cluster\nzigrunk-batch: there is no worker'
+        same 'what starts workers fails' "$status $(cat "$room/err")" $'1 zigrunk batch: what starts workers has ended with status 7: echo "no such cluster" >&2; exit 7\nno such cluster\nzigrunk batch: there is no worker'
         same made "$(cat made 2> /dev/null)" ''
         end
     fi
@@ -375,20 +375,20 @@ deaths() {
         printf '%s\n' 'trap "" TERM; echo "$$" >> ran; sleep 300' 'sleep 0.5; echo made' > list
         farm --timeout 2 --workers "$(worker n1)" --workers "$(worker n2)" list
         same 'status, output and tries' "$status $(cat "$room/out") $(wc -l < ran)" '124 made 2'
-        same messages "$(cat "$room/err")" $'zigrunk-batch: sh took longer than 2 seconds\nzigrunk-batch: line 1: exit status 124: trap "" TERM; echo "$$" >> ran; sleep 300'
+        same messages "$(cat "$room/err")" $'zigrunk batch: sh took longer than 2 seconds\nzigrunk batch: line 1: exit status 124: trap "" TERM; echo "$$" >> ran; sleep 300'
         end
     fi
     if case_of 'a command that ends its worker each time'; then
         echo 'kill -KILL "$PPID"; sleep 300' > list
         farm --workers 'for number in 1 2 3 4 5 6 7; do zigrunk-worker --name n1; done' list
-        same 'status and messages' "$status $(tail -n 2 "$room/err" | head -n 1)" '1 zigrunk-batch: sh has lost 5 workers'
+        same 'status and messages' "$status $(tail -n 2 "$room/err" | head -n 1)" '1 zigrunk batch: sh has lost 5 workers'
         end
     fi
     if case_of 'a worker on which commands fail'; then
         for number in 1 2 3; do echo "echo >> began; echo out; sleep 2; head -c 100000 /dev/zero > k$number.o"; done > list
         farm --workers "ulimit -f 128; $(worker n1)" --workers "until [ -e began ]; do sleep 0.05; done; $(worker n2)" list
         same 'status, sizes and output' "$status $(stat -c %s k*.o | sort -u) $(cat "$room/out")" $'0 100000 out\nout\nout'
-        said '^zigrunk-batch: n1 gets no work: sh ended with status 153 there, and otherwise on another machine$' || problems+="  messages: $(cat "$room/err")"$'\n'
+        said '^zigrunk batch: n1 gets no work: sh ended with status 153 there, and otherwise on another machine$' || problems+="  messages: $(cat "$room/err")"$'\n'
         end
     fi
     # n2 comes once both commands have failed on n1, and shows what it has a second later.
@@ -397,7 +397,7 @@ deaths() {
         farm --workers "ulimit -f 128; $(worker n1)" \
             --workers "until [ \"\$(wc -l < began)\" = 2 ]; do sleep 0.05; done 2> /dev/null; sleep 1; $(worker n2)" list
         same 'status and products' "$status $(cat k1.o k2.o)" $'0 made\nmade'
-        said '^zigrunk-batch: n1 gets no work: sh ended with status 127 there, and otherwise on another machine$' || problems+="  messages: $(cat "$room/err")"$'\n'
+        said '^zigrunk batch: n1 gets no work: sh ended with status 127 there, and otherwise on another machine$' || problems+="  messages: $(cat "$room/err")"$'\n'
         end
     fi
     # n4 runs a command while the others fail on the other machines.
@@ -415,7 +415,7 @@ deaths() {
         begun=$SECONDS
         farm --workers "$(worker n1)" --workers 'sleep 300' list
         same 'status, tries and messages' "$status $(wc -l < ran) $(cat "$room/err")" \
-            $'3 1 k.h: No such file or directory\nzigrunk-batch: line 1: exit status 3: echo >> ran; echo "k.h: No such file or directory" >&2; exit 3'
+            $'3 1 k.h: No such file or directory\nzigrunk batch: line 1: exit status 3: echo >> ran; echo "k.h: No such file or directory" >&2; exit 3'
         same 'a batch that waits for long' "$((SECONDS - begun >= 40))" 0
         end
     fi
@@ -431,7 +431,7 @@ deaths() {
         farm --workers "LIES=1 python3 $crowd 1 1 0" --workers "until ls -d ../share/*/*/.zigrunk.*; do sleep 0.05; done > /dev/null 2>&1; $(worker n2)" list
         same status "$status" 0
         products
-        said '^zigrunk-batch: s0 gets no work: [a-z+]* ended with status 1 there, and otherwise on another machine$' || problems+="  messages: $(cat "$room/err")"$'\n'
+        said '^zigrunk batch: s0 gets no work: [a-z+]* ended with status 1 there, and otherwise on another machine$' || problems+="  messages: $(cat "$room/err")"$'\n'
         end
     fi
     if case_of 'a command waits for a machine on which it has not failed'; then
@@ -440,7 +440,7 @@ deaths() {
         done > list
         farm --workers "ulimit -f 128; $(worker n1) -j1" --workers "$(worker n2) -j1" list
         same 'status and products' "$status $(cat k1.o k2.o)" $'0 made\nmade'
-        said '^zigrunk-batch: n1 gets no work: sh ended with status 127 there, and otherwise on another machine$' || problems+="  messages: $(cat "$room/err")"$'\n'
+        said '^zigrunk batch: n1 gets no work: sh ended with status 127 there, and otherwise on another machine$' || problems+="  messages: $(cat "$room/err")"$'\n'
         end
     fi
     if case_of 'a command that has failed on the only machine that is left'; then
@@ -454,7 +454,7 @@ deaths() {
     if case_of 'a worker that does not end a command'; then
         echo "gcc -c k1.cu -o k1.o" > list
         farm --timeout 1 --workers "python3 $crowd 1 1 300" --workers "until grep -q 'end a command' $room/err; do sleep 0.05; done; $(worker n2)" list
-        same 'status, messages and products' "$status $(cat "$room/err") $(ls)" $'0 zigrunk-batch: s0 can\'t end a command, so 1 command of it run elsewhere k1.o\nlist'
+        same 'status, messages and products' "$status $(cat "$room/err") $(ls)" $'0 zigrunk batch: s0 can\'t end a command, so 1 command of it run elsewhere k1.o\nlist'
         end
     fi
     if case_of 'products that are here late'; then
@@ -513,7 +513,7 @@ deaths() {
         within 60 has_ended || { problems+='  it ends late'$'\n'; kill -KILL "$process"; }
         ! { wait "$process"; } 2> /dev/null || problems+='  it succeeds'$'\n'
         for number in 1 2 3 4 5 6; do
-            grep -qE "^zigrunk-batch: line $number: exit status [1-9][0-9]*: " "$room/err" || cmp -s "wanted/k$number.o" "k$number.o" ||
+            grep -qE "^zigrunk batch: line $number: exit status [1-9][0-9]*: " "$room/err" || cmp -s "wanted/k$number.o" "k$number.o" ||
                 problems+="  call $number is lost: $(grep "line $number:" "$room/err")"$'\n'
         done
         PAUSE=0 farm --workers "$(worker n1)" list
@@ -546,7 +546,7 @@ unfit() {
             farm --workers "$(elsewhere n1 "${change//CUDA/$CUDA}")" --workers "sleep 1; $(worker n2)" list
             same status "$status" 0
             products
-            grep -q "^zigrunk-batch: n1 gets no work: ${wanted//CUDA/$CUDA}\$" "$room/err" || problems+="  messages: $(cat "$room/err")"$'\n'
+            grep -q "^zigrunk batch: n1 gets no work: ${wanted//CUDA/$CUDA}\$" "$room/err" || problems+="  messages: $(cat "$room/err")"$'\n'
             end
         fi
     done << 'END'
@@ -587,7 +587,7 @@ END
         farm --workers "$(elsewhere n1 mount --bind "$room/other" "$room/own/gcc")" --workers "$(after_left_out); $(worker n2)" list
         same status "$status" 0
         products
-        said "^zigrunk-batch: n1 gets no work: its $room/own/gcc has other contents$" || problems+="  messages: $(cat "$room/err")"$'\n'
+        said "^zigrunk batch: n1 gets no work: its $room/own/gcc has other contents$" || problems+="  messages: $(cat "$room/err")"$'\n'
         end
     fi
 }
@@ -632,7 +632,7 @@ files() {
         sources 2
         echo 'echo here >> here' >> list
         farm --send-files --wait 2 --workers 'sleep 300' list
-        same 'status, messages and products' "$status $(cat "$room/err" here) $(find . -maxdepth 1 -name '*.o')" $'1 zigrunk-batch: there has been no worker for 2 seconds\nhere '
+        same 'status, messages and products' "$status $(cat "$room/err" here) $(find . -maxdepth 1 -name '*.o')" $'1 zigrunk batch: there has been no worker for 2 seconds\nhere '
         end
     fi
     if files_case 'real nvcc'; then
@@ -689,7 +689,7 @@ files() {
     while IFS='|' read -r how wanted; do
         if files_case "a connection that is cut off, $how"; then
             two_alone env "CUT=$how" "$proxy" "$room/hole"
-            within 60 said "^zigrunk-batch: n1 has $wanted, so " || problems+="  messages: $(cat "$room/err")"$'\n'
+            within 60 said "^zigrunk batch: n1 has $wanted, so " || problems+="  messages: $(cat "$room/err")"$'\n'
             rm -f "$room/hole"
             ended 0
             products
@@ -719,7 +719,7 @@ END
         farm --send-files --workers "LIES=1 python3 $crowd 1 1 0" --workers "$(after_left_out); $(worker n2)" list
         same status "$status" 0
         products
-        said '^zigrunk-batch: s0 gets no work: what cicc made there came cut short$' || problems+="  messages: $(cat "$room/err")"$'\n'
+        said '^zigrunk batch: s0 gets no work: what cicc made there came cut short$' || problems+="  messages: $(cat "$room/err")"$'\n'
         end
     fi
     if unshare -m true 2> /dev/null && files_case 'a machine without room for a file'; then
@@ -727,7 +727,7 @@ END
         farm --send-files --workers "$(alone n1 -o 256k)" --workers "$(after_left_out); $(worker n2)" list
         same status "$status" 0
         products
-        said "^zigrunk-batch: n1 gets no work: it can't take files: No space left on device" || problems+="  messages: $(cat "$room/err")"$'\n'
+        said "^zigrunk batch: n1 gets no work: it can't take files: No space left on device" || problems+="  messages: $(cat "$room/err")"$'\n'
         end
     fi
     while IFS='|' read -r what change; do
@@ -753,8 +753,8 @@ END
         farm --workers "unshare -m sh -c '$again'" --workers "$(after_left_out); sleep 1; $(worker n2)" list
         same status "$status" 0
         products
-        same 'messages' "$(grep '^zigrunk-batch: [a-z0-9]* gets no work' "$room/err")" "zigrunk-batch: n1 gets no work: its $CUDA/bin/ptxas has other contents"
-        same 'status of the worker' "$(grep -c '^zigrunk-batch: what starts workers has ended with status 3: ' "$room/err") $(grep -c '^zigrunk-worker: n1 gets no work: ' "$room/err")" '1 2'
+        same 'messages' "$(grep '^zigrunk batch: [a-z0-9]* gets no work' "$room/err")" "zigrunk batch: n1 gets no work: its $CUDA/bin/ptxas has other contents"
+        same 'status of the worker' "$(grep -c '^zigrunk batch: what starts workers has ended with status 3: ' "$room/err") $(grep -c '^zigrunk worker: n1 gets no work: ' "$room/err")" '1 2'
         end
     fi
     if files_case 'the signal TERM'; then

@@ -1,5 +1,5 @@
 #!/usr/bin/env python3
-"""Plans dry runs of a megabyte of each kind that we know to take work, and checks that zigrunk answers or refuses each one soon.
+"""Plans dry runs of a megabyte of each kind that we know to take work, and checks that zigrunk plan answers or refuses each one soon.
 
 Usage: tests/hostile_input.py ZIGRUNK [--figures]     with --figures, it prints what each call took
 
@@ -150,8 +150,9 @@ def main(words: List[str]) -> int:
             second = SECOND.get(name, lambda path: "another first line\n" + text)(f"#$ PATH={room}\n")
             for run, said in ("first", text), ("second", second):
                 Path(room, f"{run}.run").write_text(said, encoding="ascii")
-            for form in "json", "ninja", "plan":
-                status, took = seconds_of([words[0], form, "/w", "/t", "-c", f"{room}/first.run", f"{room}/second.run"])
+            for form in "json", "ninja", "text":
+                call = [words[0], "plan", "--dry-runs", f"{room}/first.run", f"{room}/second.run", "--cwd", "/w", "--tmp", "/t", form]
+                status, took = seconds_of(call)
                 if words[1:]:
                     print(f"{took:.2f} s  status {status}  {form:5}  {name}")
                 counts.case(f"{name}, {form}", [f"status {status} after {took:.2f} s of the processor"] * (status not in (0, 1)))

@@ -69,8 +69,6 @@ line=$'--module_id_file_name\n/w/m\nk.cpp4.ii'
 check 'the version' prints "zigrunk $version" zigrunk --version
 # shellcheck disable=SC2086 # words
 check 'a line by cudaplan' prints "$line" cudaplan line $cudafe
-# shellcheck disable=SC2086 # words
-check 'a line by zigrunk' prints "$line" zigrunk line $cudafe
 check 'a plan by cudaplan' cudaplan plan /w /t -c one_target.dry1 one_target.dry2
 check 'where bash looks for completions' test -r "$root/usr/share/bash-completion/completions/zigrunk-nvcc"
 check 'the completion for bash' bash -c 'source "$1" && complete -p zigrunk cudaplan zigrunk-nvcc' _ \
@@ -82,7 +80,7 @@ library_flags() {
     PKG_CONFIG_PATH="$root/usr/lib/pkgconfig" pkg-config "$@" zigrunk
 }
 if command -v man > /dev/null; then
-    for page in man1/zigrunk.1 man1/zigrunk-nvcc.1 man1/zigrunk-batch.1 man1/zigrunk-cache.1 man1/cudaplan.1 man3/zigrunk.h.3; do
+    for page in man1/zigrunk.1 man1/zigrunk-nvcc.1 man1/zigrunk-batch.1 man1/zigrunk-cache.1 man1/zigrunk-plan.1 man1/cudaplan.1 man3/zigrunk.h.3; do
         man --warnings -l "$root/usr/share/man/$page" > shown 2> warnings
         # shellcheck disable=SC2016 # for sh
         check "the man page $page" sh -c '[ -s shown ] && ! grep . warnings'
@@ -131,13 +129,13 @@ else
     echo 'skipped: calls of the library, without cc or pkg-config'
 fi
 if ! command -v cargo > /dev/null; then
-    echo 'left out, without cargo on the path: zigrunk-nvcc'
+    echo 'left out, without cargo on the path: zigrunk'
 elif command -v nvcc > /dev/null; then
     echo '__global__ void none() {}' > k.cu
     check 'zigrunk-nvcc' env ZIGRUNK_EXPLAIN=1 zigrunk-nvcc -c k.cu -o k.o
     check 'its object' test -s k.o
     check 'it splits the call' prints '' cat "$scratch/said"
-    check 'zigrunk-plan' sh -c 'zigrunk-plan json nvcc -c k.cu -o k.o | grep -q cicc'
+    check 'zigrunk plan' sh -c 'zigrunk plan json nvcc -c k.cu -o k.o | grep -q cicc'
 else
     echo 'left out, without nvcc on the path: zigrunk-nvcc'
 fi

@@ -1,7 +1,7 @@
 #!/usr/bin/env python3
 """Runs each command of five nvcc calls where only the files are that its record and its needs name, and compares what it makes.
 
-The JSON of `zigrunk json` names the files that each command reads and writes, and the commands that it needs. A command runs here
+The JSON of `zigrunk plan` names the files that each command reads and writes, and the commands that it needs. A command runs here
 below a root folder of its own, in a mount namespace. That root has the system, the CUDA toolkit, and of the call's files only these:
 
 - those that the command reads by its record;
@@ -29,6 +29,7 @@ import argparse
 import concurrent.futures
 import json
 import os
+import shlex
 import shutil
 import subprocess
 import sys
@@ -105,13 +106,13 @@ def unbound(plan: Json) -> list[str]:
 
 def plan_of(zigrunk: str, words: str, base: str) -> tuple[Json | None, str]:
     """Plans a call of nvcc as zigrunk-nvcc does. Returns the plan, or None and why there is none."""
-    script = """calls=$("$0" calls "$PWD" "$1" nvcc $2) && eval "$calls" && eval "$first_dry_run" > /dev/null 2> "$3/dry1" &&
-eval "$second_dry_run" > /dev/null 2> "$3/dry2" && "$0" json --whole "$PWD" "$1" "$flag" "$3/dry1" "$3/dry2"
-"""
-    ran = subprocess.run(
-        ["sh", "-c", script, zigrunk, f"{base}/tmp", words, base], cwd=f"{base}/work", capture_output=True, text=True, check=False
-    )
-    return (json.loads(ran.stdout), "") if ran.returncode == 0 else (None, f"no plan: {ran.stderr.strip()}")
+    call = [zigrunk, "plan", "json", "--", "nvcc", *shlex.split(words)]
+    ran = subprocess.run(call, cwd=f"{base}/work", env={**os.environ, "TMPDIR": base}, capture_output=True, text=True, check=False)
+    if ran.returncode != 0:
+        return None, f"no plan: {ran.stderr.strip()}"
+    # the directory for temporary files may have any name
+    plan = json.loads(ran.stdout.replace(json.loads(ran.stdout)["tmp"], f"{base}/tmp"))
+    return (None, "the plan dropped a command") if plan["dropped"] else (plan, "")
 
 
 def in_threads(plan: Json, run: Callable[[Json], Result]) -> list[Result]:
@@ -282,7 +283,7 @@ def main() -> int:
     parser.add_argument("--leave-out", action="store_true")
     parser.add_argument("--only", default="")
     parser.add_argument("--mount", action="append", default=[])
-    parser.add_argument("zigrunk", nargs="?", default=f"{TOP}/crates/zigrunk/out/zigrunk")
+    parser.add_argument("zigrunk", nargs="?", default=f"{TOP}/out/rust/target/release/zigrunk-driver")
     args = parser.parse_args()
     MOUNTS.extend(map(os.path.realpath, args.mount))
     if why := unavailable():

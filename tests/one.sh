@@ -13,7 +13,7 @@ text=${1:-}
 by_script() {
     local programs=()
     echo "$1"
-    [[ $1 != */program.sh || -x crates/zigrunk/out/zigrunk ]] || programs=(out/rust/target/release/{cudaplan,zigrunk})
+    [[ $1 != */program.sh || -x crates/cudaplan/out/cudaplan ]] || programs=(out/rust/target/release/cudaplan)
     ONLY=$text "$1" "${programs[@]}" > "$scratch/said" 2>&1
     add $? "$scratch/said" || echo 'it has no counts'
     sed '$d' "$scratch/said"

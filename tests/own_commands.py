@@ -29,7 +29,7 @@ from compare_calls import Call, earlier, environment, help_of, suited, values_in
 from runner import TOOLS, Counts, skip_all
 
 TOP = Path(__file__).resolve().parent.parent
-# A plan, as zigrunk(1) describes its JSON.
+# A plan, as zigrunk-plan(1) describes its JSON.
 Plan = dict[str, Any]
 # What each shell sets for itself, and what a plan adds for sccache.
 NOT_COMPARED = {"_", "OLDPWD", "PWD", "SHLVL", "__SCCACHE_THIS_IS_A_CUDA_COMPILATION__"}
@@ -210,7 +210,7 @@ def compared(call: Call, base: Path, moves_id: bool) -> tuple[list[str], int] | 
         subprocess.run(["bash", "-c", call.setup], cwd=work, env={**os.environ, "WORK": str(work)}, check=True)
     words = [word.replace("@WORK@", str(work)) for word in call.words]
     cwd = work / call.cwd
-    plan = subprocess.run([TOOLS / "zigrunk-plan", "json", "nvcc", *words], cwd=cwd, env=env, capture_output=True, check=False)
+    plan = subprocess.run([TOOLS / "zigrunk", "plan", "json", "nvcc", *words], cwd=cwd, env=env, capture_output=True, check=False)
     if plan.returncode != 0 or json.loads(plan.stdout)["dropped"]:
         return None
     ran = subprocess.run([*STRACE, str(trace), "nvcc", *words, "--keep", f"--keep-dir={keep}"], cwd=cwd, env=env, capture_output=True, check=False)

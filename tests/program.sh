@@ -1,18 +1,18 @@
 #!/usr/bin/env bash
-# Runs the built programs for each form of their calls, and checks the exit status and both streams.
+# Runs cudaplan for each form of its calls, and zigrunk plan on stored dry runs, and checks the exit status and both streams.
 # Prints a line for each case that fails, and last 'N passed, M failed'; the status is 1 if one failed.
 #
-# These calls stand for must-fail edits of the programs. Three mistakes are shown by one call alone: a program that takes every
-# verb for a plan ('unknown verb'), that writes JSON as a script ('a plan as JSON'), or that drops --keep (the one 'with names kept').
+# The calls of cudaplan stand for must-fail edits of that program. A program that takes every verb for a plan is shown by 'unknown verb'
+# alone.
 #
-#   tests/program.sh [CUDAPLAN [ZIGRUNK [FUNCTION..]]]     the programs are those that `make build` and the gate leave, unless given;
+#   tests/program.sh [CUDAPLAN [ZIGRUNK [FUNCTION..]]]     the programs are those that `make build` and `make rust` leave, unless given;
 #                                                          only these functions of this script are called, if there are some
 #
 # EMULATED, if set, says that an emulator runs them: what takes a program seconds or memory is left out then.
 set -u
 cd "$(dirname "$0")/.." || exit 1
 program=$(realpath "${1:-crates/cudaplan/out/cudaplan}") speaker=cudaplan
-zigrunk=$(realpath "${2:-crates/zigrunk/out/zigrunk}")
+zigrunk=$(realpath "${2:-out/rust/target/release/zigrunk-driver}")
 wanted=("${@:3}")
 data=tests/drivers/test_plans/data/dry_runs
 . tests/lib.sh
@@ -47,13 +47,18 @@ check() {
     local name=$1 status=$2 out=$3 err=$4
     is_wanted "$name" || return 0
     shift 4
-    noted "$program" "$@" > "$scratch/out" 2> "$scratch/err"
+    noted "$speaker" "$@" > "$scratch/out" 2> "$scratch/err"
     judge "$name" "$status" "$out" "$err"
+}
+
+# cudaplan WORD..: a call of cudaplan.
+cudaplan() {
+    "$program" "$@"
 }
 
 # fails NAME MESSAGE WORD..: a call that fails with this message of the program's.
 fails() {
-    check "$1" 1 '' "$speaker: $2"$'\n' "${@:3}"
+    check "$1" 1 '' "${speaker/_/ }: $2"$'\n' "${@:3}"
 }
 
 # noted COMMAND..: runs a command, and notes its status for `judge`.
@@ -354,7 +359,7 @@ short_streams() {
 # to_full NAME STATUS ERR WORD..: a call whose standard output is on a full disk.
 to_full() {
     : > "$scratch/out"
-    noted "$program" "${@:4}" > /dev/full 2> "$scratch/err"
+    noted "$speaker" "${@:4}" > /dev/full 2> "$scratch/err"
     judge "$1" "$2" '' "$3"
 }
 
@@ -388,190 +393,40 @@ closed_streams() {
     judge 'a refused plan needs no standard output' 1 '' $'cudaplan: run 1 line 8: not UTF-8\n'
 }
 
-# ---- zigrunk
-
-# reads NAME DEPENDENCIES WORDS FLAG JOBS KEEP WORD..: an nvcc line at /w that is read so, with these words before those of the dry runs.
-# None of them needs quotes.
-reads() {
-    local begin="'( unset NVCC_PREPEND_FLAGS NVCC_APPEND_FLAGS; cd /w && nvcc" dependencies="''"
-    [ -z "$2" ] || dependencies="$begin $2 )'"
-    gives "$1" "dependencies=$dependencies" "first_dry_run=$begin $3 --dryrun --keep )'" "second_dry_run=$begin $3 --keep-dir /t --dryrun --keep )'" \
-        "flag=$4" "jobs=$5" "keep_dir=$6" -- calls /w /t nvcc "${@:7}"
+# calls whose allocations fail: as the program starts, and where it reads files and writes
+no_memory() {
+    is_wanted 'calls without memory' || return 0
+    if [[ $(head -c 2 "$program") == *'#!'* ]]; then
+        skip 'calls without memory' 'a script starts the program, and its shell would be refused the memory'
+    elif ! cc -shared -fPIC -o "$scratch/refuse_nth.so" tests/refuse_nth.c -ldl 2> "$scratch/said"; then
+        skip 'calls without memory' "cc can't compile tests/refuse_nth.c"
+    else
+        tests/refused_memory.sh --few "$program" > "$scratch/said" 2>&1
+        add "$?" "$scratch/said" || echo 'calls without memory: the last line has no counts that fit'
+        head -n -3 "$scratch/said"
+    fi
 }
 
-# nvcc lines that are read
-nvcc_lines() {
-    reads 'a compilation' '' '-x cu -o k.o -c k.cu' -c "''" "''" -c k.cu -o k.o
-    reads 'a compilation and its dependency file' '-c -x cu k.cu -M -MF k.d -MT k.o' '-x cu -o k.o -c k.cu' -c "''" "''" \
-        -MD -MF k.d -c k.cu -o k.o
-    reads 'a number of threads' '' '-x cu -o k.o -c k.cu' -c 4 "''" --threads=4 -c k.cu -o k.o
-    reads 'no threads' '' '-x cu -o k.o -c k.cu' -c "''" "''" -t0 -c k.cu -o k.o
-    reads 'one thread' '' '-x cu -o k.o -c k.cu' -c 1 "''" --threads 1 -c k.cu -o k.o
-    reads 'kept files' '' '-x cu -o k.o -c k.cu' -c "''" /w --keep -c k.cu -o k.o
-    reads 'files kept in a folder' '' '-x cu -o k.o -c k.cu' -c "''" /w/out --keep --keep-dir out -c k.cu -o k.o
-    reads 'PTX' '' '-x cu -o /w/k.ptx -ptx k.cu' -ptx "''" "''" -ptx k.cu -o k.ptx
-    reads 'lines of the source' '' '-x cu -o k.o -lineinfo -c /w/k.cu' -c "''" "''" -lineinfo -c k.cu -o k.o
-    reads 'no output' '' '-x cu -o k.o -c s/k.cu' -c "''" "''" -c s/k.cu
-    reads 'words as nvcc reads them' '' '-x cu -o k.o -DA=1 -Xptxas -v -split-compile=4 --output-directory=d -dc k.cu' -dc 4 "''" \
-        k.cu -D A=1 -Xptxas -v -split-compile 4 -odir d -t 4 -dc --output-file k.o
-    reads 'a source by its whole path' '' '-x cu -o k.o -c /s/k.cu' -c "''" "''" -c /s/k.cu -o k.o
-    NVCC_PREPEND_FLAGS='-O1 -g' NVCC_APPEND_FLAGS=-O2 reads 'words of the environment' '' '-x cu -o k.o -O=1 -g -O=2 -c k.cu' -c "''" "''" \
-        -c k.cu -o k.o
+# ---- zigrunk plan
+
+# zigrunk_plan FORMAT OPTION.. CWD TMP FLAG DRY1 DRY2 SUFFIX..: a plan of stored dry runs.
+zigrunk_plan() {
+    local words=(plan "$1") suffix
+    shift
+    while [[ ${1-} == --* ]]; do
+        words+=("$1")
+        [ "$1" != --limit ] || { words+=("$2") && shift; }
+        shift
+    done
+    words+=(--cwd "$1" --tmp "$2" --flag "$3" --dry-runs "$4" "$5")
+    for suffix in "${@:6}"; do words+=(--suffix "$suffix"); done
+    "${user[@]}" "$program" "${words[@]}"
 }
 
-# how many commands Ninja runs at once
-jobs_at_once() {
-    local line='-x cu -o k.o -c k.cu'
-    ZIGRUNK_JOBS=3 reads 'a number of jobs' '' "$line" -c 3 "''" -c k.cu -o k.o
-    ZIGRUNK_JOBS=0 reads 'Ninja chooses' '' "$line" -c "''" "''" --threads 4 -c k.cu -o k.o
-    ZIGRUNK_JOBS=two reads 'no number of jobs' '' "$line" -c 4 "''" --threads 4 -c k.cu -o k.o
-    MAKEFLAGS='n -j8 --jobserver-auth=fifo:/tmp/GMfifo1' reads 'a job of make' '' "$line" -c 1 "''" --threads 4 -c k.cu -o k.o
-    MAKEFLAGS=' -j8 --jobserver-fds=3,4' reads 'a job of an older make' '' "$line" -c 1 "''" -c k.cu -o k.o
-    MAKEFLAGS=' -j1' reads 'a make without a job server' '' "$line" -c "''" "''" -c k.cu -o k.o
-    MAKEFLAGS=' --jobserver-auth=3,4' ZIGRUNK_JOBS=2 reads 'a number of jobs under make' '' "$line" -c 2 "''" -c k.cu -o k.o
-}
-
-# named NAME TEXT WORD..: a call whose directory is named by the digest of this text.
-named() {
-    local name=$1 digest
-    digest=$(printf '%s' "$2" | sha256sum)
-    shift 2
-    check "$name" 0 "zigrunk-${digest%% *}"$'\n' '' directory "$@"
-}
-
-# names of the directories of calls
-directories() {
-    named 'the directory of a call' '2:/w4:nvcc0:0:2:-c4:k.cu' /w nvcc -c k.cu
-    named 'the directory of a call without words' '2:/w4:nvcc0:0:' /w nvcc
-    named 'the directory of odd words' '0:0:0:0:0:3:é:' '' '' '' 'é:'
-    NVCC_PREPEND_FLAGS=-O1 NVCC_APPEND_FLAGS='-g x' named 'the directory of a call with both variables' '2:/w4:nvcc3:-O14:-g x4:k.cu' /w nvcc k.cu
-}
-
-# alike WORD..: a call that both programs take, and answer alike. ERR is zigrunk's message if it differs.
-alike() {
-    local out err status
-    out=$("$cudaplan" "$@" 2> "$scratch/cudaplan.err"; status=$?; printf .; exit "$status")
-    status=$?
-    err=$(sed 's/^cudaplan: /zigrunk: /' "$scratch/cudaplan.err"; printf .)
-    check "zigrunk $1 as cudaplan" "$status" "${out%.}" "${ERR-${err%.}}" "$@"
-}
-
-forms_of_cudaplan() {
-    alike line cicc /w -D 'a b' k.cpp1.ii -o k.ptx
-    alike line ptxas /w a b
-    alike line cicc /w k.cpp1.ii
-    alike plan /w /t -c "$data/one_kernel.dry1" "$data/one_kernel.dry2"
-    ERR="zigrunk: cannot read $scratch/missing: No such file or directory"$'\n' alike plan /w /t -c "$data/one_kernel.dry1" "$scratch/missing"
-    ERR="zigrunk: $data/bad_last_line.dry1:9: the line isn't UTF-8"$'\n    #$ x\\xff\n' alike plan /w /t -c "$data/bad_last_line.dry1" "$data/one_kernel.dry1"
-    ERR='zigrunk: suffix ".ii" is a suffix of ".cpp1.ii"'$'\n' alike plan /w /t -c "$data/one_kernel.dry1" "$data/one_kernel.dry2" .ii
-}
-
-# nvcc lines of ten thousand words: all kept, all from a variable, all one phase and one output, all forwarded; and their directory
-long_nvcc_lines() {
-    local words few forward=--forward-unknown-to-host-compiler sized
-    words=$(printf ' -DA%.0s' {1..10000})
-    few=$(printf ' -c -o k.o%.0s' {1..5000})
-    sized=$(printf '3:-DA%.0s' {1..10000})
-    # shellcheck disable=SC2086
-    reads 'ten thousand words' '' "-x cu -o k.o$words -c k.cu" -c "''" "''" $words -c k.cu -o k.o
-    NVCC_APPEND_FLAGS=$words reads 'ten thousand words of a variable' '' "-x cu -o k.o$words -c k.cu" -c "''" "''" -c k.cu -o k.o
-    # shellcheck disable=SC2086
-    reads 'a phase and an output five thousand times' '' '-x cu -o k.o -c k.cu' -c "''" "''" $few k.cu
-    # shellcheck disable=SC2086
-    reads 'ten thousand forwarded words' '' "-x cu -o k.o $forward${words//-DA/-fa} -c k.cu" -c "''" "''" $forward ${words//-DA/-fa} -c k.cu -o k.o
-    # shellcheck disable=SC2086
-    named 'the directory of ten thousand words' "2:/w4:nvcc0:0:$sized" /w nvcc $words
-    words=$(printf '%0100000d' 0)
-    reads 'a target of a hundred thousand bytes' "-c -x cu k.cu -M -MF k.d -MT $words" '-x cu -o k.o -c k.cu' -c "''" "''" -MD -MF k.d -MT "$words" -c k.cu -o k.o
-    words=-DA=$words
-    reads 'a word of a hundred thousand bytes' '' "-x cu -o k.o $words -c k.cu" -c "''" "''" "$words" -c k.cu -o k.o
-    named 'the directory of a word of a hundred thousand bytes' "2:/w4:nvcc0:0:${#words}:$words" /w nvcc "$words"
-}
-
-# options files of an nvcc line: in the working directory, by a whole path, of a variable, and those that can't be read
-options_files() {
-    local words='-x cu -o k.o' begin='( unset NVCC_PREPEND_FLAGS NVCC_APPEND_FLAGS; cd'
-    mkdir -p "$scratch/lines/sub"
-    printf -- '-DB=1 "-I"ab\n\t-o k.o\n' > "$scratch/lines/sub/f.rsp"
-    printf -- '-DB=\xff\n' > "$scratch/lines/latin.rsp"
-    mkfifo "$scratch/lines/pipe.rsp"
-    gives 'words of a file' "dependencies=''" "first_dry_run='$begin $scratch/lines && nvcc $words -DA -DB=1 -Iab -DC -c k.cu --dryrun --keep )'" \
-        "second_dry_run='$begin $scratch/lines && nvcc $words -DA -DB=1 -Iab -DC -c k.cu --keep-dir /t --dryrun --keep )'" flag=-c "jobs=''" "keep_dir=''" -- \
-        calls "$scratch/lines" /t nvcc -c k.cu -DA -optf sub/f.rsp -DC
-    printf -- '-g' > "$scratch/lines/g.rsp"
-    reads 'words of a whole path' '' "$words -g -c k.cu" -c "''" "''" -c k.cu "--options-file=$scratch/lines/g.rsp"
-    printf -- '-w' > "$scratch/lines/w.rsp"
-    reads 'words of two files' '' "$words -g -w -c k.cu" -c "''" "''" -c k.cu -optf "$scratch/lines/g.rsp" "--options-file=$scratch/lines/w.rsp"
-    NVCC_APPEND_FLAGS="-optf $scratch/lines/g.rsp" reads 'words of a file in a variable' '' "$words -g -c k.cu" -c "''" "''" -c k.cu
-    passes 'a file that is no UTF-8' 'an options file is missing or odd' -c k.cu -optf "$scratch/lines/latin.rsp"
-    # The pipe has a text for a program that reads it. bash would run this script's trap if it ended the writer while that waits.
-    { trap - EXIT && printf -- '-g' > "$scratch/lines/pipe.rsp"; } &
-    passes 'a file that is a pipe' 'an options file is missing or odd' -c k.cu -optf "$scratch/lines/pipe.rsp"
-    { kill $! && wait $!; } 2> /dev/null
-    words=$(printf ' -DA%.0s' {1..100000})
-    printf '%s' "$words" > "$scratch/lines/long.rsp"
-    reads 'a hundred thousand words of a file' '' "-x cu -o k.o$words -c k.cu" -c "''" "''" -c k.cu -optf "$scratch/lines/long.rsp" -o k.o
-}
-
-# odd words of an nvcc line, which a shell reads back
-odd_nvcc_words() {
-    noted "$program" calls '/a b' "/t'" 'n v' "-DA=\"x'y\"" -c k.cu -o "é *.o" > "$scratch/calls" 2> "$scratch/err"
-    sh -c '. "$1"; eval "set -- $second_dry_run"; printf "%s\n" "$@"' sh <(sed 's/=.( unset .* && /=\x27/; s/ ).$/\x27/' "$scratch/calls") > "$scratch/out"
-    judge 'odd words' 0 "n v
--x
-cu
--o
-é *.o
--DA=\"x'y\"
--c
-k.cu
---keep-dir
-/t'
---dryrun
---keep
-" ''
-}
-
-# passes NAME REASON WORD..: a line that goes to nvcc.
-passes() {
-    local name=$1 reason=$2
-    shift 2
-    check "$name" 3 '' "zigrunk: goes to nvcc: $reason"$'\n' calls /w /t nvcc "$@"
-}
-
-# nvcc lines that no plan is made of
-refused_nvcc_lines() {
-    passes 'no words of nvcc' 'it links'
-    passes 'a call that links' 'it links' k.cu -o k
-    passes 'a version' 'it prints something' --version
-    passes 'two sources' 'it names several inputs' -c a.cu b.cu
-    passes 'a preprocessor call' "its phase isn't split" -E k.cu
-    passes 'words in a missing file' 'an options file is missing or odd' -c k.cu -optf=words
-    passes 'words in a directory' 'an options file is missing or odd' -c k.cu -optf=/
-    passes 'words in no plain file' 'an options file is missing or odd' -c k.cu -optf=/dev/null
-    passes 'an output named as a generated file' 'a name looks like that of a generated file' -ptx k.cu -o k.cpp1.ii
-    passes 'a generated file as the source' 'a name looks like that of a generated file' -c k.cudafe1.cpp
-    passes 'a macro with a generated name' 'a name looks like that of a generated file' -c k.cu -DN=a.cpp4.ii
-    passes 'a folder with a generated name' 'a name looks like that of a generated file' -c k.cu -isystem k.cudafe1.stub.c/x
-    passes 'options of ptxas in a file' 'a word for a tool may name a file' -c k.cu -Xptxas --options-file=p.txt
-    passes 'options of fatbinary in a file' 'a word for a tool may name a file' -c k.cu --fatbin-options=-v,-optf,p.txt
-    passes 'code for fatbinary in a file' 'a word for a tool may name a file' -c k.cu -Xfatbin '"--image3=kind=elf,sm=90,file=x.cubin"'
-    passes 'a file of several preprocessors' 'several preprocessors may write one file' -fatbin k.cu -Xcompiler -MD,-MF,k.d
-    passes 'an output named as a kept file' 'its output may have the name of a kept file' --keep -c k.cu -o o/k.ptx
-    passes 'standard input under another name' 'it uses an open file' -c /dev/stdin -x cu -o x.o
-    passes 'standard input as an open file' 'it uses an open file' -x cu -c /dev/fd/0
-    passes 'standard input as a file of the process' 'it uses an open file' -x cu -c /proc/self/fd/0
-    passes 'a header that is open' 'it uses an open file' -c k.cu -Xcompiler -include,/dev/fd/63
-    passes 'a product that is open' 'it uses an open file' -ptx k.cu -o /dev/fd/3
-    NVCC_APPEND_FLAGS='-include /dev/stdin' passes 'a header of a variable' 'it uses an open file' -c k.cu
-    check 'a directory that a shell expands' 3 '' $'zigrunk: goes to nvcc: nvcc\'s shell may expand its directory\'s name\n' calls '/w$x' /t nvcc -c k.cu
-    check 'a directory with a generated name' 3 '' $'zigrunk: goes to nvcc: a name looks like that of a generated file\n' \
-        calls /w/a.cpp1.ii.d /t nvcc -c k.cu
-    passes 'an option without its value' 'an option lacks its value' -c k.cu --threads
-    passes 'a variable of the shell' "nvcc's shell may expand a word" -c k.cu '-DA=$B'
-    NVCC_APPEND_FLAGS=--dryrun passes 'a dry run' 'it prints something' -c k.cu
-    NVCC_PREPEND_FLAGS="-DA='1'" passes 'quotes in a variable' 'NVCC_PREPEND_FLAGS or NVCC_APPEND_FLAGS has quotes' -c k.cu
-    fails 'an output without a name' 'output has no file name' calls /w /t nvcc -c k.cu -o ..
+# plan_as_nobody WORD..: the same, by a user that isn't root.
+plan_as_nobody() {
+    local user=(as_nobody)
+    zigrunk_plan "$@"
 }
 
 # run_of FILE LINE..: a dry run with these lines behind one that sets PATH, where the programs of a kernel's run are, in two files:
@@ -603,23 +458,24 @@ plan_scripts() {
     local bin=$scratch/bin env last
     env="env 'PATH=$scratch/none:$bin'"
     last="$env '__SCCACHE_THIS_IS_A_CUDA_COMPILATION__='"
-    gives 'a plan as a script' 'set -e' "( cd /w && $env $bin/gcc -D__CUDACC__ -E k.cu -o x_0.cpp4.ii )" \
+    gives 'a plan as a script' 'set -e' 'mkdir -p /t' "( cd /w && $env $bin/gcc -D__CUDACC__ -E k.cu -o x_0.cpp4.ii )" \
         "( cd /t && $env $bin/cudafe++ --gen_module_id_file --module_id_file_name k.id x_0.cpp4.ii )" \
         "( cd /w && $env $bin/gcc -D__NVCC__ -E k.cu -o x_0.cpp1.ii )" "( cd /t && $env $bin/cicc x_0.cpp1.ii -o k.ptx )" \
         "( cd /t && $env $bin/ptxas k.ptx -o 'k \$x.cubin' )" "( cd /t && $env $bin/fatbinary k.cubin )" \
         "( cd /w && $last $bin/gcc -D__NVCC__ '-DA=it'\\''s' x_0.cudafe1.cpp -o k.o )" -- shell /w /t -c "$scratch/kernel" "$scratch/kernel.2"
     check 'a plan as a script, with names kept' 0 "${given//x_0/k}" '' shell --keep /w /t -c "$scratch/kernel" "$scratch/kernel.2"
     run_of newline '#$ gcc -D__NVCC__ -E k.cu -o k.cpp1.ii'
-    gives 'a folder with a newline as a script' 'set -e' "( cd '/a" "b' && $env $bin/gcc -D__NVCC__ -E k.cu -o x_0.cpp1.ii )" -- \
+    gives 'a folder with a newline as a script' 'set -e' 'mkdir -p /t' "( cd '/a" "b' && $env $bin/gcc -D__NVCC__ -E k.cu -o x_0.cpp1.ii )" -- \
         shell $'/a\nb' /t -c "$scratch/newline" "$scratch/newline.2"
     run_of suffixed '#$ gcc -D__NVCC__ -E k.cu -o k.odd'
-    gives 'a further suffix' 'set -e' "( cd /w && $env $bin/gcc -D__NVCC__ -E k.cu -o x_0.odd )" -- shell /w /t -c "$scratch/suffixed" "$scratch/suffixed.2" .odd
+    gives 'a further suffix' 'set -e' 'mkdir -p /t' "( cd /w && $env $bin/gcc -D__NVCC__ -E k.cu -o x_0.odd )" -- shell /w /t -c "$scratch/suffixed" "$scratch/suffixed.2" .odd
 }
 
-# edge GROUP.PLACE NEEDS COMMAND: an edge of a file for Ninja.
+# edge GROUP.PLACE DESCRIPTION NEEDS COMMAND: an edge of a file for Ninja.
 edge() {
-    echo "build \${tmp}/zigrunk.$1: run$2"
-    echo "  line = ( cd $3 ) && touch /t/zigrunk.$1"
+    echo "build \${tmp}/zigrunk.$1: run$3"
+    echo "  line = ( cd $4 ) && touch /t/zigrunk.$1"
+    echo "  description = $2"
 }
 
 # Ninja runs a plan, in a directory whose name needs quotes in Ninja and in a shell: each command once, and both preprocessors and all
@@ -635,7 +491,7 @@ run_by_ninja() {
         printf '#!/bin/sh\necho "${0##*/} $*" >> "%s/order"\n' "$scratch" > "$scratch/bin/$tool"
     done
     rm -f "$scratch/order"
-    "$program" ninja "$scratch" "$tmp" -c "$scratch/kernel" "$scratch/kernel.2" > "$scratch/graph"
+    zigrunk_plan ninja "$scratch" "$tmp" -c "$scratch/kernel" "$scratch/kernel.2" > "$scratch/graph"
     (cd "$scratch" && PATH=/usr/bin:/bin ninja -j 1 -f graph) > "$scratch/said" 2>&1
     echo $? > "$scratch/status"
     (cd "$tmp" && ls -d zigrunk.*) > "$scratch/out"
@@ -662,13 +518,13 @@ plan_files() {
     before=$(printf " \${tmp}/zigrunk.%s" 0.0 0.1 1.0 1.1 1.2)
     text=$(
         printf '%s\n' 'tmp = /t' "builddir = \${tmp}" 'rule run' '  command = ${line} || { code=$$?; echo $$code > ${out}.status; exit $$code; }'
-        edge 0.0 '' "/t && $run/gcc -D__CUDACC__ -E k.cu -o x_0.cpp4.ii"
-        edge 0.1 " \${tmp}/zigrunk.0.0" "/t && $cached/cudafe++ --gen_module_id_file --module_id_file_name k.id x_0.cpp4.ii"
-        edge 1.0 " \${tmp}/zigrunk.0.0" "/t && $run/gcc -D__NVCC__ -E k.cu -o x_0.cpp1.ii"
-        edge 1.1 " \${tmp}/zigrunk.1.0" "/t && $cached/cicc x_0.cpp1.ii -o k.ptx"
-        edge 1.2 " \${tmp}/zigrunk.1.1" "/t && $cached/ptxas k.ptx -o 'k \$\$x.cubin'"
-        edge 2.0 "$before" "/t && $run/fatbinary k.cubin"
-        edge 2.1 "$before \${tmp}/zigrunk.2.0" "/t && ${cached/ \$/ \'__SCCACHE_THIS_IS_A_CUDA_COMPILATION__=\' \$}/gcc -D__NVCC__ '-DA=it'\\''s' x_0.cudafe1.cpp -o k.o"
+        edge 0.0 gcc '' "/t && $run/gcc -D__CUDACC__ -E k.cu -o x_0.cpp4.ii"
+        edge 0.1 cudafe++ " \${tmp}/zigrunk.0.0" "/t && $cached/cudafe++ --gen_module_id_file --module_id_file_name k.id x_0.cpp4.ii"
+        edge 1.0 gcc " \${tmp}/zigrunk.0.0" "/t && $run/gcc -D__NVCC__ -E k.cu -o x_0.cpp1.ii"
+        edge 1.1 cicc " \${tmp}/zigrunk.1.0" "/t && $cached/cicc x_0.cpp1.ii -o k.ptx"
+        edge 1.2 ptxas " \${tmp}/zigrunk.1.1" "/t && $cached/ptxas k.ptx -o 'k \$\$x.cubin'"
+        edge 2.0 fatbinary "$before" "/t && $run/fatbinary k.cubin"
+        edge 2.1 gcc "$before \${tmp}/zigrunk.2.0" "/t && ${cached/ \$/ \'__SCCACHE_THIS_IS_A_CUDA_COMPILATION__=\' \$}/gcc -D__NVCC__ '-DA=it'\\''s' x_0.cudafe1.cpp -o k.o"
     )$'\n'"# dropped line 8 run 2 NotCuda $bin/g++ k.o"$'\n'
     check 'a plan for Ninja' 0 "$text" '' ninja /t /t -c "$scratch/kernel" "$scratch/kernel.2"
     run_of short '#$ gcc -D__NVCC__ -E k.cu -o k.cpp1.ii' '' '#$ cicc k.cpp1.ii -o k.ptx' '#$ g++ "a b"'
@@ -685,20 +541,13 @@ plan_files() {
     check 'a plan as text, with names kept' 0 "${given//x_0/k}" '' text --keep /w /t -c "$scratch/short" "$scratch/short.2"
 }
 
-# plans as graphs and as compilation databases
-plan_views() {
+# plans as compilation databases
+compilation_databases() {
     local bin=$scratch/bin text
     run_of views '#$ gcc -D__CUDACC__ -E k.cu -o k.cpp4.ii' '#$ cudafe++ --gen_c_file_name k.cudafe1.cpp --module_id_file_name k.id k.cpp4.ii' \
         '#$ gcc -D__NVCC__ -E k.cu -o k.cpp1.ii' '#$ cicc --gen_module_id_file --module_id_file_name k.id k.cpp1.ii -o "a&\"k.ptx"' \
         '#$ gcc -D__NVCC__ k.cudafe1.cpp -o k.o' '#$ g++ "a b"'
     sed -i 's# k\.\(cpp[14]\.ii\|cudafe1\.cpp\)# /t/k.\1#' "$scratch/views.2"
-    gives 'a plan as a graph' 'digraph plan {' '  node [shape=box]' \
-        '  subgraph cluster_0 { label="front group" 0 [label="gcc\nx_0.cpp4.ii"] }' \
-        '  subgraph cluster_0 { label="front group" 1 [label="cudafe++\nx_0.cudafe1.cpp\nk.id"] }' \
-        '  subgraph cluster_1 { label="device group 1" 2 [label="gcc\nx_0.cpp1.ii"] }' \
-        '  subgraph cluster_1 { label="device group 1" 3 [label="cicc\na&amp;\"k.ptx"] }' \
-        '  subgraph cluster_2 { label="final group" 4 [label="gcc\nk.o"] }' \
-        '  0 -> 1' '  0 -> 2' '  1 -> 3' '  2 -> 3' '  0 -> 4' '  1 -> 4' '  2 -> 4' '  3 -> 4' '  d0 [label="g++\nNotCuda" style=dashed]' '}' -- dot /w /t -c "$scratch/views" "$scratch/views.2"
     text="[{\"arguments\":[\"clang++\",\"--cuda-host-only\",\"-fsyntax-only\",\"k.cu\",\"-o\",\"/t/x_0.cpp4.ii\"],\"directory\":\"/w\",\"file\":\"/w/k.cu\"}"
     text+=",{\"arguments\":[\"$bin/gcc\",\"-D__NVCC__\",\"-E\",\"k.cu\",\"-o\",\"/t/x_0.cpp1.ii\"],\"directory\":\"/w\",\"file\":\"/w/k.cu\"}]"$'\n'
     check 'a plan as a compilation database' 0 "$text" '' compdb /w /t -c "$scratch/views" "$scratch/views.2"
@@ -708,78 +557,24 @@ plan_views() {
     check 'a step for an architecture in a compilation database' 0 "$text" '' compdb /w /t -c "$scratch/cuda" "$scratch/cuda.2"
 }
 
-# The dry runs of a call for one target, in which an output has a blank: farm_run FILE TMP.
-farm_run() {
-    run_of "$1" '#$ gcc -D__CUDACC__ -E k.cu -o k.cpp4.ii' '#$ cudafe++ --gen_c_file_name k.cudafe1.cpp --module_id_file_name k.id k.cpp4.ii' \
-        '#$ gcc -D__NVCC__ -E k.cu -o k.cpp1.ii' '#$ cicc --module_id_file_name k.id k.cpp1.ii -o k.ptx' '#$ ptxas k.ptx -o k.cubin' \
-        '#$ ptxas k.ptx -o "k x.cubin"' '#$ fatbinary --create=k.fatbin --image3=kind=elf,file=k.cubin "--image3=kind=elf,file=k x.cubin"' \
-        "#\$ gcc -D__NVCC__ \"-DA=it's\" k.cudafe1.cpp -o k.o"
-    sed -i "s# k\.\(cpp[14]\.ii\|cudafe1\.cpp\)# $2/k.\1#" "$scratch/$1.2"
-}
-
-# a plan as a Makeflow file
-makeflow_files() {
-    local bin=$scratch/bin env text
-    farm_run farm /t
-    env="env 'PATH=$scratch/none:$bin'"
-    # rule COMMAND INPUTS IS_LOCAL OUTPUTS
-    rule() { printf '{"command":"%s","inputs":[%s],"local_job":%s,"outputs":[%s]}' "$1" "$2" "$3" "$4"; }
-    text="{\"directory\":\"/t\",\"rules\":[$(rule "( cd /w && $env $bin/gcc -D__CUDACC__ -E k.cu -o /t/x_0.cpp4.ii ) && touch zigrunk.0" '' true '"zigrunk.0","x_0.cpp4.ii"')"
-    text+=,$(rule "$env $bin/cudafe++ --gen_c_file_name x_0.cudafe1.cpp --gen_module_id_file --module_id_file_name k.id x_0.cpp4.ii && touch zigrunk.1" \
-        '"zigrunk.0","x_0.cpp4.ii"' false '"zigrunk.1","x_0.cudafe1.cpp","k.id"')
-    text+=,$(rule "( cd /w && $env $bin/gcc -D__NVCC__ -E k.cu -o /t/x_0.cpp1.ii ) && touch zigrunk.2" '"zigrunk.0"' true '"zigrunk.2","x_0.cpp1.ii"')
-    text+=,$(rule "$env $bin/cicc --module_id_file_name k.id x_0.cpp1.ii -o k.ptx && touch zigrunk.3" \
-        '"zigrunk.1","zigrunk.2","x_0.cpp1.ii","k.id"' false '"zigrunk.3","k.ptx"')
-    text+=,$(rule "$env $bin/ptxas k.ptx -o k.cubin && touch zigrunk.4" '"zigrunk.3","k.ptx"' false '"zigrunk.4","k.cubin"')
-    text+=,$(rule "( cd /t && $env $bin/ptxas k.ptx -o 'k x.cubin' ) && touch zigrunk.5" '"zigrunk.3","k.ptx"' true '"zigrunk.5"')
-    text+=,$(rule "( cd /t && $env $bin/fatbinary --create=k.fatbin --image3=kind=elf,file=k.cubin '--image3=kind=elf,file=k x.cubin' ) && touch zigrunk.6" \
-        '"zigrunk.0","zigrunk.1","zigrunk.2","zigrunk.3","zigrunk.4","zigrunk.5","k.cubin"' true '"zigrunk.6","k.fatbin"')
-    text+=,$(rule "( cd /w && $env '__SCCACHE_THIS_IS_A_CUDA_COMPILATION__=' $bin/gcc -D__NVCC__ '-DA=it'\\\\''s' /t/x_0.cudafe1.cpp -o k.o ) && touch zigrunk.7" \
-        '"zigrunk.0","zigrunk.1","zigrunk.2","zigrunk.3","zigrunk.4","zigrunk.5","zigrunk.6","x_0.cudafe1.cpp"' true '"zigrunk.7"')
-    check 'a plan as a Makeflow file' 0 "$text]}"$'\n' '' makeflow /w /t -c "$scratch/farm" "$scratch/farm.2"
-}
-
-# by_makeflow WORD..: runs the plan in a new directory by Makeflow, called with these words, and prints the product.
-by_makeflow() {
-    rm -rf "$scratch/farm_tmp" "$scratch/farm_work"
-    mkdir -p "$scratch/farm_tmp" "$scratch/farm_work"
-    "$program" makeflow "$scratch/farm_work" "$scratch/farm_tmp" -c "$scratch/farm" "$scratch/farm.2" > "$scratch/farm_tmp/plan"
-    (cd "$scratch/farm_tmp" && timeout 60 makeflow --json "$@" plan > "$scratch/farm_log" 2>&1)
-    cat "$scratch/farm_work/k.o" 2>&1 || cat "$scratch/farm_log"
-}
-
-# what Makeflow makes, here and on a worker, is what a shell makes by the plan's script
-run_by_makeflow() {
-    export OMPI_ALLOW_RUN_AS_ROOT=1 OMPI_ALLOW_RUN_AS_ROOT_CONFIRM=1
-    if ! makeflow --version > /dev/null 2>&1 || ! work_queue_worker --version > /dev/null 2>&1; then
-        skip 'plans run by Makeflow' 'no coop-computing-tools'
-        return
-    fi
-    local name port=$((20000 + $$ % 20000)) worker
-    # each program writes what it and its words are, and what is in the files that its words name
-    for name in gcc cudafe++ cicc ptxas fatbinary; do
-        printf '#!/bin/sh\nPATH=/usr/bin:/bin\n%s\n' "name=$name; "'before= out= text="$name $*"
-            for word; do
-                case $before,$name,$word in
-                -o,* | --gen_c_file_name,* | --module_id_file_name,cudafe*) out="$out:$word" ;;
-                *,--create=*) out="$out:${word#--create=}" ;;
-                *) file=${word##*file=}; [ ! -f "$file" ] || text="$text ($(cat "$file"))" ;;
-                esac
-                before=$word
-            done
-            IFS=:; for file in ${out#:}; do echo "$text" > "$file" || exit 1; done' > "$scratch/bin/$name"
-        chmod +x "$scratch/bin/$name"
+# a script makes the temporary directory, whose name needs quotes, and runs each command once, in order
+run_as_script() {
+    local tmp="$scratch/made/it's \$x" tool
+    for tool in gcc cudafe++ cicc ptxas fatbinary; do
+        printf '#!/bin/sh\n/bin/echo "${0##*/} $PWD" >> "%s/order"\n' "$scratch" > "$scratch/bin/$tool"
     done
-    farm_run farm "$scratch/farm_tmp"
-    mkdir -p "$scratch/farm_tmp" "$scratch/farm_work" "$scratch/farm_worker"
-    "$program" shell "$scratch/farm_work" "$scratch/farm_tmp" -c "$scratch/farm" "$scratch/farm.2" | sh
-    cp "$scratch/farm_work/k.o" "$scratch/farm_product"
-    same 'a plan run by Makeflow' "$(by_makeflow -T local)" "$(< "$scratch/farm_product")"
-    work_queue_worker --cores 2 -t 60 -s "$scratch/farm_worker" localhost "$port" > "$scratch/farm_worker.log" 2>&1 &
-    worker=$!
-    same 'a plan run by Makeflow and a worker' "$(by_makeflow -T wq -p "$port")" "$(< "$scratch/farm_product")"
-    kill "$worker" 2> /dev/null
-    wait "$worker" 2> /dev/null
+    rm -f "$scratch/order"
+    zigrunk_plan shell "$scratch" "$tmp" -c "$scratch/kernel" "$scratch/kernel.2" > "$scratch/script"
+    noted sh "$scratch/script" > "$scratch/said" 2> "$scratch/err"
+    cp "$scratch/order" "$scratch/out"
+    judge 'a plan run by a shell' 0 "gcc $scratch
+cudafe++ $tmp
+gcc $scratch
+cicc $tmp
+ptxas $tmp
+fatbinary $tmp
+gcc $scratch
+" ''
 }
 
 # the JSON of real plans, by its schema
@@ -796,9 +591,9 @@ plan_schema() {
 # plans that have to be whole
 whole_plans() {
     run_of whole "${KERNEL[@]:0:7}"
-    "$program" ninja /w /t -c "$scratch/whole" "$scratch/whole.2" > "$scratch/want"
+    zigrunk_plan ninja /w /t -c "$scratch/whole" "$scratch/whole.2" > "$scratch/want"
     gives_file 'a whole plan' "$scratch/want" ninja --whole /w /t -c "$scratch/whole" "$scratch/whole.2"
-    "$program" ninja --keep /w /t -c "$scratch/whole" "$scratch/whole.2" > "$scratch/want"
+    zigrunk_plan ninja --keep /w /t -c "$scratch/whole" "$scratch/whole.2" > "$scratch/want"
     gives_file 'a whole plan with names kept' "$scratch/want" ninja --keep --whole /w /t -c "$scratch/whole" "$scratch/whole.2"
     fails 'a plan that dropped a command' 'the plan dropped a command' ninja --whole /w /t -c "$scratch/kernel" "$scratch/kernel.2"
     run_of nothing
@@ -811,7 +606,7 @@ whole_plans() {
 counts() {
     local name=$1 number=$2 pattern=$3
     shift 3
-    noted "$program" --limit 100000000 "$@" > "$scratch/text" 2> "$scratch/err"
+    noted zigrunk_plan "$1" --limit 100000000 "${@:2}" > "$scratch/text" 2> "$scratch/err"
     grep -o -e "$pattern" "$scratch/text" | wc -l > "$scratch/out"
     judge "$name" 0 "$number"$'\n' ''
 }
@@ -846,14 +641,7 @@ long_exports() {
         [ "$format" != shell ] || dropped=0
         counts "a thousand programs as $format" "$dropped" 'bin/p[0-9]\+' "$format" /w /t -c "$scratch/programs" "$scratch/programs.2"
     done
-    counts 'a group of a thousand commands as a Makeflow file' 1000 'o k[0-9]\+\.cubin' makeflow /w /t -c "$scratch/group" "$scratch/group.2"
-    counts 'a hundred device groups as a Makeflow file' 100 'o k[0-9]\+\.ptx' makeflow /w /t -c "$scratch/groups" "$scratch/groups.2"
     counts 'a fatbin of a thousand images as json' 2000 'k[0-9]\+\.cubin' json /w /t -c "$scratch/images" "$scratch/images.2"
-    counts 'a group of a thousand commands as a graph' 1000 'ptxas.nk[0-9]\+\.cubin' dot /w /t -c "$scratch/group" "$scratch/group.2"
-    counts 'a hundred device groups as a graph' 100 'cicc.nk[0-9]\+\.ptx' dot /w /t -c "$scratch/groups" "$scratch/groups.2"
-    counts 'a thousand dropped programs as a graph' 1000 'd[0-9]\+ \[label="p[0-9]\+.nNotCuda" style=dashed' \
-        dot /w /t -c "$scratch/programs" "$scratch/programs.2"
-    counts 'a command of ten thousand words as a graph' 1 'label="gcc' dot /w /t -c "$scratch/words" "$scratch/words.2"
     counts 'a command of ten thousand words as a compilation database' 10000 '-DA' compdb /w /t -c "$scratch/words" "$scratch/words.2"
     counts 'a thousand sources as a compilation database' 1000 '"file":"/w/s[0-9]\+\.cu"' compdb /w /t -c "$scratch/sources" "$scratch/sources.2"
     counts 'a hundred device groups as a compilation database' 100 'x_[0-9]\+\.cpp1\.ii' compdb /w /t -c "$scratch/groups" "$scratch/groups.2"
@@ -914,8 +702,8 @@ in_folder() {
 
 # denied NAME DRY1 DRY2: a call by another user than root, in a folder with a file that this user may not read.
 denied() {
-    in_folder "$scratch/unread" as_nobody ./zigrunk json /w /t -c "$2" "$3"
-    judge "$1" 1 '' $'zigrunk: cannot read secret: Permission denied\n'
+    program=./zigrunk in_folder "$scratch/unread" plan_as_nobody json /w /t -c "$2" "$3"
+    judge "$1" 1 '' $'zigrunk plan: cannot read secret: Permission denied\n'
 }
 
 # files that can't be read, each for another reason of the system; and files whose names begin with a dash
@@ -924,12 +712,12 @@ unread_files() {
     mkdir -p "$folder"
     ln -s loop "$folder/loop"
     fails 'a file whose links go round' "cannot read $folder/loop: Too many levels of symbolic links" json /w /t -c "$folder/loop" "$scratch/kernel"
-    fails 'a file that the system refuses to read' 'cannot read /proc/self/mem: the system reports error 5' \
+    fails 'a file that the system refuses to read' 'cannot read /proc/self/mem: Input/output error' \
         json /w /t -c "$scratch/kernel" /proc/self/mem
     cp "$scratch/kernel" "$folder/-x"
     cp "$scratch/kernel.2" "$folder/--"
-    "$program" json /w /t -c "$scratch/kernel" "$scratch/kernel.2" > "$scratch/want"
-    in_folder "$folder" "$program" json /w /t -c -x --
+    zigrunk_plan json /w /t -c "$scratch/kernel" "$scratch/kernel.2" > "$scratch/want"
+    in_folder "$folder" zigrunk_plan json /w /t -c -x --
     judge 'files whose names begin with a dash' 0 "$(cat "$scratch/want")"$'\n' ''
     if ! as_nobody true 2> /dev/null; then
         skip 'a file without permission' 'setpriv cannot become another user'
@@ -954,7 +742,7 @@ closed_folder() {
     chmod 0 "$1/closed"
     lines_of unread/run "#\$ PATH=$1/closed:$1/beside" "${KERNEL[0]}"
     cp "$1/run" "$1/run.2"
-    in_folder "$1" as_nobody ./zigrunk json /w /t -c run run.2
+    program=./zigrunk in_folder "$1" plan_as_nobody json /w /t -c run run.2
     chmod 700 "$1/closed"
     sed -i 's/.*\("exe":"[^"]*"\).*/\1/' "$scratch/out"
     judge 'a folder of PATH that may not be searched' 0 "\"exe\":\"$1/beside/gcc\""$'\n' ''
@@ -963,7 +751,7 @@ closed_folder() {
 # holds NAME FORMAT RUN WORD: a plan that has this long word once.
 holds() {
     printf '%s' "$4" > "$scratch/long_word"
-    noted "$program" "$2" /w /t -c "$scratch/$3" "$scratch/$3.2" > "$scratch/text" 2> "$scratch/err"
+    noted zigrunk_plan "$2" /w /t -c "$scratch/$3" "$scratch/$3.2" > "$scratch/text" 2> "$scratch/err"
     # (grep takes many seconds for such a word)
     awk 'NR == FNR { word = $0; next } { while ((at = index($0, word)) > 0) { found++; $0 = substr($0, at + length(word)) } } END { print found + 0 }' \
         "$scratch/long_word" "$scratch/text" > "$scratch/out"
@@ -972,7 +760,7 @@ holds() {
 
 # values and words of over 65,536 bytes, in each format that has them
 long_values() {
-    local long format name
+    local long format
     long=$(printf '%070000d' 0)
     run_of value "#\$ HOME=/h$long" "${KERNEL[2]}"
     run_of word "#\$ gcc -D__NVCC__ -E -DA=$long k.cu -o k.cpp1.ii"
@@ -981,16 +769,12 @@ long_values() {
     for format in shell ninja json; do
         holds 'a variable of 70,000 bytes' "$format" value "/h$long"
     done
-    for format in shell ninja json compdb text plan; do
+    for format in "${formats[@]}"; do
         holds 'a word of 70,000 bytes' "$format" word "-DA=$long"
     done
     holds 'a dropped word of 70,000 bytes' json lost_word "w$long"
     holds 'a dropped word of 70,000 bytes' ninja lost_word "w$long"
-    holds 'an output of 70,000 bytes' dot name "n$long"
-    for name in value word name; do
-        fails "a $name of 70,000 bytes as makeflow" "a command of the plan has over 65000 bytes, which Makeflow doesn't read" \
-            makeflow /w /t -c "$scratch/$name" "$scratch/$name.2"
-    done
+    holds 'an output of 70,000 bytes' text name "n$long"
 }
 
 # a command of over 500 bytes that refers to sixty variables, and one that names sixty generated files
@@ -1006,84 +790,67 @@ many_names() {
     done
     run_of names "${assigned[@]}" "#\$ gcc -D__NVCC__$references -E k.cu -o k" "#\$ gcc -D__NVCC__$files"
     check 'sixty names' 0 "group 0
-no cd /w && $scratch/none/gcc -D__NVCC__$values -E k.cu -o k
+no cd /w && $scratch/bin/gcc -D__NVCC__$values -E k.cu -o k
 group 1
-yes cd /w && $scratch/none/gcc -D__NVCC__$renamed
-" '' plan /w /t -c "$scratch/names" "$scratch/names.2"
-    for format in shell ninja json compdb makeflow text; do
+yes cd /w && $scratch/bin/gcc -D__NVCC__$renamed
+" '' text /w /t -c "$scratch/names" "$scratch/names.2"
+    for format in "${formats[@]}"; do
         counts "sixty variables as $format" 60 '-D[A-C][AEIO][AEIOU]-[0-9]' "$format" /w /t -c "$scratch/names" "$scratch/names.2"
     done
     counts 'sixty generated files as json' 60 '"x_[0-9]*.cpp1.ii"' json /w /t -c "$scratch/names" "$scratch/names.2"
 }
 
-# calls whose allocations fail: as the program starts, and where it reads files, looks up programs and writes
-no_memory() {
-    is_wanted 'calls without memory' || return 0
-    if [[ $(head -qc 2 "$cudaplan" "$program") == *'#!'* ]]; then
-        skip 'calls without memory' 'a script starts a program, and its shell would be refused the memory'
-    elif ! cc -shared -fPIC -o "$scratch/refuse_nth.so" tests/refuse_nth.c -ldl 2> "$scratch/said"; then
-        skip 'calls without memory' "cc can't compile tests/refuse_nth.c"
-    else
-        tests/refused_memory.sh --few "$cudaplan" "$program" > "$scratch/said" 2>&1
-        add "$?" "$scratch/said" || echo 'calls without memory: the last line has no counts that fit'
-        head -n -3 "$scratch/said"
-    fi
-}
-
 # files that aren't the dry runs of a call, and plans without commands, in every format
 unfit_files() {
-    local format folder behind=$'no line begins with "#$ "\n'
+    local format folder behind=$'no line begins with "#$ "\n' plain='the path has to be absolute, without an empty part, . or ..'
     : > "$scratch/empty"
     printf '#$\n #$ gcc\n$# gcc\n' > "$scratch/prose"
-    for format in shell ninja json dot compdb makeflow text; do
+    for format in "${formats[@]}"; do
         fails "one file twice as $format" "$scratch/kernel: both dry runs are the same file" "$format" /w /t -c "$scratch/kernel" "$scratch/kernel"
-        check "a first file that is no dry run as $format" 1 '' "zigrunk: $scratch/prose: the first file is no dry run: $behind" \
+        check "a first file that is no dry run as $format" 1 '' "zigrunk plan: $scratch/prose: no dry run: $behind" \
             "$format" /w /t -c "$scratch/prose" "$scratch/kernel"
-        check "a second file that is no dry run as $format" 1 '' "zigrunk: $scratch/empty: the second file is no dry run: $behind" \
+        check "a second file that is no dry run as $format" 1 '' "zigrunk plan: $scratch/empty: no dry run: $behind" \
             "$format" /w /t -c "$scratch/kernel" "$scratch/empty"
         fails "a plan without commands as $format" 'the plan has no command' "$format" /w /t -c "$scratch/nothing" "$scratch/nothing.2"
     done
-    for format in shell ninja json dot compdb makeflow text; do
+    for format in "${formats[@]}"; do
         for folder in w . ../w //w /w/ /w//x /w/./x /w/../w /w/. /w/..; do
             check "the directory $folder for temporary files as $format" 1 '' \
-                $'zigrunk: the directory for temporary files has to be absolute, without an empty part, . or ..\n' \
+                "zigrunk plan: --tmp $folder: $plain"$'\n' \
                 "$format" /w "$folder" -c "$scratch/kernel" "$scratch/kernel.2"
-            fails "the working directory $folder as $format" 'the working directory has to be absolute, without an empty part, . or ..' \
+            fails "the working directory $folder as $format" "--cwd $folder: $plain" \
                 "$format" "$folder" /t -c "$scratch/kernel" "$scratch/kernel.2"
         done
     done
     fails 'one file twice that is no dry run' "$scratch/empty: both dry runs are the same file" json /w /t -c "$scratch/empty" "$scratch/empty"
-    check 'no dry run, and a bad suffix' 1 '' "zigrunk: $scratch/empty: the first file is no dry run: $behind" \
+    check 'no dry run, and a bad suffix' 1 '' "zigrunk plan: $scratch/empty: no dry run: $behind" \
         json /w /t -c "$scratch/empty" "$scratch/kernel" .ii
     fails 'a plan of commands that are all dropped' 'the plan has no command' json /w /t -c "$scratch/dropped" "$scratch/dropped.2"
-    check 'the text of one file twice' 0 $'group 0\ngroup 1\n' '' plan /w /t -c "$scratch/empty" "$scratch/empty"
 }
 
 # bad NAME LINE CAUSE [SHOWN]: a second dry run with this line behind the one that sets PATH. The message says what CAUSE does and
 # shows the line, or SHOWN.
 bad() {
     run_of bad "$2"
-    check "$1" 1 '' "zigrunk: $scratch/bad:2: $3"$'\n'"    ${4-$2}"$'\n' json /w /t -c "$scratch/kernel" "$scratch/bad"
-    check "$1, as text" 1 '' "zigrunk: $scratch/bad:2: ${5-$3}"$'\n'"    ${4-$2}"$'\n' plan /w /t -c "$scratch/kernel" "$scratch/bad"
+    check "$1" 1 '' "zigrunk plan: $scratch/bad:2: $3"$'\n'"    ${4-$2}"$'\n' json /w /t -c "$scratch/kernel" "$scratch/bad"
 }
 
-# suffixes NAME MESSAGE SUFFIX..: further suffixes that are refused with this message, in a format and as text.
+# suffixes NAME SHOWN SUFFIX..: further suffixes that are refused, as the message shows them.
 suffixes() {
-    local name=$1 message=$2
+    local name=$1 shown=$2 rule='a suffix begins with ., ends in a letter or digit and has no /, and none is the end of another'
     shift 2
-    fails "$name" "$message" json /w /t -c "$scratch/kernel" "$scratch/kernel.2" "$@"
-    fails "$name, as text" "$message" plan /w /t -c "$scratch/kernel" "$scratch/kernel.2" "$@"
+    fails "$name" "--suffix $shown: $rule" json /w /t -c "$scratch/kernel" "$scratch/kernel.2" "$@"
 }
 
 # messages: which file, which line, why, and what to do
 messages() {
-    local nowhere="in PATH ($scratch/none:$scratch/bin)" long folder=$scratch rule='must begin with ".", end in a letter or digit and contain no "/"'
+    local nowhere="in PATH ($scratch/none:$scratch/bin)" long folder=$scratch
     lines_of pathless '#$ gcc'
     fails 'no PATH in the second run' "$scratch/pathless:1: no line before this one sets PATH"$'\n    #$ gcc' \
         json /w /t -c "$scratch/kernel" "$scratch/pathless"
     fails 'a folder in place of a file' "cannot read $folder: Is a directory" json /w /t -c "$scratch/kernel" "$folder"
     fails 'a file in place of a folder' "cannot read $scratch/kernel/x: Not a directory" json /w /t -c "$scratch/kernel/x" x
-    check 'a file with a newline' 1 '' 'zigrunk: cannot read a\nb: No such file or directory'$'\n' json /w /t -c $'a\nb' x
+    check 'a file with a newline' 1 '' 'zigrunk plan: cannot read a\nb: No such file or directory'$'\n' json /w /t -c $'a\nb' x
     bad 'an open quote' "#\$ gcc 'x" 'the command has an open quote or ends in a backslash'
     # shellcheck disable=SC1003 # a backslash
     bad 'a backslash at the end' '#$ gcc \' 'the command has an open quote or ends in a backslash'
@@ -1092,45 +859,46 @@ messages() {
     bad 'a line for dependencies' "#\$ -- Filter Dependencies -- > 'k.d" \
         'this line filters dependencies: make the dry runs without dependency options, such as -MD'
     run_of bad '#$ nowhere -c'
-    check 'a program that only the second run misses' 1 '' "zigrunk: $scratch/bad.2:2: cannot find nowhere $nowhere"$'\n    #$ nowhere -c\n' \
+    check 'a program that only the second run misses' 1 '' "zigrunk plan: $scratch/bad.2:2: cannot find nowhere $nowhere"$'\n    #$ nowhere -c\n' \
         json /w /t -c "$scratch/kernel" "$scratch/bad.2"
     run_of bad '#$ ./nowhere/gcc -c'
-    check 'a program by its path' 1 '' "zigrunk: $scratch/bad:2: cannot find ./nowhere/gcc: no such program"$'\n    #$ ./nowhere/gcc -c\n' \
+    check 'a program by its path' 1 '' "zigrunk plan: $scratch/bad:2: cannot find ./nowhere/gcc: no such program"$'\n    #$ ./nowhere/gcc -c\n' \
         json /w /t -c "$scratch/bad" "$scratch/kernel"
     lines_of bad '#$ PATH=' '#$ gcc'
-    fails 'a program with an empty PATH, as text' "$scratch/bad:2: cannot find gcc in PATH ()"$'\n    #$ gcc' \
-        plan /w /t -c "$scratch/bad" "$scratch/kernel"
+    fails 'a program with an empty PATH' "$scratch/bad:2: cannot find gcc in PATH ()"$'\n    #$ gcc' \
+        text /w /t -c "$scratch/bad" "$scratch/kernel"
     long=$(printf 'é%.0s' {1..116})
     bad 'a line of 120 characters' "#\$ '$long" 'the command has an open quote or ends in a backslash'
     bad 'a line of 121 characters' "#\$ '${long}x" 'the command has an open quote or ends in a backslash' "#\$ '$long.."
-    suffixes 'a bad suffix behind a good one' 'suffix ".ii" is a suffix of ".cpp1.ii"' .ptx .ii
-    suffixes 'a suffix that ends in a standard one' 'suffix ".cudafe1.c" is a suffix of ".x.cudafe1.c"' .x.cudafe1.c
-    suffixes 'two further suffixes that overlap' 'suffix ".gpu" is a suffix of ".cudafe1.gpu"' .gpu .x .cudafe1.gpu
-    suffixes 'two that overlap, in the other order' 'suffix ".gpu" is a suffix of ".cudafe1.gpu"' .cudafe1.gpu .gpu
-    suffixes 'a standard suffix' 'suffix ".cpp1.ii" is in the list twice' .cpp1.ii
-    suffixes 'a suffix twice' 'suffix ".x" is in the list twice' .x .x
-    suffixes 'a suffix without a dot' "suffix \"gpu\" $rule" .ptx gpu
-    suffixes 'a text that is no suffix, behind two that overlap' "suffix \"a/b\" $rule" .ii a/b
-    suffixes 'an empty suffix' "suffix \"\" $rule" ''
-    suffixes 'a suffix with control characters' "suffix \".\\n\\u{1b}\\u{9b}\" $rule" $'.\n\x1b\xc2\x9b'
+    suffixes 'a bad suffix behind a good one' '.ptx .ii' .ptx .ii
+    suffixes 'a suffix that ends in a standard one' .x.cudafe1.c .x.cudafe1.c
+    suffixes 'two further suffixes that overlap' '.gpu .x .cudafe1.gpu' .gpu .x .cudafe1.gpu
+    suffixes 'two that overlap, in the other order' '.cudafe1.gpu .gpu' .cudafe1.gpu .gpu
+    suffixes 'a standard suffix' .cpp1.ii .cpp1.ii
+    suffixes 'a suffix twice' '.x .x' .x .x
+    suffixes 'a suffix without a dot' gpu gpu
+    suffixes 'a suffix with a slash' .a/b .a/b
+    suffixes 'an empty suffix' '' ''
+    suffixes 'a suffix with control characters' '.\n\u{1b}\u{9b}' $'.\n\x1b\xc2\x9b'
 }
 
 # messages about long input: a line of a megabyte, the last of a thousand suffixes, and a file with a long name
 long_messages() {
-    local long suffixes=() number
+    local long suffixes=() number shown
     long=$(head -c 1000000 /dev/zero | tr '\0' x)
     bad 'a line of a megabyte' "#\$ '$long" 'the command has an open quote or ends in a backslash' "#\$ '${long:0:116}.."
     for number in {1..1000}; do
         suffixes+=(".a$number")
     done
-    suffixes 'a bad suffix behind a thousand' 'suffix ".ii" is a suffix of ".cpp1.ii"' "${suffixes[@]}" .ii
+    shown="${suffixes[*]}"
+    suffixes 'a bad suffix behind a thousand' "${shown:0:1000}.." "${suffixes[@]}" .ii
     run_of bad "${suffixes[@]/#./#$ A=}" "#\$ '"
     check 'a bad line behind a thousand variables' 1 '' \
-        "zigrunk: $scratch/bad:$(wc -l < "$scratch/bad"): the command has an open quote or ends in a backslash"$'\n'"    #\$ '"$'\n' \
+        "zigrunk plan: $scratch/bad:$(wc -l < "$scratch/bad"): the command has an open quote or ends in a backslash"$'\n'"    #\$ '"$'\n' \
         json --limit 100000000 /w /t -c "$scratch/kernel" "$scratch/bad"
     lines_of bad "#\$ PATH=/$long" '#$ nowhere'
     check 'a program that is not in a path of a megabyte' 1 '' \
-        "zigrunk: $scratch/bad:2: cannot find nowhere in PATH (/${long:0:999}..)"$'\n    #$ nowhere\n' json /w /t -c "$scratch/kernel" "$scratch/bad"
+        "zigrunk plan: $scratch/bad:2: cannot find nowhere in PATH (/${long:0:999}..)"$'\n    #$ nowhere\n' json /w /t -c "$scratch/kernel" "$scratch/bad"
     long=${long:0:100000}
     fails 'a file with a name of 100,000 bytes' "cannot read ${long:0:1000}..: File name too long" json /w /t -c "$long" x
 }
@@ -1176,15 +944,14 @@ escaped_words() {
     escaped 1 "$scratch/$text" "$scratch/$text"
 }
 
-# escaped LINES DRY1 DRY2 SUFFIX..: a call that fails with so many lines on standard error, or with two for wrong usage if a word isn't
-# UTF-8.
+# escaped LINES DRY1 DRY2 SUFFIX..: a call that fails with so many lines on standard error, or with one if a word isn't UTF-8.
 escaped() {
     local lines=$1
     shift
-    "$program" json /w /t -c "$@" >> "$scratch/out" 2>> "$scratch/err"
+    zigrunk_plan json /w /t -c "$@" >> "$scratch/out" 2>> "$scratch/err"
     case $? in
         1) lines_told=$((lines_told + lines)) ;;
-        2) lines_told=$((lines_told + 2)) ;;
+        2) lines_told=$((lines_told + 1)) ;;
         *) wrong='another status' ;;
     esac
 }
@@ -1192,33 +959,33 @@ escaped() {
 # standard input in place of a file
 standard_input() {
     local plan
-    plan=$("$program" json /w /t -c "$scratch/kernel" "$scratch/kernel.2"; printf .)
+    plan=$(zigrunk_plan json /w /t -c "$scratch/kernel" "$scratch/kernel.2"; printf .)
     check 'the first run from standard input' 0 "${plan%.}" '' json /w /t -c - "$scratch/kernel.2" < "$scratch/kernel"
     check 'the second run from standard input' 0 "${plan%.}" '' json /w /t -c "$scratch/kernel" - < <(cat "$scratch/kernel.2")
     fails 'both runs from standard input' '-: both dry runs are the same file' json /w /t -c - - < "$scratch/kernel"
-    fails 'a closed standard input' 'cannot read -: the system reports error 9' json /w /t -c "$scratch/kernel" - <&-
+    fails 'a closed standard input' '-: no dry run: no line begins with "#$ "' json /w /t -c "$scratch/kernel" - <&-
     fails 'a folder as standard input' 'cannot read -: Is a directory' json /w /t -c - "$scratch/kernel.2" < "$scratch"
     fails 'a first run without a name' 'cannot read : No such file or directory' json /w /t -c '' "$scratch/kernel.2" < "$scratch/kernel"
     fails 'a second run without a name' 'cannot read : No such file or directory' json /w /t -c "$scratch/kernel" '' < "$scratch/kernel.2"
     mkdir -p "$scratch/dashes"
     cp "$scratch/kernel" "$scratch/dashes/-"
-    in_folder "$scratch/dashes" "$program" json /w /t -c ./- ../kernel.2
+    in_folder "$scratch/dashes" zigrunk_plan json /w /t -c ./- ../kernel.2
     judge 'a file that has the name of standard input' 0 "${plan%.}" ''
 }
 
 # plans that aren't written
 refused_exports() {
-    local unread="zigrunk: cannot read $scratch/missing: No such file or directory"$'\n' unheld=$'zigrunk: a text of the plan holds a byte that the form can\'t\n' format
-    for format in shell ninja json dot compdb makeflow text; do
+    local unread="zigrunk plan: cannot read $scratch/missing: No such file or directory"$'\n' unheld=$'zigrunk plan: a text of the plan holds a byte that the form can\'t\n' format
+    for format in "${formats[@]}"; do
         check "no first file for $format" 1 '' "$unread" "$format" /w /t -c "$scratch/missing" "$scratch/kernel"
         check "no second file for $format" 1 '' "$unread" "$format" /w /t -c "$scratch/kernel" "$scratch/missing"
     done
-    fails 'a bad suffix' 'suffix ".ii" is a suffix of ".cpp1.ii"' json /w /t -c "$scratch/kernel" "$scratch/kernel.2" .ii
+    suffixes 'a bad suffix' .ii .ii
     lines_of pathless '#$ gcc'
     check 'no first file, and its name twice' 1 '' "$unread" json /w /t -c "$scratch/missing" "$scratch/missing"
     fails 'no PATH' "$scratch/pathless:1: no line before this one sets PATH"$'\n    #$ gcc' json /w /t -c "$scratch/pathless" "$scratch/kernel"
     run_of lost '#$ nowhere'
-    check 'a program that is not on disk' 1 '' "zigrunk: $scratch/lost:2: cannot find nowhere in PATH ($scratch/none:$scratch/bin)"$'\n    #$ nowhere\n' \
+    check 'a program that is not on disk' 1 '' "zigrunk plan: $scratch/lost:2: cannot find nowhere in PATH ($scratch/none:$scratch/bin)"$'\n    #$ nowhere\n' \
         json /w /t -c "$scratch/lost" "$scratch/kernel"
     check 'a folder with a newline for Ninja' 1 '' "$unheld" ninja /w $'/t\n' -c "$scratch/kernel" "$scratch/kernel.2"
     mkdir -p "$scratch/h=re"
@@ -1227,8 +994,7 @@ refused_exports() {
     run_of equals '#$ ./gcc -D__NVCC__ x.cpp'
     fails 'a program whose path has an equals sign' 'a program of the plan has a path that env takes for something else' \
         shell "$scratch/h=re" /t -c "$scratch/equals" "$scratch/equals.2"
-    to_full 'a version to a full disk' 1 $'zigrunk: cannot write\n' --version
-    to_full 'a plan as JSON to a full disk' 1 $'zigrunk: cannot write\n' json /w /t -c "$scratch/kernel" "$scratch/kernel.2"
+    to_full 'a plan as JSON to a full disk' 1 $'zigrunk plan: cannot write\n' json /w /t -c "$scratch/kernel" "$scratch/kernel.2"
 }
 
 # doubling N: a dry run of N variables, each of which is twice the next, and a command that refers to the first.
@@ -1256,7 +1022,7 @@ hostile_input() {
 fastest() {
     local TIMEFORMAT='%3U + %3S'
     for _ in {1..10}; do
-        { time "$program" plan /w /t -c "$scratch/$1" "$scratch/$1.2" > /dev/null 2>&1; } 2>&1
+        { time zigrunk_plan text /w /t -c "$scratch/$1" "$scratch/$1.2" > /dev/null 2>&1; } 2>&1
     done | awk '{ took = $1 + $3 } NR == 1 || took < least { least = took } END { print least }'
 }
 
@@ -1269,23 +1035,23 @@ limits() {
     # PATH and its value, and PATH with gcc behind it, -D__NVCC__ and x.i: each counts one byte more, and each line 4,096
     room=$(($(sed -n 's/^#\$ PATH=//p' "$scratch/within" | tr -d '\n' | wc -c) * 2 + 25 + 2 * 4096))
     local exceeded=":2: with this line, the dry run makes over $((room - 1)) bytes: --limit allows more$within"
-    out=$("$program" json /w /t -c "$scratch/within" "$scratch/within.2"; printf .)
-    check 'dry runs that just fit' 0 "${out%.}" '' --limit "$room" json /w /t -c "$scratch/within" "$scratch/within.2"
-    for form in shell ninja json dot compdb makeflow text plan; do
-        check "$form: the first run exceeds the limit" 1 '' "zigrunk: $scratch/within$exceeded" \
-            --limit $((room - 1)) "$form" /w /t -c "$scratch/within" "$scratch/within.2"
-        check "$form: the second run exceeds the limit" 1 '' "zigrunk: $scratch/within.2$exceeded" \
-            --limit $((room - 1)) "$form" /w /t -c "$scratch/small" "$scratch/within.2"
+    out=$(zigrunk_plan json /w /t -c "$scratch/within" "$scratch/within.2"; printf .)
+    check 'dry runs that just fit' 0 "${out%.}" '' json --limit "$room" /w /t -c "$scratch/within" "$scratch/within.2"
+    for form in "${formats[@]}"; do
+        check "$form: the first run exceeds the limit" 1 '' "zigrunk plan: $scratch/within$exceeded" \
+            "$form" --limit $((room - 1)) /w /t -c "$scratch/within" "$scratch/within.2"
+        check "$form: the second run exceeds the limit" 1 '' "zigrunk plan: $scratch/within.2$exceeded" \
+            "$form" --limit $((room - 1)) /w /t -c "$scratch/small" "$scratch/within.2"
     done
-    check 'no room at all' 1 '' "zigrunk: $scratch/within:1: with this line, the dry run makes over 0 bytes: --limit allows more"$'\n    '"$(head -n 1 "$scratch/within")"$'\n' \
-        --limit 0 json /w /t -c "$scratch/within" "$scratch/within.2"
+    check 'no room at all' 1 '' "zigrunk plan: $scratch/within:1: with this line, the dry run makes over 0 bytes: --limit allows more"$'\n    '"$(head -n 1 "$scratch/within")"$'\n' \
+        json --limit 0 /w /t -c "$scratch/within" "$scratch/within.2"
     doubling 25 > "$scratch/doubling"
     cp "$scratch/doubling" "$scratch/doubling.2"
-    for form in json plan; do
+    for form in json text; do
         # in 300 MB
         ulimit -S -v 307200
         check "$form: $(wc -c < "$scratch/doubling") bytes that explode" 1 '' \
-            "zigrunk: $scratch/doubling:27: with this line, the dry run makes over 2097152 bytes: --limit allows more"$'\n    #$ $A.\n' \
+            "zigrunk plan: $scratch/doubling:27: with this line, the dry run makes over 2097152 bytes: --limit allows more"$'\n    #$ $A.\n' \
             "$form" /w /t -c "$scratch/doubling" "$scratch/doubling.2"
         ulimit -S -v unlimited
     done
@@ -1297,134 +1063,45 @@ limits() {
     judge 'the time of a refusal' 0 $'1\n' ''
 }
 
-# misuse EXPECTED FORM WORD..: words that are no call: what the program expects in place of one, and the form that it shows.
-misuse() {
-    local message=$1 form=$2
-    shift 2
-    check "wrong usage: $(printf '%.20q ' "$@")" 2 '' "zigrunk: expected $message"$'\n'"usage: zigrunk $form"$'\n' "$@"
-}
-
-# words that are no call
-wrong_usage() {
-    local all='shell|ninja|json|dot|compdb|makeflow|text|plan|calls|directory|line .., or --help'
-    local none='a command, and words and variables in UTF-8' named='an option or a command, not' bytes='a number of bytes for --limit' odd='an option or CWD, not'
-    local line='line cicc|ptxas|cudafe++ CWD WORD..' plan='CWD TMP FLAG DRY1 DRY2 SUFFIX..' page='-h | --help | --version' one=$scratch/kernel two=$scratch/kernel.2 name
-    local form="FORMAT [--limit BYTES] [--keep] [--whole] $plan" kept='a format behind --keep or --whole, not'
-    misuse "$none" "$all"
-    misuse "$none" "$all" --limit 5
-    misuse "$none" "$all" --keep --whole
-    misuse "$none" "$all" calls /w /t nvcc -c k.cu -o $'\xff'
-    misuse "$none" "$all" $'\xff'
-    misuse "$named  (word 1)" "$all" ''
-    misuse "$named nija (word 1)" "$all" nija
-    misuse "$named Ninja (word 1)" "$all" Ninja /w /t -c "$one" "$two"
-    misuse "$named a\\u{1}b (word 1)" "$all" $'a\x01b' --limit 5
-    misuse "$named graph (word 3)" "$all" --limit 5 graph /w /t -c "$one" "$two"
-    misuse "$named graph (word 5)" "$all" --whole --limit 5 --keep graph /w /t -c "$one" "$two"
-    misuse "$named --hlep (word 1)" "$all" --hlep
-    misuse "$named --limit=5 (word 1)" "$all" --limit=5 json /w /t -c "$one" "$two"
-    misuse "$named --limt (word 4)" "$all" --keep --limit 5 --limt 5 json /w /t -c "$one" "$two"
-    misuse "$bytes" "$all" --limit
-    misuse "$bytes" "$all" --limit 5 --limit
-    misuse "$bytes, not json (word 2)" "$all" --limit json
-    misuse "$bytes, not x (word 2)" "$all" --limit x json /w /t -c "$one" "$two"
-    misuse "$bytes, not -1 (word 2)" "$all" --limit -1 json /w /t -c "$one" "$two"
-    misuse "$bytes, not 2M (word 3)" "$all" --whole --limit 2M dot /w /t -c "$one" "$two"
-    misuse "$bytes, not 18446744073709551616 (word 2)" "$all" --limit 18446744073709551616 json /w /t -c "$one" "$two"
-    misuse "$bytes, not 3k (word 4)" "$form" shell --keep --limit 3k /w /t -c "$one" "$two"
-    misuse "$bytes" "$form" shell --whole --limit
-    for name in shell ninja json dot compdb makeflow text; do
-        misuse CWD "$form" "$name"
-        misuse DRY2 "$form" "$name" /w /t -c "$one"
-        misuse DRY1 "$form" --limit 9 "$name" --whole --keep /w /t -c
-        misuse "$odd --kep (word 2)" "$form" "$name" --kep /w /t -c "$one" "$two"
-        misuse "$odd --dependencies (word 2)" "$form" "$name" --dependencies /w /t -c "$one" "$two"
-        misuse "$odd --slot (word 3)" "$form" "$name" --keep --slot s /w /t -c "$one" "$two"
-    done
-    misuse "$odd - (word 2)" "$form" json - /t -c "$one" "$two"
-    misuse TMP "$form" ninja --keep /w
-    misuse FLAG "$form" ninja --limit 5 /w /t
-    misuse CWD "plan $plan" plan
-    misuse DRY2 "plan $plan" plan /w /t -c "$one"
-    misuse TMP "plan $plan" --limit 5 plan --keep
-    misuse CWD 'calls CWD TMP NVCC WORD..' calls
-    misuse NVCC 'calls CWD TMP NVCC WORD..' calls /w /t
-    misuse CWD 'directory CWD NVCC WORD..' directory
-    misuse NVCC 'directory CWD NVCC WORD..' directory /w
-    misuse 'cicc, ptxas or cudafe++' "$line" line
-    misuse CWD "$line" line ptxas
-    misuse 'cicc, ptxas or cudafe++, not nvcc (word 2)' "$line" line nvcc /w -c k.cu
-    misuse 'cicc, ptxas or cudafe++, not Cicc (word 4)' "$line" --limit 5 line Cicc /w x
-    misuse "$kept plan (word 2)" "$all" --keep plan /w /t -c "$one" "$two"
-    misuse "$kept calls (word 4)" "$all" --limit 5 --whole calls /w /t nvcc -c k.cu
-    misuse "$kept directory (word 2)" "$all" --whole directory /w nvcc
-    misuse "$kept line (word 3)" "$all" --keep --keep line cicc /w x
-    misuse 'no more words, not me (word 2)' "$page" --help me
-    misuse 'no more words, not me (word 3)' "$page" --keep -h me
-    misuse 'no more words, not 1 (word 2)' "$page" --version 1
-    for name in NVCC_PREPEND_FLAGS NVCC_APPEND_FLAGS ZIGRUNK_JOBS MAKEFLAGS; do
-        export "$name"=$'\xff'
-        misuse "$none" "$all" calls /w /t nvcc -c k.cu -o k.o
-        unset "$name"
-    done
-}
-
-# orders of options that mean the same, before a format and behind it: of two limits the last counts. With --whole, a plan may drop nothing
+# Options before a format and behind it mean the same, and of two limits the last counts. The directories and the flag have values of their
+# own.
 orders_of_options() {
-    local front after kept what small
-    run_of whole "${KERNEL[@]:0:7}"
-    kept=$("$program" shell --keep /w /t -c "$scratch/whole" "$scratch/whole.2"; printf .)
-    small="zigrunk: $scratch/kernel:1: with this line, the dry run makes over 7 bytes: --limit allows more"$'\n    '$(head -n 1 "$scratch/kernel")$'\n'
-    # shellcheck disable=SC2086 # words
-    while IFS='|' read -r front after what; do
-        if [ "$what" = small ]; then
-            check "$front FORMAT $after, of which the last limit counts" 1 '' "$small" \
-                $front json $after /w /t -c "$scratch/kernel" "$scratch/kernel.2"
-            continue
-        fi
-        check "$front FORMAT $after" 0 "${kept%.}" '' $front shell $after /w /t -c "$scratch/whole" "$scratch/whole.2"
-        [ "$what" != dropped ] || fails "$front FORMAT $after, and a dropped command" 'the plan dropped a command' \
-            $front shell $after /w /t -c "$scratch/kernel" "$scratch/kernel.2"
-    done << 'ORDERS'
---keep||
-|--keep|
---keep|--keep|
---keep --limit 90000||
---limit 90000 --keep|--whole|dropped
---whole --keep --limit 90000||dropped
---limit 0 --whole --keep --limit 90000||dropped
---limit 0 --limit 1 --limit 2 --limit 90000|--keep|
---limit 0|--keep --whole --limit 90000|dropped
---whole|--limit 90000 --keep|dropped
-|--whole --keep --limit 90000|dropped
-|--limit 0 --limit 90000 --keep --keep --whole --keep|dropped
-|--limit 0 --limit 1 --limit 2 --limit 3 --limit 90000 --keep|
---limit 90000 --limit 7||small
---limit 90000|--limit 7|small
---limit 7|--keep --whole|small
---keep --limit 8 --limit +07||small
---limit 90000|--limit 8 --keep --limit 7|small
-ORDERS
+    local small kept files=(--dry-runs "$scratch/kernel" "$scratch/kernel.2") places=(--cwd /w --tmp /t --flag -c)
+    kept=$("$program" plan "${files[@]}" "${places[@]}" --keep shell; printf .)
+    check 'a plan with names kept' 0 "${kept%.}" '' shell --keep /w /t -c "$scratch/kernel" "$scratch/kernel.2"
+    noted "$program" plan shell --keep "${places[@]}" "${files[@]}" > "$scratch/out" 2> "$scratch/err"
+    judge 'options behind a format' 0 "${kept%.}" ''
+    noted "$program" plan --limit 7 --keep "${files[@]}" shell --limit 90000 "${places[@]}" > "$scratch/out" 2> "$scratch/err"
+    judge 'options on both sides' 0 "${kept%.}" ''
+    small="zigrunk plan: $scratch/kernel:1: with this line, the dry run makes over 7 bytes: --limit allows more"$'\n    '$(head -n 1 "$scratch/kernel")$'\n'
+    check 'two limits' 1 '' "$small" json --limit 90000 --limit 7 /w /t -c "$scratch/kernel" "$scratch/kernel.2"
+    kept=$("$program" plan json "${files[@]}" --cwd /w --tmp /w --flag -c; printf .)
+    in_folder "$scratch" "$program" plan json "${files[@]}" --cwd /w
+    judge 'a directory and a flag that nobody says' 0 "${kept%.}" ''
+    (cd "$scratch" && kept=$("$program" plan text --cwd "$(pwd)" "${files[@]}") && [ "$kept" = "$("$program" plan text "${files[@]}")" ])
+    count 'a working directory that nobody says' "$([ $? = 0 ] || echo 'another plan')"
 }
 
-# the pages
-zigrunk_pages() {
-    local out name
-    check 'the version' 0 $'zigrunk 0.1.0\n' '' --version
-    noted "$program" --help > "$scratch/help" 2> "$scratch/err"
-    head -n 4 "$scratch/help" > "$scratch/out"
-    judge 'the help' 0 "usage: zigrunk FORMAT [--limit BYTES] [--keep] [--whole]
-                   CWD TMP FLAG DRY1 DRY2 SUFFIX..
-       zigrunk calls CWD TMP NVCC WORD..
-       zigrunk directory CWD NVCC WORD..
-" ''
-    out=$("$program" --help; printf .)
-    check 'the help by one letter' 0 "${out%.}" '' -h
-    for name in json calls line plan nija --version --keep --limit; do
-        check "the help of $name" 0 "${out%.}" '' "$name" --help
-        check "the help of $name by one letter" 0 "${out%.}" '' --limit 5 "$name" -h
-    done
-    check 'the help behind options' 0 "${out%.}" '' --whole --limit 5 json --keep --limit 7 -h
+# passes NAME REASON WORD..: a line that goes to nvcc.
+passes() {
+    noted "$program" plan text -- nvcc "${@:3}" > "$scratch/out" 2> "$scratch/err"
+    judge "$1" 3 '' "zigrunk plan: goes to nvcc: $2"$'\n'
+}
+
+# nvcc lines that no plan is made of
+calls_for_nvcc() {
+    passes 'no words of nvcc' 'it links'
+    passes 'a version' 'it prints something' --version
+    passes 'two sources' 'it names several inputs' -c a.cu b.cu
+    passes 'a preprocessor call' "its phase isn't split" -E k.cu
+    passes 'words in a missing file' 'an options file is missing or odd' -c k.cu -optf=words
+    passes 'an output named as a generated file' 'a name looks like that of a generated file' -ptx k.cu -o k.cpp1.ii
+    passes 'options of ptxas in a file' 'a word for a tool may name a file' -c k.cu -Xptxas --options-file=p.txt
+    passes 'standard input as an open file' 'it uses an open file' -x cu -c /dev/fd/0
+    passes 'an option without its value' 'an option lacks its value' -c k.cu --threads
+    passes 'a variable of the shell' "nvcc's shell may expand a word" -c k.cu '-DA=$B'
+    NVCC_APPEND_FLAGS=--dryrun passes 'a dry run' 'it prints something' -c k.cu
+    NVCC_PREPEND_FLAGS="-DA='1'" passes 'quotes in a variable' 'NVCC_PREPEND_FLAGS or NVCC_APPEND_FLAGS has quotes' -c k.cu
 }
 
 # run FUNCTION..: calls these functions, or those of them that the script's call names.
@@ -1437,13 +1114,11 @@ run() {
 
 run \
     good_lines refused_lines good_plans grouped_plans long_plan refused_plans unreadable_runs lost_programs odd_plans other_calls \
-    long_suffixes long_lines slow_streams short_streams closed_streams
-cudaplan=$program
-program=$zigrunk speaker=zigrunk
-unset NVCC_PREPEND_FLAGS NVCC_APPEND_FLAGS ZIGRUNK_JOBS MAKEFLAGS
+    long_suffixes long_lines slow_streams short_streams closed_streams no_memory
+program=$zigrunk speaker=zigrunk_plan user=()
+mapfile -t formats < <("$program" plan --formats)
 run \
-    nvcc_lines jobs_at_once directories forms_of_cudaplan long_nvcc_lines options_files odd_nvcc_words refused_nvcc_lines kernel_programs \
-    plan_scripts plan_files plan_views makeflow_files plan_schema whole_plans unfit_files programs_on_disk unread_files long_values many_names no_memory run_by_makeflow run_by_ninja \
-    long_exports refused_exports limits hostile_input messages \
-    long_messages escapes standard_input zigrunk_pages wrong_usage orders_of_options
+    kernel_programs plan_scripts plan_files compilation_databases plan_schema whole_plans unfit_files programs_on_disk unread_files \
+    long_values many_names run_by_ninja run_as_script long_exports refused_exports limits hostile_input messages long_messages escapes \
+    standard_input orders_of_options calls_for_nvcc
 summary

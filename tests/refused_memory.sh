@@ -1,14 +1,14 @@
 #!/usr/bin/env bash
-# Makes allocations fail, one at a time: in each test case, and in calls of cudaplan and zigrunk that succeed and that fail.
-# Every run with a failed allocation has to end in "out of memory", never in another answer. Calls of the programs run a
+# Makes allocations fail, one at a time: in each test case, and in calls of cudaplan that succeed and that fail.
+# Every run with a failed allocation has to end in "out of memory", never in another answer. Its calls run a
 # second time for each allocation, with all later allocations failing too: the reason must still be printed. (A list of the
 # library may ask again for less room than the first time. A run that gets it gives the same as with memory, and is counted
 # apart.)
 #
-# Usage: tests/refused_memory.sh [FILE..]     files of tests/drivers/test_lines/data or tests/drivers/test_plans/data; all files, and the
-#                                             calls of the programs, unless named
-#        tests/refused_memory.sh --calls      the calls of the programs alone
-#        tests/refused_memory.sh --few CUDAPLAN ZIGRUNK    few calls of other programs, each allocation failing alone (tests/program.sh)
+# Usage: tests/refused_memory.sh [FILE..]     files of tests/drivers/test_lines/data or tests/drivers/test_plans/data; all files, and
+#                                             cudaplan's calls, unless named
+#        tests/refused_memory.sh --calls      cudaplan's calls alone
+#        tests/refused_memory.sh --few CUDAPLAN    few calls of another cudaplan, each allocation failing alone (tests/program.sh)
 #
 # The last line is 'N passed, M failed': each failed allocation is a case.
 #
@@ -21,9 +21,8 @@ root=$PWD
 test_lines=$root/tests/drivers/test_lines/out/test_lines
 test_plans=$root/tests/drivers/test_plans/out/test_plans
 cudaplan=$root/crates/cudaplan/out/cudaplan
-zigrunk=$root/crates/zigrunk/out/zigrunk
-[ "${1-}" != --few ] || { cudaplan=$2 zigrunk=$3; }
-needed=("$cudaplan" "$zigrunk")
+[ "${1-}" != --few ] || cudaplan=$2
+needed=("$cudaplan")
 [[ ${1-} == --* ]] || needed+=("$test_lines" "$test_plans")
 for built in "${needed[@]}"; do
     if [ ! -x "$built" ]; then
@@ -89,23 +88,11 @@ judge_same() {
     fi
 }
 
-# What zigrunk says if there is no memory for more.
-short='|zigrunk: cannot read input
-|zigrunk: gcc: not found
-|zigrunk: bad generated suffixes
-|zigrunk: both dry runs are the same file
-|zigrunk: the first file is no dry run: no line begins with "#$ "
-|zigrunk: wrong usage: see zigrunk --help
-'
-
-# judge_call NAME N: judges a run of a program. It says that it is out of memory, or why the call fails anyway. If there is no
-# memory for zigrunk's message, that is shorter. Either is on standard error, and nothing on standard output.
+# judge_call NAME N: judges a run of cudaplan. It says on standard error that it is out of memory, or why the call fails anyway, and
+# nothing on standard output.
 judge_call() {
-    if [ "$status" -eq 1 ] &&
-        [[ $printed == '|cudaplan: out of memory' || $printed == '|zigrunk: out of memory' || $printed == '|zigrunk: cannot read '*': out of memory' ]]; then
+    if [ "$status" -eq 1 ] && [ "$printed" = '|cudaplan: out of memory' ]; then
         answered=$((answered + 1))
-    elif [ "$status" -eq "$expected_status" ] && [[ $short == *"$printed"$'\n'* ]]; then
-        same=$((same + 1))
     else
         judge_same "$1" "$2"
     fi
@@ -172,21 +159,8 @@ full_disk() {
     "$@" > /dev/full
 }
 
-# from_file FILE CMD..: runs a command whose standard input is a file.
-from_file() {
-    "${@:2}" < "$1"
-}
-
-# calls where each program starts, reads files and variables, looks up programs and writes
+# calls where cudaplan starts, reads files and writes
 few_calls() {
-    call 'a version' 0 "$zigrunk" --version
-    call 'a call that links' 3 "$zigrunk" calls /w /t nvcc k.cu
-    printf -- '-g' > g.rsp
-    call 'an options file' 0 "$zigrunk" calls /w /t nvcc -c k.cu -optf "$work/g.rsp"
-    NVCC_APPEND_FLAGS=-g ZIGRUNK_JOBS=3 call 'variables' 0 "$zigrunk" calls /w /t nvcc -c k.cu
-    call 'a short script' 0 "$zigrunk" shell /w /t -c short short2
-    call 'a script from standard input' 0 from_file short "$zigrunk" shell /w /t -c - short2
-    call 'a short Makeflow file' 0 "$zigrunk" makeflow /w /t -c short short2
     call 'a short cicc line' 0 "$cudaplan" line cicc /w k.cpp1.ii -o k.ptx
     call 'a short plan' 0 "$cudaplan" plan /w /t -c short short2
 }
@@ -220,42 +194,9 @@ bad_cudaplan_calls() {
     call 'no call' 2 "$cudaplan" line
 }
 
-# calls of zigrunk that succeed
-good_zigrunk_calls() {
-    call 'an nvcc line' 0 "$zigrunk" calls /w /t nvcc --threads 4 -c k.cu -o k.o -MD -MF k.d
-    call 'a script' 0 "$zigrunk" shell /w /t -c found found2
-    call 'a Ninja file' 0 "$zigrunk" ninja /w /t -c found found2
-    call 'JSON' 0 "$zigrunk" json /w /t -c found found2
-    call 'a graph' 0 "$zigrunk" dot /w /t -c found found2
-    call 'a compilation database' 0 "$zigrunk" compdb /w /t -c found found2
-    call 'a Makeflow file' 0 "$zigrunk" makeflow /w /t -c found found2
-    call 'text' 0 "$zigrunk" text /w /t -c found found2
-}
-
-# calls of zigrunk that fail, each for another reason
-bad_zigrunk_calls() {
-    call 'no compilation of nvcc' 3 "$zigrunk" calls /w /t nvcc --version
-    call 'an nvcc line that cannot be cached' 3 "$zigrunk" calls /w /t nvcc -c a.cu b.cu
-    call 'an output without a name' 1 "$zigrunk" calls /w /t nvcc -c k.cu -o ..
-    call 'no file for a script' 1 "$zigrunk" shell /w /t -c dry_runs/none found
-    call 'no program on disk' 1 "$zigrunk" shell /w /t -c lost lost2
-    call 'bad suffixes for a script' 1 "$zigrunk" shell /w /t -c found found2 .ii
-    call 'a newline for Ninja' 1 "$zigrunk" ninja $'/w\n' /t -c found found2
-    call 'one file twice' 1 "$zigrunk" json /w /t -c found found
-    call 'no dry run' 1 "$zigrunk" json /w /t -c dry_runs/one_kernel.plan found
-    call 'JSON to a full disk' 1 full_disk "$zigrunk" json /w /t -c found found2
-    call 'no call of zigrunk' 2 "$zigrunk" shell
-}
-
 # calls of the programs
 program_calls() {
     local before=$refused
-    mkdir -p bin
-    : > bin/gcc
-    : > bin/cicc
-    chmod +x bin/gcc bin/cicc
-    printf '%s\n' "#\$ PATH=$work/bin" '#$ gcc -D__NVCC__ -E k.cu -o k.cpp1.ii' '#$ cicc k.cpp1.ii -o k.ptx' > found
-    cp found found2
     printf '%s\n' "#\$ PATH=$work/bin" '#$ gcc -D__NVCC__ -c x.cpp' > short
     cp short short2
     printf '%s\n' '#$ PATH=' '#$ gcc -D__NVCC__ -E k.cu -o k.cpp1.ii' > lost
@@ -267,8 +208,6 @@ program_calls() {
     if [ -z "$few" ]; then
         good_cudaplan_calls
         bad_cudaplan_calls
-        good_zigrunk_calls
-        bad_zigrunk_calls
     fi
     echo "calls of the programs: failed allocations $((refused - before)), after $SECONDS s"
 }

@@ -139,7 +139,7 @@ check 'the page of the package has these lines too' prints '' comm -13 <(sed -n 
     <(sed -n '/^```rust/,/^```$/p' zigrunk/README.md | grep -v '^```' | sort)
 check 'the versions' grep -qx "version = \"$version\"" Cargo.toml
 check 'the tests' cargo test -q "${plain[@]}"
-check 'programs are no tests' cargo test -q -p cudaplan -p zigrunk-cli
+check 'programs are no tests' cargo test -q -p cudaplan
 check 'what the examples write' examples_write "$CARGO_TARGET_DIR/debug/examples"
 check 'the ten lines of the page in a new project' ten_lines
 check 'the five lines of the package in a new project' five_lines

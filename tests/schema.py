@@ -2,12 +2,11 @@
 """Validates the JSON of the plans of real nvcc calls by docs/plan.schema.json.
 
 The dry runs are those of tests/drivers/test_plans/data. Beyond the schema it checks that ids count from 0, that a command needs only
-earlier ones, that lines have the program that the command runs, and that the plan's commands can run in threads. Rules of the plan's
-Makeflow file wait for each other as the JSON says that commands need each other.
+earlier ones, that lines have the program that the command runs, and that the plan's commands can run in threads.
 
 Prints a line for each finding, and last 'N passed, M failed'; the status is 1 if one failed. Without python3-jsonschema it is skipped.
 
-    tests/schema.py [ZIGRUNK]       the program is the one that `make build` and the gate leave, unless given
+    tests/schema.py [ZIGRUNK]       the program is the one that `make rust` leaves, unless given
 """
 
 import json
@@ -80,21 +79,8 @@ def findings(plan: Json, runs: list[list[str]]) -> list[str]:
     return found
 
 
-def unlike(plan: Json, rules: list[Json]) -> list[str]:
-    """Returns where a plan's Makeflow file differs from its JSON: which rules wait for which, and the files of those that aren't local."""
-    found = [f"{len(rules)} rules"] if len(rules) != len(plan["commands"]) else []
-    for rule, command in zip(rules, plan["commands"]):
-        waits = [number for number, other in enumerate(rules) if set(other["outputs"]) & set(rule["inputs"])]
-        if waits != command["needs"]:
-            found.append(f"rule {command['id']} waits for {waits}, not {command['needs']}")
-        reads, writes = ({os.path.basename(path) for path in command[files]} for files in ("reads", "writes"))
-        if not rule["local_job"] and not (command["complete"] and reads <= set(rule["inputs"]) and writes <= set(rule["outputs"])):
-            found.append(f"rule {command['id']} moves without its files")
-    return found
-
-
 def ran_in_threads(plan: Json) -> list[int]:
-    """Runs a stand-in for each command, as the example in man zigrunk does. Returns the ids in the order in which they ended."""
+    """Runs a stand-in for each command, as the example in man zigrunk-plan does. Returns the ids in the order in which they ended."""
     ended: list[int] = []
     in_threads(plan, lambda command: ended.append(command["id"]))
     return ended
@@ -104,16 +90,16 @@ def check(name: str, zigrunk: str, validator: Any, room: str) -> list[str]:
     """Returns what is wrong with the JSON of a pair."""
     dry1, dry2 = with_programs(name, room)
     flag = Path(f"{DATA}/{name}.flag").read_text(encoding="utf-8").strip()
-    ran, rules = (subprocess.run([zigrunk, form, "/w", "/t", flag, dry1, dry2], capture_output=True, text=True, check=False)
-                  for form in ("json", "makeflow"))
-    if ran.returncode != 0 or rules.returncode != 0:
-        return [f"status {it.returncode}: {it.stderr.strip()}" for it in (ran, rules)]
+    words = ["plan", "--dry-runs", dry1, dry2, "--cwd", "/w", "--tmp", "/t", "--flag", flag, "json"]
+    ran = subprocess.run([zigrunk, *words], capture_output=True, text=True, check=False)
+    if ran.returncode != 0:
+        return [f"status {ran.returncode}: {ran.stderr.strip()}"]
     plan = json.loads(ran.stdout)
     found = [error.message for error in validator.iter_errors(plan)]
     if json.dumps(plan, separators=(",", ":"), sort_keys=True, ensure_ascii=False) + "\n" != ran.stdout:
         found.append("the members aren't in order, or there are spaces")
     runs = [Path(path).read_text(encoding="utf-8").splitlines() for path in (dry1, dry2)]
-    found += findings(plan, runs) + unlike(plan, json.loads(rules.stdout)["rules"])
+    found += findings(plan, runs)
     if sorted(ran_in_threads(plan)) != list(range(len(plan["commands"]))):
         found.append("not every command ran")
     return found
@@ -139,7 +125,7 @@ def refused(validator: Any) -> list[str]:
 
 
 def main() -> int:
-    zigrunk = os.path.realpath(sys.argv[1] if len(sys.argv) > 1 else f"{TOP}/crates/zigrunk/out/zigrunk")
+    zigrunk = os.path.realpath(sys.argv[1] if len(sys.argv) > 1 else f"{TOP}/out/rust/target/release/zigrunk-driver")
     schema = json.loads(Path(f"{TOP}/docs/plan.schema.json").read_text(encoding="utf-8"))
     jsonschema.Draft202012Validator.check_schema(schema)
     validator = jsonschema.Draft202012Validator(schema)

@@ -6,8 +6,7 @@
 # (tests/clang_tools.sh). Each version and part has a line of counts, and one that fails doesn't stop the others. The last line is
 # 'N passed, M failed'.
 #
-#   tests/versions.sh [PROGRAM]      PROGRAM is the zigrunk that `make build` leaves, unless given. zigrunk-nvcc is that of DRIVER_BIN, or what
-#                                    `make rust` leaves
+#   tests/versions.sh      zigrunk is that of DRIVER_BIN, or what `make rust` leaves
 #
 #   CUDA_VERSIONS=FOLDER   the toolkits (tests/toolkits.sh), else out/versions. What it lacks is downloaded: up to 3 GB, 1 GB of which stay.
 #   VERSIONS='11.8 ..'     only these
@@ -17,7 +16,7 @@
 #   JOBS=N                 so many calls at once, else as many as there are processors
 cd "$(dirname "$0")/.." || exit 1
 . tests/lib.sh
-program=$(realpath -m "${1:-crates/zigrunk/out/zigrunk}")
+program=${DRIVER_BIN:-$PWD/out/rust/target/release}/zigrunk-nvcc
 mkdir -p "${CUDA_VERSIONS:-out/versions}"
 folder=$(realpath "${CUDA_VERSIONS:-out/versions}")
 read -ra versions <<< "${VERSIONS:-11.2 11.8 12.4}"
@@ -26,7 +25,7 @@ parts=${PARTS:-calls older hosts own options needs isolated cmake clang}
 # In per cent, of all calls in the lists, of those that nvcc compiles, and of those that the lists say are split.
 readonly LEAST_SPLIT=65
 require 'other versions of nvcc' ninja objcopy nm python3
-[ -x "$program" ] || make build >&2 || exit 1
+[ -x "$program" ] || make rust >&2 || exit 1
 unset NVCC_PREPEND_FLAGS NVCC_APPEND_FLAGS
 ready=() lacking=()
 # A host compiler that isn't there fails by both tools alike.

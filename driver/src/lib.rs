@@ -1,18 +1,20 @@
-//! One program under several names: zigrunk-nvcc runs the commands of an nvcc call side by side, and through a compiler cache.
-//!
-//! It acts by its name, or by its first word if that isn't a name of its own.
+//! The program `zigrunk`: its first word says what it does, and so does its name, as in the link `zigrunk-nvcc`.
 mod batch;
 mod cache;
 mod caches;
 mod call;
+mod compdb;
 mod dry_runs;
 mod early;
 mod entries;
 mod environments;
+mod excerpts;
 mod farm;
+mod first_words;
 mod folder;
 #[cfg(test)]
 mod forked;
+mod formats;
 mod guard;
 mod host;
 mod jobserver;
@@ -21,6 +23,7 @@ mod late;
 mod log;
 mod machine;
 mod piped;
+mod nearest;
 mod places;
 mod plan_program;
 mod planner;
@@ -33,6 +36,7 @@ mod served;
 mod settings;
 mod slots;
 mod split;
+mod stored_plan;
 mod streams;
 mod system;
 mod tasks;
@@ -45,29 +49,15 @@ mod withheld;
 
 pub use system::open_standard_streams;
 
+use first_words::FirstWord;
 use std::ffi::{OsStr, OsString};
 use std::path::Path;
 
-const USAGE: &str = "usage: zigrunk-driver nvcc|batch|plan|report|cache|worker WORD..";
-
-/// What is run under a name.
-fn run_as(name: &OsStr, words: &[OsString]) -> Option<i32> {
-    match name.to_str()? {
-        "zigrunk-plan" => Some(plan_program::run(words)),
-        "zigrunk-batch" => Some(batch::main(words)),
-        "zigrunk-report" => Some(report::run(words)),
-        "zigrunk-cache" => Some(cache::program::run(words)),
-        "zigrunk-worker" => Some(farm::worker::run(words)),
-        other if other.ends_with("nvcc") => Some(call::make(name, words)),
-        _ => None,
-    }
-}
-
-/// A program's name by a word such as `nvcc`.
-fn named(word: &OsStr) -> OsString {
-    let mut name = OsString::from("zigrunk-");
-    name.push(word);
-    name
+/// What a program of this name does, if its name says that: `zigrunk-nvcc`, and any other name that ends in nvcc, compiles.
+fn by_name(name: &OsStr) -> Option<FirstWord> {
+    let name = name.to_str()?;
+    let word = name.strip_prefix("zigrunk-").and_then(FirstWord::named);
+    word.or_else(|| name.ends_with("nvcc").then_some(FirstWord::Nvcc))
 }
 
 /// Acts by a process's words, its own name first. Says its status.
@@ -75,11 +65,10 @@ fn named(word: &OsStr) -> OsString {
 pub fn run_words(words: &[OsString]) -> i32 {
     let [own, rest @ ..] = words else { return 2 };
     let name = Path::new(own).file_name().unwrap_or_default();
-    let by_word = || rest.split_first().and_then(|(name, words)| run_as(&named(name), words));
-    run_as(name, rest).or_else(by_word).unwrap_or_else(|| {
-        streams::complain(USAGE);
-        2
-    })
+    match by_name(name) {
+        Some(word) => word.run(name, rest),
+        None => first_words::run(rest),
+    }
 }
 
 #[cfg(test)]
@@ -87,14 +76,29 @@ mod tests {
     use super::*;
 
     #[test]
-    fn programs_go_by_their_own_names_or_a_first_word() {
+    fn a_name_may_say_what_to_do() {
+        let cases = [
+            ("zigrunk-nvcc", Some(FirstWord::Nvcc)),
+            ("nvcc", Some(FirstWord::Nvcc)),
+            ("cross-nvcc", Some(FirstWord::Nvcc)),
+            ("zigrunk-plan", Some(FirstWord::Plan)),
+            ("zigrunk-driver", None),
+            ("zigrunk", None),
+            ("plan", None),
+        ];
+        for (name, wanted) in cases {
+            assert_eq!(by_name(name.as_ref()), wanted, "{name}");
+        }
+    }
+
+    #[test]
+    fn words_are_run() {
         let run = |words: &[&str]| run_words(&words.iter().map(OsString::from).collect::<Vec<_>>());
-        assert_eq!(named("plan".as_ref()), "zigrunk-plan");
-        for words in [&[][..], &["zigrunk-driver"], &["zigrunk-driver", "odd"], &["odd", "nvc"]] {
+        for words in [&[][..], &["zigrunk"], &["zigrunk", "odd"], &["zigrunk", "plan"], &["zigrunk-plan"]] {
             assert_eq!(run(words), 2, "{words:?}");
         }
-        for words in [["/b/zigrunk-plan", "--help", ""], ["zigrunk-driver", "plan", "--help"]] {
-            assert_eq!(run(&words), 0, "{words:?}");
+        for words in [&["/b/zigrunk-plan", "--help"][..], &["zigrunk", "plan", "--help"], &["zigrunk", "help"], &["zigrunk", "--version"]] {
+            assert_eq!(run(words), 0, "{words:?}");
         }
     }
 }

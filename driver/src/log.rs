@@ -1,4 +1,4 @@
-//! The log of calls, which zigrunk-report reads.
+//! The log of calls, which zigrunk report reads.
 use crate::caches::{self, Counts};
 use crate::entries::{hint, json};
 use crate::host;

@@ -1,22 +1,32 @@
-//! zigrunk-plan: prints the plan of an nvcc line. It makes the two dry runs as zigrunk-nvcc does, and runs nothing else.
+//! `zigrunk plan`: prints the plan of an nvcc line, or that of two dry runs in files. It makes the dry runs as `zigrunk nvcc` does, and runs
+//! nothing else.
 use crate::dry_runs::{Failed, make_planned};
 use crate::environments::Environment;
+use crate::excerpts::excerpt;
+use crate::folder::Folder;
+use crate::formats::Format;
 use crate::guard::Shared;
 use crate::host::Host;
 use crate::machine::Ended;
+use crate::nearest::question;
 use crate::places::{absolute, working_directory};
-use crate::planner::{self, Line, PlannedCommand, ToPlan};
+use crate::planner::{self, Line, ToPlan};
 use crate::settings::Settings;
+use crate::stored_plan::Stored;
 use crate::streams::{complain, say};
 use crate::system::{self, Signals};
-use crate::tasks;
 use std::env;
 use std::ffi::{OsStr, OsString};
+use std::os::unix::ffi::OsStrExt;
 
-const USAGE: &str = "usage: zigrunk-plan json|ninja|dot|shell|compdb|makeflow|text [--] NVCC WORD..";
-const FORMATS: [&str; 7] = ["json", "ninja", "dot", "shell", "compdb", "makeflow", "text"];
+const USAGE: &str = "usage: zigrunk plan FORMAT [--] NVCC WORD..
+       zigrunk plan --dry-runs FILE FILE [OPTION].. FORMAT";
+
+/// How many bytes reading a dry run may make, unless that is said.
+const MOST_BYTES: usize = 1 << 21;
 
 /// Why there is no plan: the exit status, and what to say.
+#[derive(PartialEq, Eq, Debug)]
 struct Refusal {
     status: i32,
     text: String,
@@ -26,50 +36,165 @@ fn refusal(status: i32, text: impl Into<String>) -> Refusal {
     Refusal { status, text: text.into() }
 }
 
+/// How much of a word a message shows.
+const MOST_SHOWN: usize = 100;
+
 fn misuse(reason: &str) -> Refusal {
-    refusal(2, format!("zigrunk-plan: {reason}\n{USAGE}"))
+    refusal(2, format!("zigrunk plan: {reason}\n{USAGE}"))
 }
 
-/// A call of zigrunk-plan.
-struct Asked<'a> {
-    format: &'a str,
+/// A word as a message shows it.
+fn shown(word: &OsStr) -> String {
+    excerpt(word.as_bytes(), MOST_SHOWN)
+}
+
+/// A call of nvcc to plan.
+#[derive(PartialEq, Eq, Debug)]
+struct Call<'a> {
     nvcc: &'a OsStr,
     words: &'a [OsString],
 }
 
-/// Parses `FORMAT [--] NVCC WORD..`.
+/// What is asked for.
+#[derive(PartialEq, Eq, Debug)]
+enum Asked<'a> {
+    Help,
+    /// The names of the formats.
+    Formats,
+    Call(Format, Call<'a>),
+    Stored(Format, Stored),
+}
+
+/// What the options say, as far as they say it.
+#[derive(Default)]
+struct Options<'a> {
+    /// The first option that needs `--dry-runs`.
+    first: Option<&'a str>,
+    files: Option<[&'a str; 2]>,
+    cwd: Option<&'a str>,
+    tmp: Option<&'a str>,
+    flag: Option<&'a str>,
+    keeps: bool,
+    whole: bool,
+    limit: Option<usize>,
+    suffixes: Vec<String>,
+}
+
+/// The value of an option, which is then no longer left.
+fn value<'a>(option: &str, what: &str, left: &mut &'a [OsString]) -> Result<&'a str, Refusal> {
+    let Some((value, rest)) = left.split_first() else { return Err(misuse(&format!("{option} needs {what}"))) };
+    *left = rest;
+    value.to_str().ok_or_else(|| refusal(2, "zigrunk plan: a word isn't UTF-8"))
+}
+
+impl<'a> Options<'a> {
+    /// Takes the options that words begin with. Says which words are left.
+    fn take(&mut self, words: &'a [OsString]) -> Result<&'a [OsString], Refusal> {
+        let mut left = words;
+        while let Some((option, rest)) = left.split_first().and_then(|(word, rest)| Some((word.to_str()?, rest))) {
+            if !option.starts_with('-') || option == "--" {
+                break;
+            }
+            left = rest;
+            self.take_one(option, &mut left)?;
+            self.first = self.first.or(Some(option));
+        }
+        Ok(left)
+    }
+
+    fn take_one(&mut self, option: &'a str, left: &mut &'a [OsString]) -> Result<(), Refusal> {
+        match option {
+            "--dry-runs" => self.files = Some([value(option, "two files", left)?, value(option, "two files", left)?]),
+            "--cwd" => self.cwd = Some(value(option, "a directory", left)?),
+            "--tmp" => self.tmp = Some(value(option, "a directory", left)?),
+            "--flag" => self.flag = Some(value(option, "a flag, as -c", left)?),
+            "--suffix" => self.suffixes.push(value(option, "a suffix, as .gpu", left)?.to_owned()),
+            "--limit" => {
+                let number = value(option, "a number of bytes", left)?;
+                let is_number = !number.is_empty() && number.bytes().all(|byte| byte.is_ascii_digit());
+                let limit = number.parse().ok().filter(|_| is_number);
+                self.limit = Some(limit.ok_or_else(|| misuse(&format!("--limit needs a number of bytes, not {}", shown(number.as_ref()))))?);
+            }
+            "--keep" => self.keeps = true,
+            "--whole" => self.whole = true,
+            _ => {
+                let known = ["--dry-runs", "--cwd", "--tmp", "--flag", "--keep", "--whole", "--limit", "--suffix", "--formats", "--help"];
+                return Err(misuse(&format!("unexpected option {}{}", shown(option.as_ref()), question(option, known))));
+            }
+        }
+        Ok(())
+    }
+
+    /// The dry runs that these options mean.
+    fn stored(self, files: [&str; 2]) -> Result<Stored, Refusal> {
+        let here = || working_directory().and_then(|here| here.into_os_string().into_string().ok());
+        let cwd = self.cwd.map(String::from).or_else(here).ok_or_else(|| refusal(1, "zigrunk plan: there is no working directory"))?;
+        Ok(Stored {
+            files: files.map(String::from),
+            tmp: self.tmp.map_or_else(|| cwd.clone(), String::from),
+            cwd,
+            flag: self.flag.unwrap_or("-c").to_owned(),
+            keeps: self.keeps,
+            whole: self.whole,
+            limit: self.limit.unwrap_or(MOST_BYTES),
+            suffixes: self.suffixes,
+        })
+    }
+}
+
+/// The format of a word.
+fn format_of(word: Option<&OsString>) -> Result<Format, Refusal> {
+    let Some(word) = word else { return Err(misuse("a format is missing")) };
+    let name = word.to_string_lossy();
+    let unknown = || misuse(&format!("unknown format {}{}", shown(word), question(&name, Format::ALL.map(Format::name))));
+    Format::named(&name).ok_or_else(unknown)
+}
+
+/// Parses `FORMAT [--] NVCC WORD..`, or options with `--dry-runs` before and behind a format.
 fn asked(words: &[OsString]) -> Result<Asked<'_>, Refusal> {
-    let Some((format, rest)) = words.split_first() else { return Err(misuse("a format is missing")) };
-    let format = format.to_str().unwrap_or_default();
-    if format.starts_with('-') {
-        return Err(misuse(&format!("unexpected option {format}")));
+    match words {
+        [word, ..] if word == "-h" || word == "--help" => return Ok(Asked::Help),
+        [word] if word == "--formats" => return Ok(Asked::Formats),
+        _ => {}
     }
-    if !FORMATS.contains(&format) {
-        return Err(misuse(&format!("unknown format {format}")));
+    let mut options = Options::default();
+    let left = options.take(words)?;
+    let format = format_of(left.first())?;
+    let behind = &left[1..];
+    let behind = options.take(behind)?;
+    match (options.files, options.first) {
+        (Some(_), _) if !behind.is_empty() => Err(misuse(&format!("unexpected word {}", shown(&behind[0])))),
+        (Some(files), _) => Ok(Asked::Stored(format, options.stored(files)?)),
+        (None, Some(option)) => Err(misuse(&format!("{option} needs --dry-runs"))),
+        (None, None) => {
+            let words = behind.strip_prefix(&[OsString::from("--")][..]).unwrap_or(behind);
+            let Some((nvcc, words)) = words.split_first() else { return Err(misuse("nvcc and its words are missing")) };
+            Ok(Asked::Call(format, Call { nvcc, words }))
+        }
     }
-    let rest = if rest.first().is_some_and(|word| word == "--") { &rest[1..] } else { rest };
-    let Some((nvcc, words)) = rest.split_first() else { return Err(misuse("nvcc and its words are missing")) };
-    Ok(Asked { format, nvcc, words })
 }
 
 /// The line of a call, with all variables that count.
-fn line_of(asked: &Asked<'_>) -> Result<Line, Refusal> {
-    let text = |word: &OsStr| word.to_str().map(String::from).ok_or_else(|| refusal(2, "zigrunk-plan: a word isn't UTF-8"));
-    let cwd = working_directory().ok_or_else(|| refusal(1, "zigrunk-plan: there is no working directory"))?;
+fn line_of(call: &Call<'_>) -> Result<Line, Refusal> {
+    let text = |word: &OsStr| word.to_str().map(String::from).ok_or_else(|| refusal(2, "zigrunk plan: a word isn't UTF-8"));
+    let cwd = working_directory().ok_or_else(|| refusal(1, "zigrunk plan: there is no working directory"))?;
     let names = ["NVCC_PREPEND_FLAGS", "NVCC_APPEND_FLAGS", "ZIGRUNK_JOBS", "MAKEFLAGS"];
     let set = names.iter().filter_map(|name| Some((name, env::var_os(name)?)));
     let variables = set.map(|(name, value)| Ok(((*name).to_owned(), text(&value)?))).collect::<Result<_, _>>()?;
-    let words = asked.words.iter().map(|word| text(word)).collect::<Result<_, _>>()?;
-    Ok(Line { cwd: text(cwd.as_os_str())?, nvcc: text(asked.nvcc)?, words, variables })
+    let words = call.words.iter().map(|word| text(word)).collect::<Result<_, _>>()?;
+    Ok(Line { cwd: text(cwd.as_os_str())?, nvcc: text(call.nvcc)?, words, variables })
 }
 
-/// The path of the directory that the call itself would have. It isn't made.
+/// The path of the directory that the call itself would have. The user's folder above it is made, as private as a call needs it: what runs
+/// the plan makes directories that all can read.
 fn directory_of(line: &Line) -> Result<String, Refusal> {
-    let settings = Settings::of_environment().map_err(|complaint| refusal(2, format!("zigrunk-plan: {complaint}")))?;
+    let settings = Settings::of_environment().map_err(|complaint| refusal(2, format!("zigrunk plan: {complaint}")))?;
     let above = absolute(settings.plans(), line.cwd.as_ref());
-    let name = planner::directory_of(line).map_err(|reason| refusal(1, format!("zigrunk-plan: {reason}")))?;
-    let path = above.join(format!("zigrunk-{}", system::user())).join(name);
-    path.into_os_string().into_string().map_err(|_| refusal(1, "zigrunk-plan: the temporary directory isn't UTF-8"))
+    let name = planner::directory_of(line).map_err(|reason| refusal(1, format!("zigrunk plan: {reason}")))?;
+    let user = format!("zigrunk-{}", system::user());
+    let _ = Folder::private(&above, &user);
+    let path = above.join(user).join(name);
+    path.into_os_string().into_string().map_err(|_| refusal(1, "zigrunk plan: the temporary directory isn't UTF-8"))
 }
 
 /// A machine without slots, for the dry runs.
@@ -82,51 +207,73 @@ fn failure(ended: &[Ended]) -> Option<Refusal> {
     let failed = ended.iter().find(|run| !run.status.succeeded())?;
     let lines = failed.errors.split_inclusive(|&byte| byte == b'\n').filter(|line| !line.starts_with(b"#$ "));
     let said: Vec<u8> = lines.flatten().copied().collect();
-    Some(refusal(1, format!("{}zigrunk-plan: a dry run fails", String::from_utf8_lossy(&said))))
+    Some(refusal(1, format!("{}zigrunk plan: a dry run fails", String::from_utf8_lossy(&said))))
 }
 
-/// A Ninja file with a description for each edge: its program, and the target that a word of it names. Ninja prints the whole command
-/// otherwise.
-fn described(file: &str, commands: &[PlannedCommand]) -> String {
-    let mut descriptions = commands.iter().map(|command| {
-        let target = tasks::target(command).map(|target| format!(" {}", target.trim_start_matches("__CUDA_ARCH__=")));
-        format!("  description = {}{}\n", tasks::program_of(command), target.unwrap_or_default())
-    });
-    let lines = file.split_inclusive('\n').map(|line| {
-        let description = line.starts_with("  line = ").then(|| descriptions.next()).flatten();
-        format!("{line}{}", description.unwrap_or_default())
-    });
-    lines.collect()
-}
-
-/// The plan of a call, in its format.
-fn plan_of(asked: &Asked<'_>) -> Result<String, Refusal> {
-    let line = line_of(asked)?;
+/// The plan of a call, in a format.
+fn plan_of(format: Format, call: &Call<'_>) -> Result<String, Refusal> {
+    let line = line_of(call)?;
     let tmp = directory_of(&line)?;
-    let to_nvcc = |reason: String| refusal(3, format!("zigrunk: goes to nvcc: {reason}"));
+    let to_nvcc = |reason: String| refusal(3, format!("zigrunk plan: goes to nvcc: {reason}"));
     let outline = planner::outline_of(&line, &tmp).map_err(to_nvcc)?;
-    let no_machine = |error: std::io::Error| refusal(1, format!("zigrunk-plan: {error}"));
+    let no_machine = |error: std::io::Error| refusal(1, format!("zigrunk plan: {error}"));
     let ended = make_planned(&mut machine().map_err(no_machine)?, &outline).map_err(|failed| match failed {
-        Failed::ByNvcc(reason) => refusal(1, format!("zigrunk-plan: {reason}")),
+        Failed::ByNvcc(reason) => refusal(1, format!("zigrunk plan: {reason}")),
         Failed::Signal(number) => refusal(128 + number, ""),
     })?;
     if let Some(refusal) = failure(&ended) {
         return Err(refusal);
     }
-    let [first, second] = ended.as_slice() else { return Err(refusal(1, "zigrunk-plan: a dry run is missing")) };
+    let [first, second] = ended.as_slice() else { return Err(refusal(1, "zigrunk plan: a dry run is missing")) };
     let dry_runs = [first.errors.as_slice(), second.errors.as_slice()];
     let of = ToPlan { dry_runs, cwd: &line.cwd, tmp: &tmp, flag: &outline.flag, keeps_names: outline.keep_dir.is_some() };
-    let (file, commands) = planner::plan_file(asked.format, &of).map_err(|reason| refusal(1, format!("zigrunk-plan: {reason}")))?;
-    Ok(if asked.format == "ninja" { described(&file, &commands) } else { file })
+    planner::plan_text(format, &of).map_err(|reason| refusal(1, format!("zigrunk plan: {reason}")))
 }
 
-/// Prints the plan of the line that these words ask for. Says the exit status: 2 for wrong usage, 3 if the line goes to nvcc unchanged.
+fn help() -> String {
+    let formats: Vec<String> = Format::ALL.iter().map(|format| format!("  {:<7} {}", format.name(), format.about())).collect();
+    format!(
+        "{USAGE}
+
+Prints the commands that nvcc runs for these words, and runs none of them.
+
+FORMAT is one of
+{}
+
+With --dry-runs, the plan is that of two dry runs of a call, which are in files; - is standard input:
+  nvcc WORD.. --dryrun --keep 2> FILE
+  nvcc WORD.. --keep-dir DIR --dryrun --keep 2> FILE
+
+--cwd DIR      where nvcc was called; the working directory, unless set
+--tmp DIR      the DIR of the second dry run; that of --cwd, unless set
+--flag FLAG    what nvcc makes; -c, unless set
+--keep         generated files keep nvcc's names
+--whole        fail if the plan drops a command
+--limit BYTES  fail if reading a dry run makes over so many bytes; {MOST_BYTES}, unless set
+--suffix S     S, such as .gpu, ends the names of further generated files; give it again for more
+--formats      print the names of the formats
+-h, --help     print this text
+
+The status is 1 for an error, 2 for wrong usage, and 3 if zigrunk leaves the call to nvcc. man zigrunk-plan has the rest.
+",
+        formats.join("\n")
+    )
+}
+
+/// Prints what these words ask for. Says the exit status: 2 for wrong usage, 3 if the line goes to nvcc unchanged.
 pub fn run(words: &[OsString]) -> i32 {
-    if matches!(words, [word, ..] if word == "-h" || word == "--help") {
-        return i32::from(say(1, format!("{USAGE}\n").as_bytes()).is_err());
-    }
-    match asked(words).and_then(|asked| plan_of(&asked)) {
-        Ok(file) => i32::from(say(1, file.as_bytes()).is_err()),
+    let text = asked(words).and_then(|asked| match asked {
+        Asked::Help => Ok(help()),
+        Asked::Formats => Ok(Format::ALL.map(|format| format!("{}\n", format.name())).concat()),
+        Asked::Call(format, call) => plan_of(format, &call),
+        Asked::Stored(format, stored) => stored.text(format).map_err(|reason| refusal(1, format!("zigrunk plan: {reason}"))),
+    });
+    match text.map(|text| say(1, text.as_bytes())) {
+        Ok(Ok(())) => 0,
+        Ok(Err(_)) => {
+            complain("zigrunk plan: cannot write");
+            1
+        }
         Err(Refusal { status, text }) => {
             if !text.is_empty() {
                 complain(&text);
@@ -140,23 +287,34 @@ pub fn run(words: &[OsString]) -> i32 {
 mod tests {
     use super::*;
 
+    fn words(line: &str) -> Vec<OsString> {
+        line.split_whitespace().map(OsString::from).collect()
+    }
+
     #[test]
     fn wrong_usage_is_said() {
         let cases = [
             ("", "a format is missing"),
             ("yaml nvcc", "unknown format yaml"),
+            ("jsn nvcc", "unknown format jsn; did you mean json?"),
             ("json", "nvcc and its words are missing"),
             ("json --", "nvcc and its words are missing"),
-            ("-- nvcc", "unexpected option --"),
+            ("-- nvcc", "unknown format --"),
             ("--json nvcc", "unexpected option --json"),
+            ("--dry-run a b json", "unexpected option --dry-run; did you mean --dry-runs?"),
+            ("--dry-runs a", "--dry-runs needs two files"),
+            ("--dry-runs a b", "a format is missing"),
+            ("--dry-runs a b json nvcc", "unexpected word nvcc"),
+            ("--keep json nvcc", "--keep needs --dry-runs"),
+            ("--dry-runs a b --limit", "--limit needs a number of bytes"),
+            ("--dry-runs a b --limit 2M json", "--limit needs a number of bytes, not 2M"),
+            ("--dry-runs a b json --limit -1", "--limit needs a number of bytes, not -1"),
+            ("json --dry-runs a b --cwd", "--cwd needs a directory"),
+            ("json --dry-runs a b --suffix", "--suffix needs a suffix, as .gpu"),
         ];
         for (line, wanted) in cases {
-            let words: Vec<OsString> = line.split_whitespace().map(OsString::from).collect();
-            let refusal = asked(&words).err().unwrap();
-            assert_eq!((refusal.status, refusal.text), (2, format!("zigrunk-plan: {wanted}\n{USAGE}")), "{line}");
+            assert_eq!(asked(&words(line)), Err(misuse(wanted)), "{line}");
         }
-        let words = ["json", "--", "nvcc", "-c"].map(OsString::from);
-        assert_eq!(asked(&words).ok().map(|asked| (asked.format, asked.nvcc.to_owned(), asked.words.len())), Some(("json", "nvcc".into(), 1)));
     }
 
     #[test]
@@ -169,24 +327,41 @@ mod tests {
         };
         assert!(failure(&[run(0, "said\n"), run(0, "")]).is_none());
         let refusal = failure(&[run(0, "well\n"), run(2, "#$ gcc a\nbad\n#$x\n"), run(3, "worse\n")]).unwrap();
-        assert_eq!((refusal.status, refusal.text.as_str()), (1, "bad\n#$x\nzigrunk-plan: a dry run fails"));
+        assert_eq!((refusal.status, refusal.text.as_str()), (1, "bad\n#$x\nzigrunk plan: a dry run fails"));
     }
 
     #[test]
-    fn edges_have_descriptions() {
-        let command = |program: &str, words: &str| PlannedCommand {
-            program: program.into(),
-            words: words.split(' ').map(String::from).collect(),
-            ..PlannedCommand::default()
+    fn a_call_has_nvcc_and_its_words() {
+        for line in ["json -- nvcc -c k.cu", "json nvcc -c k.cu"] {
+            let words = words(line);
+            let behind = &words[words.len() - 2..];
+            assert_eq!(asked(&words), Ok(Asked::Call(Format::Json, Call { nvcc: "nvcc".as_ref(), words: behind })));
+        }
+        assert_eq!(asked(&words("--formats")), Ok(Asked::Formats));
+        assert_eq!(asked(&words("-h")), Ok(Asked::Help));
+    }
+
+    #[test]
+    fn options_of_dry_runs_have_any_order() {
+        let wanted = Stored {
+            files: ["a", "-"].map(String::from),
+            cwd: "/w".into(),
+            tmp: "/t".into(),
+            flag: "-ptx".into(),
+            keeps: true,
+            whole: true,
+            limit: 7,
+            suffixes: [".b", ".a"].map(String::from).to_vec(),
         };
-        let commands = [
-            command("/usr/bin/gcc", "-E -D__CUDA_ARCH__=800 k.cu"),
-            command("/usr/bin/g++", "-E k.cu"),
-            command("/a/cicc", "-arch compute_80 k.ii"),
-            command("ptxas", "-arch=sm_100a k.ptx"),
+        let lines = [
+            "--dry-runs a - --cwd /w --tmp /t --flag -ptx --keep --whole --limit 7 --suffix .b --suffix .a ninja",
+            "ninja --dry-runs a - --suffix .b --limit 9 --whole --keep --flag -ptx --tmp /t --cwd /w --suffix .a --limit 07",
+            "--keep --limit 1 --cwd /x --suffix .b --dry-runs a - ninja --whole --cwd /w --flag -ptx --limit 7 --suffix .a --tmp /t",
         ];
-        let file = "head\nbuild a: run\n  line = 1\n  line = 2\n  line = 3\n  line = 4\nend\n";
-        let wanted = "head\nbuild a: run\n  line = 1\n  description = gcc 800\n  line = 2\n  description = g++\n  line = 3\n  description = cicc compute_80\n  line = 4\n  description = ptxas sm_100a\nend\n";
-        assert_eq!(described(file, &commands), wanted);
+        for line in lines {
+            assert_eq!(asked(&words(line)), Ok(Asked::Stored(Format::Ninja, wanted.clone())), "{line}");
+        }
+        let Ok(Asked::Stored(_, stored)) = asked(&words("--dry-runs a b --cwd /w json")) else { panic!("no dry runs") };
+        assert_eq!(stored, Stored { files: ["a", "b"].map(String::from), cwd: "/w".into(), tmp: "/w".into(), flag: "-c".into(), keeps: false, whole: false, limit: MOST_BYTES, suffixes: vec![] });
     }
 }

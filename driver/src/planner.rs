@@ -1,4 +1,5 @@
 //! What the proved crates say of a call: the name of its directory, its dry runs, and its plan. Here their texts become Rust's own.
+use crate::formats::{Described, Format};
 use crate::programs::is_program;
 use crate::streams::content_of;
 use crate::system::may_write;
@@ -13,7 +14,6 @@ use dry_runs::Which;
 use early_starts::{late_file, may_begin_beside, may_go_ahead};
 use nvcc_calls::{Answer, directory_name, file_names, read_call};
 use placed_commands::placed_command;
-use plan_texts::Format;
 use rattle_std::alloc::{AllocError, Global};
 use rattle_std::string::String as Text;
 use rattle_std::vec::Vec as List;
@@ -208,7 +208,7 @@ pub fn outline_of(line: &Line, tmp: &str) -> Result<Outline, String> {
 
 /// Looks programs up on the disk, each path once for a plan: most commands are of few programs.
 #[derive(Default)]
-struct Disk(RefCell<BTreeMap<String, bool>>);
+pub struct Disk(RefCell<BTreeMap<String, bool>>);
 
 impl Disk {
     fn has(&self, path: &str) -> bool {
@@ -273,13 +273,10 @@ pub fn plan_in_place(of: &ToPlan<'_>) -> Result<Vec<PlannedCommand>, String> {
     commands_of(&whole_plan(of)?, |command| placed_command(Global, command, of.tmp, of.cwd))
 }
 
-/// The plan of a call in the format of a name, as people type it, with its commands.
+/// The plan of a call in a format.
 /// Errors: why there is no plan, or why the format can't represent it.
-pub fn plan_file(format: &str, of: &ToPlan<'_>) -> Result<(String, Vec<PlannedCommand>), String> {
-    let format = Format::named(format).ok_or("unknown format")?;
-    let planned = planned(of)?;
-    let file = plan_formats::plan_file(Global, format, of.cwd, of.tmp, of.flag, &planned).map_err(|refusal| refusal.to_string())?;
-    Ok((string(&file), commands_of(&planned, |command| command.try_clone(Global))?))
+pub fn plan_text(format: Format, of: &ToPlan<'_>) -> Result<String, String> {
+    format.text(&Described { cwd: of.cwd, tmp: of.tmp, flag: of.flag, planned: &planned(of)? })
 }
 
 /// How the command of a number may begin early, beside one of those that it needs.
@@ -403,12 +400,11 @@ mod tests {
     #[test]
     fn some_dry_runs_have_no_plan() {
         let of = |dry_runs, cwd| ToPlan { dry_runs, cwd, tmp: "/t", flag: "-c", keeps_names: false };
-        let reason = |of: &ToPlan<'_>| [plan(of).err(), plan_in_place(of).err(), plan_file("json", of).err()];
+        let reason = |of: &ToPlan<'_>| [plan(of).err(), plan_in_place(of).err(), plan_text(Format::Json, of).err()];
         let plain = "a directory isn't absolute, or has an empty part, . or ..";
         assert_eq!(reason(&of([b"", b""], "w")), [plain; 3].map(|reason| Some(reason.to_owned())));
         assert_eq!(reason(&of([b"", b""], "/w/..")), [plain; 3].map(|reason| Some(reason.to_owned())));
         assert_eq!(reason(&ToPlan { tmp: "t", ..of([b"", b""], "/w") }), [plain; 3].map(|reason| Some(reason.to_owned())));
         assert_eq!(reason(&of([b"", b""], "/w")), ["the plan has no command"; 3].map(|reason| Some(reason.to_owned())));
-        assert_eq!(plan_file("other", &of([b"", b""], "/w")), Err("unknown format".into()));
     }
 }

@@ -1,4 +1,4 @@
-//! A log, and all that zigrunk-report makes of it. The folder `report` has the log, and the texts as they have to be: their numbers were worked out by
+//! A log, and all that zigrunk report makes of it. The folder `report` has the log, and the texts as they have to be: their numbers were worked out by
 //! hand, or compared with the log.
 use std::fs;
 use std::process::Command;
@@ -11,7 +11,7 @@ fn difference<'a>(got: &'a str, wanted: &'a str) -> Option<(&'a str, &'a str)> {
     pairs.map(|(got, wanted)| (got.unwrap_or("(the end)"), wanted.unwrap_or("(the end)"))).find(|(got, wanted)| got != wanted)
 }
 
-/// What zigrunk-report prints of a log, the page and the trace.
+/// What zigrunk report prints of a log, the page and the trace.
 fn made_of(log: &str, name: &str) -> [String; 3] {
     let folder = std::env::temp_dir().join(format!("zigrunk-report-{name}-{}", std::process::id()));
     fs::create_dir_all(&folder).unwrap();

@@ -1,7 +1,7 @@
 #!/bin/sh
 # step.sh COMMAND WORD..    runs a command as a step of this Slurm allocation, and again on another node if its node dies or is bad
 #
-#     salloc -Q --no-kill -N3 -n12 env ZIGRUNK_RUNNER="$PWD/step.sh" ZIGRUNK_JOBS=24 ZIGRUNK_TMP=/shared/tmp zigrunk-batch LIST
+#     salloc -Q --no-kill -N3 -n12 env ZIGRUNK_RUNNER="$PWD/step.sh" ZIGRUNK_JOBS=24 ZIGRUNK_TMP=/shared/tmp zigrunk batch LIST
 #
 # Without --no-kill, Slurm ends the whole allocation with its first dead node. Set ZIGRUNK_JOBS to about twice the
 # processors: while a command runs, the step that takes its place gets ready.
@@ -16,7 +16,7 @@
 #
 #   STEP_WRAPPER   a program that runs the command on the node: attempts.bash beside this directory, unless set
 #   STEP_LOG       a file that gets a line for each step that runs again
-#   ZIGRUNK_BATCH  zigrunk-batch sets it to its directory. All steps of a batch note there which nodes to leave out: one that died for a
+#   ZIGRUNK_BATCH  zigrunk batch sets it to its directory. All steps of a batch note there which nodes to leave out: one that died for a
 #                  minute, one that can't run a command that another node can for an hour
 said=$(mktemp -d "${TMPDIR:-/tmp}/step.XXXXXX") || exit 1
 trap 'rm -rf "$said"' EXIT

@@ -61,10 +61,10 @@ class Work:
 
     def __init__(self, call: plans.Call) -> None:
         self.call = call
-        made, dependencies = plans.plan(call)
+        made = plans.plan(call)
         self.jobs = [Job([command["exe"], *command["args"]], command["cwd"], command, plans.is_far(command, made["tmp"]))
                      for command in (made["commands"] if made else [])]
-        self.jobs += [Job(["sh", "-c", line], call.folder, {"needs": [], "env": []}, False) for line in [dependencies if made else call.text] if line]
+        self.jobs = self.jobs or [Job(["sh", "-c", call.text], call.folder, {"needs": [], "env": []}, False)]
         self.schedule = zigrunk.Schedule([job.command["needs"] for job in self.jobs], max(len(self.jobs), 1))
 
 

@@ -73,13 +73,13 @@ finish() {
     ends "$1"
     same "status $1" $? 0
     same "objects $1" "$(wrong)" ''
-    same "messages $1" "$(grep -h -v -e '^salloc: error: Node failure' -e "$lost" -e '^zigrunk-batch: what starts workers' -e '^srun: ' -e '^slurmstepd: ' -e '^$' ${2:+-e "$2"} out err)" ''
+    same "messages $1" "$(grep -h -v -e '^salloc: error: Node failure' -e "$lost" -e '^zigrunk batch: what starts workers' -e '^srun: ' -e '^slurmstepd: ' -e '^$' ${2:+-e "$2"} out err)" ''
     same "calls that nvcc made $1" "$(grep -c ^whole "$TOOL_LOG")" 0
     echo "$1: workers lost: $(grep -c "$lost" err)"
     cd "$OLDPWD" || return
 }
 
-lost='^zigrunk-batch: n[0-9]* has \(gone\|come again\|been silent for 5 seconds\), so [0-9]* commands\? of it run elsewhere$'
+lost='^zigrunk batch: n[0-9]* has \(gone\|come again\|been silent for 5 seconds\), so [0-9]* commands\? of it run elsewhere$'
 
 # back NUMBER..: these nodes are on again.
 back() {
@@ -166,7 +166,7 @@ prepared() {
     begin "$2" 3 6 "${@:4}"
     finish "with a node with $2" "$3"
     same "$2: the node's commands" "$(grep -c "^end n$second" "$TOOL_LOG")" 0
-    same "$2: messages that name the node" "$(grep -c "^zigrunk-batch: n$second gets no work: " "$scratch/stand_in/err" | sed 's/^[1-9][0-9]*$/some/')" some
+    same "$2: messages that name the node" "$(grep -c "^zigrunk batch: n$second gets no work: " "$scratch/stand_in/err" | sed 's/^[1-9][0-9]*$/some/')" some
     end_processes "$second"
     start_node "$second"
     wait_idle
@@ -202,7 +202,7 @@ tries_run_out() {
 killed_worker() {
     begin killed 3 6
     moment 1 "^start n$second cicc"
-    kill -9 "$(processes_of "$second" | xargs -r ps -o pid=,args= -p | awk '/zigrunk-worker/ { print $1; exit }')"
+    kill -9 "$(processes_of "$second" | xargs -r ps -o pid=,args= -p | awk '/zigrunk.worker/ { print $1; exit }')"
     finish 'with a killed worker'
 }
 

@@ -1,16 +1,16 @@
 #!/usr/bin/env bash
-# A simulated farm: zigrunk-batch makes many calls for many targets, whose tools only sleep and make their files. Prints what that takes, a line
+# A simulated farm: zigrunk batch makes many calls for many targets, whose tools only sleep and make their files. Prints what that takes, a line
 # for each check that fails, and last 'N passed, M failed'.
 #
 #   tests/cluster/farm.sh [CALLS [TARGETS [JOBS [SECONDS]]]]    1000, 10, 100 and 1 unless given: SECONDS is what each command sleeps
 #
-# zigrunk-batch is that of DRIVER_BIN, or what `make rust` leaves. The files are below TMPDIR. Times count only on a machine that does nothing else.
+# zigrunk is that of DRIVER_BIN, or what `make rust` leaves. The files are below TMPDIR. Times count only on a machine that does nothing else.
 cd "$(dirname "$0")/../.." || exit 1
 . tests/lib.sh
 for tool in nvcc gcc; do command -v "$tool" > /dev/null || skip_all farm "$tool is not on the path"; done
 count=${1:-1000} targets=${2:-10} jobs=${3:-100} sleeps=${4:-1}
 built=${DRIVER_BIN:-$PWD/out/rust/target/release}
-[ -x "$built/zigrunk-batch" ] || skip_all farm 'make rust makes zigrunk-batch first'
+[ -x "$built/zigrunk" ] || skip_all farm 'make rust makes zigrunk first'
 unset NVCC_PREPEND_FLAGS NVCC_APPEND_FLAGS MAKEFLAGS ZIGRUNK_LOG ZIGRUNK_LAUNCHER
 mkdir "$scratch/tools" "$scratch/work" "$scratch/tmp"
 gcc -O1 -Wall -Wextra -o "$scratch/tools/farm" tests/cluster/farm.c || exit 1
@@ -28,7 +28,7 @@ for number in $(seq "$count"); do
 done > list
 
 start=$(date +%s.%N)
-zigrunk-batch list > out 2> err
+zigrunk batch list > out 2> err
 status=$?
 end=$(date +%s.%N)
 # the second line is that of the processes that have ended

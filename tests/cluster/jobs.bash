@@ -166,7 +166,7 @@ begin_array() {
 
 # Of an array's tasks one is cancelled, and a node vanishes.
 array_task_cancelled() {
-    lost='^zigrunk-batch: n[0-9]*\.[0-9]* has \(gone\|come again\|been silent for 5 seconds\), so [0-9]* commands\? of it run elsewhere$'
+    lost='^zigrunk batch: n[0-9]*\.[0-9]* has \(gone\|come again\|been silent for 5 seconds\), so [0-9]* commands\? of it run elsewhere$'
     begin_array array 12
     moment 1 "^start n$second cicc"
     scancel "$(job_of_lane)_1"
@@ -182,7 +182,7 @@ array_no_share() {
     PREPARE="mount -t tmpfs none '$scratch/tmp'" start_node "$second"
     wait_idle
     begin_array array_share 6
-    finish 'of an array job with a node without the share' "^zigrunk-batch: n$second\.[0-9]* gets no work: it doesn't see "
+    finish 'of an array job with a node without the share' "^zigrunk batch: n$second\.[0-9]* gets no work: it doesn't see "
     same 'commands of the node without the share' "$(grep -c "^end n$second" "$TOOL_LOG")" 0
     end_processes "$second"
     back "$second"
@@ -201,7 +201,7 @@ array_interrupted() {
     echo "sh -c 'exit 3'" >> list
     seq 5 | sed 's/^/sleep /' >> list
     PATH=$tools:$PATH ARRAY_WAIT=20 "$examples/slurm/array.sh" list -Q -p "$partition" > out 2> err
-    same 'status of an array job with a call that fails' "$? $(grep -v "$lost" err)" "3 zigrunk-batch: line 13: exit status 3: sh -c 'exit 3'"
+    same 'status of an array job with a call that fails' "$? $(grep -v "$lost" err)" "3 zigrunk batch: line 13: exit status 3: sh -c 'exit 3'"
     same 'objects of an array job after ^C' "$(wrong)" ''
     cd "$OLDPWD" || return
     wait_idle

@@ -1,5 +1,3 @@
-pub mod ClangWords
-pub mod Compdb
 pub mod Json
 pub mod JsonExamples
 pub mod OneToOne

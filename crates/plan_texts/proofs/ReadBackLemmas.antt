@@ -8,7 +8,7 @@ use Rattle.texts.proofs.PosixLemmas.{reading, quoted_before}
 use Rattle.compilers.specs.declared.plans.plan.NvccGeneratedSubcommand.{NvccGeneratedSubcommand}
 use Rattle.compilers.specs.Listed.{Listed}
 use Rattle.plan_texts.specs.CommandText.{assignment, env_words, command_text}
-use Rattle.plan_texts.specs.Script.{command_line, lines}
+use Rattle.plan_texts.specs.Script.{command_line, folder_line, lines}
 use Rattle.plan_texts.specs.ReadBack.{IsOfTexts, shell_tokens, word_tokens, command_tokens, in_front, line_tokens, ScriptsReadBack}
 use Rattle.plan_texts.proofs.TextLemmas.{written_chars, plain_chars, assignments_utf8}
 
@@ -44,6 +44,9 @@ reads_newline rest ts found = ending Between 10 rest Between (Operator (codes "\
 
 reads_set : (rest : List ℕ) (ts : List Token) → tokens rest ≡ Some ts → tokens (codes "set -e\n" ++ rest) ≡ Some (Word (codes "set") ∷ Word (codes "-e") ∷ Operator (codes "\n") ∷ ts)
 reads_set rest ts found = grind (arith, adding, ending, reading, prepend-nothing)
+
+reads_mkdir : (rest : List ℕ) (ts : List Token) → tokens rest ≡ Some ts → tokens (codes "mkdir -p " ++ rest) ≡ Some (Word (codes "mkdir") ∷ Word (codes "-p") ∷ ts)
+reads_mkdir rest ts found = grind (arith, adding, ending, reading, prepend-nothing)
 
 -- ---- bytes
 
@@ -159,8 +162,30 @@ lines_read [] are = nothing_reads
 lines_read (l ∷ commands) are =
     line_before l.command (lines commands) (flat_map (λ l. line_tokens l.command) commands) are.0 (lines_read commands are.1)
 
+newline_then : (rest : List ℕ) (ts : List Token) → shell_tokens rest ≡ Some ts → shell_tokens (10 ∷ rest) ≡ Some (Operator (codes "\n") ∷ ts)
+unfolding lib.Utf8.encode
+newline_then rest ts found = ap tokens (plain_chars (10 ∷ []) rest refl refl) ∙ reads_newline (chars rest) ts found
+
+newline_apart : (rest : List ℕ) → is_apart (chars (10 ∷ rest)) ≡ true
+unfolding lib.Utf8.encode
+newline_apart rest = ap is_apart (plain_chars (10 ∷ []) rest refl refl)
+
+-- the line that makes a directory, before further lines
+folder_before : (tmp rest : List ℕ) (ts : List Token) → IsUtf8 tmp → shell_tokens rest ≡ Some ts →
+    shell_tokens (folder_line tmp ++ rest) ≡ Some (Word (codes "mkdir") ∷ Word (codes "-p") ∷ Word (chars tmp) ∷ Operator (codes "\n") ∷ ts)
+unfolding lib.Utf8.encode
+folder_before tmp rest ts is found =
+    let name = written (tmp ∷ []) ++ 10 ∷ rest in
+    ap (λ t. shell_tokens (codes "mkdir -p " ++ t)) (append_assoc (written (tmp ∷ [])) (10 ∷ []) rest)
+    ∙ ap tokens (plain_chars (codes "mkdir -p ") name refl refl)
+    ∙ reads_mkdir (chars name) (Word (chars tmp) ∷ Operator (codes "\n") ∷ ts)
+    (written_then tmp [] (10 ∷ rest) (Operator (codes "\n") ∷ ts) (is, tt) (newline_apart rest) (newline_then rest ts found))
+
 pub script_reads_back : ScriptsReadBack
 unfolding lib.Utf8.encode
-script_reads_back commands are =
-    ap tokens (plain_chars (codes "set -e\n") (lines commands) refl refl)
-    ∙ reads_set (chars (lines commands)) (flat_map (λ l. line_tokens l.command) commands) (lines_read commands are)
+script_reads_back tmp commands is are =
+    let behind = folder_line tmp ++ lines commands in
+    let ts : List Token = flat_map (λ l. line_tokens l.command) commands in
+    ap tokens (plain_chars (codes "set -e\n") behind refl refl)
+    ∙ reads_set (chars behind) (Word (codes "mkdir") ∷ Word (codes "-p") ∷ Word (chars tmp) ∷ Operator (codes "\n") ∷ ts)
+    (folder_before tmp (lines commands) ts is (lines_read commands are))

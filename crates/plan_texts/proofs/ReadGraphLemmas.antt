@@ -1,15 +1,20 @@
 -- What is written for Ninja is read as the edges of the plan.
-use Rattle.std.proofs.Common.{ℕ, ◌<◌, ◌+◌, List, [], ◌∷◌, ◌++◌, ◌≡◌, refl, sym, ap, ◌∙◌, subst, append_assoc, append-nil, map, drop, Bool, true, false, not, ◌&&◌, eqb, eqb-true, eq-eqb, ne_eqb, Some, None, Result, Ok, codes, encode_utf8_all, arith, IsUtf8, chars}
+use Rattle.std.proofs.Common.{ℕ, ◌<◌, ◌+◌, List, [], ◌∷◌, ◌++◌, ◌≡◌, refl, sym, ap, ◌∙◌, subst, append_assoc, append-nil, map, drop, Bool, true, false, not, ◌&&◌, eqb, eqb-true, eq-eqb, ne_eqb, if◌then◌else◌, bytes_eq, get_or, length, Option, Some, None, Result, Ok, codes, encode_utf8_all, arith, IsUtf8, chars}
 use Rattle.std.specs.List.{AllByRecursion, flat_map, list_all}
 use Rattle.std.proofs.lemmas.Bool.{false≢true, and_parts, and_from, not-true, cond_both, eqb-false}
 use Rattle.std.proofs.lemmas.Int.Digits.{all_below_base_digits_of}
-use Rattle.std.proofs.lemmas.Str.{encodes-chars, inside_one, encode_ascii, IsUtf8-append}
+use Rattle.std.proofs.lemmas.Str.{encodes-chars, inside_one, encode_ascii, IsUtf8-append, IsUtf8-drop, IsCharBoundary-after_ascii}
+use Rattle.std.specs.Option.{option_or, option_map_or}
+use Rattle.std.proofs.Math.Seq.{drop-append-add, get_or-append_seam}
+use Rattle.std.proofs.lemmas.List.{length-append}
 use lib.Utf8.{encode}
+use Rattle.texts.specs.Extension.{split_at_last, last_part}
+use Rattle.texts.specs.Lists.{rest_after, first_word}
 use Rattle.compilers.specs.declared.command.Cacheable.{Cacheable}
 use Rattle.compilers.specs.declared.command.Cacheable.TheVariants.{Yes, No}
 use Rattle.texts.specs.Numeral.{numeral}
 use Rattle.texts.specs.Path.{lacks}
-use Rattle.texts.proofs.PathLemmas.{lacks-places, lacks-append}
+use Rattle.texts.proofs.PathLemmas.{lacks-places, lacks-append, split-text}
 use Rattle.texts.specs.Shell.Quoting.{quoted_word, further, quoted, written}
 use Rattle.compilers.specs.declared.plans.plan.NvccGeneratedSubcommand.{NvccGeneratedSubcommand}
 use Rattle.compilers.specs.declared.plans.plan.Dropped.{Dropped}
@@ -18,10 +23,11 @@ use Rattle.compilers.specs.declared.plans.plan.Plan.{Plan}
 use Rattle.plan_texts.specs.declared.refusal.Refusal.{Refusal}
 use Rattle.plan_texts.specs.declared.format.Format.TheVariants.{Ninja}
 use Rattle.plan_texts.specs.CommandText.{assignment, env_words, command_text}
+use Rattle.plan_texts.specs.Description.{target_in, target_of, with_target, description}
 use Rattle.plan_texts.specs.Judging.{holds_text, holds_variables, holds_command, judged_command, judged_commands, and_then}
 use Rattle.plan_texts.specs.Script.{unless_refused}
 use Rattle.compilers.specs.Reasons.{reason_name}
-use Rattle.plan_texts.specs.Graph.{escaped, stamp_path, stamp_text, runner, touch, edge_command, edge_line, edge, plan_places, place_at, stamp_at, stamps_at, edges_from as written_edges, plan_edges, comment, head, graph, holds_dropped, judged_rest, ninja_answer}
+use Rattle.plan_texts.specs.Graph.{escaped, stamp_path, stamp_text, runner, touch, edge_command, edge_line, description_line, edge, plan_places, place_at, stamp_at, stamps_at, edges_from as written_edges, plan_edges, comment, head, graph, holds_dropped, judged_rest, ninja_answer}
 use Rattle.plan_texts.specs.ReadBack.{IsOfTexts}
 use Rattle.plan_texts.specs.ReadGraph.{parts_at, behind, Edge, path_of, head_of, edges_from, edges_of, path_at, edge_at, edges_of_plan, IsDroppedText}
 use Rattle.compilers.specs.Listed.{Listed, listed}
@@ -172,6 +178,81 @@ line-edge tmp group place c is are h =
     line-append (command_text (runner c.cacheable) c) (touch tmp group place) (line-command (runner c.cacheable) c (line-runner c.cacheable) are h)
     (line-append (codes " && touch ") (written (stamp_path tmp group place ∷ [])) ((codes " && touch ", (refl, refl)), refl) (line-written (stamp_path tmp group place ∷ []) (line-path tmp group place is, tt)))
 
+-- ---- descriptions
+
+-- what stands behind a character of one byte
+utf8-behind : (front : List ℕ) (c : ℕ) (back : List ℕ) → c < 128 → IsUtf8 (front ++ c ∷ back) → IsUtf8 back
+utf8-behind front c back ascii is =
+    let whole = front ++ c ∷ back in
+    let within : length front < length whole = omega (arith, length-append front (c ∷ back)) in
+    let here : get_or whole (length front) 0 ≡ c = get_or-append_seam front c back 0 in
+    let boundary = IsCharBoundary-after_ascii whole (length front) is within (subst (λ b. b < 128) (sym here) ascii) in
+    subst IsUtf8 (drop-append-add front (c ∷ back) 1) (IsUtf8-drop whole (length front + 1) is boundary)
+
+line-behind : (front : List ℕ) (c : ℕ) (back : List ℕ) → c < 128 → IsLine (front ++ c ∷ back) → IsLine back
+line-behind front c back ascii is =
+    (utf8-behind front c back ascii is.0, (lacks-parts 10 (c ∷ []) back (lacks-parts 10 front (c ∷ back) is.1).1).1)
+
+line-last : (path : List ℕ) (parts : Option (List ℕ × List ℕ)) → parts ≡ split_at_last 47 path → IsLine path → IsLine (option_map_or (λ p. p.1) parts path)
+line-last path None e is = is
+line-last path (Some (front, back)) e is = line-behind front 47 back (omega arith) (subst IsLine (split-text 47 path front back e).0 is)
+
+rest-found : (p s rest : List ℕ) → rest_after p s ≡ Some rest → s ≡ p ++ rest
+rest-found [] s rest h = grind arith
+rest-found (c ∷ cs) [] rest h = grind arith
+rest-found (c ∷ cs) (d ∷ ds) rest h = grind (arith, eqb-true, (rest-found cs ds rest))
+
+-- a text that stands on one line, if there is one
+abbrev IsLineIf : Option (List ℕ) → Type 0
+IsLineIf None = Unit {0}
+IsLineIf (Some text) = IsLine text
+
+line-or : (one other : Option (List ℕ)) → IsLineIf one → IsLineIf other → IsLineIf (option_or one other)
+line-or None other h k = k
+line-or (Some text) other h k = h
+
+line-rest : (front word : List ℕ) (found : Option (List ℕ)) → rest_after (front ++ 61 ∷ []) word ≡ found → IsLine word → IsLineIf found
+line-rest front word None e is = tt
+line-rest front word (Some rest) e is =
+    line-behind front 61 rest (omega arith) (subst IsLine (rest-found (front ++ 61 ∷ []) word rest e ∙ append_assoc front (61 ∷ []) rest) is)
+
+line-target_in : (word : List ℕ) → IsLine word → IsLineIf (target_in word)
+line-target_in word is =
+    line-or (rest_after (codes "-D__CUDA_ARCH__=") word) (option_or (rest_after (codes "-arch=") word) (rest_after (codes "--arch=") word))
+    (line-rest (codes "-D__CUDA_ARCH__") word (rest_after (codes "-D__CUDA_ARCH__=") word) refl is)
+    (line-or (rest_after (codes "-arch=") word) (rest_after (codes "--arch=") word)
+    (line-rest (codes "-arch") word (rest_after (codes "-arch=") word) refl is)
+    (line-rest (codes "--arch") word (rest_after (codes "--arch=") word) refl is))
+
+line-first : (words : List (List ℕ)) → AllByRecursion IsLine words → IsLineIf (first_word words)
+line-first [] are = tt
+line-first (word ∷ words) are = are.0
+
+line-when : (b : Bool) (found : Option (List ℕ)) → IsLineIf found → IsLineIf (if b then found else None)
+line-when true found h = h
+line-when false found h = tt
+
+line-target : (words : List (List ℕ)) → AllByRecursion IsLine words → IsLineIf (target_of words)
+line-target [] are = tt
+line-target (word ∷ words) are =
+    let next : Option (List ℕ) = if bytes_eq word (codes "-arch") then first_word words else None in
+    line-or (option_or (target_in word) next) (target_of words)
+    (line-or (target_in word) next (line-target_in word are.0) (line-when (bytes_eq word (codes "-arch")) (first_word words) (line-first words are.1)))
+    (line-target words are.1)
+
+line-with : (program : List ℕ) (target : Option (List ℕ)) → IsLine program → IsLineIf target → IsLine (with_target program target)
+unfolding lib.Utf8.encode
+line-with program None is h = is
+line-with program (Some target) is h = line-append program (32 ∷ target) is (line-append (32 ∷ []) target ((32 ∷ [], (refl, refl)), refl) h)
+
+pub line-description : (c : NvccGeneratedSubcommand) → IsOfTexts c → holds_command Ninja c ≡ true → IsLine (description c)
+line-description c are h =
+    let first = and_parts (holds_text Ninja c.cwd) (holds_variables Ninja c.env_vars && (holds_text Ninja c.exe && list_all (holds_text Ninja) c.args)) h in
+    let second = and_parts (holds_variables Ninja c.env_vars) (holds_text Ninja c.exe && list_all (holds_text Ninja) c.args) first.1 in
+    let third = and_parts (holds_text Ninja c.exe) (list_all (holds_text Ninja) c.args) second.1 in
+    line-with (last_part c.exe) (target_of c.args) (line-last c.exe (split_at_last 47 c.exe) refl (are.exe, held-text c.exe third.0))
+    (line-target c.args (held-words c.args are.args third.1))
+
 -- ---- parts of texts
 
 parts-onto : (byte : ℕ) (front text first : List ℕ) (parts : List (List ℕ)) → lacks byte front ≡ true → parts_at byte text ≡ first ∷ parts → parts_at byte (front ++ text) ≡ (front ++ first) ∷ parts
@@ -227,28 +308,37 @@ build_line output needs = codes "build " ++ (output ++ (codes ": run" ++ needs))
 abbrev value_line : List ℕ → List ℕ
 value_line text = codes "  line = " ++ escaped text
 
+abbrev shown_line : List ℕ → List ℕ
+shown_line text = codes "  description = " ++ escaped text
+
 -- the lines of an edge, before further ones
-edge-lines : (output needs text rest : List ℕ) → (codes "build " ++ (output ++ (codes ": run" ++ (needs ++ edge_line text)))) ++ rest ≡ build_line output needs ++ 10 ∷ (value_line text ++ 10 ∷ rest)
-edge-lines output needs text rest = simp append_assoc
+edge-lines : (output needs text shown rest : List ℕ) → (codes "build " ++ (output ++ (codes ": run" ++ (needs ++ (edge_line text ++ description_line shown))))) ++ rest
+    ≡ build_line output needs ++ 10 ∷ (value_line text ++ 10 ∷ (shown_line shown ++ 10 ∷ rest))
+edge-lines output needs text shown rest = simp append_assoc
+
+-- a description begins no edge
+shown-skipped : (tmp shown : List ℕ) → head_of tmp (shown_line shown) ≡ None
+shown-skipped tmp shown = refl
 
 head-read : (tmp output needs : List ℕ) (paths : List (List ℕ)) → lacks 58 output ≡ true → IsNeeds tmp needs paths →
     head_of tmp (build_line output needs) ≡ Some (path_of tmp output, paths)
 head-read tmp output needs paths plain are = grind (arith, lacks-append, parts-past, parts-end)
 
 -- an edge, before further lines
-pub any-edge-read : (tmp output needs text rest : List ℕ) (paths : List (List ℕ)) (es : List Edge) →
-    lacks 10 output ≡ true → lacks 58 output ≡ true → IsNeeds tmp needs paths → IsLine text → edges_from tmp None (parts_at 10 rest) ≡ Some es →
-    edges_from tmp None (parts_at 10 ((codes "build " ++ (output ++ (codes ": run" ++ (needs ++ edge_line text)))) ++ rest))
+pub any-edge-read : (tmp output needs text shown rest : List ℕ) (paths : List (List ℕ)) (es : List Edge) →
+    lacks 10 output ≡ true → lacks 58 output ≡ true → IsNeeds tmp needs paths → IsLine text → IsLine shown → edges_from tmp None (parts_at 10 rest) ≡ Some es →
+    edges_from tmp None (parts_at 10 ((codes "build " ++ (output ++ (codes ": run" ++ (needs ++ (edge_line text ++ description_line shown))))) ++ rest))
     ≡ Some (record { output = path_of tmp output; needs = paths; command = text } ∷ es)
-any-edge-read tmp output needs text rest paths es newline colon are line found = grind (arith, lacks-append, edge-lines, parts-past, line-escaped, head-read, value_reads_back)
+any-edge-read tmp output needs text shown rest paths es newline colon are line short found =
+    grind (arith, lacks-append, edge-lines, parts-past, line-escaped, head-read, value_reads_back, shown-skipped)
 
 edge-read : (tmp : List ℕ) (places : List (ℕ × ℕ)) (needs : List (List ℕ)) (n : ℕ) (l : Listed) (rest : List ℕ) (es : List Edge) →
     IsLine tmp → IsOfTexts l.command → holds_command Ninja l.command ≡ true → edges_from tmp None (parts_at 10 rest) ≡ Some es →
     edges_from tmp None (parts_at 10 (edge tmp (stamps_at places (needs_at needs n)) l ++ rest)) ≡ Some (edge_at tmp places needs n l ∷ es)
 edge-read tmp places needs n l rest es is are h found =
     let numbers = needs_at needs n in
-    any-edge-read tmp (stamp_text l.group l.place) (stamps_at places numbers) (edge_command tmp l.group l.place l.command) rest (map (path_at tmp places) numbers) es
-    (stamp-no_newline l.group l.place) (stamp-no_colon l.group l.place) (needs-stamps tmp places numbers) (line-edge tmp l.group l.place l.command is are h) found
+    any-edge-read tmp (stamp_text l.group l.place) (stamps_at places numbers) (edge_command tmp l.group l.place l.command) (description l.command) rest (map (path_at tmp places) numbers) es
+    (stamp-no_newline l.group l.place) (stamp-no_colon l.group l.place) (needs-stamps tmp places numbers) (line-edge tmp l.group l.place l.command is are h) (line-description l.command are h) found
 
 pub held-command : (c : NvccGeneratedSubcommand) (b : Bool) → holds_command Ninja c ≡ b → judged_command Ninja c ≡ Ok tt → holds_command Ninja c ≡ true
 held-command c b e h = grind arith

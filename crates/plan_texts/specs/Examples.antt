@@ -44,7 +44,7 @@ NewlineRefused = judged_commands Ninja (listed ((cicc_with (codes "K") (codes "a
 abbrev pub EdgeOfCicc : Type 0
 EdgeOfCicc =
     edge (codes "/t") (codes " ${tmp}/zigrunk.0.1") (record { group = 1; place = 0; command = cicc })
-    ≡ codes "build ${tmp}/zigrunk.1.0: run ${tmp}/zigrunk.0.1\n  line = ( cd /t && env 'K=v w' $${ZIGRUNK_RUNNER-} $${ZIGRUNK_LAUNCHER-} /b/cicc 'a$$b' ) && touch /t/zigrunk.1.0\n"
+    ≡ codes "build ${tmp}/zigrunk.1.0: run ${tmp}/zigrunk.0.1\n  line = ( cd /t && env 'K=v w' $${ZIGRUNK_RUNNER-} $${ZIGRUNK_LAUNCHER-} /b/cicc 'a$$b' ) && touch /t/zigrunk.1.0\n  description = cicc\n"
 
 -- the edges of a real fatbin: its second cicc needs the preprocessed source, and the first cicc, which writes the module id
 abbrev pub ends_of : Edge → List ℕ × List (List ℕ)

@@ -17,6 +17,7 @@ use Rattle.plan_texts.specs.declared.refusal.Refusal.TheVariants.{Unheld}
 use Rattle.plan_texts.specs.declared.format.Format.TheVariants.{Ninja}
 use Rattle.plan_texts.specs.Judging.{holds_text, and_then, judged_commands}
 use Rattle.plan_texts.specs.CommandText.{command_text}
+use Rattle.plan_texts.specs.Description.{description}
 use Rattle.plan_texts.specs.Script.{unless_refused}
 
 -- a text as a variable's value. `$` is doubled
@@ -52,10 +53,15 @@ edge_command tmp group place c = command_text (runner c.cacheable) c ++ touch tm
 abbrev pub edge_line : List ℕ → List ℕ
 edge_line text = codes "\n  line = " ++ (escaped text ++ 10 ∷ [])
 
--- an edge: its stamp, the stamps that it needs, and what it runs
+-- the line that says what Ninja prints meanwhile, in place of that
+abbrev pub description_line : List ℕ → List ℕ
+description_line text = codes "  description = " ++ (escaped text ++ 10 ∷ [])
+
+-- an edge: its stamp, the stamps that it needs, what it runs, and its description
 abbrev pub edge : List ℕ → List ℕ → Listed → List ℕ
 edge tmp needs l =
-    codes "build " ++ (stamp_text l.group l.place ++ (codes ": run" ++ (needs ++ edge_line (edge_command tmp l.group l.place l.command))))
+    codes "build " ++ (stamp_text l.group l.place ++ (codes ": run" ++ (needs
+    ++ (edge_line (edge_command tmp l.group l.place l.command) ++ description_line (description l.command)))))
 
 -- where each command is, in plan order: the number of its group, and its place there
 abbrev pub places_of : List Listed → List (ℕ × ℕ)

@@ -1,8 +1,7 @@
 pub mod Answers
 pub mod CommandText
-pub mod Dot
+pub mod Description
 pub mod Examples
-pub mod Formats
 pub mod Graph
 pub mod Judging
 pub mod Message

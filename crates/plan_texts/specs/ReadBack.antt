@@ -43,8 +43,14 @@ CommandsReadBack =
 abbrev pub line_tokens : NvccGeneratedSubcommand → List Token
 line_tokens c = command_tokens [] c ++ Operator (codes "\n") ∷ []
 
--- a script is `set -e` and then each command, in order
+-- a script's first lines: `set -e`, and `mkdir -p` with a directory
+abbrev pub head_tokens : List ℕ → List Token
+head_tokens tmp =
+    Word (codes "set") ∷ Word (codes "-e") ∷ Operator (codes "\n")
+    ∷ Word (codes "mkdir") ∷ Word (codes "-p") ∷ Word (chars tmp) ∷ Operator (codes "\n") ∷ []
+
+-- a script makes the temporary directory and then runs each command, in order
 abbrev pub ScriptsReadBack : Type 0
 ScriptsReadBack =
-    (commands : List Listed) → AllByRecursion (λ l. IsOfTexts l.command) commands →
-    shell_tokens (script commands) ≡ Some (Word (codes "set") ∷ Word (codes "-e") ∷ Operator (codes "\n") ∷ flat_map (λ l. line_tokens l.command) commands)
+    (tmp : List ℕ) (commands : List Listed) → IsUtf8 tmp → AllByRecursion (λ l. IsOfTexts l.command) commands →
+    shell_tokens (script tmp commands) ≡ Some (head_tokens tmp ++ flat_map (λ l. line_tokens l.command) commands)

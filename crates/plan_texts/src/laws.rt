@@ -13,7 +13,8 @@ pub fn equality()
 {}
 
 /// A POSIX shell reads a command's text as the command, and nothing else: its directory, its variables, the words that run it,
-/// its program and its words (`commands`). It reads a script as `set -e` and then each command of the plan, in order (`scripts`). The
+/// its program and its words (`commands`). It reads a script as `set -e`, `mkdir -p` with the temporary
+/// directory, and then each command of the plan, in order (`scripts`). The
 /// grammar is `Posix` of `texts`, in which a `;` outside of quotes ends a command, and text that a shell would act on has no
 /// reading.
 pub fn read_back()

@@ -1,7 +1,7 @@
-//! Lines and plans as text: in a fixed format, as shell scripts, as Ninja files and as pictures.
+//! Lines and plans as text: in a fixed format, as shell scripts and as Ninja files.
 #![tactic(auto)]
 
-mod dot;
+mod description;
 mod format;
 mod judging;
 pub mod laws;
@@ -12,7 +12,6 @@ mod refusal;
 mod shell;
 mod tool;
 
-pub use dot::dot_text;
 pub use format::Format;
 pub use judging::{holds_text, holds_words, judge_commands};
 pub use line::show_line;

@@ -4,8 +4,10 @@ ghost use Rattle.std.specs.Prelude.{◌≡◌, ◌++◌, IfOk, OnOk, encode_utf8
 ghost use Rattle.std.specs.List.{flat_map, list_all};
 ghost use Rattle.command_files.specs.Order.{needs_at};
 ghost use Rattle.plan_texts.specs.Answers.{Answers};
+ghost use Rattle.plan_texts.specs.Description.{description};
 ghost use Rattle.plan_texts.specs.Graph as spec;
 
+use crate::description::description;
 use crate::{Format, Refusal, holds_text, holds_words, judge_commands, push_command};
 use command_files::needs;
 use compilers::command::Cacheable;
@@ -63,6 +65,20 @@ fn edge_command(
     Ok(text)
 }
 
+// Adds the line of a command's description.
+fn push_description(
+    alloc: Global,
+    text: &mut String,
+    command: &NvccGeneratedSubcommand,
+) -> Result<(), AllocError>
+    ensures { OnOk result (string_bytes text.new ≡ string_bytes text.old ++ spec.description_line (description command.now)) }
+{
+    let shown = description(alloc, command)?;
+    text.push_str("  description = ")?;
+    push_value(text, shown.as_str())?;
+    text.push_str("\n")
+}
+
 // Adds the edge of a command, given the text of what it needs.
 fn push_edge(
     alloc: Global,
@@ -81,7 +97,8 @@ fn push_edge(
     text.push_str(needs)?;
     text.push_str("\n  line = ")?;
     push_value(text, line.as_str())?;
-    text.push_str("\n")
+    text.push_str("\n")?;
+    push_description(alloc, text, listed.command)
 }
 
 // Where each of these commands is.
@@ -240,7 +257,7 @@ fn judge_rest(tmp: &str, dropped: &[Dropped]) -> Result<(), Refusal>
 
 /// A plan as a Ninja file. Each command has an edge that runs it and then touches its stamp, the file `zigrunk.GROUP.PLACE`
 /// in the temporary directory `tmp`. If the command fails, its exit status goes to the file `zigrunk.GROUP.PLACE.status` in
-/// decimal. An edge needs the stamps of the commands that its command needs, and no others (`command_files::needs`). The
+/// decimal. While the command runs, Ninja prints its program and its target. An edge needs the stamps of the commands that its command needs, and no others (`command_files::needs`). The
 /// program that the variable `ZIGRUNK_RUNNER` names runs each command, and the one that `ZIGRUNK_LAUNCHER` names runs, below
 /// it, each command whose outputs a cache may serve; both variables may be unset. Dropped commands follow the edges as comments. `tmp` has to be an absolute path. Ninja's own files go there too.
 ///

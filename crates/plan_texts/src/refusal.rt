@@ -13,8 +13,6 @@ pub enum Refusal {
     VariableName,
     /// `env` would not take a program's path for one.
     Program,
-    /// A command has over 65,000 bytes, which Makeflow doesn't read.
-    LongCommand,
     /// Memory ran out.
     Memory,
 }
@@ -33,9 +31,6 @@ impl fmt::Display for Refusal {
             }
             Refusal::Program => {
                 "a program of the plan has a path that env takes for something else"
-            }
-            Refusal::LongCommand => {
-                "a command of the plan has over 65000 bytes, which Makeflow doesn't read"
             }
             Refusal::Memory => "out of memory",
         })

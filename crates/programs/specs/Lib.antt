@@ -1,14 +1,6 @@
-pub mod Calls
 pub mod Delivery
-pub mod Excerpts
-pub mod Exports
 pub mod Messages
-pub mod Misuse
 pub mod Operands
-pub mod Places
 pub mod PlanText
 pub mod PlanTextExamples
-pub mod Settings
 pub mod Start
-pub mod SuffixFault
-pub mod Unread

@@ -4,7 +4,6 @@ use Rattle.plan_texts.specs.declared.tool.Tool.{Tool}
 use Rattle.plan_texts.specs.Tools.{tool_of_name}
 use Rattle.programs.specs.declared.operands.LineCall.{LineCall}
 use Rattle.programs.specs.declared.operands.PlanCall.{PlanCall}
-use Rattle.compilers.specs.Calls.{NvccOf, DirectoryOf}
 
 -- a call that reads a line: the tool, the working directory and the line's words
 pub record LineOf : Type 0 where
@@ -46,13 +45,3 @@ abbrev pub plan_call_of : List (List ℕ) → Option PlanOf
 plan_call_of (cwd ∷ tmp ∷ flag ∷ dry1 ∷ dry2 ∷ suffixes) =
     Some (record { cwd = cwd; tmp = tmp; flag = flag; dry1 = dry1; dry2 = dry2; suffixes = suffixes })
 plan_call_of _ = None
-
--- the call that the words `CWD TMP NVCC WORD..` are
-abbrev pub nvcc_call_of : List (List ℕ) → Option NvccOf
-nvcc_call_of (cwd ∷ tmp ∷ nvcc ∷ words) = Some (record { cwd = cwd; tmp = tmp; nvcc = nvcc; words = words })
-nvcc_call_of _ = None
-
--- the call that the words `CWD NVCC WORD..` are
-abbrev pub directory_call_of : List (List ℕ) → Option DirectoryOf
-directory_call_of (cwd ∷ nvcc ∷ words) = Some (record { cwd = cwd; nvcc = nvcc; words = words })
-directory_call_of _ = None

@@ -1,10 +1,8 @@
 //! The operands of calls.
 
 ghost use Rattle.std.specs.Prelude.{◌≡◌, map, string_bytes, option_map};
-ghost use Rattle.compilers.specs.Calls.{directory_of, nvcc_of};
 ghost use Rattle.programs.specs.Operands as spec;
 
-use compilers::{DirectoryCall, NvccCall};
 use plan_texts::Tool;
 
 /// A call that reads a tool's line and writes it back.
@@ -63,34 +61,5 @@ pub fn plan_call<'a>(words: &'a [String]) -> Option<PlanCall<'a>>
         dry1: dry1.as_str(),
         dry2: dry2.as_str(),
         suffixes,
-    })
-}
-
-/// Parses `CWD TMP NVCC WORD..`. `None` if the words are too few.
-pub fn nvcc_call<'a>(words: &'a [String]) -> Option<NvccCall<'a>>
-    ensures { option_map nvcc_of result ≡ spec.nvcc_call_of (map string_bytes words.now) }
-{
-    let [cwd, tmp, nvcc, line @ ..] = words else {
-        return None;
-    };
-    Some(NvccCall {
-        cwd: cwd.as_str(),
-        tmp: tmp.as_str(),
-        nvcc: nvcc.as_str(),
-        words: line,
-    })
-}
-
-/// Parses `CWD NVCC WORD..`. `None` if the words are too few.
-pub fn directory_call<'a>(words: &'a [String]) -> Option<DirectoryCall<'a>>
-    ensures { option_map directory_of result ≡ spec.directory_call_of (map string_bytes words.now) }
-{
-    let [cwd, nvcc, line @ ..] = words else {
-        return None;
-    };
-    Some(DirectoryCall {
-        cwd: cwd.as_str(),
-        nvcc: nvcc.as_str(),
-        words: line,
     })
 }

@@ -3,10 +3,9 @@
 ghost use Rattle.std.specs.Prelude.{ℕ, List, ◌≡◌, Option, Some, None, MatchResult};
 ghost use Rattle.texts.specs.declared.fault.Fault.TheVariants.{Read};
 ghost use Rattle.texts.specs.Fault.{UnlessMemoryIs};
-ghost use Rattle.programs.specs.Unread as unread;
 
-use crate::unread::{Unread, unread_of};
 use std::fs::{self, Files};
+use std::io::ErrorKind;
 use texts::fault::Fault;
 
 /// The files that a program reads, by their paths.
@@ -16,21 +15,10 @@ pub trait Sources {
 
     /// The bytes of the file at `path`.
     ///
-    /// Fails if the file can't be opened or read, with the reason, and if memory runs out (`Unread::Memory`).
-    fn read(&self, path: &str) -> Result<Vec<u8>, Unread>
-        ensures { MatchResult result (λ bytes. holds self.now path.now (Some bytes.items))
-            (λ why. unread.UnlessMemoryIs why (holds self.now path.now None)) };
-
-    /// The same, without the reason: `Fault::Read`.
+    /// Fails if the file can't be opened or read (`Fault::Read`), and if memory runs out.
     fn read_file(&self, path: &str) -> Result<Vec<u8>, Fault>
         ensures { MatchResult result (λ bytes. holds self.now path.now (Some bytes.items))
-            (λ fault. UnlessMemoryIs fault ((fault ≡ Read) × holds self.now path.now None)) }
-    {
-        match self.read(path) {
-            Ok(bytes) => Ok(bytes),
-            Err(why) => Err(why.fault()),
-        }
-    }
+            (λ fault. UnlessMemoryIs fault ((fault ≡ Read) × holds self.now path.now None)) };
 }
 
 /// The files of the disk. What they hold isn't known to contracts, since std's say nothing of it, and so any bytes will do:
@@ -50,10 +38,11 @@ impl<'a, R: Files + AllocGlobal> Disk<'a, R> {
 impl<R: Files + AllocGlobal> Sources for Disk<'_, R> {
     ghost holds = { λ _ _ _. Unit {0} };
 
-    fn read(&self, path: &str) -> Result<Vec<u8>, Unread> {
+    fn read_file(&self, path: &str) -> Result<Vec<u8>, Fault> {
         match fs::read(self.rt, path) {
             Ok(bytes) => Ok(bytes),
-            Err(error) => Err(unread_of(&error)),
+            Err(error) if error.kind() == ErrorKind::OutOfMemory => Err(Fault::Memory),
+            Err(_) => Err(Fault::Read),
         }
     }
 }

@@ -1,9 +1,13 @@
 //! Why a program stops.
 
+ghost use Rattle.std.specs.Prelude.{OnOk};
+ghost use Rattle.std.specs.Io.KnownBytes.{Appends};
+ghost use Rattle.programs.specs.Messages as spec;
+
 use std::alloc::AllocError;
 use std::fmt;
+use std::io::{self, Write};
 use texts::fault::Fault;
-use texts::text::Text;
 
 /// Why a program prints nothing more. Its text is what follows the program's name on standard error.
 #[derive(Debug, Drop)]
@@ -12,10 +16,6 @@ pub enum Stop {
     Fault(Fault),
     /// The line compiles nothing.
     NotCompilation,
-    /// The nvcc call goes to nvcc unchanged: why.
-    ToNvcc(Text),
-    /// The plan can't be written in this form: why.
-    Unwritable(Text),
     /// Writing the output failed.
     Write,
 }
@@ -30,8 +30,6 @@ impl fmt::Display for Stop {
         match self {
             Stop::Fault(fault) => write!(f, "{fault}"),
             Stop::NotCompilation => f.write_str("not a compilation"),
-            Stop::ToNvcc(why) => write!(f, "goes to nvcc: {why}"),
-            Stop::Unwritable(why) => f.write_str(why.as_str()),
             Stop::Write => f.write_str("cannot write"),
         }
     }
@@ -58,4 +56,14 @@ impl From<AllocError> for Stop {
     fn from(_error: AllocError) -> Stop {
         Stop::Fault(Fault::Memory)
     }
+}
+
+/// Writes the line `PROGRAM: REASON` that says why a program stops. It allocates nothing, so it also says that memory
+/// ran out.
+///
+/// If a write fails, part of the line may have been written.
+pub fn complain<E: Write>(program: &str, stop: &Stop, err: &mut E) -> io::Result<()>
+    ensures { OnOk result (Appends (E.contents err.old) (E.contents err.new) (spec.complaint program.now stop.now)) }
+{
+    write!(err, "{program}: {stop}\n")
 }

@@ -94,7 +94,7 @@ pub fn products_of(call: &BatchCall) -> Vec<Product> {
 pub fn make(call: &BatchCall, context: &Context, turns: &mut Turns<Made>) -> Made {
     let mut making = Making { call, context, turns, begun: SystemTime::now(), made: Made::default(), reads: Reads::Unknown, is_random: false };
     if !Path::new(&call.folder).is_dir() {
-        making.made.complain(&format!("zigrunk-batch: no folder {}", call.folder));
+        making.made.complain(&format!("zigrunk batch: no folder {}", call.folder));
         making.made.status = 2;
         return making.made;
     }
@@ -151,7 +151,7 @@ impl Making<'_> {
             }
             Err(Stop::Signal(_)) => return Err(Signalled),
             Err(Stop::ByNvcc(reason)) => {
-                self.made.complain(&format!("zigrunk-batch: {reason}"));
+                self.made.complain(&format!("zigrunk batch: {reason}"));
                 self.made.status = 1;
             }
         }
@@ -245,7 +245,7 @@ impl Making<'_> {
         for pause in ["1", "2", ""] {
             let Some(late) = products.iter().find(|product| !product.is_new()) else { return };
             if pause.is_empty() || self.context.settings.runs_here() {
-                self.made.complain(&format!("zigrunk-batch: no new {}, though the call ended with 0", late.path.display()));
+                self.made.complain(&format!("zigrunk batch: no new {}, though the call ended with 0", late.path.display()));
                 self.made.status = 1;
                 return;
             }
@@ -358,7 +358,7 @@ mod tests {
         let room = Room(TestFolder::new());
         let call = BatchCall { folder: "/missing".into(), ..room.call(Asked::Program(words("make"))) };
         let (made, jobs) = self::made(call, room.context(), |_| None);
-        assert_eq!((made.status, said(&made), jobs.len()), (2, "!zigrunk-batch: no folder /missing\n".into(), 0));
+        assert_eq!((made.status, said(&made), jobs.len()), (2, "!zigrunk batch: no folder /missing\n".into(), 0));
     }
 
     #[test]
@@ -382,7 +382,7 @@ mod tests {
                 Step::End(made) => break made.unwrap(),
             }
         };
-        assert_eq!((made.status, said(&made)), (1, "!zigrunk-batch: no process for a command: out of memory\n".into()));
+        assert_eq!((made.status, said(&made)), (1, "!zigrunk batch: no process for a command: out of memory\n".into()));
     }
 
     #[test]
@@ -395,7 +395,7 @@ mod tests {
         };
         let (made, _) = self::made(compiler(), room.context(), writes);
         assert_eq!((made.status, said(&made)), (0, String::new()));
-        let missing = format!("!zigrunk-batch: no new {}, though the call ended with 0\n", room.path("a.o"));
+        let missing = format!("!zigrunk batch: no new {}, though the call ended with 0\n", room.path("a.o"));
         let (made, jobs) = self::made(compiler(), room.context(), |_| Some(ended(0, "", "")));
         assert_eq!((made.status, said(&made), jobs.len()), (1, missing.clone(), 1), "the old one doesn't count");
         assert_eq!(self::made(compiler(), room.context(), |_| Some(ended(3, "", ""))).0.status, 3);

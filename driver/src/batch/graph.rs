@@ -140,7 +140,7 @@ impl<'a, M: Machine, C: Calls, W: Write> Graph<'a, M, C, W> {
                 Event::Printed(..) => {}
                 Event::Signal(number) => self.stop(number),
                 Event::Lost(reason) => {
-                    complain(&format!("zigrunk-batch: {reason}"));
+                    complain(&format!("zigrunk batch: {reason}"));
                     self.outcomes.lost = true;
                     self.stop(TERM);
                 }
@@ -208,7 +208,7 @@ impl<'a, M: Machine, C: Calls, W: Write> Graph<'a, M, C, W> {
             }
             Err(_) if self.running.iter().any(Option::is_some) => (self.unbegun, self.is_full) = (Some(call), true),
             Err(error) => {
-                let text = format!("zigrunk-batch: no thread for a call: {error}\n");
+                let text = format!("zigrunk batch: no thread for a call: {error}\n");
                 self.ended(call, Made { status: 1, said: vec![(true, text.into_bytes())], ..Made::default() });
             }
         }
@@ -296,7 +296,7 @@ impl<'a, M: Machine, C: Calls, W: Write> Graph<'a, M, C, W> {
             Outcome::Success
         };
         if self.schedule.ended(call, outcome).is_err() {
-            complain("zigrunk-batch: the schedule refuses the end of a call");
+            complain("zigrunk batch: the schedule refuses the end of a call");
             self.outcomes.status = 1;
         }
         self.count.ended += usize::from(!made.cancelled);
@@ -579,7 +579,7 @@ mod tests {
         assert_eq!(outcomes, Outcomes::default());
         let chains = Chains { calls: calls(), without_thread: Cell::new((0, 1)), ..Chains::default() };
         let (_, told, outcomes) = run_chains(&mut Fake::default(), chains, 2, None);
-        assert_eq!((told.split('\n').next(), outcomes.status), (Some("0:1:zigrunk-batch: no thread for a call: operation would block"), 1));
+        assert_eq!((told.split('\n').next(), outcomes.status), (Some("0:1:zigrunk batch: no thread for a call: operation would block"), 1));
     }
 
     #[test]
@@ -601,7 +601,7 @@ mod tests {
             let outcomes = Graph::new(&mut machine, &mut chains, 3, limits, Progress::new(Form::Lines, &mut said)).unwrap().run();
             let said = String::from_utf8(said).unwrap();
             // (it says how many a second, too, if it took a second)
-            let is_last = |line: &str| line.starts_with("zigrunk-batch: 3 of 3 calls, 3 commands") && line.ends_with(": 2");
+            let is_last = |line: &str| line.starts_with("zigrunk batch: 3 of 3 calls, 3 commands") && line.ends_with(": 2");
             assert!(outcomes == Outcomes::default() && said.lines().last().is_some_and(is_last), "{said}");
             machine.log.join(" ")
         };

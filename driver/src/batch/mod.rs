@@ -1,4 +1,4 @@
-//! zigrunk-batch: makes many calls of nvcc as zigrunk-nvcc does, in one process.
+//! zigrunk batch: makes many calls of nvcc as zigrunk-nvcc does, in one process.
 mod calls;
 mod databases;
 mod graph;
@@ -57,6 +57,8 @@ fn asked(words: Vec<String>, settings: &Settings) -> Asked {
     let stem = name.rsplit_once('-').filter(|(_, version)| version.starts_with(|digit: char| digit.is_ascii_digit())).map_or(name, |(stem, _)| stem);
     if name == "zigrunk-nvcc" {
         Asked::Nvcc(words[1..].to_vec())
+    } else if name == "zigrunk" && words.get(1).is_some_and(|word| word == "nvcc") {
+        Asked::Nvcc(words[2..].to_vec())
     } else if first.starts_with('-') || programs::is_nvcc(first.as_bytes()) || settings.nvcc == *first {
         Asked::Nvcc(words)
     } else if ["gcc", "++", "clang"].iter().any(|end| stem.ends_with(end)) || name == "cc" {
@@ -158,7 +160,7 @@ impl Calls for Told<'_> {
         }
         if made.status != 0 {
             let call = &self.calls[call];
-            complain(&format!("zigrunk-batch: {} {}: exit status {}: {}", self.list.unit, call.number, made.status, call.name));
+            complain(&format!("zigrunk batch: {} {}: exit status {}: {}", self.list.unit, call.number, made.status, call.name));
         }
     }
 }
@@ -279,7 +281,7 @@ fn end_of(outcomes: Outcomes) -> Ended {
         return Ended::Signal(signal);
     }
     if outcomes.left > 0 {
-        complain(&format!("zigrunk-batch: stopped, {} of the calls not made", outcomes.left));
+        complain(&format!("zigrunk batch: stopped, {} of the calls not made", outcomes.left));
     }
     Ended::Status(outcomes.status)
 }
@@ -294,7 +296,7 @@ fn unless_made(words: &[OsString], settings: &Settings) -> i32 {
     let words: Vec<&OsStr> = words.iter().map(OsString::as_os_str).collect();
     let [first, ..] = words.as_slice() else { return 2 };
     let reason = crate::call::become_program(&words, &Environment::own());
-    complain(&format!("zigrunk-batch: cannot run {}: {reason}", first.to_string_lossy()));
+    complain(&format!("zigrunk batch: cannot run {}: {reason}", first.to_string_lossy()));
     127
 }
 
@@ -319,7 +321,7 @@ fn run_batch(options: &Options, settings: Settings) -> i32 {
         Ok(Ended::Status(status)) => status,
         Ok(Ended::Signal(number)) => system::end_by(number),
         Err(complaint) => {
-            complain(&format!("zigrunk-batch: {complaint}"));
+            complain(&format!("zigrunk batch: {complaint}"));
             1
         }
     }
@@ -329,7 +331,7 @@ fn run_batch(options: &Options, settings: Settings) -> i32 {
 fn with_settings(run: impl FnOnce(Settings) -> i32) -> i32 {
     Settings::of_environment().map_or_else(
         |complaint| {
-            complain(&format!("zigrunk-batch: {complaint}"));
+            complain(&format!("zigrunk batch: {complaint}"));
             2
         },
         run,
@@ -342,11 +344,11 @@ pub fn main(words: &[OsString]) -> i32 {
     let print = |text: String| i32::from(say(1, text.as_bytes()).is_err());
     match options::parse(words) {
         Ok(Wanted::Help) => print(format!("{USAGE}\n{HELP}\n")),
-        Ok(Wanted::Version) => print(format!("zigrunk-batch {}\n", env!("CARGO_PKG_VERSION"))),
+        Ok(Wanted::Version) => print(format!("zigrunk batch {}\n", env!("CARGO_PKG_VERSION"))),
         Ok(Wanted::UnlessMade(words)) => with_settings(|settings| unless_made(&words, &settings)),
         Ok(Wanted::Batch(options)) => with_settings(|settings| run_batch(&options, settings)),
         Err(complaint) => {
-            complain(&format!("zigrunk-batch: {complaint}\n{USAGE}"));
+            complain(&format!("zigrunk batch: {complaint}\n{USAGE}"));
             2
         }
     }
@@ -370,6 +372,8 @@ mod tests {
             ("/opt/nvcc -c", "nvcc 2"),
             ("zigrunk-nvcc -c", "nvcc 1"),
             ("/a/zigrunk-nvcc /opt/nvcc -c", "nvcc 2"),
+            ("/a/zigrunk nvcc -c k.cu", "nvcc 2"),
+            ("zigrunk plan", "program 2"),
             ("-c a.cu", "nvcc 2"),
             ("my-compiler -c", "nvcc 2"),
             ("gcc -c", "compiler 2"),

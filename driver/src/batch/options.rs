@@ -1,9 +1,9 @@
-//! The words of zigrunk-batch.
+//! The words of zigrunk batch.
 use crate::farm::Conditions;
 use std::ffi::{OsStr, OsString};
 use std::time::Duration;
 
-pub const USAGE: &str = "usage: zigrunk-batch [-j N] [-k N] [--progress] [--incremental] [--workers COMMAND].. [FILE]";
+pub const USAGE: &str = "usage: zigrunk batch [-j N] [-k N] [--progress] [--incremental] [--workers COMMAND].. [FILE]";
 
 pub const HELP: &str = "
 Makes the calls of a list, split into their commands, side by side.
@@ -13,7 +13,7 @@ FILE          a call on each line, as you would type it, or a compile_commands.j
 -k N          start nothing more once N calls have failed; 0, as without it, makes all other calls
 --progress    say how far it is, also if standard error is no terminal
 --incremental leave out the calls whose words, products and files are as they were when --incremental made them last
---workers COMMAND    run all commands on the machines where COMMAND starts zigrunk-worker; give it again for more machines
+--workers COMMAND    run all commands on the machines where COMMAND starts zigrunk worker; give it again for more machines
 --wait N      fail once there has been no worker for N seconds; 120, unless set
 --give-up N   run a worker's commands elsewhere once it has said nothing for N seconds; 10, unless set
 --timeout N   end a worker's command once it takes N seconds; without it, there is no limit

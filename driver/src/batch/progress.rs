@@ -40,7 +40,7 @@ pub struct Progress<W> {
 fn line(count: &Count, seconds: f64, name: &str) -> String {
     let failed = if count.failed > 0 { format!(", {} failed", count.failed) } else { String::new() };
     let rate = if seconds >= 1.0 { format!(", {:.1} a second", crate::report::number(count.commands) / seconds) } else { String::new() };
-    format!("zigrunk-batch: {} of {} calls{failed}, {} commands{rate}: {name}", count.ended, count.calls, count.commands)
+    format!("zigrunk batch: {} of {} calls{failed}, {} commands{rate}: {name}", count.ended, count.calls, count.commands)
 }
 
 impl<W: Write> Progress<W> {
@@ -89,8 +89,8 @@ mod tests {
 
     #[test]
     fn lines_say_how_far_it_is() {
-        assert_eq!(line(&count(), 4.0, "a.cu"), "zigrunk-batch: 2 of 5 calls, 1 failed, 12 commands, 3.0 a second: a.cu");
-        assert_eq!(line(&Count { failed: 0, ..count() }, 0.5, "a.cu"), "zigrunk-batch: 2 of 5 calls, 12 commands: a.cu");
+        assert_eq!(line(&count(), 4.0, "a.cu"), "zigrunk batch: 2 of 5 calls, 1 failed, 12 commands, 3.0 a second: a.cu");
+        assert_eq!(line(&Count { failed: 0, ..count() }, 0.5, "a.cu"), "zigrunk batch: 2 of 5 calls, 12 commands: a.cu");
     }
 
     #[test]

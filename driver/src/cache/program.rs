@@ -1,4 +1,4 @@
-//! `zigrunk-cache`: shows and clears the cache.
+//! `zigrunk cache`: shows and clears the cache.
 use crate::cache::counts;
 use crate::cache::place::{self, shown};
 use crate::cache::store::Store;
@@ -7,14 +7,14 @@ use crate::settings::{Settings, bytes_of};
 use crate::streams::{complain, say};
 use std::ffi::OsString;
 
-const USAGE: &str = "usage: zigrunk-cache stats|clear|limit [SIZE]";
+const USAGE: &str = "usage: zigrunk cache stats|clear|limit [SIZE]";
 
 fn tell(text: &str) -> i32 {
     i32::from(say(1, text.as_bytes()).is_err())
 }
 
 fn wrong(complaint: &str) -> i32 {
-    complain(&format!("zigrunk-cache: {complaint}"));
+    complain(&format!("zigrunk cache: {complaint}"));
     1
 }
 
@@ -92,7 +92,7 @@ mod tests {
             system::close(2);
             let _errors = File::create(&path).unwrap();
             assert_eq!(limit(&Store::new("/missing".into(), 1), 1, Some("9x")), 1);
-            assert_eq!(fs::read_to_string(&path).unwrap(), "zigrunk-cache: a size has digits, and K, M, G or T\n");
+            assert_eq!(fs::read_to_string(&path).unwrap(), "zigrunk cache: a size has digits, and K, M, G or T\n");
         });
     }
 }

@@ -58,7 +58,7 @@ impl Farm {
                 }
                 Some(Err(error)) if !self.here.runs() => {
                     let (status, now) = (Status { code: 1, signal: None, dumped: false }, host::now());
-                    let errors = format!("zigrunk-batch: no process for a command: {error}\n").into_bytes();
+                    let errors = format!("zigrunk batch: no process for a command: {error}\n").into_bytes();
                     self.events.push_back(Event::Ended(number, Ended { status, out: Vec::new(), errors, times: (now, now) }));
                 }
                 _ => return self.here.waiting.push_front((number, job)),

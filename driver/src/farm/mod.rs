@@ -1,6 +1,6 @@
 //! A farm: workers on other machines that run a batch's commands.
 //!
-//! Something that starts a program on each machine, such as srun, ssh or mpirun, starts `zigrunk-worker`, which connects to the batch. The
+//! Something that starts a program on each machine, such as srun, ssh or mpirun, starts `zigrunk worker`, which connects to the batch. The
 //! batch's process hands commands to workers over these connections, so a command that runs takes no process, thread or port here. What may
 //! start and what a failure means the batch decides as it does without workers.
 //!
@@ -284,7 +284,7 @@ impl Farm {
                 let command = self.conditions.commands.get(number).map(String::as_str).unwrap_or_default();
                 let said = [ended.out, ended.errors].concat();
                 let said = String::from_utf8_lossy(&said);
-                complain(&format!("zigrunk-batch: what starts workers has ended with status {}: {command}\n{}", ended.status.code, said.trim_end()));
+                complain(&format!("zigrunk batch: what starts workers has ended with status {}: {command}\n{}", ended.status.code, said.trim_end()));
                 self.starters.failed.get_or_insert_with(|| command.to_owned());
             }
             other => self.events.push_back(other),
@@ -535,7 +535,7 @@ impl Farm {
     /// Gives a machine no work any more, and says so.
     fn leave_out(&mut self, at: usize, reason: String) {
         let name = self.members[at].worker.name.clone();
-        complain(&format!("zigrunk-batch: {name} gets no work: {reason}"));
+        complain(&format!("zigrunk batch: {name} gets no work: {reason}"));
         self.members[at].connection.send(&Message::Refusal(reason.clone()));
         self.left_out.insert(name, reason);
         self.remove(at);
@@ -548,7 +548,7 @@ impl Farm {
         let count = self.remove(at);
         if is_known && !self.is_ending {
             let commands = if count == 1 { "command" } else { "commands" };
-            complain(&format!("zigrunk-batch: {name} {how}, so {count} {commands} of it run elsewhere"));
+            complain(&format!("zigrunk batch: {name} {how}, so {count} {commands} of it run elsewhere"));
         }
     }
 
@@ -563,7 +563,7 @@ impl Farm {
             if attempt.lost < MOST_LOST {
                 self.waiting.push_front(attempt);
             } else {
-                let text = format!("zigrunk-batch: {} has lost {MOST_LOST} workers\n", attempt.name());
+                let text = format!("zigrunk batch: {} has lost {MOST_LOST} workers\n", attempt.name());
                 self.fail(&attempt, 1, text.into_bytes());
             }
         }
@@ -591,7 +591,7 @@ impl Farm {
         if !answer.fault.is_empty() {
             self.at_fault(attempt, at, answer.fault);
         } else if let Some(error) = &attempt.unwritten {
-            let text = format!("zigrunk-batch: cannot write what {} made: {error}\n", attempt.name());
+            let text = format!("zigrunk batch: cannot write what {} made: {error}\n", attempt.name());
             attempt.drafts.remove();
             self.fail(&attempt, 1, text.into_bytes());
         } else if self.conditions.sends_files && answer.code == 0 && !attempt.arrivals.have(&answer.products) {
@@ -615,7 +615,7 @@ impl Farm {
         attempt.clear();
         attempt.lost += 1;
         if attempt.lost >= MOST_LOST {
-            let text = format!("zigrunk-batch: {MOST_LOST} workers couldn't run {}: {fault}\n", attempt.name());
+            let text = format!("zigrunk batch: {MOST_LOST} workers couldn't run {}: {fault}\n", attempt.name());
             self.fail(&attempt, 1, text.into_bytes());
             return;
         }
@@ -630,7 +630,7 @@ impl Farm {
     fn time_is_up(&mut self, attempt: Attempt, at: usize) {
         let seconds = self.conditions.limit.unwrap_or_default().as_secs();
         let said = attempt.drafts.said(attempt.said[1].clone());
-        let text = format!("zigrunk-batch: {} took longer than {seconds} seconds\n", attempt.name());
+        let text = format!("zigrunk batch: {} took longer than {seconds} seconds\n", attempt.name());
         let status = Status { code: TIME_IS_UP, signal: None, dumped: false };
         let now = host::now();
         let errors = [said, text.into_bytes()].concat();
@@ -663,7 +663,7 @@ impl Farm {
                         self.conclude(&attempt, ended);
                     }
                     Err(error) => {
-                        let text = format!("zigrunk-batch: cannot rename what {} made: {error}\n", attempt.name());
+                        let text = format!("zigrunk batch: cannot rename what {} made: {error}\n", attempt.name());
                         attempt.drafts.remove();
                         self.fail(&attempt, 1, text.into_bytes());
                     }
@@ -676,7 +676,7 @@ impl Farm {
                 };
                 let mut ended = ended_of(&attempt, &answer);
                 ended.status.code = 1;
-                ended.errors.extend(format!("zigrunk-batch: {} ended with 0, and what it makes {what}\n", attempt.name()).into_bytes());
+                ended.errors.extend(format!("zigrunk batch: {} ended with 0, and what it makes {what}\n", attempt.name()).into_bytes());
                 self.suspect(attempt, at, ended);
             }
         }

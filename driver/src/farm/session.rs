@@ -201,7 +201,7 @@ impl Session {
     /// Takes a part of a tool. Unless it comes whole, no command begins that runs it.
     fn take_tool(&mut self, take: impl FnOnce(&mut Received) -> io::Result<()>) {
         if let Err(error) = take(&mut self.received) {
-            complain(&format!("zigrunk-worker: cannot take a tool: {error}"));
+            complain(&format!("zigrunk worker: cannot take a tool: {error}"));
         }
     }
 

@@ -254,7 +254,7 @@ fn products_have_their_names_once_they_are_whole() {
         // One that the worker doesn't see either fails.
         farm.start(2, &ptxas).unwrap();
         worker.answer(farm, with_code(0));
-        assert_eq!(next_end(farm), (2, 1, String::new(), "zigrunk-batch: ptxas ended with 0, and what it makes is missing\n".into()));
+        assert_eq!(next_end(farm), (2, 1, String::new(), "zigrunk batch: ptxas ended with 0, and what it makes is missing\n".into()));
         // A draft that can't be renamed fails too.
         farm.start(3, &ptxas).unwrap();
         let (number, order) = worker.order(farm);
@@ -263,7 +263,7 @@ fn products_have_their_names_once_they_are_whole() {
         fs::create_dir(room.path("k.cubin")).unwrap();
         worker.say(&Message::Ended(number, Answer { products: vec![Some(5)], ..Answer::default() }));
         let (_, code, _, errors) = next_end(farm);
-        assert!(code == 1 && errors.starts_with("zigrunk-batch: cannot rename what ptxas made: "), "{errors}");
+        assert!(code == 1 && errors.starts_with("zigrunk batch: cannot rename what ptxas made: "), "{errors}");
     });
 }
 
@@ -310,7 +310,7 @@ fn a_command_that_loses_workers_fails_in_the_end() {
             wait_until(farm, |farm| farm.members.is_empty());
         }
         assert_eq!(usize::from(number), MOST_LOST);
-        assert_eq!(next_end(farm), (9, 1, String::new(), format!("zigrunk-batch: make has lost {MOST_LOST} workers\n")));
+        assert_eq!(next_end(farm), (9, 1, String::new(), format!("zigrunk batch: make has lost {MOST_LOST} workers\n")));
     });
 }
 
@@ -345,7 +345,7 @@ fn a_machine_at_fault_gets_no_work() {
             only.answer(farm, with_fault("its /w/k.cu isn't the batch's"));
             wait_until(farm, |farm| farm.attempts.is_empty());
         }
-        let text = format!("zigrunk-batch: {MOST_LOST} workers couldn't run make: its /w/k.cu isn't the batch's\n");
+        let text = format!("zigrunk batch: {MOST_LOST} workers couldn't run make: its /w/k.cu isn't the batch's\n");
         assert_eq!(next_end(farm), (1, 1, String::new(), text));
         assert!(farm.waiting.is_empty() && left_out(farm).is_empty());
     });
@@ -610,7 +610,7 @@ fn a_command_may_take_so_long() {
             worker.say(&Message::Said(number, true, Bytes(b"begun\n".to_vec())));
             assert_eq!(worker.hear(farm), Message::End(number, TERM));
             worker.say(&Message::Ended(number, with_code(143)));
-            assert_eq!(next_end(farm), (1, 124, String::new(), "begun\nzigrunk-batch: make took longer than 0 seconds\n".into()));
+            assert_eq!(next_end(farm), (1, 124, String::new(), "begun\nzigrunk batch: make took longer than 0 seconds\n".into()));
         },
     );
     with_conditions(

@@ -1,4 +1,4 @@
-//! zigrunk-worker: runs the commands that a batch sends, on a machine of its own. It decides nothing.
+//! zigrunk worker: runs the commands that a batch sends, on a machine of its own. It decides nothing.
 //!
 //! It ends its commands once it hears nothing of the batch any more, so that none goes on when the batch has given it up.
 use super::connections::Connection;
@@ -16,9 +16,9 @@ use std::os::fd::AsRawFd;
 use std::thread::sleep;
 use std::time::{Duration, Instant};
 
-const USAGE: &str = "usage: zigrunk-worker [-j N] [--name NAME]";
+const USAGE: &str = "usage: zigrunk worker [-j N] [--name NAME]";
 const HELP: &str = "
-Runs commands of a zigrunk-batch with --workers, which starts it and says where the batch is.
+Runs commands of a zigrunk batch with --workers, which starts it and says where the batch is.
 
 -j N         run N commands at once; all processors that it may use, unless set
 --name NAME  the machine's name for messages
@@ -118,11 +118,11 @@ fn serve(invitation: &Invitation, worker: &Introduction) -> i32 {
             End::Bye => return 0,
             End::Signal(number) => return 128 + number,
             End::Refused(reason) => {
-                complain(&format!("zigrunk-worker: {} gets no work: {reason}", worker.name));
+                complain(&format!("zigrunk worker: {} gets no work: {reason}", worker.name));
                 return REFUSED;
             }
             End::Nobody | End::Lost if heard.elapsed() > STAY => {
-                complain(&format!("zigrunk-worker: {} can't reach the batch", worker.name));
+                complain(&format!("zigrunk worker: {} can't reach the batch", worker.name));
                 return 1;
             }
             End::Nobody if heard.elapsed() > 10 * PAUSE => return 1,
@@ -180,16 +180,16 @@ pub fn run(words: &[OsString]) -> i32 {
     let print = |text: String| i32::from(say(1, text.as_bytes()).is_err());
     let (slots, name) = match parse(words) {
         Ok(Wanted::Help) => return print(format!("{USAGE}\n{HELP}\n")),
-        Ok(Wanted::Version) => return print(format!("zigrunk-worker {}\n", env!("CARGO_PKG_VERSION"))),
+        Ok(Wanted::Version) => return print(format!("zigrunk worker {}\n", env!("CARGO_PKG_VERSION"))),
         Ok(Wanted::Worker { slots, name }) => (slots, name),
         Err(complaint) => {
-            complain(&format!("zigrunk-worker: {complaint}\n{USAGE}"));
+            complain(&format!("zigrunk worker: {complaint}\n{USAGE}"));
             return 2;
         }
     };
     let text = env::var(VARIABLE).unwrap_or_else(|_| first_line());
     let Some(invitation) = Invitation::of_text(&text) else {
-        complain(&format!("zigrunk-worker: neither {VARIABLE} nor standard input says where the batch is: zigrunk-batch --workers starts it"));
+        complain(&format!("zigrunk worker: neither {VARIABLE} nor standard input says where the batch is: zigrunk batch --workers starts it"));
         return 2;
     };
     introduction(slots, name).map_or(1, |worker| serve(&invitation, &worker))

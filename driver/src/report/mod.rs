@@ -1,4 +1,4 @@
-//! zigrunk-report: summarises the log that zigrunk-nvcc and zigrunk-batch write to `ZIGRUNK_LOG`.
+//! zigrunk report: summarises the log that zigrunk-nvcc and zigrunk batch write to `ZIGRUNK_LOG`.
 mod chains;
 mod log_lines;
 mod page;
@@ -13,7 +13,7 @@ use std::fs;
 use std::io;
 use std::path::PathBuf;
 
-const USAGE: &str = "usage: zigrunk-report [--trace OUT] [--html OUT] FILE..";
+const USAGE: &str = "usage: zigrunk report [--trace OUT] [--html OUT] FILE..";
 const HELP: &str = "
 Summarises logs of ZIGRUNK_LOG.
 
@@ -173,13 +173,13 @@ pub fn run(words: &[OsString]) -> i32 {
             return i32::from(say(1, format!("{USAGE}\n{HELP}").as_bytes()).is_err());
         }
         Err(complaint) => {
-            complain(&format!("zigrunk-report: {complaint}\n{USAGE}"));
+            complain(&format!("zigrunk report: {complaint}\n{USAGE}"));
             return 2;
         }
     };
     report(&asked).map_or_else(
         |complaint| {
-            complain(&format!("zigrunk-report: {complaint}"));
+            complain(&format!("zigrunk report: {complaint}"));
             1
         },
         |()| 0,

@@ -1,6 +1,0 @@
-use Rattle.std.proofs.Common.{◌∙◌}
-use Rattle.host_lines.proofs.NumberLemmas.{number_parsed}
-use Rattle.programs.proofs.settings.number_in.Goals as goal
-
-pub returns : goal.returns
-returns c = c.ok.ensures.value ∙ number_parsed c.args.word.now c.parse.result c.parse.ensures.value.0
