@@ -247,8 +247,9 @@ class Trial:
     def problem(self, text: str) -> None:
         self.problems.append(text)
 
-    def run(self, wanted: tuple[bytes | None, bytes | None]) -> str:
-        """Makes the call and checks what is left. Says how it ended."""
+    def run(self, wanted: tuple[bytes | None, bytes | None], whole: bytes | None) -> str:
+        """Makes the call and checks what is left. Says how it ended. `whole` is the product of a whole host compile, which may take the place of
+        two halves."""
         room = self.room
         room.renew()
         jobs = self.jobs()
@@ -258,10 +259,10 @@ class Trial:
         status = self.end(call, mark)
         product, rule = room.made()
         by_nvcc = product == b"made by nvcc\n"
-        is_right = product == wanted[0] and rule in (wanted[1], b"by nvcc\n")
+        is_right = product in (wanted[0], whole) and rule in (wanted[1], b"by nvcc\n")
         if status == 0 and not by_nvcc and not is_right:
             self.problem(f"status 0 with another product or dependency file: {product!r} {rule!r}")
-        if status != 0 and not by_nvcc and product not in (None, wanted[0]) and not self.may_leave_part:
+        if status != 0 and not by_nvcc and product not in (None, wanted[0], whole) and not self.may_leave_part:
             self.problem(f"status {status} with a part of a product: {product!r}")
         if Path(f"{room.log}.PARTIAL").exists() and not self.may_read_part:
             self.problem("a command read what another wrote in part")
@@ -381,7 +382,7 @@ def main() -> int:
             sys.exit("no host compile is in two halves")
         for number in range(args.first, args.first + args.trials):
             trial = Trial(room, number, args.seed, kinds, references[False][1])
-            ends[trial.run(references[trial.setup.is_late][0])] += 1
+            ends[trial.run(references[trial.setup.is_late][0], references[False][0][0])] += 1
             failed += bool(trial.problems)
             for text in trial.problems:
                 more = (", with make" if trial.setup.has_make else "") + (", late" if trial.setup.is_late else "")
