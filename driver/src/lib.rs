@@ -15,6 +15,7 @@ mod folder;
 mod forked;
 mod guard;
 mod host;
+mod host_compilers;
 mod jobserver;
 mod json_values;
 mod late;
@@ -37,6 +38,7 @@ mod system;
 mod tasks;
 #[cfg(test)]
 mod test_folder;
+mod threads;
 mod voice;
 #[cfg(test)]
 mod whole_call;
