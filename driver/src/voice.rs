@@ -265,9 +265,13 @@ mod tests {
 
     #[test]
     fn after_a_failure_of_the_first_that_nvcc_starts_no_other_is_told() {
-        let told_of = |first_wave, steps: &[Done]| told(&tasks(4), Habits { has_threads: true, first_wave, ..Habits::default() }, &[steps]).0.concat();
+        let told_of =
+            |first_wave, steps: &[Done]| told(&tasks(4), Habits { has_threads: true, first_wave, ..Habits::default() }, &[steps]).0.concat();
         let all = [ok("a"), done(1, "", "b"), done(1, "", "c"), ok("d")];
-        assert_eq!([0, 1, 2, 3, 4].map(|first_wave| told_of(first_wave, &all)), ["!a !b !c !d ", "!a !b !c !d ", "!a !b ", "!a !b !c ", "!a !b !c !d "]);
+        assert_eq!(
+            [0, 1, 2, 3, 4].map(|first_wave| told_of(first_wave, &all)),
+            ["!a !b !c !d ", "!a !b !c !d ", "!a !b ", "!a !b !c ", "!a !b !c !d "]
+        );
     }
 
     #[test]
