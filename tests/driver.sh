@@ -44,7 +44,10 @@ stand_ins=$PWD/tests/driver
 # The toolkit of the stand-ins.
 export CUDA=$scratch/cuda DATA=$data
 mkdir -p "$CUDA/bin" "$CUDA/nvvm/bin" "$scratch/bin"
-for tool in gcc cudafe++ ptxas fatbinary; do ln -s "$stand_ins/tool" "$CUDA/bin/$tool"; done
+# (only gcc itself compiles in two halves, so this one is a program)
+export STAND_IN=$stand_ins/tool
+cc -O1 -o "$CUDA/bin/gcc" tests/driver_cache/program.c || exit 1
+for tool in cudafe++ ptxas fatbinary; do ln -s "$stand_ins/tool" "$CUDA/bin/$tool"; done
 ln -s "$stand_ins/tool" "$CUDA/nvvm/bin/cicc"
 ln -s "$stand_ins/nvcc" "$CUDA/bin/nvcc"
 cp "$driver" "$scratch/bin/zigrunk-nvcc"
@@ -468,7 +471,8 @@ late_starts() {
     fi
     if case_of 'an assembler that says something'; then
         call "${late[@]}" "${plain[@]}" TOOL_DOES='[ "$name" != gcc-c ] || echo odd >&2' -c k.cu -o k.o
-        by_nvcc 'its assembler fails, or says something'
+        same 'status, messages and product' "$status$(cat "$room/err" k.o)" $'0odd\nmade'
+        same 'commands' "$(grep '^+ gcc-[cS]' "$room/log" | paste -sd ' ')" '+ gcc-S + gcc-c + gcc-c'
         call "${late[@]}" "${plain[@]}" FATBIN=/dev/null -c k.cu -o k.o
         by_nvcc "fatbinary's file has another form"
         end

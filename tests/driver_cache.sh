@@ -485,7 +485,7 @@ late() {
     if case_of 'late: an assembler that says something, or fails'; then
         for does in 'echo odd >&2' 'exit 3'; do
             call TOOL_DOES="[ \"\$name\" != as ] || { $does; }" -c k.cu -o k.o
-            same "who makes it with $does" "$status $(cat k.o)" '0 made by nvcc'
+            same "status and who makes it with $does" "$status $(grep -c 'made by nvcc' k.o)" '0 0'
         done
         call -c k.cu -o k.o
         ran 'at last' as

@@ -51,8 +51,8 @@ impl HeadStart {
             return Ok(content);
         }
         let text = String::from_utf8(content).map_err(|_| io::ErrorKind::InvalidData)?;
-        let [own, other] = [&self.file, &self.withheld].map(|path| format!("\n# 1 \"{}\"\n", path.display()));
-        Ok(text.replacen(&own, &other, 1).into_bytes())
+        let [own, other] = [&self.file, &self.withheld].map(|path| format!("# 1 \"{}\"\n", path.display()));
+        Ok(text.replace(&own, &other).into_bytes())
     }
 
     /// Writes what the task reads, if it reads it by the other name though all that it needs has ended.
@@ -168,7 +168,7 @@ mod tests {
     fn a_stub_file_has_the_name_by_which_it_is_read() {
         let folder = TestFolder::new();
         let [file, withheld] = ["own.c", "other.c"].map(|name| folder.join(name));
-        let text = |path: &Path| format!("#define A\n# 4 \"k.cu\"\n# 1 \"{}\"\nx\n", path.display());
+        let text = |path: &Path| format!("#define A\n# 4 \"k.cu\"\n# 1 \"{0}\"\nx\n# 2 \"k.cu\"\n# 1 \"{0}\"\ny\n", path.display());
         fs::write(&file, text(&file)).unwrap();
         let mut start = HeadStart { file: file.clone(), withheld: withheld.clone(), wait: Wait::Reading, ..HeadStart::default() };
         assert_eq!(start.content().unwrap(), text(&withheld).into_bytes());

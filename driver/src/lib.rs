@@ -17,6 +17,7 @@ mod forked;
 mod formats;
 mod guard;
 mod host;
+mod host_compilers;
 mod jobserver;
 mod json_values;
 mod late;
@@ -42,6 +43,7 @@ mod system;
 mod tasks;
 #[cfg(test)]
 mod test_folder;
+mod threads;
 mod voice;
 #[cfg(test)]
 mod whole_call;

@@ -39,6 +39,13 @@ pub struct Ended {
     pub times: (f64, f64),
 }
 
+impl Ended {
+    /// Whether it succeeded and said nothing.
+    pub fn is_silent_success(&self) -> bool {
+        self.status.succeeded() && self.out.is_empty() && self.errors.is_empty()
+    }
+}
+
 /// What comes next.
 #[derive(Debug)]
 pub enum Event {

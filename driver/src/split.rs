@@ -5,7 +5,8 @@ use crate::caches::{self, Counts};
 use crate::dry_runs::{self, DryRuns, Failed};
 use crate::early;
 use crate::folder::CallFolder;
-use crate::late;
+use crate::host_compilers::HostCompiler;
+use crate::late::{self, Halves};
 use crate::log;
 use crate::machine::Machine;
 use crate::places::absolute;
@@ -16,6 +17,7 @@ use crate::run::{self, Done, Stopped, Task};
 use crate::settings::Settings;
 use crate::streams::write_file;
 use crate::tasks::{self, Surroundings};
+use crate::threads;
 use crate::voice::{End, Habits, Say, Voice};
 use dry_run_pairs::runs_devices_first;
 use std::env;
@@ -106,8 +108,8 @@ pub struct Call<'a> {
 struct Planned {
     commands: Vec<PlannedCommand>,
     tasks: Vec<Task>,
-    /// Whether its last host compile begins before the fatbin is there.
-    is_late: bool,
+    /// The halves of its last host compile, if that begins before the fatbin is there, and the task that makes it whole.
+    halves: Option<(Halves, Task)>,
     /// How its voice speaks.
     habits: Habits,
 }
@@ -149,28 +151,38 @@ impl Call<'_> {
         if !commands.last().is_some_and(PlannedCommand::can_write) {
             return by_nvcc("its output can't be written");
         }
-        let late = if late::is_on(self.settings) && !keeps { late::begin_early(&mut commands, tmp) } else { None };
-        let is_early = early::is_on(self.settings) && !keeps;
+        let [may_halve, may_begin_early] = [late::is_on(self.settings), early::is_on(self.settings)].map(|is_on| is_on && !keeps);
+        let host = if may_halve || may_begin_early { HostCompiler::of_plan(&commands) } else { HostCompiler::Script };
+        let halves = if may_halve && host == HostCompiler::Gcc { late::begin_early(&mut commands, tmp) } else { None };
         // The cache looks a host compile up by its text, for which the stub file has to be there.
-        let compile = commands.len().checked_sub(2).filter(|_| is_early && late.is_some() && !has_cache);
+        let compile = commands.len().checked_sub(2).filter(|_| may_begin_early && halves.is_some() && !has_cache);
         let moved = compile.and_then(|compile| early::move_stub(&mut commands, compile, tmp));
         let scratch = self.settings.scratch().map(|path| absolute(path, Path::new(&self.line.cwd)).to_string_lossy().into_owned());
-        let surroundings = Surroundings { settings: self.settings, tmp, scratch };
-        let mut tasks = tasks::tasks_of(&commands, outline.dependencies.as_ref(), &surroundings);
-        if is_early || dry_runs.has_threads || outline.dependencies.is_some() {
+        let around = Surroundings { settings: self.settings, tmp, scratch };
+        let mut tasks = tasks::tasks_of(&commands, outline.dependencies.as_ref(), &around);
+        // A script's calls come in nvcc's order, unless nvcc itself has preprocessors not wait.
+        if (may_begin_early && host != HostCompiler::Script) || dry_runs.has_threads || outline.dependencies.is_some() {
             early::free_preprocessors(&mut tasks, &commands);
         }
-        if is_early {
+        if may_begin_early {
             early::allow(&mut tasks, &commands, tmp);
         }
         if let Some(stub) = moved {
             stub.allow(&mut tasks);
         }
-        let is_late = late.is_some();
-        tasks.last_mut().into_iter().for_each(|last| last.include.clone_from(&late));
-        let tasks = tasks::in_nvccs_order(tasks);
-        let habits = habits_of(&tasks, is_late || has_cache, dry_runs, outline)?;
-        Ok(Planned { commands, tasks, is_late, habits })
+        if let (Some(halves), Some(last)) = (&halves, tasks.last_mut()) {
+            last.include = Some(halves.include.clone());
+        }
+        let whole = halves.as_ref().map(|halves| tasks::lone_task_of(&halves.whole, &around));
+        let tasks = tasks::in_nvccs_order(&tasks, &commands, dry_runs.has_threads);
+        let first_wave = threads::first_wave(&tasks, self.at_once(outline));
+        let habits = habits_of(&tasks, halves.is_some() || has_cache, dry_runs, outline)?;
+        Ok(Planned { commands, tasks, halves: halves.zip(whole), habits: Habits { first_wave, ..habits } })
+    }
+
+    /// How many of the call's commands run at once.
+    fn at_once(&self, outline: &Outline) -> usize {
+        outline.jobs.unwrap_or(self.at_once)
     }
 
     /// The commands of the call's plan.
@@ -192,7 +204,7 @@ impl Call<'_> {
         let dry_runs = dry_runs::make(machine, &asked, make_own)?;
         machine.plans(false);
         let store = if outline.keep_dir.is_some() { None } else { cache::store_of(self.settings, &line.cwd) };
-        let Planned { commands, tasks, is_late, habits } = self.planned(outline, &dry_runs, store.is_some())?;
+        let Planned { commands, tasks, halves, habits } = self.planned(outline, &dry_runs, store.is_some())?;
         let launcher = self.settings.launcher.first().map(String::as_str).unwrap_or_default();
         let before = caches::counts(machine, self.settings)?;
         let mut said = Said::new();
@@ -205,7 +217,7 @@ impl Call<'_> {
         let cache = store.as_ref().map(|store| Session::new(store, tmp, &commands, &tasks));
         let mut maker =
             RuleMaker { commands: &commands, asked: outline.dependencies.as_ref(), launcher, refusals: self.refusals, voice, cache, made: None };
-        let mut done = run::run(machine, &mut maker, &tasks, outline.jobs.unwrap_or(self.at_once))?;
+        let mut done = run::run(machine, &mut maker, &tasks, self.at_once(outline))?;
         if let Some(cache) = &maker.cache {
             done.iter_mut().enumerate().for_each(|(task, done)| done.hit = cache.had(task));
             cache.end();
@@ -213,8 +225,12 @@ impl Call<'_> {
         if maker.cache.as_ref().is_some_and(|cache| cache.misnames_lines(&tasks, &done)) {
             return by_nvcc("a message may name lines of an earlier text");
         }
-        if is_late && late::went_wrong(&done) {
-            return by_nvcc("its assembler fails, or says something");
+        let is_made_whole = match &halves {
+            Some((halves, whole)) => halves.make_whole(machine, whole, &tasks, &mut done)?,
+            None => false,
+        };
+        if habits.has_threads {
+            threads::finish_wave(machine, &tasks[..habits.first_wave], &mut done)?;
         }
         check_end(self.folder.is_there(), &done, &tasks, &dry_runs)?;
         if let Some(folder) = dry_runs.stub_folder.as_ref().filter(|_| outline.keep_dir.is_some()) {
@@ -227,7 +243,7 @@ impl Call<'_> {
         if status != 0 && is_silent {
             say(true, self.words_of_silence(status).as_bytes());
         }
-        if let Some(cache) = cache.as_mut().filter(|_| status == 0) {
+        if let Some(cache) = cache.as_mut().filter(|_| status == 0 && !is_made_whole) {
             cache.keep_call(&Finished { line, commands: &commands, tasks: &tasks, rule: made, said, begun });
         }
         Ok(Outcome { status, commands: logged, counted })
@@ -254,13 +270,14 @@ fn writes_own_rule(command: &PlannedCommand) -> bool {
     command.words.iter().any(|word| is_rule(word))
 }
 
-/// How the voice of a call speaks that has these tasks, and that may still go to nvcc once all have run.
+/// How the voice of a call speaks that has these tasks, and that may still go to nvcc once all have run, or make a command again.
 fn habits_of(tasks: &[Task], may_go_to_nvcc: bool, dry_runs: &DryRuns, outline: &Outline) -> Result<Habits, Stop> {
     let rule_speaks = outline.dependencies.is_some() && !tasks.iter().any(tasks::preprocesses_for_host);
     if rule_speaks && outline.keep_dir.is_some() {
         return by_nvcc("it keeps a file that only its dependencies need");
     }
-    Ok(Habits { holds_back: may_go_to_nvcc || runs_devices_first(&dry_runs.first), has_threads: dry_runs.has_threads, rule_speaks })
+    let holds_back = may_go_to_nvcc || runs_devices_first(&dry_runs.first);
+    Ok(Habits { holds_back, has_threads: dry_runs.has_threads, first_wave: 0, rule_speaks })
 }
 
 /// The order in which tasks are told. An older nvcc runs device commands first, though the plan has cudafe++ before cicc.
@@ -336,7 +353,7 @@ fn name_stubs(tmp: &str, folder: &str) {
     for entry in fs::read_dir(tmp).into_iter().flatten().flatten() {
         let is_stub = entry.file_name().to_str().is_some_and(|name| name.ends_with(".cudafe1.stub.c"));
         if let Some(text) = is_stub.then(|| fs::read_to_string(entry.path()).ok()).flatten() {
-            let _ = write_file(entry.path(), text.replacen(&format!("\n# 1 \"{tmp}/"), &format!("\n# 1 \"{folder}"), 1));
+            let _ = write_file(entry.path(), text.replace(&format!("\n# 1 \"{tmp}/"), &format!("\n# 1 \"{folder}")));
         }
     }
 }

@@ -6,6 +6,7 @@ use crate::cache::digest::{Digest, Hasher};
 use crate::cache::marked::contains;
 use crate::cache::place;
 use crate::cache::store::{Store, digest_of};
+use crate::host_compilers::is_gccs_name;
 use crate::programs;
 use crate::streams::content_of;
 use crate::system;
@@ -66,14 +67,8 @@ impl Kind {
     /// The kind of a program, if the cache knows it.
     pub fn of(program: &str) -> Option<Kind> {
         let name = Path::new(program).file_name()?.to_str()?;
-        Kind::of_nvccs(name).or_else(|| is_gcc(name).then_some(Kind::Host))
+        Kind::of_nvccs(name).or_else(|| is_gccs_name(name).then_some(Kind::Host))
     }
-}
-
-/// Whether a program's name is gcc's, as `g++-12`.
-pub fn is_gcc(name: &str) -> bool {
-    let version = name.strip_prefix("gcc").or_else(|| name.strip_prefix("g++"));
-    version.is_some_and(|version| version.trim_start_matches('-').bytes().all(|byte| byte.is_ascii_digit() || byte == b'.'))
 }
 
 /// What tells a file from what it was, or what had its name.
