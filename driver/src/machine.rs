@@ -35,6 +35,13 @@ pub struct Ended {
     pub times: (f64, f64),
 }
 
+impl Ended {
+    /// Whether it has succeeded, and said nothing.
+    pub fn is_silent(&self) -> bool {
+        self.status.succeeded() && self.out.is_empty() && self.errors.is_empty()
+    }
+}
+
 /// What comes next.
 #[derive(Debug)]
 pub enum Event {
