@@ -1,4 +1,5 @@
 //! The cache of commands: what a command of the same tool, words and inputs has made and said before is made and said again.
+mod again;
 mod ahead;
 pub mod calls;
 pub mod counts;
@@ -49,8 +50,6 @@ use std::io::{self, ErrorKind, IsTerminal};
 use std::mem;
 use std::os::unix::ffi::OsStrExt;
 use std::os::unix::fs::MetadataExt;
-use searches::Ways;
-use stamps::{GRAIN, is_unchanged, keeps_changes};
 use std::path::{Path, PathBuf};
 use std::time::SystemTime;
 use store::Store;
@@ -453,30 +452,6 @@ impl<'a> Session<'a> {
         Step::Ended(ended)
     }
 
-    /// Whether all is as it was that a task has read beside what this call has made: an edit may have come while it ran, and go again.
-    fn is_as_it_was(&mut self, task: usize, keys: &Keys, text: &[u8]) -> bool {
-        let Some(recipe) = self.candidates.get(&task).map(|candidate| &candidate.recipe) else { return false };
-        let files: Vec<PathBuf> = read_beside(recipe, text).into_iter().filter(|file| !file.starts_with(self.tmp)).collect();
-        let mut ways = Ways::new(Path::new(&recipe.job.folder), self.started);
-        let is_same = |file: &PathBuf| match fs::metadata(file) {
-            Ok(status) => is_unchanged(&status, self.started, GRAIN) && file.parent().is_none_or(|folder| ways.are_old(folder)),
-            Err(_) => true,
-        };
-        let tells = |file: &PathBuf| fs::metadata(file).is_ok_and(|status| keeps_changes(file, &status));
-        let counts_by_contents = recipe.has_own_source && !files.iter().all(tells);
-        files.iter().all(is_same)
-            && self.tools.are_unchanged(self.started)
-            && self.start(task).map(Hasher::finish) == Some(keys.start)
-            && (!counts_by_contents || self.key_now(task) == Some(keys.texts))
-    }
-
-    /// The key of a task by its texts as they are now.
-    fn key_now(&mut self, task: usize) -> Option<Digest> {
-        let (start, texts) = self.asked(task, true)?;
-        let recipe = &self.candidates.get(&task)?.recipe;
-        Some(Part::by_texts(start, recipe, &texts)?.key(recipe, &texts))
-    }
-
     /// Keeps an entry by its texts. One without messages is found by its tokens too. Says once that the store can't be written.
     fn keep(&mut self, keys: &Keys, entry: &Entry) {
         let tokens = keys.tokens.filter(|_| !entry.speaks());
@@ -534,16 +509,6 @@ fn made(recipe: &Recipe, output: &Output, modes: u32) -> Option<Made> {
         return None;
     }
     Some(Made::File(marked))
-}
-
-/// The files that a command reads, by its record and by its first text.
-fn read_beside(recipe: &Recipe, text: &[u8]) -> Vec<PathBuf> {
-    let named: Vec<&[u8]> = match recipe.kind {
-        Kind::Host => host_text::files_entered(text).into_iter().flatten().collect(),
-        Kind::Ptxas => host_text::files_of_ptx(text),
-        Kind::CudaFe | Kind::Cicc | Kind::Fatbinary => Vec::new(),
-    };
-    named.into_iter().map(|name| path_of(recipe, name)).chain(recipe.reads.iter().cloned()).collect()
 }
 
 /// The path of a file that messages name.

@@ -458,7 +458,8 @@ impl Session<'_> {
         places.into_iter().try_for_each(|place| self.gather_if_there(place, gathered))?;
         let lacking: Vec<PathBuf> = self.tools.lacking().map(|path| path.strip_prefix(call.cwd()).unwrap_or(path).to_owned()).collect();
         for path in lacking {
-            gathered.search.lacks(path);
+            // (a folder there may have a library)
+            gathered.search.lacks_all(path);
         }
         // gcc also looks for specs in a folder that it names among those of programs alone.
         let specs = folders.libraries.iter().chain(&folders.programs).map(|folder| folder.join("specs"));
