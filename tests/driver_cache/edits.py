@@ -125,7 +125,7 @@ class Project:
         early_header: Values = {**self.header, "size": 7}
         self.put("early/size.h", HEADER.format(**early_header) if self.early else None)
         for name, values in self.sources.items():
-            filled = {**values, "large": str(values["large"]).format(name=name)}
+            filled: Values = {**values, "large": str(values["large"]).format(name=name)}
             text = (SOURCE if name in "ab" else CPP).format(name=name, **filled)
             place = self.places[name]
             for path in self.all(self.source(name)):

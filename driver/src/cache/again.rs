@@ -5,7 +5,7 @@ use crate::cache::host_text::{files_entered, files_of_ptx};
 use crate::cache::key::Part;
 use crate::cache::recipe::Recipe;
 use crate::cache::searches::Ways;
-use crate::cache::stamps::{GRAIN, is_unchanged, keeps_changes};
+use crate::cache::stamps::{GRAIN, Moment, is_unchanged, keeps_changes};
 use crate::cache::tool::Kind;
 use crate::cache::{Keys, Session, path_of, words};
 use std::collections::{BTreeSet, HashSet};
@@ -20,14 +20,14 @@ const HEADER_FOLDERS: [&str; 2] = ["CPATH", "CPLUS_INCLUDE_PATH"];
 /// Folders of installed headers, in which nothing is looked for that has just appeared beside one.
 const INSTALLED: &str = "/usr";
 
-/// The files that a command reads, by its record and by its first text.
-fn read_by(recipe: &Recipe, text: &[u8]) -> Vec<PathBuf> {
+/// The files that a command reads, by its record and by its first text. `None` if a name there may mean another.
+fn read_by(recipe: &Recipe, text: &[u8]) -> Option<Vec<PathBuf>> {
     let named: Vec<&[u8]> = match recipe.kind {
-        Kind::Host => files_entered(text).into_iter().flatten().collect(),
+        Kind::Host if recipe.question.is_some() => files_entered(text)?.into_iter().collect(),
         Kind::Ptxas => files_of_ptx(text),
-        Kind::CudaFe | Kind::Cicc | Kind::Fatbinary => Vec::new(),
+        Kind::Host | Kind::CudaFe | Kind::Cicc | Kind::Fatbinary => Vec::new(),
     };
-    named.into_iter().map(|name| path_of(recipe, name)).chain(recipe.reads.iter().cloned()).collect()
+    Some(named.into_iter().map(|name| path_of(recipe, name)).chain(recipe.reads.iter().cloned()).collect())
 }
 
 /// The folders in which a compile looks for headers, but for the system's: those that its words and variables name, and those of its files.
@@ -62,15 +62,18 @@ impl Session<'_> {
     /// Whether all is as it was that a task has read beside what this call has made, given the keys under which it is to be kept.
     pub(super) fn is_as_it_was(&mut self, task: usize, keys: &Keys, text: &[u8]) -> bool {
         let Some(recipe) = self.candidates.get(&task).map(|candidate| &candidate.recipe) else { return false };
-        let files: Vec<PathBuf> = read_by(recipe, text).into_iter().filter(|file| !file.starts_with(self.tmp)).collect();
-        let mut ways = Ways::new(Path::new(&recipe.job.folder), self.started);
+        let Some(read) = read_by(recipe, text) else { return false };
+        let files: Vec<PathBuf> = read.into_iter().filter(|file| !file.starts_with(self.tmp)).collect();
+        let begun = self.started.time;
+        let mut ways = Ways::new(Path::new(&recipe.job.folder), begun);
         let folders = if recipe.question.is_some() { folders_of(recipe, &files) } else { BTreeSet::new() };
         let tells = |file: &PathBuf| fs::metadata(file).is_ok_and(|status| keeps_changes(file, &status));
         let counts_by_contents = recipe.has_own_source && !files.iter().all(tells);
-        let is_changed = files.iter().any(|file| is_new(file, &mut ways, self.started))
-            || folders.iter().any(|folder| has_new(folder, &files, &mut ways, self.started))
-            || !self.tools.are_unchanged(self.started);
+        let is_changed = files.iter().any(|file| is_new(file, &mut ways, begun))
+            || folders.iter().any(|folder| has_new(folder, &files, &mut ways, begun))
+            || !self.tools.are_unchanged(begun);
         !is_changed
+            && self.started.is_before(&Moment::now())
             && self.start(task).map(Hasher::finish) == Some(keys.start)
             && (!counts_by_contents || self.key_now(task) == Some(keys.texts))
     }

@@ -14,7 +14,8 @@ use std::path::{Path, PathBuf};
 pub const LISTED: &str = "/etc/ld.so.cache";
 const LIST_BEGINS: &[u8] = b"glibc-ld.so.cache1.1";
 /// Where it looks for what isn't on the list.
-const USUAL: [&str; 6] = ["/lib/x86_64-linux-gnu", "/usr/lib/x86_64-linux-gnu", "/lib/aarch64-linux-gnu", "/usr/lib/aarch64-linux-gnu", "/lib64", "/lib"];
+const USUAL: [&str; 6] =
+    ["/lib/x86_64-linux-gnu", "/usr/lib/x86_64-linux-gnu", "/lib/aarch64-linux-gnu", "/usr/lib/aarch64-linux-gnu", "/lib64", "/lib"];
 /// In these of a folder it looks first, if the processor is one of their kind, and in these of those: glibc did the latter before 2.37.
 const KINDS: [&str; 11] =
     ["glibc-hwcaps", "x86-64-v4", "x86-64-v3", "x86-64-v2", "tls", "haswell", "xeon_phi", "avx512_1", "x86_64", "aarch64", "atomics"];

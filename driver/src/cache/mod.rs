@@ -42,6 +42,7 @@ use key::{Part, Role, Text};
 pub use marked::contains;
 use marked::{Marked, has_symbol};
 use recipe::{Output, Recipe};
+use stamps::Moment;
 use std::collections::BTreeMap;
 use std::env;
 use std::ffi::OsStr;
@@ -51,7 +52,6 @@ use std::mem;
 use std::os::unix::ffi::OsStrExt;
 use std::os::unix::fs::MetadataExt;
 use std::path::{Path, PathBuf};
-use std::time::SystemTime;
 use store::Store;
 use tool::{Kind, Run, Tools};
 
@@ -131,7 +131,7 @@ pub struct Session<'a> {
     terminal: Vec<u8>,
     /// When it began, in seconds, and by the clock.
     begun: f64,
-    started: SystemTime,
+    started: Moment,
     /// Whether the user knows that nothing can be written.
     has_complained: bool,
     /// What the call's commands have put in places outside its directory.
@@ -212,7 +212,7 @@ impl<'a> Session<'a> {
             candidates,
             terminal: terminal(),
             begun: host::now(),
-            started: SystemTime::now(),
+            started: Moment::now(),
             has_complained: false,
             products: Vec::new(),
             has_other_lines: false,

@@ -8,13 +8,32 @@ use std::fs::Metadata;
 use std::os::unix::fs::MetadataExt;
 use std::path::Path;
 use std::sync::Mutex;
-use std::time::{Duration, SystemTime};
+use std::time::{Duration, Instant, SystemTime};
 
 /// A file that changed within this time may change again without another time.
 const FRESH: Duration = Duration::from_secs(2);
 
 /// By so much the time of a change may be earlier than the clock was.
 pub const GRAIN: Duration = Duration::from_millis(20);
+
+/// A moment by the clock by which files have their times, and by one that nobody sets.
+#[derive(Clone, Copy, Debug)]
+pub struct Moment {
+    pub time: SystemTime,
+    instant: Instant,
+}
+
+impl Moment {
+    pub fn now() -> Moment {
+        Moment { time: SystemTime::now(), instant: Instant::now() }
+    }
+
+    /// Whether the clock has gone on since then, at about its pace: if it was set back, a change may seem older than it is.
+    pub fn is_before(&self, now: &Moment) -> bool {
+        let passed = now.instant.duration_since(self.instant);
+        now.time.duration_since(self.time).is_ok_and(|by_clock| by_clock + GRAIN + passed / 1000 >= passed)
+    }
+}
 
 /// The kinds of file systems that are known to keep the time of a file's last change of any kind.
 const KEEPING: [u64; 12] = [
@@ -78,6 +97,18 @@ mod tests {
     use super::*;
     use crate::test_folder::TestFolder;
     use std::fs;
+
+    #[test]
+    fn a_clock_that_was_set_back_is_noticed() {
+        let moment = Moment::now();
+        let after = |clock: i64, passed: u64| {
+            let ago = Duration::from_millis(clock.unsigned_abs());
+            let time = if clock < 0 { moment.time - ago } else { moment.time + ago };
+            moment.is_before(&Moment { time, instant: moment.instant + Duration::from_millis(passed) })
+        };
+        assert!(moment.is_before(&Moment::now()) && after(10_000, 10_000) && after(99_990, 100_000) && after(99_000, 10));
+        assert!(!after(-10, 5) && !after(-10_000, 10_000) && !after(9000, 10_000));
+    }
 
     #[test]
     fn where_changes_are_not_kept_no_stamp_tells() {

@@ -5,9 +5,9 @@ use crate::cache::direct::Found;
 use crate::cache::host_text::files_of_ptx;
 use crate::cache::includes::{self, Folders};
 use crate::cache::manifest::{Form, Manifest, Seen, real_place};
-use crate::cache::searches::{MARGIN, Search};
-use crate::cache::stamps::{Stamp, is_older};
 use crate::cache::recipe::environment_of;
+use crate::cache::searches::{MARGIN, Search};
+use crate::cache::stamps::{Moment, Stamp, is_older};
 use crate::cache::tool::{Kind, Run, is_called, is_disguised};
 use crate::cache::words::{self, Role};
 use crate::cache::{Candidate, Session, State, names, terminal};
@@ -233,7 +233,7 @@ impl Session<'_> {
     /// Keeps a call as a whole, if all that it depends on is known.
     pub fn keep_call(&mut self, call: &Finished<'_>) -> Option<()> {
         let nvcc = programs::find(call.line.nvcc.as_ref(), &env::var_os("PATH").unwrap_or_default(), call.cwd())?;
-        if !calls::is_on() || !self.is_known(call) {
+        if !calls::is_on() || !self.is_known(call) || !self.started.is_before(&Moment::now()) {
             return None;
         }
         let folders = self.folders(call)?;
@@ -476,7 +476,10 @@ impl Session<'_> {
         let mut products = self.products.iter().chain(&call.rule).map(|product| product.path.to_string_lossy());
         let is_named = products.any(|product| texts().any(|text| text.contains(&*product)));
         let names_folder = texts().any(|text| ["odir", "output-directory"].iter().any(|option| text.contains(option)));
-        has_names || is_named || names_folder || words.any(|word| !word.starts_with('-') && !word.starts_with('/') && call.cwd().join(word).is_file())
+        // (a library that the loader finds in the working directory)
+        let has_tools = self.tools.all().any(|(path, _)| path.starts_with(call.cwd()));
+        let is_beside = |word: &String| !word.starts_with('-') && !word.starts_with('/') && call.cwd().join(word).is_file();
+        has_names || has_tools || is_named || names_folder || words.any(is_beside)
     }
 
     /// What the call has made and said. `None` if that has the name of its directory.
