@@ -149,7 +149,9 @@ pub fn start_of(recipe: &Recipe, tool: &Digest, environment: &[(OsString, OsStri
     start.add(instructions().as_bytes());
     start.update(&tool.0);
     start.add(&words_key(recipe, environment)?);
-    places(recipe).iter().for_each(|place| start.add(place.as_os_str().as_bytes()));
+    for place in places(recipe) {
+        start.add(place.as_os_str().as_bytes());
+    }
     Some(start)
 }
 

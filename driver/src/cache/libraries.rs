@@ -202,7 +202,9 @@ impl Loader {
         for folder in folders_in(list, program.canonicalize().ok()?.parent()?, cwd)? {
             walk.take_folder(&folder, 0, &mut folders);
         }
-        further.iter().for_each(|name| walk.seek(name, &folders));
+        for name in further {
+            walk.seek(name, &folders);
+        }
         walk.loader.needs(program)?;
         walk.open.push((program.to_owned(), folders));
         walk.go_on()?;

@@ -294,8 +294,8 @@ mod tests {
     fn a_large_entry_stays_while_the_whole_has_room() {
         let folder = TestFolder::new();
         let store = &Store::new(folder.join("store"), 1 << 20);
-        store.write(&key(1, true), &[1; 200_000]).unwrap();
-        store.write(&key(2, true), &[2; 100_000]).unwrap();
+        store.write(&key(1, true), &vec![1; 200_000]).unwrap();
+        store.write(&key(2, true), &vec![2; 100_000]).unwrap();
         store.tidy_all();
         assert_eq!(store.content().entries, 2);
         set_age(&store.path_of(&key(1, true)), 100);
