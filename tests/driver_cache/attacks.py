@@ -802,7 +802,7 @@ def date_by_a_variable(box: Box) -> None:
 
 @case
 def time_of_a_header(box: Box) -> None:
-    path = box.put("h.h", "#define V __TIMESTAMP__[23]\n")
+    path = box.put("h.h", "static const char* stamp = __TIMESTAMP__;\n#define V stamp[23]\n")
     box.put("k.cu", USES.replace("*p = V", "*p = 1"))
     box.changes(CUDA, lambda: os.utime(path, (1e9, 1e9)))
 
