@@ -211,3 +211,66 @@ impl Loader {
         Some(walk.found)
     }
 }
+
+#[cfg(test)]
+mod tests {
+    use super::*;
+    use crate::test_folder::TestFolder;
+    use std::fs;
+    use std::os::unix::fs::symlink;
+    use std::process::Command;
+
+    #[test]
+    fn a_programs_libraries_are_those_of_the_loader() {
+        let mut loader = Loader::new(&fs::read(LISTED).unwrap_or_default());
+        for program in ["/bin/sh", "/bin/ls", "/usr/bin/as", "/usr/bin/python3"].map(Path::new).into_iter().filter(|program| program.exists()) {
+            let said = Command::new("ldd").arg(program).output().unwrap().stdout;
+            let said = String::from_utf8(said).unwrap();
+            let wanted: Vec<&str> = said.lines().filter_map(|line| line.split(" => ").nth(1)?.split(" (").next()).collect();
+            let found = loader.libraries(program, b"/none", &[], Path::new("/")).unwrap();
+            assert!(!wanted.is_empty() && wanted.iter().all(|file| found.files.iter().any(|other| other == Path::new(file))), "{said} {found:?}");
+            let lacks = |name: &str| found.lacking.contains(Path::new(name));
+            assert!(lacks("/none/libc.so.6") && lacks("/none/tls") && lacks("/none/glibc-hwcaps"));
+        }
+    }
+
+    #[test]
+    fn what_is_no_program_has_no_libraries() {
+        let room = TestFolder::new();
+        let whole = fs::read("/bin/sh").unwrap();
+        for text in [&b"#!/bin/sh\n"[..], b"\x7fELF", &whole[..64], &whole[..200]] {
+            fs::write(room.join("x"), text).unwrap();
+            assert_eq!(Loader::new(b"").libraries(&room.join("x"), b"", &[], &room), None);
+        }
+        assert_eq!(needs_of(Path::new("/bin/sh")).unwrap().names, [b"libc.so.6"]);
+    }
+
+    #[test]
+    fn folders_of_lists_are_known() {
+        let folders = |list: &str| folders_in(list.as_bytes(), Path::new("/kit/bin"), Path::new("/w"));
+        let paths = |names: &[&str]| Some(names.iter().map(PathBuf::from).collect::<Vec<_>>());
+        assert_eq!(folders(""), paths(&[]));
+        assert_eq!(folders("/a:"), paths(&["/a", "/w/"]));
+        assert_eq!(folders("$ORIGIN/../lib;b"), paths(&["/kit/bin/../lib", "/w/b"]));
+        assert_eq!(folders("${ORIGIN}"), paths(&["/kit/bin"]));
+        assert_eq!((folders("/$LIB"), folders("$PLATFORM:/a")), (None, None));
+    }
+
+    #[test]
+    fn the_loaders_list_is_read() {
+        let texts = b"libc.so.6\0/lib/libc.so.6\0";
+        let entry = |name: u32, path: u32| [&[0; 4][..], &name.to_le_bytes(), &path.to_le_bytes(), &[0; 12]].concat();
+        let list = [LIST_BEGINS, &2_u32.to_le_bytes(), &[0; 24], &entry(96, 106), &entry(999, 106), texts].concat();
+        let wanted = BTreeMap::from([(b"libc.so.6".to_vec(), vec![PathBuf::from("/lib/libc.so.6")])]);
+        assert_eq!((listed(&list), listed(&[b"ld.so-1.7.0", &list[..]].concat()), listed(b"")), (wanted.clone(), wanted, BTreeMap::new()));
+    }
+
+    #[test]
+    fn folders_for_kinds_of_processors_are_looked_into() {
+        let room = TestFolder::new();
+        fs::create_dir_all(room.join("mod/tls/x86_64")).unwrap();
+        symlink("/bin/sh", room.join("mod/tls/x86_64/libown.so")).unwrap();
+        let found = Loader::new(b"").libraries(Path::new("/bin/sh"), b"mod", &[b"libown.so".to_vec()], &room).unwrap();
+        assert!(found.files.contains(&room.join("mod/tls/x86_64/libown.so")) && found.lacking.contains(&room.join("mod/libown.so")));
+    }
+}

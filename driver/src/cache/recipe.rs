@@ -268,6 +268,16 @@ mod tests {
     }
 
     #[test]
+    fn a_compile_to_an_object_has_two_steps() {
+        let made = |words: &str, reads: &[&str], writes: &[&str]| recipe(words, reads, writes).unwrap().steps;
+        let steps = made("gcc -c -x c++ -m64 -O2 m.cpp -o /t/m.o", &["/w/m.cpp"], &["/t/m.o"]).unwrap();
+        assert_eq!(steps.compile.words.join(" "), "gcc -S -x c++ -m64 -O2 m.cpp -o /t/zigrunk.tmp/cache.3.s");
+        assert_eq!(steps.assemble.words.join(" "), "gcc -c -x assembler -m64 -O2 /t/zigrunk.tmp/cache.3.s -o /t/m.o");
+        assert_eq!(made("gcc -S -x c++ m.cpp -o /t/m.s", &["/w/m.cpp"], &["/t/m.s"]), None);
+        assert_eq!(made("gcc -c -x assembler /t/late.s -o /t/m.o", &["/t/late.s"], &["/t/m.o"]), None);
+    }
+
+    #[test]
     fn a_product_goes_to_the_calls_directory_first() {
         let made = recipe("/b/gcc -DA -c -x c++ -O2 /t/x.cpp -o k.o", &["/t/x.cpp"], &["/w/k.o"]).unwrap();
         assert_eq!(made.counted, ["-c", "-x", "c++", "-O2", "/t/x.cpp", "-o", "output 0"]);
