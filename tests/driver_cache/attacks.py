@@ -127,18 +127,27 @@ class Box:
             raise Wrong("the change doesn't show: the case says nothing")
 
     def undone(self, words: list[str], change: Callable[[], object], undo: Callable[[], object], seconds: list[float]) -> None:
-        """Makes a change while a call runs, and undoes it later."""
-        for place, wait in enumerate(seconds):
+        """Makes a change while a call runs, and undoes it later: after so many seconds, and once the text is there by which a compile is looked up."""
+        for place, wait in enumerate([*seconds, None]):
             settle()
             # (a word that makes it another call)
             others = [*words, f"-DPLACE{place}=1"]
-            timer = threading.Timer(wait, change)
+            timer = threading.Timer(wait or 0, change if wait else lambda: self.once_preprocessed(change))
             timer.start()
             self.run(self.own, others, {}, ".")
             timer.join()
             undo()
             settle()
             self.check(f"undone after {wait} s", others)
+
+    def once_preprocessed(self, change: Callable[[], object]) -> None:
+        """Makes a change once a compile's text is there that a preprocessor wrote, or after a while."""
+        until = time.monotonic() + 20
+        while time.monotonic() < until:
+            texts = [path for path in (self.room / "tmp").rglob("cache.*.ii") if path.exists()]
+            if any(b"f()" in path.read_bytes()[-200:] for path in texts):
+                break
+        change()
 
 
 def settle() -> None:
