@@ -127,7 +127,7 @@ class Box:
             raise Wrong("the change doesn't show: the case says nothing")
 
     def undone(self, words: list[str], change: Callable[[], object], undo: Callable[[], object], seconds: list[float]) -> None:
-        """Makes a change while a call runs, and undoes it later: after so many seconds, and once the text is there by which a compile is looked up."""
+        """Makes a change while a call runs, and undoes it later: after so many seconds, and once a preprocessor has written its text."""
         for place, wait in enumerate([*seconds, None]):
             settle()
             # (a word that makes it another call)
