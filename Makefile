@@ -27,7 +27,7 @@ driver = $(workspace)/target/release/zigrunk-driver
 # $(call needs_kit,COMMANDS): ends a target that proves, if the Rattle kit isn't there: what to run instead.
 needs_kit = $(if $(shell command -v rt),,$(error make $@ needs the Rattle kit, whose rt is not on PATH. Without it, run: $(1)))
 
-.PHONY: help demo build lib rust rust-sources rust-install check install install-programs install-library install-rust uninstall dist bench drivers fuzz-library fuzz-plain erased-kit must-fail refused-memory end-to-end odd-calls random-calls mutants-by-lot versions cache cache-edits peer cluster field platforms test-install dist-test check-docs lint one test
+.PHONY: help demo build lib rust rust-sources rust-install check install install-programs install-library install-rust uninstall dist bench drivers fuzz-library fuzz-plain erased-kit must-fail refused-memory end-to-end odd-calls random-calls mutants-by-lot versions cache cache-edits cache-attacks peer cluster field platforms test-install dist-test check-docs lint one test
 
 help:
 	@echo 'make demo             run cudaplan, unproved, on two calls; a minute from a fresh clone'
@@ -57,6 +57,7 @@ help:
 	@echo 'make versions         the same with nvcc 11.2, 11.8 and 12.4, which it downloads from Debian, up to 3 GB; or CUDA_VERSIONS=FOLDER'
 	@echo 'make cache            compare builds and rebuilds with and without ccache and sccache; needs both, sccache 0.9 or later; PARTS="edits alone"'
 	@echo 'make cache-edits      build a small project by nvcc and with our cache after each of 200 random edits; SEED=, COUNT='
+	@echo 'make cache-attacks    change all that a call may depend on, and compare the cache with nvcc each time; CASES='
 	@echo 'make peer             build Debian'\''s sccache as it is and on the crate zigrunk, which it downloads with its crates, 30 MB; run its tests'
 	@echo '                      and calls of nvcc by both; needs nvcc and cargo 1.85. No part of the gate'
 	@echo 'make field            build the CUDA code of real projects by nvcc and by zigrunk-nvcc, and compare; needs nvcc and CMake;'
@@ -182,6 +183,10 @@ cache: rust
 # Outside the gate: edits drawn by lot, each build compared with nvcc's.
 cache-edits: rust
 	@tests/driver_cache/edits.py $(workspace)/target/release/zigrunk-driver --seed "$(SEED)" --count "$(if $(filter command line environment,$(origin COUNT)),$(COUNT),200)"
+
+# Outside the gate: changes of all that a call may depend on, each made on purpose. CASES names some.
+cache-attacks: rust
+	@tests/driver_cache/attacks.py $(workspace)/target/release/zigrunk-driver $(CASES)
 
 # Outside the gate. It takes the proved libzigrunk if out/ has it. Otherwise it compiles one without proof, and says so.
 peer:

@@ -114,6 +114,7 @@ unsafe extern "C" {
     fn signal(number: c_int, handler: Handler) -> Handler;
     fn signalfd(fd: c_int, set: *const SignalSet, flags: c_int) -> c_int;
     fn sigprocmask(how: c_int, set: *const SignalSet, old: *mut SignalSet) -> c_int;
+    fn statfs(path: *const c_char, to: *mut [c_ulong; 32]) -> c_int;
     fn tcsetattr(fd: c_int, when: c_int, modes: *const [u32; 16]) -> c_int;
     fn umask(mask: c_uint) -> c_uint;
     fn unlinkat(folder: c_int, name: *const c_char, flags: c_int) -> c_int;
@@ -260,6 +261,14 @@ pub fn open_below(folder: BorrowedFd<'_>, name: &str, how: Opening) -> io::Resul
 /// Whether this process may write a file, or the names in a folder.
 pub fn may_write(path: &Path) -> bool {
     CString::new(path.as_os_str().as_bytes()).is_ok_and(|path| unsafe { access(path.as_ptr(), 2) } == 0)
+}
+
+/// The number of a file system's kind, as the kernel has it. `None` if it isn't known.
+pub fn kind_of_file_system(path: &Path) -> Option<u64> {
+    let path = CString::new(path.as_os_str().as_bytes()).ok()?;
+    // SAFETY: the kernel fills 120 bytes of these 256, and the first number is the kind.
+    let mut said = [0; 32];
+    (unsafe { statfs(path.as_ptr(), &raw mut said) } == 0).then_some(said[0])
 }
 
 /// Opens a path for reading or for writing, without waiting.

@@ -15,6 +15,7 @@ use crate::split::Said;
 use crate::system::may_write;
 use std::env;
 use std::ffi::{OsStr, OsString};
+use std::fs;
 use std::io;
 use std::os::unix::ffi::OsStrExt;
 use std::path::{Path, PathBuf};
@@ -129,21 +130,23 @@ impl Answer {
 
     /// Whether its messages would be the same now.
     fn may_be_said(&self) -> bool {
-        self.is_silent() || self.terminal == terminal()
+        self.is_silent_success() || self.terminal == terminal()
     }
 }
 
 /// The keys under which a call may be: with no folder, and with its own.
 fn keys(line: &Line, nvcc: &Path) -> [Digest; 2] {
-    [None, Some(line.cwd.as_str())].map(|folder| key(line, nvcc, folder, env::vars_os()))
+    let places = fs::canonicalize(&line.cwd).map(|real| [line.cwd.as_bytes(), b"\0", real.as_os_str().as_bytes()].concat());
+    let places = places.unwrap_or_else(|_| line.cwd.clone().into_bytes());
+    [&b""[..], &places].map(|folder| key(line, nvcc, folder, env::vars_os()))
 }
 
-/// The key of a call: the processor, its nvcc, its words and its variables, and its folder if that counts.
-fn key(line: &Line, nvcc: &Path, folder: Option<&str>, variables: impl Iterator<Item = (OsString, OsString)>) -> Digest {
+/// The key of a call: the processor, its nvcc, its words and its variables, and its folder, with where that really is, if that counts.
+fn key(line: &Line, nvcc: &Path, folder: &[u8], variables: impl Iterator<Item = (OsString, OsString)>) -> Digest {
     let mut hasher = Hasher::default();
-    hasher.add(b"zigrunk call 6");
+    hasher.add(b"zigrunk call 7");
     hasher.add(instructions().as_bytes());
-    hasher.add(folder.unwrap_or_default().as_bytes());
+    hasher.add(folder);
     hasher.add(nvcc.as_os_str().as_bytes());
     hasher.update(&(line.words.len() as u64).to_le_bytes());
     line.words.iter().for_each(|word| hasher.add(word.as_bytes()));
@@ -222,7 +225,7 @@ mod tests {
 
     fn key_of(words: &str, folder: Option<&str>, nvcc: &str, variables: &[(&str, &str)]) -> Digest {
         let variables = variables.iter().map(|(name, value)| (name.into(), value.into()));
-        key(&line(words, "/w"), Path::new(nvcc), folder, variables)
+        key(&line(words, "/w"), Path::new(nvcc), folder.unwrap_or_default().as_bytes(), variables)
     }
 
     #[test]
