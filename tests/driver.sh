@@ -448,8 +448,8 @@ late_starts() {
         same 'what the compiler includes' "$(sed "s,$room/tmp/.*/,TMP/," "$room/log.read.gcc-S")" $'made\n# 1 "TMP/kernel.compute_90.cudafe1.stub.c"'
         end
     fi
-    if case_of 'the last compile waits for ZIGRUNK_LATE=0 alone'; then
-        for value in '' 1 00; do
+    if case_of 'the last compile waits for no alone'; then
+        for value in '' 1 yes; do
             call "${late[@]}" ZIGRUNK_LATE="$value" TOOL_DOES="$reads" -c k.cu -o k.o
             same "status, messages and product with '$value'" "$status$(cat "$room/err" k.o)" 0made
             same "what begins with '$value'" "$(grep -c '^+ gcc-S' "$room/log") $(grep -c '^+ gcc-c' "$room/log")" '1 1'
@@ -470,7 +470,7 @@ late_starts() {
         end
     fi
     if case_of 'an assembler that says something'; then
-        call "${late[@]}" "${plain[@]}" TOOL_DOES='[ "$name" != gcc-c ] || echo odd >&2' -c k.cu -o k.o
+        call "${late[@]}" "${plain[@]}" TOOL_DOES="[ \$name != gcc-c ] || echo odd >&2; $reads" -c k.cu -o k.o
         same 'status, messages and product' "$status$(cat "$room/err" k.o)" $'0odd\nmade'
         same 'commands' "$(grep '^+ gcc-[cS]' "$room/log" | paste -sd ' ')" '+ gcc-S + gcc-c + gcc-c'
         call "${late[@]}" "${plain[@]}" FATBIN=/dev/null -c k.cu -o k.o
