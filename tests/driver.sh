@@ -713,7 +713,7 @@ outputs() {
     if case_of 'a command fails, and nvcc has several threads'; then
         prints='/^#\$ [a-z]/ s,$, > /t/1_stdout 2>/t/1_stderr,'
         call OWN_FORM="$prints" TOOL_DOES='case $name in cicc.80) until grep -q "^- gcc-E.90" "$LOG"; do sleep 0.05; done; echo "bad $name" >&2; exit 6 ;; gcc-E.90) echo "says $name" >&2 ;; esac' -t2 -c k.cu -o k.o
-        same 'status and messages' "$status $(cat "$room/err")" $'255 bad cicc.80\nsays gcc-E.90'
+        same 'status and messages' "$status $(cat "$room/err")" $'255 says gcc-E.90\nbad cicc.80'
         call OWN_FORM="$prints" -t2 -c k.cu -o k.o
         splits
         end
