@@ -448,8 +448,8 @@ late_starts() {
         same 'what the compiler includes' "$(sed "s,$room/tmp/.*/,TMP/," "$room/log.read.gcc-S")" $'made\n# 1 "TMP/kernel.compute_90.cudafe1.stub.c"'
         end
     fi
-    if case_of 'the last compile waits for ZIGRUNK_LATE=0 alone'; then
-        for value in '' 1 00; do
+    if case_of 'the last compile waits for no alone'; then
+        for value in '' 1 yes; do
             call "${late[@]}" ZIGRUNK_LATE="$value" TOOL_DOES="$reads" -c k.cu -o k.o
             same "status, messages and product with '$value'" "$status$(cat "$room/err" k.o)" 0made
             same "what begins with '$value'" "$(grep -c '^+ gcc-S' "$room/log") $(grep -c '^+ gcc-c' "$room/log")" '1 1'
@@ -470,7 +470,7 @@ late_starts() {
         end
     fi
     if case_of 'an assembler that says something'; then
-        call "${late[@]}" "${plain[@]}" TOOL_DOES='[ "$name" != gcc-c ] || echo odd >&2' -c k.cu -o k.o
+        call "${late[@]}" "${plain[@]}" TOOL_DOES="[ \$name != gcc-c ] || echo odd >&2; $reads" -c k.cu -o k.o
         same 'status, messages and product' "$status$(cat "$room/err" k.o)" $'0odd\nmade'
         same 'commands' "$(grep '^+ gcc-[cS]' "$room/log" | paste -sd ' ')" '+ gcc-S + gcc-c + gcc-c'
         call "${late[@]}" "${plain[@]}" FATBIN=/dev/null -c k.cu -o k.o
@@ -713,7 +713,7 @@ outputs() {
     if case_of 'a command fails, and nvcc has several threads'; then
         prints='/^#\$ [a-z]/ s,$, > /t/1_stdout 2>/t/1_stderr,'
         call OWN_FORM="$prints" TOOL_DOES='case $name in cicc.80) until grep -q "^- gcc-E.90" "$LOG"; do sleep 0.05; done; echo "bad $name" >&2; exit 6 ;; gcc-E.90) echo "says $name" >&2 ;; esac' -t2 -c k.cu -o k.o
-        same 'status and messages' "$status $(cat "$room/err")" $'255 bad cicc.80\nsays gcc-E.90'
+        same 'status and messages' "$status $(cat "$room/err")" $'255 says gcc-E.90\nbad cicc.80'
         call OWN_FORM="$prints" -t2 -c k.cu -o k.o
         splits
         end
@@ -1483,7 +1483,7 @@ plans() {
         prints 'the help of a word' "$("$zigrunk" plan --help)" help plan
         same 'lines and columns of the help' "$("$zigrunk" help | awk 'length > 80 || NR > 24' | wc -l)" 0
         same 'formats in the manual' "$(listed_in "$manual/zigrunk-plan.1")" "$("$zigrunk" plan --formats)"
-        same 'formats in the help' "$("$zigrunk" help plan | sed -n 's/^  \([a-z]*\)  .*/\1/p' | grep -vx nvcc)" "$("$zigrunk" plan --formats)"
+        same 'formats in the help' "$("$zigrunk" help plan | sed -n 's/^  \([a-z]\{1,\}\)  .*/\1/p')" "$("$zigrunk" plan --formats)"
         end
     fi
 }

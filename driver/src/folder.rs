@@ -2,8 +2,8 @@
 //!
 //! The user's folder is made once, checked once opened, and never removed: nobody else can come between the check and the use.
 use crate::host::nanoseconds;
-use crate::streams::{complain, write_all};
-use crate::system::{self, Opening};
+use crate::streams::{complain, content_of, write_all};
+use crate::system::{self, Access, Opening};
 use std::env;
 use std::ffi::OsStr;
 use std::fs::{self, File, Metadata};
@@ -26,14 +26,22 @@ pub const ELSEWHERE: &str = "elsewhere";
 /// How the names of such folders begin.
 pub const DRAFTS: &str = ".zigrunk.";
 
+/// Removes a folder with all that it holds, unless each try to open it is interrupted: std would try for ever.
+fn remove_all(folder: &Path) -> io::Result<()> {
+    match system::open(folder, Access::Folder) {
+        Err(error) if error.kind() == io::ErrorKind::Interrupted => Err(error),
+        _ => fs::remove_dir_all(folder),
+    }
+}
+
 /// Removes the folders that a call's directory names. What still runs may make a file while that happens.
 fn remove_elsewhere(call: &Path) {
-    let names = fs::read(call.join(ELSEWHERE)).unwrap_or_default();
+    let names = content_of(&call.join(ELSEWHERE)).unwrap_or_default();
     // A name without its NUL is that of a folder which wasn't made any more.
     let whole = names.split_inclusive(|&byte| byte == 0).filter_map(|name| name.strip_suffix(&[0]));
     for folder in whole.map(|name| Path::new(OsStr::from_bytes(name))) {
         if folder.file_name().is_some_and(|name| name.as_bytes().starts_with(DRAFTS.as_bytes())) {
-            let _ = (0..3).find(|_| fs::remove_dir_all(folder).map_or_else(|error| error.kind() == io::ErrorKind::NotFound, |()| true));
+            let _ = (0..3).find(|_| remove_all(folder).map_or_else(|error| error.kind() == io::ErrorKind::NotFound, |()| true));
         }
     }
 }
@@ -113,7 +121,7 @@ impl Folder {
     /// Opens a folder of this name, and makes it if it isn't there. It has to be the user's alone.
     /// An error if it can't be made, or is another's, or others may use it.
     pub fn private(above: &Path, name: &str) -> io::Result<Folder> {
-        let parent = File::open(above)?;
+        let parent = system::open(above, Access::Read)?;
         match system::make_folder(parent.as_fd(), name) {
             Err(error) if error.kind() != io::ErrorKind::AlreadyExists => return Err(error),
             _ => {}
@@ -152,7 +160,7 @@ impl Folder {
     fn clear(&self, name: &str) {
         if self.is_there() {
             remove_elsewhere(&self.path.join(name));
-            let _ = fs::remove_dir_all(self.path.join(name));
+            let _ = remove_all(&self.path.join(name));
         }
     }
 
@@ -233,7 +241,7 @@ impl CallFolder {
         match &self.place {
             None => {
                 remove_elsewhere(self.path());
-                drop(fs::remove_dir_all(self.path()));
+                drop(remove_all(self.path()));
             }
             Some(place) => {
                 place.user.remove_call(&place.name);
@@ -279,7 +287,7 @@ fn opened_own(parent: BorrowedFd<'_>, above: &Path, name: &str) -> io::Result<Fo
 
 /// A directory of a name that nobody else has.
 fn random(above: &Path) -> io::Result<CallFolder> {
-    let parent = File::open(above)?;
+    let parent = system::open(above, Access::Read)?;
     let mut seed = nanoseconds() ^ u64::from(std::process::id()) << 40;
     for _ in 0..100 {
         seed = seed.wrapping_mul(6_364_136_223_846_793_005).wrapping_add(1_442_695_040_888_963_407);

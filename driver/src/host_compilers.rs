@@ -5,9 +5,11 @@
 //! it calls a host compiler in another way than nvcc does.
 use crate::cache::contains;
 use crate::planner::PlannedCommand;
+use crate::streams::read_on;
+use crate::system::{self, Access};
 use std::collections::BTreeSet;
 use std::fs::File;
-use std::io::{self, ErrorKind, Read};
+use std::io::{self, Read};
 use std::path::{Path, PathBuf};
 
 /// What a program begins with that the kernel runs itself.
@@ -34,14 +36,13 @@ pub enum HostCompiler {
 impl HostCompiler {
     /// The compiler that a path leads to.
     pub fn of(program: &Path) -> HostCompiler {
-        File::open(program).and_then(HostCompiler::of_file).unwrap_or(HostCompiler::Script)
+        system::open(program, Access::Read).and_then(HostCompiler::of_file).unwrap_or(HostCompiler::Script)
     }
 
     fn of_file(mut file: File) -> io::Result<HostCompiler> {
         let size = file.metadata()?.len();
         let mut begin = [0; PROGRAM.len()];
-        file.read_exact(&mut begin)?;
-        if begin != PROGRAM {
+        if read_on(&mut file, &mut begin)? < begin.len() || begin != PROGRAM {
             return Ok(HostCompiler::Script);
         }
         let is_gcc = size <= LARGEST && has_all(&mut file, &OF_GCC)?;
@@ -77,11 +78,9 @@ fn has_all(file: &mut impl Read, texts: &[&[u8]]) -> io::Result<bool> {
     let overlap = texts.iter().map(|text| text.len()).max().unwrap_or_default();
     let (mut missing, mut piece, mut kept) = (texts.to_vec(), vec![0; PIECE], 0);
     while !missing.is_empty() {
-        let end = match file.read(&mut piece[kept..]) {
-            Ok(0) => return Ok(false),
-            Ok(size) => kept + size,
-            Err(error) if error.kind() == ErrorKind::Interrupted => continue,
-            Err(error) => return Err(error),
+        let end = match read_on(file, &mut piece[kept..])? {
+            0 => return Ok(false),
+            size => kept + size,
         };
         missing.retain(|text| !contains(&piece[..end], text));
         let begin = end.saturating_sub(overlap);

@@ -211,6 +211,8 @@ pub enum Access {
     Both,
     /// For writing behind what is there.
     Append,
+    /// As a folder, and no link to one.
+    Folder,
 }
 
 /// Opens a file by its path. In contrast to std's, a call that is interrupted again and again ends, with that error.
@@ -221,13 +223,19 @@ pub fn open(path: &Path, access: Access) -> io::Result<File> {
         Access::New => 2 | CREATE | EXCLUSIVE,
         Access::Both => 2,
         Access::Append => 1 | CREATE | APPEND,
+        Access::Folder => FOLDER | NO_LINK,
     };
     let name = CString::new(path.as_os_str().as_bytes())?;
+    tried(|| unsafe { openat(-100, name.as_ptr(), flags | CLOSE_ON_EXEC, 0o666) }).map(File::from)
+}
+
+/// What opens a file, tried again if a signal interrupts it, so often and no more.
+fn tried(open: impl Fn() -> c_int) -> io::Result<OwnedFd> {
     let mut tries = 0;
     loop {
-        match owned(unsafe { openat(-100, name.as_ptr(), flags | CLOSE_ON_EXEC, 0o666) }) {
+        match owned(open()) {
             Err(error) if error.kind() == io::ErrorKind::Interrupted && tries < MOST_TRIES => tries += 1,
-            opened => return opened.map(File::from),
+            opened => return opened,
         }
     }
 }
@@ -255,7 +263,7 @@ pub fn open_below(folder: BorrowedFd<'_>, name: &str, how: Opening) -> io::Resul
         Opening::PipeToWrite => 1 | UNBLOCKED,
     };
     let name = CString::new(name)?;
-    owned(unsafe { openat(folder.as_raw_fd(), name.as_ptr(), flags | NO_LINK | CLOSE_ON_EXEC, 0o600) })
+    tried(|| unsafe { openat(folder.as_raw_fd(), name.as_ptr(), flags | NO_LINK | CLOSE_ON_EXEC, 0o600) })
 }
 
 /// Whether this process may write a file, or the names in a folder.
