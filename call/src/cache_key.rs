@@ -4,8 +4,10 @@ use std::fs::{self, File};
 use std::io::{self, Read};
 use std::path::{Path, PathBuf};
 
-use crate::plan::Command;
-use crate::{CommandTool, Error, KeyCall, Variable, command_key};
+use crate::error::Error;
+use crate::keys::{KeyCall, command_key};
+use crate::plan::{Command, CommandTool};
+use crate::variable::Variable;
 
 /// Words of cudafe++ and of cicc. One that ends in `=` goes on, and one that ends in a blank has its value in the next word. A word that isn't
 /// here may read or write files that no record names. Words for debuggers aren't here: with them, products have names of files, times and

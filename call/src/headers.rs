@@ -3,10 +3,6 @@
 /// The files that a preprocessor's output says it was made from, each once, in the order of its line markers. A path that isn't UTF-8 has
 /// U+FFFD in it.
 ///
-/// ```
-/// let output = b"# 1 \"k.cu\"\n# 1 \"<built-in>\"\n# 1 \"/usr/include/a\\\\b.h\" 1 3\nint a;\n# 2 \"k.cu\" 2\n";
-/// assert_eq!(zigrunk::headers(output), ["k.cu", "/usr/include/a\\b.h"]);
-/// ```
 #[must_use]
 pub fn headers(preprocessed: &[u8]) -> Vec<String> {
     let mut found: Vec<String> = Vec::new();

@@ -1,5 +1,5 @@
 //! Environment variables.
-
+use crate::error::{Error, ErrorKind, Input};
 use std::ffi::OsStr;
 use std::fmt;
 
@@ -12,19 +12,15 @@ pub struct Variable<'a> {
 
 impl<'a> Variable<'a> {
     /// A variable.
-    ///
-    /// ```
-    /// let variable = zigrunk::Variable::new("PATH", "/usr/bin");
-    /// assert_eq!(format!("{variable:?}"), r#"("PATH", "/usr/bin")"#);
-    /// ```
     #[must_use]
     pub fn new<N: AsRef<OsStr> + ?Sized, V: AsRef<OsStr> + ?Sized>(name: &'a N, value: &'a V) -> Self {
         Variable { name: name.as_ref(), value: value.as_ref() }
     }
 
-    /// Its name and its value.
-    pub(crate) fn parts(&self) -> (&'a OsStr, &'a OsStr) {
-        (self.name, self.value)
+    /// Its name and its value, if both are UTF-8.
+    pub(crate) fn texts(&self) -> Result<(&'a str, &'a str), Error> {
+        let texts = self.name.to_str().zip(self.value.to_str());
+        texts.ok_or_else(|| Error::plain(ErrorKind::NotUtf8).at(Input::Variables))
     }
 
     /// The bytes of its name, and those of its value: UTF-8 if they are text.
@@ -35,23 +31,11 @@ impl<'a> Variable<'a> {
 
 impl fmt::Debug for Variable<'_> {
     fn fmt(&self, f: &mut fmt::Formatter<'_>) -> fmt::Result {
-        self.parts().fmt(f)
+        (self.name, self.value).fmt(f)
     }
 }
 
 /// Views of names and values, as [`std::env::vars_os`] gives them. Nothing is copied.
-///
-/// ```
-/// let environment: Vec<_> = std::env::vars_os().collect();
-/// let variables = zigrunk::variables(&environment);
-/// assert_eq!(variables.len(), environment.len());
-/// ```
 pub fn variables<N: AsRef<OsStr>, V: AsRef<OsStr>>(pairs: &[(N, V)]) -> Vec<Variable<'_>> {
     pairs.iter().map(|(name, value)| Variable::new(name, value)).collect()
-}
-
-/// The names and values that are UTF-8. The library refuses others before.
-pub(crate) fn pairs(variables: &[Variable<'_>]) -> Vec<(String, String)> {
-    let text = |it: &OsStr| it.to_str().map(str::to_owned);
-    variables.iter().filter_map(|it| Some((text(it.name)?, text(it.value)?))).collect()
 }

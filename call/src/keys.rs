@@ -1,12 +1,15 @@
 //! Keys of commands, for caches.
-
+use crate::error::{Error, ErrorKind};
+use crate::memory::{OutOfMemory, copied_bytes, listed};
+use crate::plan::CommandTool;
+use crate::variable::Variable;
+use command_keys::{MOST_ROOTS, tool_variables};
+use rattle_std::alloc::Global;
 use std::ffi::OsStr;
 use std::path::Path;
 
-use crate::{CommandTool, Error, Variable, backend};
-
 /// A command whose key a cache asks for. Its texts may be any bytes but NUL.
-#[derive(Debug, Clone, Copy, PartialEq, Eq)]
+#[derive(Clone, Copy, Debug, PartialEq, Eq)]
 pub struct KeyCall<'a, S> {
     /// The tool that it runs.
     pub tool: CommandTool,
@@ -27,21 +30,17 @@ pub struct KeyCall<'a, S> {
 /// directory, unless the path of that one also occurs elsewhere in the command. `PWD` counts for cicc and host compilers, whose debugging
 /// information has it: set it to the command's directory, or leave it out.
 ///
-/// ```
-/// use std::path::Path;
-/// use zigrunk::{command_key, CommandTool, KeyCall};
-/// let key = |tmp: &str| {
-///     let words = ["ptxas".to_string(), format!("{tmp}/k.ptx"), "-o".to_string(), format!("{tmp}/k.cubin")];
-///     command_key(&KeyCall { tool: CommandTool::Ptxas, words: &words, variables: &[], roots: &[Path::new(tmp)] })
-/// };
-/// assert_eq!(key("/tmp/a")?, key("/var/tmp/b")?);
-/// # Ok::<(), zigrunk::Error>(())
-/// ```
-///
 /// # Errors
 ///
-/// [`ErrorKind::BadNumber`](crate::ErrorKind) if there are more than 26 roots or the tool is none of this version's,
-/// [`ErrorKind::BadLine`](crate::ErrorKind) if a text contains NUL, [`ErrorKind::OutOfMemory`](crate::ErrorKind).
+/// [`ErrorKind::BadNumber`] if there are more than 26 roots, [`ErrorKind::BadLine`] if a text contains NUL, `OutOfMemory`.
 pub fn command_key<S: AsRef<OsStr>>(call: &KeyCall<'_, S>) -> Result<Vec<u8>, Error> {
-    backend::command_key(call)
+    if call.roots.len() > MOST_ROOTS {
+        return Err(Error::plain(ErrorKind::BadNumber));
+    }
+    let words: Vec<&[u8]> = listed(call.words.iter().map(|word| Ok::<_, OutOfMemory>(word.as_ref().as_encoded_bytes())))?;
+    let roots: Vec<&[u8]> = listed(call.roots.iter().map(|root| Ok::<_, OutOfMemory>(root.as_os_str().as_encoded_bytes())))?;
+    let environment: Vec<(&[u8], &[u8])> = listed(call.variables.iter().map(|variable| Ok::<_, OutOfMemory>(variable.bytes())))?;
+    let variables = tool_variables(Global, call.tool.program(), &environment)?;
+    let key = command_keys::command_key(Global, &words, &variables, &roots)?.ok_or_else(Error::nul)?;
+    Ok(copied_bytes(&key)?)
 }
