@@ -83,8 +83,7 @@ const PTXAS: &[&str] = &[
 ];
 
 /// Where the loader looks for libm in a folder, by what the processor can do.
-const LIBMS: [&str; 4] =
-    ["glibc-hwcaps/x86-64-v4/libm.so.6", "glibc-hwcaps/x86-64-v3/libm.so.6", "glibc-hwcaps/x86-64-v2/libm.so.6", "libm.so.6"];
+const LIBMS: [&str; 4] = ["glibc-hwcaps/x86-64-v4/libm.so.6", "glibc-hwcaps/x86-64-v3/libm.so.6", "glibc-hwcaps/x86-64-v2/libm.so.6", "libm.so.6"];
 
 /// What a cache hashes of a command: this text, then the contents of the tool's files, and of what the command [reads](Command::reads).
 #[derive(Debug, Clone, PartialEq, Eq)]
@@ -113,10 +112,8 @@ fn counted(command: Command<'_>, lists: &[&[&str]]) -> Option<Vec<String>> {
     let mut words = command.arguments();
     while let Some(word) = words.next() {
         let has_value = is_listed(&|known| known.strip_suffix(' ') == Some(word));
-        let is_known = has_value
-            || is_listed(&|known| {
-                (known == word && !word.ends_with(' ')) || (known.ends_with(['=', '_']) && word.starts_with(known))
-            });
+        let is_known =
+            has_value || is_listed(&|known| (known == word && !word.ends_with(' ')) || (known.ends_with(['=', '_']) && word.starts_with(known)));
         if !is_known && (word.starts_with('-') || !command.reads().any(|path| path_of(word) == Path::new(path))) {
             return None;
         }
@@ -199,10 +196,9 @@ impl Command<'_> {
         if has_other_code(*self) || !is_binary(program)? || (tool == CommandTool::Ptxas && names_files(*self)?) {
             return Ok(None);
         }
-        let variables: Vec<_> =
-            self.variables().filter(|(name, _)| *name != "PWD").map(|(name, value)| Variable::new(name, value)).collect();
-        let text = command_key(&KeyCall { tool, words: &words, variables: &variables, roots: &[] })
-            .map_err(|error: Error| io::Error::other(error))?;
+        let variables: Vec<_> = self.variables().filter(|(name, _)| *name != "PWD").map(|(name, value)| Variable::new(name, value)).collect();
+        let text =
+            command_key(&KeyCall { tool, words: &words, variables: &variables, roots: &[] }).map_err(|error: Error| io::Error::other(error))?;
         let mut files = vec![program.to_owned()];
         files.extend(libms(*self));
         files.extend(if tool == CommandTool::Cicc { libraries(*self)? } else { Vec::new() });

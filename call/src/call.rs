@@ -1,6 +1,6 @@
 //! A call of nvcc: from its words to its plan.
 use crate::dry_runs::{DryRuns, Nvcc, Places, Ran};
-use crate::error::{Error, ErrorKind, Input};
+use crate::error::{Error, Input};
 use crate::fitness::check_plan;
 use crate::memory::listed;
 use crate::nvcc_line::{NvccCall, NvccLine, text_in};
@@ -67,12 +67,12 @@ impl Call {
     ///
     /// # Errors
     ///
-    /// [`ErrorKind::ToNvcc`], with the reason, if nvcc has to make the call itself. `OddDirectory` for a directory that can't be in
+    /// [`ErrorKind::ToNvcc`](crate::ErrorKind), with the reason, if nvcc has to make the call itself. `OddDirectory` for a directory that can't be in
     /// dry runs, `NotUtf8`, `OutOfMemory`.
     pub fn new<S: AsRef<OsStr>>(of: &NvccCall<'_, S>) -> Result<Call, Error> {
         let tmp = text_in(of.tmp.as_os_str(), Input::Tmp)?;
         if tmp.contains(['"', '$', '`', '\\', '\n']) {
-            return Err(Error::plain(ErrorKind::OddDirectory).at(Input::Tmp));
+            return Err(Error::expanded_directory());
         }
         Call::read(NvccLine::of(of)?, tmp)
     }
@@ -155,7 +155,7 @@ impl Call {
     ///
     /// # Errors
     ///
-    /// [`ErrorKind::Nvcc`] with what nvcc printed if it refuses one, [`ErrorKind::ToNvcc`] if the line's own has other commands than that of
+    /// [`ErrorKind::Nvcc`](crate::ErrorKind) with what nvcc printed if it refuses one, [`ErrorKind::ToNvcc`](crate::ErrorKind) if the line's own has other commands than that of
     /// its normal form, `OutOfMemory`, and why one couldn't be run.
     pub fn make_dry_runs<N: Nvcc>(&self, nvcc: &mut N) -> Result<DryRuns, N::Stop> {
         DryRuns::make(nvcc, &self.places())
@@ -165,7 +165,7 @@ impl Call {
     ///
     /// # Errors
     ///
-    /// Those of [`plan()`](crate::plan()). [`ErrorKind::NoDryRun`] and `ToNvcc` if the plan isn't the call's, or can't be run.
+    /// Those of [`plan()`](crate::plan()). [`ErrorKind::NoDryRun`](crate::ErrorKind) and `ToNvcc` if the plan isn't the call's, or can't be run.
     pub fn plan_made(&self, dry_runs: &DryRuns, planning: &Planning<'_>) -> Result<Plan, Error> {
         let variables = planning.variables.iter().map(|(name, value)| Ok::<_, Error>(Variable::new(name.as_str(), value.as_str())));
         let variables: Vec<Variable<'_>> = listed(variables)?;
@@ -186,7 +186,7 @@ impl Call {
     ///
     /// # Errors
     ///
-    /// Those of [`make_dry_runs`](Call::make_dry_runs), [`ErrorKind::Io`] if one can't be started, and those of
+    /// Those of [`make_dry_runs`](Call::make_dry_runs), [`ErrorKind::Io`](crate::ErrorKind) if one can't be started, and those of
     /// [`plan_made`](Call::plan_made).
     pub fn plan(&self) -> Result<Plan, Error> {
         let dry_runs = self.make_dry_runs(&mut Processes)?;
@@ -201,7 +201,7 @@ impl Call {
     ///
     /// # Errors
     ///
-    /// Those of [`plan_made`](Call::plan_made). [`ErrorKind::NoDryRun`], with the place, if the two that are planned aren't one call's, and
+    /// Those of [`plan_made`](Call::plan_made). [`ErrorKind::NoDryRun`](crate::ErrorKind), with the place, if the two that are planned aren't one call's, and
     /// `ToNvcc` if the line's own has other commands.
     pub fn plan_of(&self, dry_runs: &DryRuns, programs: &dyn Programs, limit: Option<NonZeroUsize>) -> Result<Plan, Error> {
         dry_runs.check_pair(&self.tmp)?;

@@ -53,6 +53,7 @@ pub struct Compiler {
 }
 
 /// Whether a word is nvcc's name or path, as `nvcc`, `/opt/cuda/bin/nvcc` or `nvcc-13.0`.
+#[must_use]
 pub fn is_nvcc(word: &[u8]) -> bool {
     let is_of_version = |byte: &u8| byte.is_ascii_digit() || *byte == b'.';
     let end = word.iter().rposition(|byte| !is_of_version(byte)).map_or(0, |last| last + 1);
@@ -80,7 +81,10 @@ pub struct Caller<'a> {
 }
 
 /// The nvcc of a call and the words for it.
-/// An error if the nvcc that the call names is this program, and there is no other: that name.
+///
+/// # Errors
+///
+/// If the nvcc that the call names is this program, and there is no other: that name.
 pub fn compiler<'a>(caller: &Caller<'_>, words: &'a [OsString]) -> Result<(Compiler, &'a [OsString]), OsString> {
     let (mut name, words) = named(caller.nvcc, words);
     let path = env::var_os("PATH").unwrap_or_default();

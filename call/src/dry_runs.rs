@@ -126,7 +126,7 @@ impl DryRuns {
     pub(crate) fn check_pair(&self, tmp: &str) -> Result<(), Error> {
         for (run, text) in [(1, &self.first), (2, &self.second)] {
             if !is_dry_run(text) {
-                return Err(Error::no_dry_run(Unfit::NoDryRun).at_line(run, 0));
+                return Err(Error::no_dry_run(Unfit::NoDryRun(run)).at_line(run, 0));
             }
         }
         check_pair(&self.first, &self.second, tmp)

@@ -20,6 +20,7 @@ fn value_of<'a>(variable: &'a CStr, name: &str) -> Option<&'a OsStr> {
 
 impl Environment {
     /// This process's.
+    #[must_use]
     pub fn own() -> Environment {
         Environment(env::vars_os().filter_map(|(name, value)| assigned(&name, &value)).collect())
     }
@@ -35,6 +36,7 @@ impl Environment {
     }
 
     /// The same with a variable in place of what it had.
+    #[must_use]
     pub fn with(mut self, name: &str, value: &OsStr) -> Environment {
         self.0.retain(|variable| value_of(variable, name).is_none());
         self.0.extend(assigned(name.as_ref(), value));
@@ -48,7 +50,10 @@ impl Environment {
     }
 
     /// The same with these variables in place of what it had: values, or nothing if it lacks a variable.
-    /// An error if a value has a NUL.
+    ///
+    /// # Errors
+    ///
+    /// If a value has a NUL.
     pub fn changed(&self, variables: &[(String, Option<String>)]) -> io::Result<Vec<Cow<'_, CStr>>> {
         let is_kept = |text: &&CString| !variables.iter().any(|(name, _)| value_of(text, name).is_some());
         let kept = self.0.iter().filter(is_kept).map(|text| Ok(Cow::Borrowed(text.as_c_str())));

@@ -140,8 +140,8 @@ pub struct Place {
 /// Why texts aren't the dry runs of a call, or a plan isn't the call's.
 #[derive(Clone, Debug, PartialEq, Eq)]
 pub(crate) enum Unfit {
-    /// No line of the text begins as a dry run's do.
-    NoDryRun,
+    /// No line of the text begins as a dry run's do: 1 or 2.
+    NoDryRun(usize),
     /// The flag is none of nvcc's.
     Flag,
     /// The dry runs differ.
@@ -180,6 +180,10 @@ pub(crate) enum BadLine {
 enum Cause {
     /// The kind says it all.
     Plain(ErrorKind),
+    /// A directory that isn't absolute and plain.
+    OddDirectory(Input),
+    /// A directory for temporary files that nvcc's shell reads as something else.
+    ExpandedDirectory,
     /// A line of a dry run: 1 or 2.
     DryRun(usize, BadLine),
     Unfit(Unfit),
@@ -210,6 +214,14 @@ impl Error {
 
     pub(crate) fn plain(kind: ErrorKind) -> Error {
         Error::of(Cause::Plain(kind))
+    }
+
+    pub(crate) fn odd_directory(input: Input) -> Error {
+        Error::of(Cause::OddDirectory(input)).at(input)
+    }
+
+    pub(crate) fn expanded_directory() -> Error {
+        Error::of(Cause::ExpandedDirectory).at(Input::Tmp)
     }
 
     pub(crate) fn dry_run(run: usize, line: usize, what: BadLine) -> Error {
@@ -272,6 +284,7 @@ impl Error {
     pub fn kind(&self) -> ErrorKind {
         match &self.cause {
             Cause::Plain(kind) => *kind,
+            Cause::OddDirectory(_) | Cause::ExpandedDirectory => ErrorKind::OddDirectory,
             Cause::DryRun(_, BadLine::NotFound(_)) => ErrorKind::NotFound,
             Cause::DryRun(_, BadLine::TooLong(_)) => ErrorKind::OverLimit,
             Cause::DryRun(..) => ErrorKind::BadDryRun,
@@ -328,7 +341,10 @@ impl fmt::Display for Unfit {
     fn fmt(&self, f: &mut fmt::Formatter<'_>) -> fmt::Result {
         let of_another = "the dry runs are of another call: none of their commands";
         match self {
-            Unfit::NoDryRun => f.write_str("the text is no dry run: no line begins with \"#$ \""),
+            Unfit::NoDryRun(run) => {
+                let which = if *run == 1 { "first" } else { "second" };
+                write!(f, "the {which} text is no dry run: no line begins with \"#$ \"")
+            }
             Unfit::Flag => f.write_str("the flag isn't an option that says what nvcc makes"),
             Unfit::Differ => f.write_str("the dry runs differ by more than the directory for temporary files"),
             Unfit::Lines => f.write_str("the dry runs have different numbers of lines"),
@@ -360,6 +376,11 @@ impl fmt::Display for Error {
     fn fmt(&self, f: &mut fmt::Formatter<'_>) -> fmt::Result {
         match &self.cause {
             Cause::Plain(kind) => f.write_str(kind.text()),
+            Cause::OddDirectory(input) => {
+                let which = if *input == Input::Tmp { "directory for temporary files" } else { "working directory" };
+                write!(f, "the {which} has to be absolute, without an empty part, . or ..")
+            }
+            Cause::ExpandedDirectory => f.write_str("nvcc's dry runs can't have this directory for temporary files"),
             Cause::DryRun(run, what) => match self.place.and_then(|place| place.line) {
                 Some(line) => write!(f, "dry run {run}, line {line}: {what}"),
                 None => what.fmt(f),
@@ -451,7 +472,7 @@ mod tests {
         let error = Error::to_nvcc(Reason::ReadOtherwise);
         assert_eq!((error.to_string().as_str(), error.reason()), ("goes to nvcc: nvcc reads the line otherwise", Some(&Reason::ReadOtherwise)));
         let error = Error::io("run nvcc", io::ErrorKind::NotFound.into());
-        assert!(std::error::Error::source(&error).is_some_and(|source| source.is::<io::Error>()));
+        assert!(std::error::Error::source(&error).and_then(|source| source.downcast_ref::<io::Error>()).is_some());
         assert_eq!(Error::by_nvcc(b"nvcc fatal\n".to_vec()).to_string(), "nvcc fatal");
     }
 }

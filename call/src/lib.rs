@@ -34,9 +34,7 @@ pub use lines::{ColorMode, Language, Line, LineCall, Output, Tool, line_records,
 pub use memory::OutOfMemory;
 pub use nvcc_line::{FLAG_VARIABLES, NvccCall, NvccLine};
 pub use outline::{Outline, Run};
-pub use plan::{
-    Command, CommandTool, Commands, DropReason, Group, Groups, HostCompiler, Missing, Plan, PlanCall, Stage, Variables, plan,
-};
+pub use plan::{Command, CommandTool, Commands, DropReason, Group, Groups, HostCompiler, Missing, Plan, PlanCall, Stage, Variables, plan};
 pub use plan_texts::Format;
 pub use programs::{Disk, FoundProgram, Lookup, Programs, candidates, find_programs, lookups};
 pub use reason::{LineReason, Reason};

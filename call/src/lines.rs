@@ -125,9 +125,7 @@ impl Texted {
     fn parsed<C: CCompilerImpl>(&self, compiler: &C) -> Result<ParsedArguments, Error> {
         match compiler.parse_arguments(Global, self.words.as_slice(), &self.cwd, &self.variables)? {
             CompilerArguments::Ok(parsed) => Ok(parsed),
-            CompilerArguments::CannotCache(why, word) => {
-                Err(Error::uncacheable(why, word.map(|word| copied(word.as_str())).transpose()?))
-            }
+            CompilerArguments::CannotCache(why, word) => Err(Error::uncacheable(why, word.map(|word| copied(word.as_str())).transpose()?)),
             CompilerArguments::NotCompilation => Err(Error::no_compilation()),
         }
     }

@@ -55,7 +55,9 @@ pub(crate) fn copied_bytes(bytes: &[u8]) -> Result<Vec<u8>, OutOfMemory> {
 pub(crate) fn joined(parts: &[&str]) -> Result<String, OutOfMemory> {
     let mut whole = String::new();
     whole.try_reserve_exact(parts.iter().map(|part| part.len()).sum())?;
-    parts.iter().for_each(|part| whole.push_str(part));
+    for part in parts {
+        whole.push_str(part);
+    }
     Ok(whole)
 }
 

@@ -32,6 +32,26 @@ pub struct NvccCall<'a, S> {
     pub tmp: &'a Path,
 }
 
+impl<'a, S> NvccCall<'a, S> {
+    /// A call in the directory `/`, with files in `/tmp`, and without an environment.
+    #[must_use]
+    pub fn new<N: AsRef<OsStr> + ?Sized>(nvcc: &'a N, words: &'a [S]) -> Self {
+        NvccCall { nvcc: nvcc.as_ref(), words, variables: &[], cwd: Path::new("/"), tmp: Path::new("/tmp") }
+    }
+
+    /// The same in another working directory, with another one for temporary files.
+    #[must_use]
+    pub fn at<C: AsRef<Path> + ?Sized, T: AsRef<Path> + ?Sized>(self, cwd: &'a C, tmp: &'a T) -> Self {
+        NvccCall { cwd: cwd.as_ref(), tmp: tmp.as_ref(), ..self }
+    }
+
+    /// The same in an environment.
+    #[must_use]
+    pub fn variables(self, variables: &'a [Variable<'a>]) -> Self {
+        NvccCall { variables, ..self }
+    }
+}
+
 /// An nvcc line, and where it is made.
 #[derive(Clone, Debug, PartialEq, Eq)]
 pub struct NvccLine {

@@ -1,10 +1,12 @@
 //! Plans: the commands that one nvcc call runs, in groups, with the files of each and what it waits for.
-use crate::error::{Error, ErrorKind, Input, Unfit};
+use crate::error::{Error, Input, Unfit};
+use crate::lines::Tool;
 use crate::memory::{OutOfMemory, copied, listed, pairs, texts};
 use crate::nvcc_line::text_in;
 use crate::programs::{Programs, Proved, within};
 use crate::variable::Variable;
 use crate::words::TextsIter;
+use ::texts::fault::Fault;
 use canonical_names::{Suffixes, all_suffixes, is_plain};
 use command_files::{CommandFiles, FilesAndNeeds, files_and_needs, preprocesses};
 use command_groups::{CallToPlan, plan_with_origins, plan_with_origins_within};
@@ -20,11 +22,23 @@ use std::iter::{self, FusedIterator};
 use std::num::NonZeroUsize;
 use std::path::Path;
 use std::slice;
-use ::texts::fault::Fault;
 
 /// The options that say what nvcc makes of one source, and none.
 const FLAGS: [&str; 15] = [
-    "", "-c", "--compile", "-dc", "--device-c", "-dw", "--device-w", "-ptx", "--ptx", "-cubin", "--cubin", "-fatbin", "--fatbin", "-optix-ir",
+    "",
+    "-c",
+    "--compile",
+    "-dc",
+    "--device-c",
+    "-dw",
+    "--device-w",
+    "-ptx",
+    "--ptx",
+    "-cubin",
+    "--cubin",
+    "-fatbin",
+    "--fatbin",
+    "-optix-ir",
     "--optix-ir",
 ];
 
@@ -44,7 +58,7 @@ pub enum HostCompiler {
 /// Two dry runs to plan.
 #[derive(Clone, Copy)]
 pub struct PlanCall<'a> {
-    /// What the call prints with `--dryrun --keep`. Any bytes: a line that isn't UTF-8 is [`ErrorKind::BadDryRun`].
+    /// What the call prints with `--dryrun --keep`. Any bytes: a line that isn't UTF-8 is [`ErrorKind::BadDryRun`](crate::ErrorKind).
     pub dry1: &'a [u8],
     /// What it prints with `--keep-dir TMP --dryrun --keep`.
     pub dry2: &'a [u8],
@@ -71,14 +85,20 @@ pub struct PlanCall<'a> {
 }
 
 impl<'a> PlanCall<'a> {
-    /// Two dry runs without a working directory, a flag or an environment. Programs are looked up by `programs`.
+    /// The same with a working directory and one for temporary files.
+    #[must_use]
+    pub fn at<C: AsRef<Path> + ?Sized, T: AsRef<Path> + ?Sized>(self, cwd: &'a C, tmp: &'a T) -> Self {
+        PlanCall { cwd: cwd.as_ref(), tmp: tmp.as_ref(), ..self }
+    }
+
+    /// Two dry runs in the directory `/`, with files in `/tmp`, and without a flag or an environment. `programs` finds what they name.
     #[must_use]
     pub fn new(dry1: &'a [u8], dry2: &'a [u8], programs: &'a dyn Programs) -> Self {
         PlanCall {
             dry1,
             dry2,
-            cwd: Path::new(""),
-            tmp: Path::new(""),
+            cwd: Path::new("/"),
+            tmp: Path::new("/tmp"),
             flag: "",
             keeps_names: false,
             variables: &[],
@@ -93,14 +113,13 @@ impl<'a> PlanCall<'a> {
 /// Refuses a directory that isn't absolute and plain. Two commands are taken to use one file if its paths are the same text, so a plan for a
 /// directory that has several texts would lack needs.
 pub(crate) fn plain(path: &str, input: Input) -> Result<(), Error> {
-    if is_plain(path) { Ok(()) } else { Err(Error::plain(ErrorKind::OddDirectory).at(input)) }
+    if is_plain(path) { Ok(()) } else { Err(Error::odd_directory(input)) }
 }
 
 /// Refuses texts that can't be dry runs. One text can be both: nvcc generates no file for a C or C++ source, so it prints the same twice.
 fn check_texts(call: &PlanCall<'_>) -> Result<(), Error> {
-    let runs = [(Input::First, call.dry1), (Input::Second, call.dry2)];
-    if let Some((input, _)) = runs.into_iter().find(|(_, text)| !is_dry_run(text)) {
-        return Err(Error::no_dry_run(Unfit::NoDryRun).at(input));
+    if let Some((run, _)) = [(1, call.dry1), (2, call.dry2)].into_iter().find(|(_, text)| !is_dry_run(text)) {
+        return Err(Error::no_dry_run(Unfit::NoDryRun(run)).at_line(run, 0));
     }
     if FLAGS.contains(&call.flag) { Ok(()) } else { Err(Error::no_dry_run(Unfit::Flag).at(Input::Flag)) }
 }
@@ -109,7 +128,7 @@ fn check_texts(call: &PlanCall<'_>) -> Result<(), Error> {
 ///
 /// # Errors
 ///
-/// [`ErrorKind::NotUtf8`] for a directory or a variable. `OddDirectory` for a directory that isn't absolute and plain. `NoDryRun` for
+/// [`ErrorKind::NotUtf8`](crate::ErrorKind) for a directory or a variable. `OddDirectory` for a directory that isn't absolute and plain. `NoDryRun` for
 /// texts that aren't the dry runs of a call, a flag that is none of nvcc's, and a plan without a command. `BadSuffixes`, `BadDryRun`,
 /// `NotFound` and `OverLimit` for the first bad line of the first run or of the second, `OutOfMemory`. [`Error::place`] says where.
 pub fn plan(call: &PlanCall<'_>) -> Result<Plan, Error> {
@@ -133,8 +152,7 @@ fn planned(call: &PlanCall<'_>, cwd: &str, tmp: &str, variables: &[(&str, &str)]
         HostCompiler::Nvhpc => NvccHostCompiler::Nvhpc,
     };
     let keep_dir = call.keeps_names.then_some(tmp);
-    let to_plan =
-        CallToPlan { cwd, tmp, compilation_flag: call.flag, keep_dir, env_vars: &env_vars, host_compiler, suffixes: &suffixes };
+    let to_plan = CallToPlan { cwd, tmp, compilation_flag: call.flag, keep_dir, env_vars: &env_vars, host_compiler, suffixes: &suffixes };
     let which = Proved(call.programs);
     let planned = match call.limit {
         Some(limit) => plan_with_origins_within(Global, call.dry1, call.dry2, &to_plan, &which, limit.get()),
@@ -221,6 +239,17 @@ impl CommandTool {
         }
     }
 
+    /// The tool for [`line_records`](crate::line_records), if it reads lines of this one.
+    #[must_use]
+    pub fn for_lines(self) -> Option<Tool> {
+        match self {
+            CommandTool::Cicc => Some(Tool::Cicc),
+            CommandTool::Ptxas => Some(Tool::Ptxas),
+            CommandTool::CudaFe => Some(Tool::CudaFe),
+            _ => None,
+        }
+    }
+
     pub(crate) fn program(self) -> Program {
         match self {
             CommandTool::Cicc => Program::Cicc,
@@ -301,7 +330,7 @@ impl Plan {
     ///
     /// # Errors
     ///
-    /// [`ErrorKind::Unwritable`] if the format can't represent the plan, `OutOfMemory`.
+    /// [`ErrorKind::Unwritable`](crate::ErrorKind) if the format can't represent the plan, `OutOfMemory`.
     pub fn text(&self, format: Format) -> Result<String, Error> {
         let text = plan_formats::plan_text(Global, format, &self.cwd, &self.tmp, &self.flag, &self.planned)?;
         Ok(copied(text.as_str())?)
@@ -555,9 +584,7 @@ impl<'a> Command<'a> {
         if !self.preprocesses() {
             return self.own_targets();
         }
-        let reads = |it: &Command<'_>| {
-            it.tool() == Some(CommandTool::Cicc) && it.reads().any(|path| self.writes().any(|own| own == path))
-        };
+        let reads = |it: &Command<'_>| it.tool() == Some(CommandTool::Cicc) && it.reads().any(|path| self.writes().any(|own| own == path));
         self.plan.commands().filter(reads).flat_map(|it| it.own_targets()).collect()
     }
 
@@ -567,8 +594,7 @@ impl<'a> Command<'a> {
             Some(CommandTool::Fatbinary) => self.arguments().filter_map(image_target).collect(),
             Some(CommandTool::Cicc | CommandTool::Ptxas) => {
                 let pairs = self.arguments().zip(self.arguments().skip(1).chain([""]));
-                let named =
-                    pairs.filter_map(|(word, next)| if word == "-arch" { Some(next) } else { word.strip_prefix("-arch=") });
+                let named = pairs.filter_map(|(word, next)| if word == "-arch" { Some(next) } else { word.strip_prefix("-arch=") });
                 named.last().map(str::to_owned).into_iter().collect()
             }
             _ => Vec::new(),

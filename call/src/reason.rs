@@ -106,9 +106,7 @@ impl Reason {
             Reason::NoTemporaryDirectory | Reason::NoTemporaryRoom => Some("make room for temporary files, or set TMPDIR"),
             Reason::NoKeepDirectory => Some("make the directory that --keep-dir names"),
             Reason::TooFewFiles => Some("raise the number of open files, with ulimit -n"),
-            Reason::Line(LineReason(OptionsFile)) => {
-                Some("set CMAKE_CUDA_USE_RESPONSE_FILE_FOR_INCLUDES to 0, if CMake writes the file")
-            }
+            Reason::Line(LineReason(OptionsFile)) => Some("set CMAKE_CUDA_USE_RESPONSE_FILE_FOR_INCLUDES to 0, if CMake writes the file"),
             Reason::Line(LineReason(VariableQuotes)) => Some("take quotes out of NVCC_PREPEND_FLAGS and NVCC_APPEND_FLAGS"),
             _ => None,
         }

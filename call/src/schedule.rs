@@ -223,11 +223,7 @@ impl Schedule {
     /// # Errors
     ///
     /// [`BadGraph`].
-    pub fn new(
-        commands: impl IntoIterator<Item = ScheduledCommand>,
-        slots: usize,
-        after_failure: AfterFailure,
-    ) -> Result<Self, BadGraph> {
+    pub fn new(commands: impl IntoIterator<Item = ScheduledCommand>, slots: usize, after_failure: AfterFailure) -> Result<Self, BadGraph> {
         let mut graph = Graph::new();
         for command in commands {
             graph.push(command.needs.into_iter(), command.priority)?;
@@ -241,11 +237,7 @@ impl Schedule {
     /// # Errors
     ///
     /// [`BadGraph`].
-    pub fn of_plans<'a>(
-        plans: impl IntoIterator<Item = &'a Plan>,
-        slots: usize,
-        after_failure: AfterFailure,
-    ) -> Result<Self, BadGraph> {
+    pub fn of_plans<'a>(plans: impl IntoIterator<Item = &'a Plan>, slots: usize, after_failure: AfterFailure) -> Result<Self, BadGraph> {
         let mut graph = Graph::new();
         for plan in plans {
             let first = graph.needs.len();

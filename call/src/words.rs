@@ -1,6 +1,8 @@
 //! Texts in order, words for shells, and canonical names.
 use crate::error::{Error, ErrorKind, Input};
 use crate::memory::{copied, texts};
+use ::texts::shell;
+use ::texts::words::Words;
 use canonical_names::{Renames, all_suffixes, remap_generated_filenames};
 use rattle_std::alloc::Global;
 use rattle_std::string::String as Text;
@@ -8,8 +10,6 @@ use std::fmt;
 use std::iter::FusedIterator;
 use std::ops::Index;
 use std::slice;
-use ::texts::shell;
-use ::texts::words::Words;
 
 /// A list of texts.
 #[derive(PartialEq)]

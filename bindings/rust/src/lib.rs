@@ -8,9 +8,9 @@
 //! # fn main() -> Result<(), Box<dyn std::error::Error>> {
 //! use zigrunk::{Call, NvccCall, variables};
 //! let environment: Vec<_> = std::env::vars_os().collect();
-//! let (words, variables) = (["-c", "k.cu", "-o", "k.o"], variables(&environment));
-//! let call = NvccCall { nvcc: "nvcc".as_ref(), words: &words, variables: &variables, cwd: "/w".as_ref(), tmp: "/t".as_ref() };
-//! for command in Call::new(&call)?.plan()?.commands() {
+//! let variables = variables(&environment);
+//! let call = Call::new(&NvccCall::new("nvcc", &["-c", "k.cu", "-o", "k.o"]).at("/w", "/t").variables(&variables))?;
+//! for command in call.plan()?.commands() {
 //!     println!("{}, when {:?} have ended: {}", command.number(), command.needs(), command.program());
 //! }
 //! # Ok(())
@@ -33,8 +33,7 @@ pub mod schedule;
 /// # fn main() -> Result<(), Box<dyn std::error::Error>> {
 /// # let words = ["-c", "k.cu"];
 /// use zigrunk::{Call, NvccCall, quote};
-/// let call = NvccCall { nvcc: "nvcc".as_ref(), words: &words, variables: &[], cwd: "/w".as_ref(), tmp: "/t".as_ref() };
-/// for command in Call::new(&call)?.plan()?.commands() {
+/// for command in Call::new(&NvccCall::new("nvcc", &words).at("/w", "/t"))?.plan()?.commands() {
 ///     println!("{:?} {}", command.needs(), quote(command.words())?);
 /// }
 /// # Ok(())
@@ -47,10 +46,9 @@ pub use call::Call;
 /// ```
 /// use zigrunk::{ErrorKind, Input, PlanCall, plan};
 /// let programs = Vec::new();
-/// let call = PlanCall { cwd: "/w".as_ref(), tmp: "/t".as_ref(), ..PlanCall::new(b"nvcc: not found", b"", &programs) };
-/// let error = plan(&call).unwrap_err();
+/// let error = plan(&PlanCall::new(b"nvcc: not found", b"", &programs).at("/w", "/t")).unwrap_err();
 /// assert_eq!((error.kind(), error.place().map(|place| place.input)), (ErrorKind::NoDryRun, Some(Input::First)));
-/// assert_eq!(error.to_string(), "the text is no dry run: no line begins with \"#$ \"");
+/// assert_eq!(error.to_string(), "the first text is no dry run: no line begins with \"#$ \"");
 /// ```
 pub use call::Error;
 
@@ -62,7 +60,7 @@ pub use call::Error;
 /// # let lookups = zigrunk::lookups(dry1, dry2, "/w".as_ref(), None)?;
 /// # let programs: Vec<_> = lookups.into_iter().map(|it| zigrunk::FoundProgram { found: Some(format!("/b/{}", it.program)), lookup: it }).collect();
 /// use zigrunk::{PlanCall, plan};
-/// let plan = plan(&PlanCall { cwd: "/w".as_ref(), tmp: "/t".as_ref(), flag: "-c", ..PlanCall::new(dry1, dry2, &programs) })?;
+/// let plan = plan(&PlanCall { flag: "-c", ..PlanCall::new(dry1, dry2, &programs).at("/w", "/t") })?;
 /// let cicc = plan.commands().last().expect("a command");
 /// assert_eq!(cicc.needs(), [0]);
 /// assert!(cicc.reads().eq(["/t/x_0.cpp1.ii", "/t/m"]) && cicc.writes().eq(["/t/k.ptx"]));
@@ -128,10 +126,10 @@ pub use call::quote;
 pub use call::variables;
 
 pub use call::{
-    CacheKey, ColorMode, Command, CommandTool, Commands, Disk, DropReason, DryRuns, ErrorKind, FLAG_VARIABLES, Format, FoundProgram,
-    Group, Groups, HostCompiler, Input, KeyCall, Language, Line, LineReason, Lookup, Missing, Nvcc, NvccCall, NvccLine, OutOfMemory,
-    Outline, Output, Place, PlanCall, Planning, Processes, Programs, Ran, Reason, Run, Stage, Texts, TextsIter, Tool, Variable, Variables,
-    candidates, find_programs, line_records, lookups, plan, remap,
+    CacheKey, ColorMode, Command, CommandTool, Commands, Disk, DropReason, DryRuns, ErrorKind, FLAG_VARIABLES, Format,
+    FoundProgram, Group, Groups, HostCompiler, Input, KeyCall, Language, Line, LineReason, Lookup, Missing, Nvcc, NvccCall,
+    NvccLine, OutOfMemory, Outline, Output, Place, PlanCall, Planning, Processes, Programs, Ran, Reason, Run, Stage, Texts,
+    TextsIter, Tool, Variable, Variables, candidates, find_programs, line_records, line_words, lookups, plan, remap,
 };
 
 /// The library's version, such as `0.1.0`.
