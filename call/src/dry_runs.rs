@@ -185,3 +185,132 @@ impl DryRuns {
         Some(name.rfind('/').map_or("", |slash| &name[..=slash]))
     }
 }
+
+#[cfg(test)]
+mod tests {
+    use super::*;
+    use crate::error::ErrorKind;
+    use crate::nvcc_line::NvccLine;
+
+    const COMMANDS: &str = "#$ cicc \"k.ii\" -o \"k.ptx\"\n";
+    const OTHERS: &str = "#$ cicc \"k.ii\" -o \"other.ptx\"\n";
+    /// What an nvcc before 13 says with `--threads`.
+    const THREADS: &str = "Could not open input file /t/x_stdout\n";
+
+    /// An nvcc that prints these texts, one for each of its calls, and succeeds or not.
+    struct Fake<'a> {
+        says: std::slice::Iter<'a, (bool, &'a str)>,
+        asked: Vec<String>,
+    }
+
+    impl Nvcc for Fake<'_> {
+        type Stop = Error;
+
+        fn run(&mut self, runs: &[Run]) -> Result<Vec<Ran>, Error> {
+            self.asked.extend(runs.iter().map(|run| run.words().join(" ")));
+            let said = self.says.by_ref().take(runs.len());
+            Ok(said.map(|&(succeeded, text)| Ran { succeeded, errors: text.into() }).collect())
+        }
+    }
+
+    fn outline(keep_dir: Option<&str>) -> Outline {
+        let words = ["-c", "k.cu", "-o", "k.o"].map(String::from).to_vec();
+        let line = NvccLine { cwd: "/w".into(), nvcc: "nvcc".into(), words, variables: Vec::new() };
+        Outline { keep_dir: keep_dir.map(String::from), ..line.read("/t").unwrap() }
+    }
+
+    const OWN: &str = "nvcc --dryrun -c k.cu -o k.o";
+    const FIRST: &str = "nvcc -x cu -o k.o -c k.cu --dryrun --keep";
+    const SECOND: &str = "nvcc -x cu -o k.o -c k.cu --keep-dir /t --dryrun --keep";
+
+    /// What comes of a line whose nvcc prints these texts, and the words of nvcc's calls.
+    fn made(says: &[(bool, &str)], keep_dir: Option<&str>) -> (Result<DryRuns, Error>, String) {
+        let mut nvcc = Fake { says: says.iter(), asked: Vec::new() };
+        let outline = outline(keep_dir);
+        let made = DryRuns::make(&mut nvcc, &Places { cwd: "/w", tmp: "/t", outline: &outline });
+        (made, nvcc.asked.join("; "))
+    }
+
+    fn reason(made: Result<DryRuns, Error>) -> String {
+        Reason::from(made.unwrap_err()).to_string()
+    }
+
+    #[test]
+    fn the_first_is_what_the_second_says_without_the_folder() {
+        let [line, plan] = ["", "/t/"].map(|folder| format!("#$ cicc \"{folder}k.ii\" -o \"k.ptx\"\n"));
+        let own = format!("nvcc warning : x\n{line}");
+        let (runs, asked) = made(&[(true, &own), (true, &plan)], None);
+        let runs = runs.unwrap();
+        assert_eq!((runs.first(), runs.second(), asked), (line.as_bytes(), plan.as_bytes(), format!("{OWN}; {SECOND}")));
+        assert_eq!((runs.messages().unwrap(), runs.own(), runs.has_threads()), (b"nvcc warning : x\n".to_vec(), own.as_bytes(), false));
+    }
+
+    #[test]
+    fn nvcc_makes_the_first_if_that_has_other_commands() {
+        let all = format!("{OWN}; {SECOND}; {FIRST}");
+        let (runs, asked) = made(&[(true, COMMANDS), (true, OTHERS), (true, COMMANDS)], None);
+        let runs = runs.unwrap();
+        assert_eq!((runs.first(), runs.second(), asked.as_str()), (COMMANDS.as_bytes(), OTHERS.as_bytes(), all.as_str()));
+        let (refused, asked) = made(&[(true, COMMANDS), (true, OTHERS), (true, OTHERS)], None);
+        assert_eq!((reason(refused).as_str(), asked.as_str()), ("nvcc reads the line otherwise", all.as_str()));
+        let (refused, asked) = made(&[(true, COMMANDS), (true, OTHERS), (false, COMMANDS)], None);
+        assert_eq!((reason(refused).as_str(), asked.as_str()), ("a dry run fails", all.as_str()));
+    }
+
+    #[test]
+    fn a_call_that_keeps_files_has_three() {
+        let of = |first: (bool, &str)| made(&[(true, COMMANDS), (true, COMMANDS), first], Some("/w/kept"));
+        let (runs, asked) = of((true, COMMANDS));
+        assert_eq!((runs.unwrap().first(), asked), (COMMANDS.as_bytes(), format!("{OWN}; {SECOND}; {FIRST}")));
+        assert_eq!(reason(of((true, OTHERS)).0), "nvcc reads the line otherwise");
+        assert_eq!(reason(of((false, COMMANDS)).0), "a dry run fails");
+    }
+
+    #[test]
+    fn a_dry_run_that_fails_by_threads_is_made_again() {
+        let threads = format!("{THREADS}nvcc warning : x\n");
+        let (runs, asked) = made(&[(false, &threads), (true, COMMANDS), (true, COMMANDS)], None);
+        let runs = runs.unwrap();
+        assert_eq!((runs.messages().unwrap(), runs.has_threads()), (b"nvcc warning : x\n".to_vec(), true));
+        assert_eq!(asked, format!("{OWN}; {SECOND}; {OWN} --threads 1"));
+        assert_eq!(reason(made(&[(false, &threads), (true, COMMANDS), (false, COMMANDS)], None).0), "a dry run fails");
+    }
+
+    #[test]
+    fn a_dry_run_that_fails_says_why() {
+        for says in [[(false, "error\n"), (true, COMMANDS)], [(true, COMMANDS), (false, "error\n")]] {
+            let error = made(&says, None).0.unwrap_err();
+            assert_eq!((error.kind(), error.to_string().as_str()), (ErrorKind::Nvcc, "error"), "{says:?}");
+        }
+        assert_eq!(reason(made(&[(true, COMMANDS)], None).0), "no process for a dry run");
+    }
+
+    #[test]
+    fn the_stub_file_is_named_where_it_is_written() {
+        let of = |name: &str| format!("#$ cudafe++ --stub_file_name \"k.cudafe1.stub.c\" x\n#$ cicc --stub_file_name \"{name}\" \"k.cpp1.ii\"\n");
+        let folder = |own: &str| DryRuns::new(own.into(), Vec::new(), Vec::new()).stub_folder().map(String::from);
+        for (name, wanted) in [("k.stub.c", ""), ("./a b/k.stub.c", "./a b/"), ("/t/k.stub.c", "/t/"), ("/k.stub.c", "/")] {
+            let lines = of(name);
+            assert_eq!(folder(&lines).as_deref(), Some(wanted), "{name}");
+            // (an older nvcc runs cicc first)
+            let turned: Vec<&str> = lines.lines().rev().collect();
+            assert_eq!(folder(&turned.join("\n")).as_deref(), Some(wanted), "{name}");
+            assert_eq!(folder(&lines.replace("#$ cicc", "#$ \"$CICC_PATH/cicc\"")).as_deref(), Some(wanted), "{name}");
+        }
+        assert_eq!(folder("#$ gcc -c k.cpp\n"), None);
+    }
+
+    #[test]
+    fn commands_that_run_side_by_side_print_to_files() {
+        let cases = [
+            ("#$ _CUDART_=cudart\n#$ gcc -E \"k.cu\"  > /t/tmpxft_1-9_1f_stdout 2>/t/tmpxft_1-9_1f_stderr\n#$ x\n", true),
+            ("#$ gcc -E \"k.cu\" -o \"a_stdout 2>b_stderr\"\n", false),
+            ("gcc > /t/a_stdout 2>/t/a_stderr\n", false),
+            ("#$ gcc > /t/a_stdout\n#$ gcc 2>/t/a_stderr\n", false),
+            ("", false),
+        ];
+        for (run, wanted) in cases {
+            assert_eq!(DryRuns::new(run.into(), Vec::new(), Vec::new()).has_threads(), wanted, "{run}");
+        }
+    }
+}

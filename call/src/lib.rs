@@ -21,6 +21,8 @@ mod plan;
 pub mod programs;
 mod reason;
 pub mod schedule;
+#[cfg(test)]
+mod test_folder;
 mod variable;
 mod words;
 

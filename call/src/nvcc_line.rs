@@ -180,3 +180,53 @@ fn run_of(command: &SingleCompileCommand, environment: &Arc<Vec<(String, String)
     words.insert(0, copied(command.executable.as_str())?);
     Ok(Run::new(words, copied(command.cwd.as_str())?, Arc::clone(environment)))
 }
+
+#[cfg(test)]
+mod tests {
+    use super::*;
+    use crate::test_folder::TestFolder;
+
+    fn line(words: &str, cwd: &str) -> NvccLine {
+        let variables =
+            [("ZIGRUNK_JOBS", "3"), ("A", "1"), ("NVCC_APPEND_FLAGS", "-DX=1  -DY")].map(|(name, value)| (name.to_owned(), value.to_owned()));
+        NvccLine { cwd: cwd.into(), nvcc: "nvcc".into(), words: words.split(' ').map(String::from).collect(), variables: variables.into() }
+    }
+
+    #[test]
+    fn a_lines_directory_has_one_name() {
+        let lines = [line("-c k.cu", "/w"), line("-c k.cu", "/w"), line("-c j.cu", "/w"), line("-c k.cu", "/v")];
+        let names = lines.map(|line| line.directory_name().unwrap());
+        assert!(names[0] == names[1] && names[0] != names[2] && names[0] != names[3], "{names:?}");
+    }
+
+    #[test]
+    fn an_outline_has_what_the_line_and_its_options_file_say() {
+        let scratch = TestFolder::new();
+        fs::write(scratch.join("words"), "-o k.o -MD\n").unwrap();
+        let of = |words: &str| line(words, scratch.to_str().unwrap()).read("/t");
+        let outline = of("-c k.cu --options-file words").unwrap();
+        assert_eq!((outline.flag.as_str(), outline.jobs, outline.keep_dir.as_deref()), ("-c", Some(3), None));
+        assert_eq!((outline.input(), outline.outputs().collect::<Vec<_>>()), ("k.cu", vec!["k.o", "k.d"]));
+        assert!(outline.dependencies.is_some_and(|rule| rule.words()[0] == "nvcc" && rule.words().contains(&"-M".into())));
+        for run in [&outline.own_dry_run, &outline.first_dry_run, &outline.second_dry_run] {
+            assert_eq!((run.cwd(), run.words()[0].as_str()), (scratch.to_str().unwrap(), "nvcc"));
+            assert!(run.words().contains(&"--dryrun".into()) && run.words().contains(&"-DX=1".into()), "{run:?}");
+            assert!(run.environment().iter().map(|(name, _)| name).eq(["ZIGRUNK_JOBS", "A"]), "{run:?}");
+        }
+        assert!(outline.second_dry_run.words().contains(&"/t".into()) && !outline.first_dry_run.words().contains(&"/t".into()));
+        assert_eq!(outline.own_dry_run.words()[2..], ["-c", "k.cu", "--options-file", "words", "-DX=1", "-DY"]);
+        assert_eq!(of("-c k.cu -o k.o").unwrap().dependencies, None);
+        assert!(of("k.o -o k").is_err() && of("-c k.cu --options-file missing").is_err());
+    }
+
+    #[test]
+    fn options_files_are_plain_files_in_utf8() {
+        let scratch = TestFolder::new();
+        fs::write(scratch.join("good"), "-O2").unwrap();
+        fs::write(scratch.join("bad"), b"\xff").unwrap();
+        fs::create_dir(scratch.join("folder")).unwrap();
+        let line = line("-c k.cu", scratch.to_str().unwrap());
+        assert_eq!(line.options_file("good"), Ok(Some(("good".into(), "-O2".into()))));
+        assert_eq!(["bad", "folder", "missing", "/dev/null"].map(|name| line.options_file(name)), [const { Ok(None) }; 4]);
+    }
+}

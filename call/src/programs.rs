@@ -170,3 +170,56 @@ pub fn find_programs(dry1: &[u8], dry2: &[u8], cwd: &Path, limit: Option<NonZero
     let found = |lookup: Lookup| Ok(FoundProgram { found: disk.find(&lookup.program, &lookup.path, &folder)?, lookup });
     listed(lookups(dry1, dry2, cwd, limit)?.into_iter().map(found))
 }
+
+#[cfg(test)]
+mod tests {
+    use super::*;
+    use crate::test_folder::TestFolder;
+
+    /// A file of a folder, with a mode.
+    fn tool(folder: &TestFolder, mode: u32) -> PathBuf {
+        let tool = folder.join("tool");
+        fs::write(&tool, "").unwrap();
+        fs::set_permissions(&tool, PermissionsExt::from_mode(mode)).unwrap();
+        tool
+    }
+
+    #[test]
+    fn programs_are_files_that_can_be_run() {
+        let scratch = TestFolder::new();
+        let is = |mode| is_program(&tool(&scratch, mode));
+        assert_eq!([0o755, 0o700, 0o070, 0o001, 0o644, 0o600].map(is), [true, true, true, true, false, false]);
+        assert!(!is_program(&scratch) && !is_program(&scratch.join("missing")));
+    }
+
+    #[test]
+    fn programs_are_looked_up_once() {
+        let scratch = TestFolder::new();
+        let tool = tool(&scratch, 0o755);
+        let (disk, path) = (Disk::default(), format!("/missing:{}", scratch.display()));
+        assert_eq!(disk.find("tool", &path, "/").unwrap().as_deref(), tool.to_str());
+        fs::remove_file(&tool).unwrap();
+        assert_eq!(disk.find("tool", &path, "/").unwrap().as_deref(), tool.to_str());
+        assert_eq!(disk.find("other", &path, "/"), Ok(None));
+    }
+
+    #[test]
+    fn the_first_row_of_a_look_up_counts() {
+        let row = |path: &str, found: Option<&str>| FoundProgram {
+            lookup: Lookup { program: "cicc".into(), path: path.into() },
+            found: found.map(String::from),
+        };
+        let rows = vec![row("/a", None), row("/b", Some("/x/cicc")), row("/b", Some("/y/cicc"))];
+        let found = |program: &str, path: &str| rows.find(program, path, "/").unwrap();
+        assert_eq!([found("cicc", "/a"), found("cicc", "/b"), found("cicc", "/c"), found("gcc", "/b")], [None, Some("/x/cicc".into()), None, None]);
+    }
+
+    #[test]
+    fn a_program_is_found_as_a_shell_finds_it() {
+        assert_eq!(find("sh".as_ref(), "/missing:/bin".as_ref(), Path::new("/")), Some("/bin/sh".into()));
+        assert_eq!(find("bin/sh".as_ref(), "".as_ref(), Path::new("/")), Some("/bin/sh".into()));
+        assert_eq!(find("sh".as_ref(), "bin".as_ref(), Path::new("/")), Some("/bin/sh".into()));
+        assert_eq!(find("missing".as_ref(), "/bin".as_ref(), Path::new("/")), None);
+        assert_eq!(find("bin".as_ref(), "/".as_ref(), Path::new("/")), None, "a folder");
+    }
+}
