@@ -8,7 +8,7 @@ use std::path::Path;
 use stored::Stored;
 use zigrunk::{
     Command, CommandTool, DropReason, Error, ErrorKind, Format, FoundProgram, HostCompiler, Input, LineCall, Missing, Plan,
-    PlanCall, Stage, Tool, Variable, candidates, find_programs, line_words, lookups, plan, variables,
+    PlanCall, Programs, Stage, Tool, Variable, candidates, find_programs, line_words, lookups, plan, variables,
 };
 
 const RUN: &[u8] = b"#$ PATH=/b\n#$ gcc -D__NVCC__ -E k.cu -o k.cpp1.ii\n#$ cicc --x k.gpu k.cpp1.ii -o k.ptx\n";
@@ -33,7 +33,7 @@ fn place<T: std::fmt::Debug>(answer: Result<T, Error>) -> Option<(Input, Option<
     answer.unwrap_err().place().map(|place| (place.input, place.line))
 }
 
-fn call<'a>(run: &'a [u8], programs: &'a Vec<FoundProgram>) -> PlanCall<'a> {
+fn call<'a>(run: &'a [u8], programs: &'a dyn Programs) -> PlanCall<'a> {
     PlanCall { flag: "-c", ..PlanCall::new(run, run, programs).at("/w", "/t") }
 }
 
