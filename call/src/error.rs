@@ -176,7 +176,7 @@ pub(crate) enum BadLine {
 }
 
 /// What has gone wrong.
-#[derive(Clone, Debug)]
+#[derive(Clone)]
 enum Cause {
     /// The kind says it all.
     Plain(ErrorKind),
@@ -201,7 +201,7 @@ enum Cause {
 }
 
 /// Why a call has no answer: its kind, a message for people, and the place if one input is at fault.
-#[derive(Clone, Debug)]
+#[derive(Clone)]
 pub struct Error {
     cause: Cause,
     place: Option<Place>,
@@ -325,6 +325,12 @@ impl Error {
             Cause::Nvcc(_) => Reason::DryRunFails,
             _ => Reason::Unplanned(Box::new(self)),
         }
+    }
+}
+
+impl fmt::Debug for Error {
+    fn fmt(&self, f: &mut fmt::Formatter<'_>) -> fmt::Result {
+        f.debug_struct("Error").field("kind", &self.kind()).field("message", &self.to_string()).field("place", &self.place).finish()
     }
 }
 

@@ -1,5 +1,6 @@
 //! Plans: the commands that one nvcc call runs, in groups, with the files of each and what it waits for.
 use crate::error::{Error, Input, Unfit};
+use crate::formats::Format;
 use crate::lines::Tool;
 use crate::memory::{OutOfMemory, copied, listed, pairs, texts};
 use crate::nvcc_line::text_in;
@@ -14,7 +15,6 @@ use compilers::command::Cacheable;
 use compilers::compiler::NvccHostCompiler;
 use compilers::plans::{Dropped, NvccGeneratedSubcommand, Origin, PlanWithOrigins, Program, Reason as WhyDropped};
 use dry_runs::{LimitedFault, is_dry_run, parse_dry_run};
-use plan_texts::Format;
 use rattle_std::alloc::Global;
 use rattle_std::string::String as Text;
 use std::fmt;
@@ -326,24 +326,13 @@ impl Plan {
         Commands { numbers: first..first + self.planned.plan.dropped.as_slice().len(), plan: self }
     }
 
-    /// The plan in a format. JSON and a compilation database have no newline at their end.
+    /// The plan in a format. It ends in a newline.
     ///
     /// # Errors
     ///
     /// [`ErrorKind::Unwritable`](crate::ErrorKind) if the format can't represent the plan, `OutOfMemory`.
     pub fn text(&self, format: Format) -> Result<String, Error> {
-        let text = plan_formats::plan_text(Global, format, &self.cwd, &self.tmp, &self.flag, &self.planned)?;
-        Ok(copied(text.as_str())?)
-    }
-
-    /// The same as a file, which ends in a newline.
-    ///
-    /// # Errors
-    ///
-    /// Those of [`text`](Plan::text).
-    pub fn file(&self, format: Format) -> Result<String, Error> {
-        let text = plan_formats::plan_file(Global, format, &self.cwd, &self.tmp, &self.flag, &self.planned)?;
-        Ok(copied(text.as_str())?)
+        format.file(self)
     }
 
     /// The working directory that it is for.

@@ -324,7 +324,7 @@ fn long_runs() {
     let pairs = vec![("N".repeat(100), "v".repeat(100)); 4];
     let call = PlanCall { variables: &variables(&pairs), dry2: &second, ..call(&run, &programs) };
     let json = plan_text(&call, Format::Json).unwrap();
-    assert!(json.starts_with('{') && json.ends_with('}'));
+    assert!(json.starts_with('{') && json.ends_with("}\n"));
     let records = plan(&call).unwrap();
     assert_eq!(printed(&records), plan_text(&call, Format::Text).unwrap());
 }
