@@ -1,4 +1,5 @@
 //! The formats of plans.
+use crate::compdb;
 use crate::error::Error;
 use crate::memory::copied;
 use crate::plan::Plan;
@@ -60,7 +61,7 @@ impl Format {
             Format::Json => plan_texts::Format::Json,
             Format::Ninja => plan_texts::Format::Ninja,
             Format::Shell => plan_texts::Format::Shell,
-            Format::Compdb => plan_texts::Format::Compdb,
+            Format::Compdb => return Ok(compdb::text(plan)?),
             Format::Text => plan_texts::Format::Text,
         };
         let text = plan_formats::plan_file(Global, format, plan.cwd(), plan.tmp(), plan.flag(), plan.proved())?;

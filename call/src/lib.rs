@@ -5,6 +5,7 @@
 
 mod cache_key;
 mod call;
+mod compdb;
 pub mod compiler;
 mod dry_runs;
 pub mod environments;
@@ -12,6 +13,7 @@ mod error;
 mod fitness;
 mod formats;
 mod headers;
+pub mod json;
 mod keys;
 mod lines;
 mod memory;
@@ -28,7 +30,7 @@ mod variable;
 mod words;
 
 pub use cache_key::CacheKey;
-pub use call::{Call, Planning, Processes};
+pub use call::{Call, MOST_BYTES, Planning, Processes};
 pub use dry_runs::{DryRuns, Nvcc, Ran};
 pub use error::{Error, ErrorKind, Input, Place};
 pub use formats::Format;

@@ -43,6 +43,13 @@ pub(crate) fn copied(text: &str) -> Result<String, OutOfMemory> {
     Ok(copy)
 }
 
+/// Adds to a text.
+pub(crate) fn push(text: &mut String, more: &str) -> Result<(), OutOfMemory> {
+    text.try_reserve(more.len())?;
+    text.push_str(more);
+    Ok(())
+}
+
 /// A copy of bytes.
 pub(crate) fn copied_bytes(bytes: &[u8]) -> Result<Vec<u8>, OutOfMemory> {
     let mut copy = Vec::new();

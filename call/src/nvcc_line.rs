@@ -157,7 +157,7 @@ impl NvccLine {
         let own = listed([&self.nvcc, "--dryrun"].into_iter().map(copied).chain(self.all_words()?.into_iter().map(Ok)))?;
         Ok(Outline {
             dependencies: outline.dependencies.as_ref().map(run).transpose()?,
-            own_dry_run: Run::new(own, copied(&self.cwd)?, Arc::clone(&environment)),
+            own_dry_run: Run::new(own, copied(&self.cwd)?).within(&environment),
             first_dry_run: run(&outline.first)?,
             second_dry_run: run(&outline.second)?,
             flag: copied(outline.flag.as_str())?,
@@ -178,7 +178,7 @@ fn run_of(command: &SingleCompileCommand, environment: &Arc<Vec<(String, String)
     let mut words = strings(command.arguments.as_slice())?;
     words.try_reserve(1)?;
     words.insert(0, copied(command.executable.as_str())?);
-    Ok(Run::new(words, copied(command.cwd.as_str())?, Arc::clone(environment)))
+    Ok(Run::new(words, copied(command.cwd.as_str())?).within(environment))
 }
 
 #[cfg(test)]

@@ -12,8 +12,14 @@ pub struct Run {
 }
 
 impl Run {
-    pub(crate) fn new(words: Vec<String>, cwd: String, environment: Arc<Vec<(String, String)>>) -> Run {
-        Run { words, cwd, environment }
+    /// A program with its words in a directory, without an environment.
+    #[must_use]
+    pub fn new(words: Vec<String>, cwd: String) -> Run {
+        Run { words, cwd, environment: Arc::default() }
+    }
+
+    pub(crate) fn within(self, environment: &Arc<Vec<(String, String)>>) -> Run {
+        Run { environment: Arc::clone(environment), ..self }
     }
 
     /// The program's name or path, and its words.
