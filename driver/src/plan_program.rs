@@ -311,16 +311,10 @@ mod tests {
     }
 
     #[test]
-    fn the_first_dry_run_that_fails_is_told() {
-        let run = |code: i32, errors: &str| Ended {
-            status: system::Status { code, signal: None, dumped: false },
-            out: Vec::new(),
-            errors: errors.into(),
-            times: (0.0, 0.0),
-        };
-        assert!(failure(&[run(0, "said\n"), run(0, "")]).is_none());
-        let refusal = failure(&[run(0, "well\n"), run(2, "#$ gcc a\nbad\n#$x\n"), run(3, "worse\n")]).unwrap();
+    fn a_dry_run_that_fails_is_told() {
+        let refusal = refused(&call::Error::by_nvcc(b"#$ gcc a\nbad\n#$x\n".to_vec()));
         assert_eq!((refusal.status, refusal.text.as_str()), (1, "bad\n#$x\nzigrunk plan: a dry run fails"));
+        assert_eq!(refused(&call::Error::to_nvcc(call::Reason::ReadOtherwise)).status, 3);
     }
 
     #[test]

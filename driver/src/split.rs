@@ -19,7 +19,7 @@ use crate::streams::write_file;
 use crate::tasks::{self, Surroundings};
 use crate::threads;
 use crate::voice::{End, Habits, Say, Voice};
-use call::{Disk, DryRuns, Error, MOST_BYTES, NvccLine, Outline, Planning, Reason};
+use call::{Disk, DryRuns, Error, LineReason, MOST_BYTES, NvccLine, Outline, Planning, Reason};
 use std::env;
 use std::fs;
 use std::iter;
@@ -143,7 +143,7 @@ impl Call<'_> {
             return by_nvcc(Reason::LongName);
         }
         if commands.iter().filter(|command| writes_own_rule(command)).count() > 1 {
-            return by_nvcc("several preprocessors may write one file");
+            return by_nvcc(LineReason::HostFile.into());
         }
         if !commands.last().is_some_and(PlannedCommand::can_write) {
             return by_nvcc(Reason::NoProduct);
@@ -423,11 +423,15 @@ mod tests {
 
     #[test]
     fn host_compilers_may_write_rules_of_their_own() {
-        let writes = |line: &str| writes_own_rule(&PlannedCommand { words: words(line).words, ..PlannedCommand::default() });
+        let writes = |line: &str| writes_own_rule(&PlannedCommand { words: run(line).words().to_vec(), ..PlannedCommand::default() });
         for option in RULE_OPTIONS {
             assert!(writes(&format!("-E {option} -MF x.d k.cu")), "{option}");
         }
-        assert!(["-c --write-dependencies=x.d k.cpp", "-E -Wp,-MD,x.d k.cu", "-E -Wp,-DA,-MMD,x.d k.cu", "-Xpreprocessor -MD k.cu"].into_iter().all(writes));
+        assert!(
+            ["-c --write-dependencies=x.d k.cpp", "-E -Wp,-MD,x.d k.cu", "-E -Wp,-DA,-MMD,x.d k.cu", "-Xpreprocessor -MD k.cu"]
+                .into_iter()
+                .all(writes)
+        );
         let others = ["-E -x c++ k.cu -o k.ii", "-m64 -MF x.d", "-MT a -MP", "-Wp,-DMD,-MP k.cu", "-I-MD/x -DM=-M", "a-MD", "-MDx", "-W,-MD"];
         assert!(!others.into_iter().any(writes));
     }
