@@ -171,8 +171,8 @@ pub(crate) enum BadLine {
     Shell,
     Empty,
     NoPath,
-    /// The program, and the value of `PATH` there.
-    NotFound(String, String),
+    /// The program, and the value of `PATH` there if that is known.
+    NotFound(String, Option<String>),
     TooLong(usize),
 }
 
@@ -276,7 +276,7 @@ impl Error {
     /// The error, with the line of a dry run that lacks a program, and the value of `PATH` there.
     pub(crate) fn in_line(self, run: usize, line: usize, path: String) -> Error {
         let cause = match self.cause {
-            Cause::DryRun(_, BadLine::NotFound(program, _)) => Cause::DryRun(run, BadLine::NotFound(program, path)),
+            Cause::DryRun(_, BadLine::NotFound(program, _)) => Cause::DryRun(run, BadLine::NotFound(program, Some(path))),
             other => other,
         };
         Error { cause, ..self }.at_line(run, line)
@@ -380,8 +380,9 @@ impl fmt::Display for BadLine {
             BadLine::Shell => f.write_str("the command has an open quote or ends in a backslash"),
             BadLine::Empty => f.write_str("the command has no words"),
             BadLine::NoPath => f.write_str("no line before this one sets PATH"),
-            BadLine::NotFound(program, path) if path.is_empty() || program.contains('/') => write!(f, "cannot find {program}"),
-            BadLine::NotFound(program, path) => write!(f, "cannot find {program} in PATH ({path})"),
+            BadLine::NotFound(program, None) => write!(f, "cannot find {program}"),
+            BadLine::NotFound(program, _) if program.contains('/') => write!(f, "cannot find {program}: no such program"),
+            BadLine::NotFound(program, Some(path)) => write!(f, "cannot find {program} in PATH ({path})"),
             BadLine::TooLong(limit) => write!(f, "with this line, the dry run makes over {limit} bytes"),
         }
     }
@@ -471,7 +472,7 @@ impl From<Fault> for Error {
             Fault::EmptyCommand { run, line } => Error::dry_run(run, line + 1, BadLine::Empty),
             Fault::NoPath { run, line } => Error::dry_run(run, line + 1, BadLine::NoPath),
             Fault::NotFound { program } => match copied(program.as_str()) {
-                Ok(program) => Error::of(Cause::DryRun(0, BadLine::NotFound(program, String::new()))),
+                Ok(program) => Error::of(Cause::DryRun(0, BadLine::NotFound(program, None))),
                 Err(lack) => lack.into(),
             },
             fault => message_of(&fault).map_or_else(Error::from, |text| Error::of(Cause::Fault(text))),

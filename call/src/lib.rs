@@ -6,8 +6,10 @@
 mod cache_key;
 mod call;
 mod compdb;
+#[cfg(unix)]
 pub mod compiler;
 mod dry_runs;
+#[cfg(unix)]
 pub mod environments;
 mod error;
 mod fitness;
