@@ -35,7 +35,7 @@ install-library:
 install-rust:
 	@$(crates_from)
 	if [ -d $(workspace)/crates ]; then to=$$(realpath -m "$(target)") && cd $(workspace) && \
-		find Cargo.toml crates stand zigrunk zigrunk-sys driver -type f | while read -r file; do \
+		find Cargo.toml crates stand call zigrunk driver -type f | while read -r file; do \
 		install -D -m 644 "$$file" "$$to/share/zigrunk/rust/$$file" || exit 1; done; fi
 
 uninstall:

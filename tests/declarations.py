@@ -36,7 +36,7 @@ ENUMS = {"Status": ("", ""), "Form": ("", ""), "HostCompiler": ("", ""), "Tool":
          "Field": ("FIELD_", ""), "AfterFailure": ("", ""), "CommandState": ("", ""), "PlanStatus": ("", ""), "Refused": ("", "")}
 OTHER_NAMES = {"PlanStatus.SUCCEEDED": "ALL_SUCCEEDED", "PlanStatus.FAILED": "ONE_FAILED"}
 # What has to name each call of the header, but for those that Python says in another way.
-NAMES_CALLS = ["bindings/c/zigrunk.map", "bindings/rust/sys/src/functions.rs", "bindings/python/zigrunk/__init__.py", "docs/EMBEDDING.md",
+NAMES_CALLS = ["bindings/c/zigrunk.map", "bindings/python/zigrunk/__init__.py", "docs/EMBEDDING.md",
                "man/zigrunk.h.3"]
 NOT_CALLED = {("bindings/python/zigrunk/__init__.py", "zigrunk_message")}
 # The header's numbers that Python says in another way: by None, or since its calls can't have them.
@@ -163,7 +163,6 @@ def main() -> int:
     names = module_of_python()
     exports = in_rust("crates/zigrunk_c/src/lib.rt")
     counts.case("the exports", differences(exports, header) + [f"{it} isn't exported" for it in header if it not in exports])
-    counts.case("Rust's declarations", differences(in_rust("bindings/rust/sys/src/functions.rs"), header))
     counts.case("Python's declarations", differences(in_python(names), {it: without_direction(kinds) for it, kinds in header.items()}))
     for path in NAMES_CALLS:
         counts.case(path, [f"it lacks {it}" for it in lacking(path, header)])
@@ -176,7 +175,7 @@ def main() -> int:
     counts.case("Python's enums", [f"{it} isn't compared" for it in unlisted if it not in ENUMS])
     for path in LAYERS:
         counts.case(path, [f"the header has no ZIGRUNK_{it}" for it in sorted(numbers_by_name(path)) if it not in numbers])
-    known = words_of("bindings/rust/src/cache.rs", r"\nconst (\w+): &\[&str\] = &\[(.*?)\];")
+    known = words_of("call/src/cache_key.rs", r"\nconst (\w+): &\[&str\] = &\[(.*?)\];")
     in_c = words_of(LAYERS[0], r"\nstatic const char \*const zigrunk_own_(\w+)\[\] = \{(.*?)\};")
     counts.case("the words that caches know", [] if known == in_c and len(known) == 3 else [f"in Rust {known}, in C {in_c}"])
     go = numbers_by_name(LAYERS[-1])

@@ -119,8 +119,8 @@ if command -v cc > /dev/null && command -v pkg-config > /dev/null; then
         mkdir -p uses/src
         printf '%s\n' '[package]' 'name = "uses"' 'version = "0.1.0"' 'edition = "2021"' '[dependencies]' \
             "zigrunk = { path = \"$root/usr/share/zigrunk/rust/zigrunk\" }" > uses/Cargo.toml
-        echo 'fn main() { println!("{}", zigrunk::version()); }' > uses/src/main.rs
-        check 'the version by Rust' prints "$version" env -u ZIGRUNK_LIB_DIR -u PKG_CONFIG_PATH \
+        echo 'fn main() { println!("{}", zigrunk::VERSION); }' > uses/src/main.rs
+        check 'the version by Rust' prints "$version" \
             cargo run -q --offline --manifest-path uses/Cargo.toml --target-dir uses/target
     else
         echo 'skipped: the crate for Rust, without cargo'

@@ -1,8 +1,8 @@
 #!/usr/bin/env bash
 # Counts the instructions of plans by libzigrunk, as the kit builds it and as cargo builds the plain Rust, and the second as a share of the
-# first: of 21 calls less those of one, by 20; and those of a plan as records as a share of a plan alone, both in plain Rust.
-# docs/PERFORMANCE.md has what came out. Outside the gate; it fails if the plain build takes more than 105 % of the proved one's
-# instructions, or the records of a plan for two targets more than 130 % of the plan's.
+# first: of 21 calls less those of one, by 20; and those of a plan as records, by the crate for Rust and by libzigrunk, as a share of a plan
+# alone, all in plain Rust. docs/PERFORMANCE.md has what came out. Outside the gate; it fails if the plain build takes more than 105 % of the
+# proved one's instructions, or the records of a plan for two targets more than 130 % of the plan's.
 #
 #   tests/instructions.sh [PROVED]     the archive that `make lib` leaves, unless given; the plain one is that of `make rust`
 #
@@ -46,13 +46,16 @@ build_alone() {
     cargo build --quiet --offline --release --manifest-path "$scratch/alone/Cargo.toml"
 }
 
+cargo build --quiet --offline --release --manifest-path "$workspace/Cargo.toml" -p zigrunk --example times
 build proved "$proved"
 build plain "$workspace/target/release/libzigrunk.a"
 build_alone
 status=0
 for name in "${names[@]}"; do
     planned=$(each "$scratch/alone/target/release/plan_alone" @ /w /t "$(cat "$data/$name.flag")" "$data/$name.dry1" "$data/$name.dry2")
-    echo "$name, a plan alone: $planned"
+    by_rust=$(each "$workspace/target/release/examples/times" @ /w /t "$(cat "$data/$name.flag")" "$data/$name.dry1" "$data/$name.dry2")
+    echo "$name, a plan alone: $planned; records by Rust: $by_rust, $((by_rust * 100 / planned)) %"
+    [ "$name" != two_targets ] || [ $((by_rust * 100)) -le $((planned * MOST_OF_RECORDS)) ] || status=1
     for form in text steps json; do
         one=$(each "$scratch/proved/work" "$form" @ "$data" "$name") other=$(each "$scratch/plain/work" "$form" @ "$data" "$name")
         share=$((other * 100 / one))

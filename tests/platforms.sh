@@ -125,7 +125,7 @@ built() {
 
 # checked TARGET: whether the crates are right for a platform that nothing here can run, but for the driver, which is for Linux, and tests.
 checked() {
-    by_cargo check "$1" --workspace --exclude zigrunk-sys --exclude zigrunk-driver --exclude 'test_*'
+    by_cargo check "$1" --workspace --exclude zigrunk-driver --exclude 'test_*'
 }
 
 # runner PROGRAM EMULATOR: a script that runs a program of another platform.

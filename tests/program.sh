@@ -898,7 +898,7 @@ long_messages() {
         json --limit 100000000 /w /t -c "$scratch/kernel" "$scratch/bad"
     lines_of bad "#\$ PATH=/$long" '#$ nowhere'
     check 'a program that is not in a path of a megabyte' 1 '' \
-        "zigrunk plan: $scratch/bad:2: cannot find nowhere in PATH (/${long:0:999}..)"$'\n    #$ nowhere\n' json /w /t -c "$scratch/kernel" "$scratch/bad"
+        "zigrunk plan: $scratch/bad:2: cannot find nowhere in PATH (/${long:0:970}.."$'\n    #$ nowhere\n' json /w /t -c "$scratch/kernel" "$scratch/bad"
     long=${long:0:100000}
     fails 'a file with a name of 100,000 bytes' "cannot read ${long:0:1000}..: File name too long" json /w /t -c "$long" x
 }

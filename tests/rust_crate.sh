@@ -1,11 +1,9 @@
 #!/usr/bin/env bash
-# Tests the crate for Rust, bindings/rust: over the plain sources, over libzigrunk, and that both answer alike. Cargo takes nothing from
-# a network here, and leaves nothing in the repository. Prints a line for each failure, and last 'N passed, M failed'.
+# Tests the crate for Rust, bindings/rust, and the library below it, call. Cargo takes nothing from a network here, and leaves nothing in the
+# repository. Prints a line for each failure, and last 'N passed, M failed'.
 #
-#   tests/rust_crate.sh [LIBRARY]   LIBRARY: a folder as `make lib` makes out, with lib/ and include/. Without one, it is out if that has a library
-#
-# COUNT=1000000 compares as many generated calls, half of them of SEED, which is the time if it isn't set. WORKSPACE=out/rust takes the workspace
-# of `make rust` as it is, and TARGET=FOLDER keeps what cargo builds. Another cargo first on the path tests with that: Rust 1.85 is the oldest.
+# WORKSPACE=out/rust takes the workspace of `make rust` as it is, and TARGET=FOLDER keeps what cargo builds. Another cargo first on the path tests with
+# that: Rust 1.85 is the oldest.
 set -u
 cd "$(dirname "$0")/.." || exit 1
 . tests/lib.sh
@@ -15,17 +13,11 @@ room=$scratch/room
 make_room "$room"
 require 'the crate for Rust' cargo rustc cc
 
-count=${COUNT:-20000}
-seed=${SEED:-$(date +%s)}
-library=$(realpath -m "${1:-out}")
 export CARGO_TARGET_DIR=${TARGET:-$scratch/target} CARGO_NET_OFFLINE=true
-# (answers are compared by optimized programs, which are built soon)
-export CARGO_PROFILE_RELEASE_LTO=off CARGO_PROFILE_RELEASE_CODEGEN_UNITS=16 CARGO_PROFILE_RELEASE_PANIC=unwind
 version=$(cat VERSION)
 data=$PWD/tests/drivers/test_plans/data/dry_runs
 export ZIGRUNK_DRY_RUNS=$data
-plain=(-p zigrunk)
-linked=(-p zigrunk -p zigrunk-sys --no-default-features --features zigrunk/libzigrunk)
+packages=(-p zigrunk -p call)
 
 workspace=${WORKSPACE-}
 if [ -z "$workspace" ]; then
@@ -37,12 +29,6 @@ if ! cd "$workspace"; then
     summary
     exit
 fi
-
-# linted NAME WORD..: the findings of clippy and the pages, for packages and features.
-linted() {
-    check "$1: clippy" cargo clippy -q --no-deps --all-targets "${@:2}" -- -D warnings
-    check "$1: the pages" env RUSTDOCFLAGS='-D warnings' cargo doc -q --no-deps "${@:2}"
-}
 
 # examples_write FOLDER: the examples plan the dry runs of real calls: one as a script that a shell can read, with a line for each command,
 # and one as its groups.
@@ -98,68 +84,24 @@ misuses() {
     diff <(misuse_rows | awk '{print $1, $5, $6, $7}') <(misuse_rows | "$CARGO_TARGET_DIR/debug/examples/misuses" "$room")
 }
 
-# answers_of BACKEND WORD..: builds the program that prints answers, for packages and features.
-answers_of() {
-    cargo build -q --release --example answers "${@:2}" && cp "$CARGO_TARGET_DIR/release/examples/answers" "$scratch/answers.$1"
-}
-
-# alike SEED: both backends give the same answers to generated calls. It shows the first case that differs.
-alike() {
-    local backend number
-    for backend in plain linked; do
-        "$scratch/answers.$backend" "$1" "$((count / 2))" > "$scratch/told.$backend" &
-    done
-    wait
-    [ "$(grep -c '' "$scratch/told.plain")" -eq "$((count / 2))" ] || return 1
-    ! cmp -s "$scratch/told.plain" "$scratch/told.linked" || return 0
-    number=$(diff "$scratch/told.plain" "$scratch/told.linked" | sed -n '2s/^. \([0-9]*\) .*/\1/p')
-    echo "answers $1 case $number, plain and linked:"
-    diff <("$scratch/answers.plain" "$1" case "$number") <("$scratch/answers.linked" "$1" case "$number") | cut -c 1-3000
-    return 1
-}
-
-# by_library: the same tests over the C library, and that both backends answer alike.
-by_library() {
-    mkdir -p "$scratch/library"
-    cp -r "$library/lib" "$library/include" "$scratch/library"
-    export ZIGRUNK_LIB_DIR=$scratch/library/lib
-    if [ -f "$ZIGRUNK_LIB_DIR/libzigrunk.a" ]; then
-        check 'linked: the tests, with the archive' cargo test -q "${linked[@]}"
-    fi
-    check 'linked: the answers' answers_of linked "${linked[@]}"
-    check 'plain: the answers' answers_of plain "${plain[@]}"
-    for number in 1 "$seed"; do
-        check "$((count / 2)) answers to calls of seed $number" alike "$number"
-    done
-    rm -f "$ZIGRUNK_LIB_DIR/libzigrunk.a"
-    check 'linked: the tests, with the shared object' env LD_LIBRARY_PATH="$ZIGRUNK_LIB_DIR" cargo test -q --tests "${linked[@]}"
-}
-
 check 'the page of the package has these lines too' prints '' comm -13 <(sed -n 's/^\/\/! //p' zigrunk/src/lib.rs | sort) \
     <(sed -n '/^```rust/,/^```$/p' zigrunk/README.md | grep -v '^```' | sort)
 check 'the versions' grep -qx "version = \"$version\"" Cargo.toml
-check 'the tests' cargo test -q "${plain[@]}"
+check 'the tests' cargo test -q "${packages[@]}"
 check 'programs are no tests' cargo test -q -p cudaplan
 check 'what the examples write' examples_write "$CARGO_TARGET_DIR/debug/examples"
 check 'the ten lines of the page in a new project' ten_lines
 check 'the five lines of the package in a new project' five_lines
 check 'misuses' misuses
 if cargo clippy --version > /dev/null 2>&1; then
-    linted 'plain' "${plain[@]}"
-    linted 'linked' "${linked[@]}"
+    check 'clippy' cargo clippy -q --no-deps --all-targets "${packages[@]}" -- -D warnings
+    check 'the pages' env RUSTDOCFLAGS='-D warnings' cargo doc -q --no-deps "${packages[@]}"
 else
     skip 'clippy' 'it is not installed'
 fi
 if cargo fmt --version > /dev/null 2>&1; then
-    check 'the format' cargo fmt --check -p zigrunk -p zigrunk-sys
+    check 'the format' cargo fmt --check "${packages[@]}"
 else
     skip 'the format' 'rustfmt is not installed'
-fi
-ZIGRUNK_LIB_DIR=$scratch/none cargo build -p zigrunk-sys > "$scratch/without" 2>&1
-check 'the build says where it looked for the library' grep -qF "$scratch/none (ZIGRUNK_LIB_DIR)" "$scratch/without"
-if compgen -G "$library/lib/libzigrunk.*" > /dev/null; then
-    by_library
-else
-    skip 'the crate over libzigrunk' "there is none in $library/lib: make lib"
 fi
 summary

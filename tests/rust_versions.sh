@@ -1,7 +1,6 @@
 #!/usr/bin/env bash
 # Whether the plain Rust is clean with the oldest Rust that it is for, that of Debian 13, and with the newest at hand, this machine's: the
-# tests of the whole workspace, clippy, rustfmt, and the pages, which have to have each public item. (tests/rust_crate.sh has the tests of
-# zigrunk-sys, which need libzigrunk.) The oldest runs in a root of Debian 13, which needs to be root, debootstrap and the network, else it is
+# tests of the whole workspace, clippy, rustfmt, and the pages, which have to have each public item. The oldest runs in a root of Debian 13, which needs to be root, debootstrap and the network, else it is
 # skipped with a message. Outside the gate. The last line is "N passed, M failed".
 #
 #   tests/rust_versions.sh [ROOT]     ROOT: the folder of a root of Debian 13, made if it isn't there, as that of tests/platforms.sh; by
@@ -49,7 +48,7 @@ newest() {
 
 # tested VERSION: whether all tests pass, of which it counts those that ran.
 tested() {
-    "$1" cargo test "${words[@]}" --no-fail-fast --workspace --exclude zigrunk-sys > "$scratch/$1" 2>&1 || { tail -n 60 "$scratch/$1" && return 1; }
+    "$1" cargo test "${words[@]}" --no-fail-fast --workspace > "$scratch/$1" 2>&1 || { tail -n 60 "$scratch/$1" && return 1; }
     echo "  $1: $(sed -n 's/^test result: ok\. \([0-9]*\) passed.*/\1/p' "$scratch/$1" | paste -sd+ | bc) tests" >> "$scratch/counts"
 }
 

@@ -5,7 +5,7 @@
 //! pipe, however long that takes. A preprocessor for a device needs the host's only by the plan's rule that a
 //! missing header shows once, and a call prints nothing behind its first failure anyway.
 use crate::machine::Job;
-use crate::planner::{PlannedCommand, list_of};
+use crate::planned::{PlannedCommand, list_of};
 use crate::run::Task;
 use crate::settings::Settings;
 use crate::streams::{content_of, replace_file};
@@ -135,7 +135,7 @@ pub fn allow(tasks: &mut [Task], commands: &[PlannedCommand], tmp: &str) {
 #[cfg(test)]
 mod tests {
     use super::*;
-    use crate::planner::Early;
+    use crate::planned::Early;
     use crate::test_folder::TestFolder;
     use std::fs;
 

@@ -1,15 +1,15 @@
 //! The machine on which the driver runs.
-use crate::environments::Environment;
 use crate::folder::CallFolder;
 use crate::guard::{Guard, MOST_GROUPS, Shared};
 use crate::jobserver::{Make, Token, Tokens};
 use crate::machine::{Ended, Event, Job, Machine};
 use crate::piped::Piped;
-use crate::programs;
 use crate::settings::Settings;
 use crate::slots::{BEAT, Slot, Slots};
 use crate::streams::{complain, content};
 use crate::system::{self, Access, CHLD, CONT, Image, KILL, STOP, Signals, Status, TSTP};
+use call::environments::Environment;
+use call::programs;
 use std::borrow::Cow;
 use std::collections::VecDeque;
 use std::env;

@@ -4,7 +4,7 @@
 //! nvcc doesn't care, since it calls each of them with the same words. So may the driver only where it changes no word. It asks here before
 //! it calls a host compiler in another way than nvcc does.
 use crate::cache::contains;
-use crate::planner::PlannedCommand;
+use crate::planned::PlannedCommand;
 use crate::streams::read_on;
 use crate::system::{self, Access};
 use std::collections::BTreeSet;
@@ -93,8 +93,8 @@ fn has_all(file: &mut impl Read, texts: &[&[u8]]) -> io::Result<bool> {
 #[cfg(test)]
 mod tests {
     use super::*;
-    use crate::programs;
     use crate::test_folder::TestFolder;
+    use call::programs;
     use std::env;
     use std::fs;
     use std::os::unix::fs::symlink;

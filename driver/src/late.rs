@@ -1,6 +1,6 @@
 //! Begins a call's last host compile before its fatbin is there: gcc makes assembler text beside device commands, and the assembler waits.
 use crate::machine::Machine;
-use crate::planner::{self, PlannedCommand};
+use crate::planned::{self, PlannedCommand};
 use crate::run::{self, Done, NoRule, Stopped, Task};
 use crate::settings::Settings;
 use crate::streams::{content_of, write_file};
@@ -49,7 +49,7 @@ pub fn is_on(settings: &Settings) -> bool {
 
 /// Where the files go that begin a call's last host compile early.
 fn places_in(tmp: &str) -> Option<Places> {
-    let place = |path: String| Some(Text::new(planner::text(&path).ok()?));
+    let place = |path: String| Some(Text::new(planned::text(&path).ok()?));
     Some(Places {
         text_file: place(format!("{tmp}/{OWN}/late.s"))?,
         fatbin_file: place(format!("{tmp}/{OWN}/fatbin.c"))?,
@@ -104,13 +104,13 @@ pub fn begin_early(commands: &mut Vec<PlannedCommand>, tmp: &str) -> Option<Halv
         return None;
     }
     let places = places_in(tmp)?;
-    let mut listed: Vec<_> = before.iter().map(planner::listed).collect::<Result<_, _>>().ok()?;
-    let split = split_compile(Global, &places, listed.last()?, &planner::listed(last).ok()?).ok()??;
+    let mut listed: Vec<_> = before.iter().map(planned::listed).collect::<Result<_, _>>().ok()?;
+    let split = split_compile(Global, &places, listed.last()?, &planned::listed(last).ok()?).ok()??;
     *listed.last_mut()? = split.fatbinary.try_clone(Global).ok()?;
     let needs = compiler_needs(Global, &split, &listed).ok()??;
     let [text_file, file, to] = [&places.text_file, &places.fatbin_file, &places.included].map(|path| path.as_str().to_owned());
     let [fatbinary, compiler, assembler] =
-        [&split.fatbinary, &split.compiler, &split.assembler].map(|command| planner::strings(command.args.as_slice()));
+        [&split.fatbinary, &split.compiler, &split.assembler].map(|command| planned::strings(command.args.as_slice()));
     let mut assemble = PlannedCommand { words: assembler, reads: vec![text_file.clone(), file.clone()], cacheable: false, ..last.clone() };
     let compile = PlannedCommand { words: compiler, needs: needs.as_slice().to_vec(), writes: vec![text_file], cacheable: false, ..last.clone() };
     assemble.needs.push(before.len());

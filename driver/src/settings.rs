@@ -1,4 +1,5 @@
 //! What the environment says to the driver: the one place that reads the variables `ZIGRUNK_..` and knows which values they may have.
+use call::compiler::Caller;
 use std::env;
 use std::ffi::{OsStr, OsString};
 use std::os::unix::ffi::OsStrExt;
@@ -166,6 +167,11 @@ impl Settings {
     /// Whether this process's machine runs the commands, as far as it knows.
     pub fn runs_here(&self) -> bool {
         self.runner.is_empty() && !self.has_workers
+    }
+
+    /// What decides which nvcc a call means, given the name by which this program was started.
+    pub fn caller<'a>(&'a self, own_name: &'a OsStr) -> Caller<'a> {
+        Caller { nvcc: &self.nvcc, inside: &self.inside, own_name }
     }
 
     /// The directory below which the files of plans are.

@@ -2,10 +2,12 @@
 use crate::caches;
 use crate::early::HeadStart;
 use crate::machine::{Job, Record};
-use crate::planner::{PlannedCommand, Words};
+use crate::nvcc_jobs;
+use crate::planned::PlannedCommand;
 use crate::run::Task;
 use crate::settings::Settings;
 use crate::system::Status;
+use call::Run;
 use schedules::{CommandKind, usual_weight};
 
 /// The folder in a call's directory for files that aren't the plan's.
@@ -107,11 +109,10 @@ fn task_of(number: usize, command: &PlannedCommand, around: &Surroundings<'_>) -
 }
 
 /// The tasks of a plan. What makes the dependency file comes before the last command, which writes the product and waits for it.
-pub fn tasks_of(commands: &[PlannedCommand], dependencies: Option<&Words>, around: &Surroundings<'_>) -> Vec<Task> {
+pub fn tasks_of(commands: &[PlannedCommand], dependencies: Option<&Run>, around: &Surroundings<'_>) -> Vec<Task> {
     let mut tasks: Vec<Task> = commands.iter().enumerate().map(|(number, command)| task_of(number, command, around)).collect();
-    let (Some(words), Some(last)) = (dependencies, tasks.len().checked_sub(1)) else { return tasks };
-    let variables = ["NVCC_PREPEND_FLAGS", "NVCC_APPEND_FLAGS"].map(|name| (name.to_owned(), None));
-    let job = Job { words: words.words.clone(), folder: words.folder.clone(), variables: variables.into(), ..Job::default() };
+    let (Some(run), Some(last)) = (dependencies, tasks.len().checked_sub(1)) else { return tasks };
+    let job = nvcc_jobs::job(run);
     let needs = (0..last).filter(|&number| commands[number].preprocesses).collect();
     tasks[last].needs.push(last);
     tasks.insert(last, Task { job, needs, is_rule: true, kind: "nvcc -M".into(), ..Task::default() });
@@ -292,19 +293,19 @@ mod tests {
         let settings = Settings::default();
         let last = PlannedCommand { needs: vec![1], ..preprocessor("gcc -c k.cpp") };
         let commands = [preprocessor("gcc -E a"), command("cicc b"), preprocessor("gcc -E c"), last];
-        let words = Words { folder: "/f".into(), words: vec!["nvcc".into(), "-M".into()] };
-        let tasks = tasks_of(&commands, Some(&words), &around(&settings));
+        let run = Run::new(vec!["nvcc".into(), "-M".into()], "/f".into());
+        let tasks = tasks_of(&commands, Some(&run), &around(&settings));
         assert_eq!(
             tasks.iter().map(|task| (task.is_rule, task.needs.clone())).collect::<Vec<_>>(),
             [(false, vec![]), (false, vec![]), (false, vec![]), (true, vec![0, 2]), (false, vec![1, 3]),]
         );
         let rule = &tasks[3];
-        assert_eq!((rule.job.words.as_slice(), rule.job.folder.as_str(), rule.kind.as_str()), (&words.words[..], "/f", "nvcc -M"));
+        assert_eq!((rule.job.words.as_slice(), rule.job.folder.as_str(), rule.kind.as_str()), (run.words(), "/f", "nvcc -M"));
         assert_eq!(["NVCC_PREPEND_FLAGS", "NVCC_APPEND_FLAGS"].map(|name| value(&rule.job, name)), [[None], [None]]);
         assert!(!rule.job.shares_slot && rule.without_launcher.is_none());
 
         assert_eq!(tasks_of(&commands, None, &around(&settings)).len(), 4);
-        assert!(tasks_of(&[], Some(&words), &around(&settings)).is_empty());
+        assert!(tasks_of(&[], Some(&run), &around(&settings)).is_empty());
     }
 
     #[test]

@@ -15,6 +15,12 @@ in_room() {
     done
 }
 
+# own_of ROOM NAME: the dry run of a line as it is, beside those that are planned: its generated files are temporary.
+own_of() {
+    sed 's,\([="]\)\(kernel\.\(cpp[14]\|cudafe1\|module_id\|fatbin\|ptx\|compute_\|sm_\)\),\1/tmp/tmpxft_000066f5_00000000-6_\2,g; s, --create="[^"]*",,' \
+        "$1/$2.dry1" > "$1/$2.own"
+}
+
 # edited ROOM NAME SCRIPT [ONE]: the dry runs `one`, with a change.
 edited() {
     local run
@@ -37,12 +43,16 @@ make_room() {
     in_room "$1" one one_target
     in_room "$1" two two_targets
     in_room "$1" ptx only_ptx
+    own_of "$1" one
+    own_of "$1" two
+    sed '25s/$/ -DMORE/' "$1/one.own" > "$1/other.own"
     edited "$1" other 's,kernel\.cu,other.cu,g'
     edited "$1" product 's,"kernel\.o","other.o",'
     edited "$1" less '/ptxas -arch/d'
     edited "$1" bare '/^#[$] fatbinary /d'
     edited "$1" elsewhere "s,orig_src_path_name \"[^\"]*\",orig_src_path_name \"$1/u/kernel.cu\","
     edited "$1" linked "s,orig_src_path_name \"[^\"]*\",orig_src_path_name \"$1/sources/kernel.cu\","
+    own_of "$1" linked
     edited "$1" more '25s/$/ -DMORE/'
     cp "$1/one.dry1" "$1/more.dry1"
     edited "$1" quote "\$a#\$ gcc 'open"
@@ -51,7 +61,8 @@ make_room() {
     : > "$1/empty"
     echo 'nvcc fatal   : none' > "$1/message"
     # shellcheck disable=SC2016 # the stand-in's own
-    printf '%s\n' '#!/bin/sh' "echo \"\$*\" >> '$1/words'" 'tmp=' 'run=1' \
-        'while [ $# -gt 0 ]; do [ "$1" != --keep-dir ] || { tmp=$2 run=2; }; shift; done' "sed \"s,$1/t/,\$tmp/,g\" '$1/one.dry'\$run >&2" > "$1/bin/nvcc"
+    printf '%s\n' '#!/bin/sh' "echo \"\$*\" >> '$1/words'" 'tmp=' 'run=own' \
+        'while [ $# -gt 0 ]; do case $1 in --keep-dir) tmp=$2 run=dry2 ;; --keep) [ "$run" = dry2 ] || run=dry1 ;; esac; shift; done' \
+        "sed \"s,$1/t/,\$tmp/,g\" '$1/one.'\$run >&2" > "$1/bin/nvcc"
     chmod +x "$1"/bin/*
 }

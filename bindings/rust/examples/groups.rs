@@ -6,7 +6,7 @@
 //! so that you can plan for another machine.
 
 use std::error::Error;
-use std::path::PathBuf;
+use std::path::{Path, PathBuf};
 use std::{env, fs, process};
 
 use zigrunk::{FoundProgram, Plan, PlanCall, Stage, candidates, find_programs, plan, quote};
@@ -41,8 +41,8 @@ fn owned(plan: &Plan) -> Vec<Group> {
 }
 
 /// The programs on this machine, and the first candidates of those that aren't here.
-fn programs(dry1: &[u8], dry2: &[u8], cwd: &str) -> Result<Vec<FoundProgram>, zigrunk::Error> {
-    let mut programs = find_programs(dry1, dry2, cwd)?;
+fn programs(dry1: &[u8], dry2: &[u8], cwd: &Path) -> Result<Vec<FoundProgram>, zigrunk::Error> {
+    let mut programs = find_programs(dry1, dry2, cwd, None)?;
     for program in programs.iter_mut().filter(|program| program.found.is_none()) {
         program.found = candidates(&program.lookup, cwd)?.get(0).map(String::from);
     }
@@ -73,8 +73,8 @@ fn main() -> Result<(), Box<dyn Error>> {
         process::exit(2);
     };
     let (dry1, dry2) = (fs::read(first)?, fs::read(second)?);
-    let programs = programs(&dry1, &dry2, cwd)?;
-    let call = PlanCall { dry1: &dry1, dry2: &dry2, cwd, tmp, flag, programs: &programs, ..PlanCall::new(&[]) };
+    let programs = programs(&dry1, &dry2, cwd.as_ref())?;
+    let call = PlanCall { flag, ..PlanCall::new(&dry1, &dry2, &programs).at(cwd, tmp) };
     let plan = plan(&call)?;
     print(&owned(&plan))?;
     for command in plan.dropped() {

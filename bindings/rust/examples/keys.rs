@@ -37,7 +37,7 @@ fn main() -> Result<(), Box<dyn Error>> {
         process::exit(2);
     };
     let environment: Vec<_> = env::vars_os().collect();
-    let plan = Call::new(&NvccCall { nvcc, words, variables: &variables(&environment), cwd, tmp })?.plan()?;
+    let plan = Call::new(&NvccCall::new(nvcc, words).at(cwd, tmp).variables(&variables(&environment)))?.plan()?;
     let mut tools = Tools::new();
     for command in plan.commands() {
         let key = digest(command, &mut tools)?.map_or_else(|| "-".to_owned(), |digest| format!("{digest:016x}"));

@@ -13,9 +13,9 @@ fn main() -> Result<(), Box<dyn Error>> {
         process::exit(2);
     };
     let environment: Vec<_> = env::vars_os().collect();
-    let call = Call::new(&NvccCall { nvcc, words, variables: &variables(&environment), cwd, tmp })?;
-    for (number, command) in call.plan()?.commands().enumerate() {
-        println!("{number} {:?} {} {}", command.needs(), command.program(), quote(command.arguments())?);
+    let call = Call::new(&NvccCall::new(nvcc, words).at(cwd, tmp).variables(&variables(&environment)))?;
+    for command in call.plan()?.commands() {
+        println!("{} {:?} {}", command.number(), command.needs(), quote(command.words())?);
     }
     Ok(())
 }

@@ -21,7 +21,7 @@ fn main() -> Result<(), Box<dyn Error>> {
         process::exit(2);
     };
     let environment: Vec<_> = env::vars_os().collect();
-    let call = Call::new(&NvccCall { nvcc, words, variables: &variables(&environment), cwd, tmp })?;
+    let call = Call::new(&NvccCall::new(nvcc, words).at(cwd, tmp).variables(&variables(&environment)))?;
     if let Some(status) = call.dependencies().map(|run| run.command().status()).transpose()?.filter(|status| !status.success()) {
         process::exit(status.code().unwrap_or(1));
     }

@@ -5,7 +5,7 @@
 use std::error::Error;
 use std::{env, fs, process};
 
-use zigrunk::{Form, PlanCall, candidates, find_programs, plan_text};
+use zigrunk::{Format, PlanCall, candidates, find_programs, plan};
 
 fn main() -> Result<(), Box<dyn Error>> {
     let words: Vec<String> = env::args().skip(1).collect();
@@ -14,12 +14,12 @@ fn main() -> Result<(), Box<dyn Error>> {
         process::exit(2);
     };
     let (dry1, dry2) = (fs::read(first)?, fs::read(second)?);
-    let mut programs = find_programs(&dry1, &dry2, cwd)?;
+    let mut programs = find_programs(&dry1, &dry2, cwd.as_ref(), None)?;
     for program in programs.iter_mut().filter(|program| program.found.is_none()) {
-        program.found = candidates(&program.lookup, cwd)?.get(0).map(String::from);
+        program.found = candidates(&program.lookup, cwd.as_ref())?.get(0).map(String::from);
     }
     // The commands run in the environment of the shell that reads the script.
-    let call = PlanCall { dry1: &dry1, dry2: &dry2, cwd, tmp, flag, programs: &programs, ..PlanCall::new(&[]) };
-    print!("{}", plan_text(&call, Form::Shell)?);
+    let plan = plan(&PlanCall { flag, ..PlanCall::new(&dry1, &dry2, &programs).at(cwd, tmp) })?;
+    print!("{}", plan.text(Format::Shell)?);
     Ok(())
 }

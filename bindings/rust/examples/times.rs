@@ -16,10 +16,10 @@ fn main() -> Result<(), Box<dyn Error>> {
     };
     let (count, dry1, dry2) = (count.parse::<u32>()?, fs::read(first)?, fs::read(second)?);
     let mut programs = Vec::new();
-    for lookup in lookups(&dry1, &dry2, cwd)? {
-        programs.push(FoundProgram { found: candidates(&lookup, cwd)?.get(0).map(String::from), lookup });
+    for lookup in lookups(&dry1, &dry2, cwd.as_ref(), None)? {
+        programs.push(FoundProgram { found: candidates(&lookup, cwd.as_ref())?.get(0).map(String::from), lookup });
     }
-    let call = PlanCall { dry1: &dry1, dry2: &dry2, cwd, tmp, flag, programs: &programs, ..PlanCall::new(&[]) };
+    let call = PlanCall { flag, ..PlanCall::new(&dry1, &dry2, &programs).at(cwd, tmp) };
     let start = Instant::now();
     for _ in 0..count {
         black_box(plan(black_box(&call))?);

@@ -1,95 +1,136 @@
 //! What one `nvcc` call really runs.
 //!
 //! nvcc is a driver: for each GPU architecture it runs a preprocessor, cicc and ptxas, and then links the results into one object. It
-//! prints these commands if you ask for a dry run. Two dry runs go in here, and a plan comes out: the commands of the call in groups, with
+//! prints these commands if you ask for a dry run. A call goes in here, and a plan comes out: the commands of the call in groups, with
 //! what each reads, writes and waits for, and the commands that the plan dropped, each with the reason.
 //!
 //! ```no_run
 //! # fn main() -> Result<(), Box<dyn std::error::Error>> {
 //! use zigrunk::{Call, NvccCall, variables};
 //! let environment: Vec<_> = std::env::vars_os().collect();
-//! let words = ["-c", "k.cu", "-o", "k.o"];
-//! let call = Call::new(&NvccCall { nvcc: "nvcc", words: &words, variables: &variables(&environment), cwd: "/w", tmp: "/t" })?;
-//! for (number, command) in call.plan()?.commands().enumerate() {
-//!     println!("{number}, when {:?} have ended: {}", command.needs(), command.program());
+//! let variables = variables(&environment);
+//! let call = Call::new(&NvccCall::new("nvcc", &["-c", "k.cu", "-o", "k.o"]).at("/w", "/t").variables(&variables))?;
+//! for command in call.plan()?.commands() {
+//!     println!("{}, when {:?} have ended: {}", command.number(), command.needs(), command.program());
 //! }
 //! # Ok(())
 //! # }
 //! ```
 //!
-//! [`Call::plan`] runs nvcc's dry runs on this machine, and [`find_programs`] looks on its disk for the programs that they name. Nothing
-//! else here starts a process: [`Call::plan_of`] plans dry runs that you have, with programs that you know, for any machine. If the source is
-//! on this one, it looks where that is.
-//! [`plan_text`] writes the same plan as JSON, as a Ninja file, as a shell script or for people. A [`schedule`] says in which order to run
+//! [`Call::plan`] runs nvcc's dry runs on this machine, and looks on its disk for the programs that they name. Nothing else here starts a
+//! process: [`Call::plan_of`] plans dry runs that you have, with [`Programs`] that you know, for any machine. Both refuse dry runs that
+//! aren't those of the line. [`plan()`] plans two dry runs alone.
+//! [`Plan::text`] writes a plan as JSON, as a Ninja file, as a shell script or for people. A [`schedule`] says in which order to run
 //! the commands.
 //!
 //! Calls share no state, so any number of threads may call. The same input always gives the same answer, unless an allocation fails.
-//!
-//! # Backends
-//!
-//! By default, the planner is the proved sources of Zigrunk as plain Rust, compiled by your compiler. With the feature `libzigrunk`, the
-//! crate calls the C library instead, which the prover's own compiler built: `zigrunk-sys` says how it is found. Both give the same answers.
 
-#[cfg(not(any(feature = "plain", feature = "libzigrunk")))]
-compile_error!("zigrunk needs one of its features plain and libzigrunk");
-
-#[cfg(feature = "libzigrunk")]
-#[path = "linked.rs"]
-mod backend;
-#[cfg(not(feature = "libzigrunk"))]
-#[path = "plain.rs"]
-mod backend;
-mod cache;
-mod call;
-mod error;
-mod headers;
-mod key;
-mod line;
-mod needs;
-mod nvcc;
-mod plan;
-mod programs;
 pub mod schedule;
-mod texts;
-mod tools;
-mod variable;
-mod words;
 
-pub use cache::CacheKey;
-pub use call::{Form, HostCompiler, PlanCall, plan_text};
-pub use error::{Error, ErrorKind, Field, Place};
-pub use headers::headers;
-pub use key::{KeyCall, command_key};
-pub use line::{ColorMode, Language, Line, Output, line_records};
-pub use needs::needs;
-pub use nvcc::{Call, CallError, Run};
-pub use plan::{Command, CommandTool, Commands, Group, Groups, Missing, Plan, Reason, Stage, Variables, plan};
-pub use programs::{
-    FoundProgram, Lookup, candidates, find_program, find_programs, find_programs_within, lookups, lookups_within,
+/// # Example
+///
+/// ```no_run
+/// # fn main() -> Result<(), Box<dyn std::error::Error>> {
+/// # let words = ["-c", "k.cu"];
+/// use zigrunk::{Call, NvccCall, quote};
+/// for command in Call::new(&NvccCall::new("nvcc", &words).at("/w", "/t"))?.plan()?.commands() {
+///     println!("{:?} {}", command.needs(), quote(command.words())?);
+/// }
+/// # Ok(())
+/// # }
+/// ```
+pub use call::Call;
+
+/// # Example
+///
+/// ```
+/// use zigrunk::{ErrorKind, Input, PlanCall, plan};
+/// let programs = Vec::new();
+/// let error = plan(&PlanCall::new(b"nvcc: not found", b"", &programs).at("/w", "/t")).unwrap_err();
+/// assert_eq!((error.kind(), error.place().map(|place| place.input)), (ErrorKind::NoDryRun, Some(Input::First)));
+/// assert_eq!(error.to_string(), "the first text is no dry run: no line begins with \"#$ \"");
+/// ```
+pub use call::Error;
+
+/// # Example
+///
+/// ```
+/// # let dry1 = b"#$ PATH=/b\n#$ gcc -D__NVCC__ -E k.cu -o k.cpp1.ii\n#$ cicc --module_id_file_name m k.cpp1.ii -o k.ptx\n";
+/// # let dry2 = b"#$ PATH=/b\n#$ gcc -D__NVCC__ -E k.cu -o /t/k.cpp1.ii\n#$ cicc --module_id_file_name m k.cpp1.ii -o k.ptx\n";
+/// # let lookups = zigrunk::lookups(dry1, dry2, "/w".as_ref(), None)?;
+/// # let programs: Vec<_> = lookups.into_iter().map(|it| zigrunk::FoundProgram { found: Some(format!("/b/{}", it.program)), lookup: it }).collect();
+/// use zigrunk::{PlanCall, plan};
+/// let plan = plan(&PlanCall { flag: "-c", ..PlanCall::new(dry1, dry2, &programs).at("/w", "/t") })?;
+/// let cicc = plan.commands().last().expect("a command");
+/// assert_eq!(cicc.needs(), [0]);
+/// assert!(cicc.reads().eq(["/t/x_0.cpp1.ii", "/t/m"]) && cicc.writes().eq(["/t/k.ptx"]));
+/// # Ok::<(), zigrunk::Error>(())
+/// ```
+pub use call::Plan;
+
+/// # Example
+///
+/// ```
+/// use zigrunk::{LineCall, Tool, line_words};
+/// let words = ["-arch=sm_80", "k.ptx", "-o", "k.cubin"];
+/// let call = LineCall { tool: Tool::Ptxas, cwd: "/w".as_ref(), words: &words, variables: &[] };
+/// assert!(line_words(&call)?.iter().any(|word| word == "/w/k.cubin"));
+/// # Ok::<(), zigrunk::Error>(())
+/// ```
+pub use call::LineCall;
+
+/// # Example
+///
+/// ```
+/// use zigrunk::{CommandTool, KeyCall, command_key};
+/// let key = |tmp: &str| {
+///     let words = ["ptxas".to_string(), format!("{tmp}/k.ptx"), "-o".to_string(), format!("{tmp}/k.cubin")];
+///     command_key(&KeyCall { tool: CommandTool::Ptxas, words: &words, variables: &[], roots: &[tmp.as_ref()] })
+/// };
+/// assert_eq!(key("/tmp/a")?, key("/var/tmp/b")?);
+/// # Ok::<(), zigrunk::Error>(())
+/// ```
+pub use call::command_key;
+
+/// # Example
+///
+/// ```
+/// let output = b"# 1 \"k.cu\"\n# 1 \"<built-in>\"\n# 1 \"/usr/include/a\\\\b.h\" 1 3\nint a;\n# 2 \"k.cu\" 2\n";
+/// assert_eq!(zigrunk::headers(output), ["k.cu", "/usr/include/a\\b.h"]);
+/// ```
+pub use call::headers;
+
+/// # Example
+///
+/// ```
+/// let words = zigrunk::split("nvcc -c 'my kernel.cu'")?;
+/// assert_eq!(words.iter().collect::<Vec<_>>(), ["nvcc", "-c", "my kernel.cu"]);
+/// # Ok::<(), zigrunk::Error>(())
+/// ```
+pub use call::split;
+
+/// # Example
+///
+/// ```
+/// assert_eq!(zigrunk::quote(["-DA=it's", ""])?, r"'-DA=it'\''s' ''");
+/// # Ok::<(), zigrunk::Error>(())
+/// ```
+pub use call::quote;
+
+/// # Example
+///
+/// ```
+/// let environment: Vec<_> = std::env::vars_os().collect();
+/// assert_eq!(zigrunk::variables(&environment).len(), environment.len());
+/// ```
+pub use call::variables;
+
+pub use call::{
+    CacheKey, ColorMode, Command, CommandTool, Commands, Disk, DropReason, DryRuns, ErrorKind, FLAG_VARIABLES, Format,
+    FoundProgram, Group, Groups, HostCompiler, Input, KeyCall, Language, Line, LineReason, Lookup, Missing, Nvcc, NvccCall,
+    NvccLine, OutOfMemory, Outline, Output, Place, PlanCall, Planning, Processes, Programs, Ran, Reason, Run, Stage, Texts,
+    TextsIter, Tool, Variable, Variables, candidates, find_programs, line_records, line_words, lookups, plan, remap,
 };
-pub use texts::{Texts, TextsIter};
-pub use tools::{LineCall, NvccCall, Tool, line_words, remap};
-pub(crate) use variable::pairs;
-pub use variable::{Variable, variables};
-pub use words::{quote, split};
 
 /// The library's version, such as `0.1.0`.
-#[must_use]
-pub fn version() -> String {
-    backend::version()
-}
-
-/// The number of libzigrunk's binary interface. This crate is for 1, and so is every `libzigrunk.so.1`.
-#[must_use]
-pub fn abi_version() -> u32 {
-    backend::abi_version()
-}
-
-/// What a status of `zigrunk.h` means. An [`Error`] has a message of its own, which may say more.
-///
-/// # Errors
-///
-/// [`ErrorKind::BadNumber`] if there is no such status, [`ErrorKind::OutOfMemory`].
-pub fn message(status: i32) -> Result<String, Error> {
-    backend::message(status)
-}
+pub const VERSION: &str = env!("CARGO_PKG_VERSION");

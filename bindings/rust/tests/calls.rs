@@ -4,8 +4,7 @@ use std::ffi::OsStr;
 use std::path::Path;
 
 use zigrunk::{
-    CommandTool, Error, ErrorKind, KeyCall, Lookup, Variable, candidates, command_key, find_program, lookups, message, quote,
-    split,
+    CommandTool, Disk, Error, ErrorKind, KeyCall, Lookup, Programs, Variable, candidates, command_key, lookups, quote, split,
 };
 
 fn words_of(text: &str) -> Vec<String> {
@@ -14,8 +13,7 @@ fn words_of(text: &str) -> Vec<String> {
 
 #[test]
 fn versions() {
-    assert_eq!(zigrunk::version(), env!("CARGO_PKG_VERSION"));
-    assert_eq!(zigrunk::abi_version(), 1);
+    assert_eq!(zigrunk::VERSION, env!("CARGO_PKG_VERSION"));
 }
 
 #[test]
@@ -23,7 +21,7 @@ fn words_are_split() {
     assert_eq!(words_of("g++ -D 'a b' c\\ d \"e'f\" ''"), ["g++", "-D", "a b", "c d", "e'f", ""]);
     assert!(split("").unwrap().is_empty());
     let error = split("a 'b").unwrap_err();
-    assert_eq!((error.kind(), error.message()), (ErrorKind::OpenQuote, "open quote or backslash at the end"));
+    assert_eq!((error.kind(), error.to_string().as_str()), (ErrorKind::OpenQuote, "open quote or backslash at the end"));
     assert_eq!(words_of(&"w ".repeat(10_000)), vec!["w"; 10_000]);
 }
 
@@ -50,7 +48,7 @@ fn a_list_of_texts() {
         count += word.len();
     }
     assert_eq!(count, 5);
-    assert_eq!(words, words.clone());
+    assert_eq!(words, split("a 'b c' d").unwrap());
 }
 
 /// A text of an OS that is these bytes.
@@ -69,23 +67,15 @@ fn keys() {
     let long = "w".repeat(100_000);
     assert_eq!(command_key(&KeyCall { words: &[&*long], ..none }).unwrap().len(), long.len() + 2);
     let error = command_key(&KeyCall { words: &["a\0b"], ..none }).unwrap_err();
-    assert_eq!((error.kind(), error.message()), (ErrorKind::BadLine, "a text contains NUL"));
-    for tool in [3, 9] {
-        let error = command_key(&KeyCall { tool: CommandTool::Other(tool), ..none }).unwrap_err();
-        assert_eq!(error.kind(), ErrorKind::BadNumber);
-    }
+    assert_eq!((error.kind(), error.to_string().as_str()), (ErrorKind::BadLine, "a text contains NUL"));
     assert_eq!(command_key(&KeyCall { roots: &[root; 27], ..none }).unwrap_err().kind(), ErrorKind::BadNumber);
 }
 
 #[test]
-fn messages() {
-    assert_eq!(message(0).unwrap(), "success");
-    assert_eq!(message(6).unwrap(), "a program is not found");
-    assert_eq!(message(12).unwrap(), "the texts are not the dry runs of a call");
-    for status in [-1, 1000, i32::MIN, i32::MAX] {
-        let error = message(status).unwrap_err();
-        assert_eq!((error.kind(), error.message(), error.status()), (ErrorKind::BadNumber, "a number has no meaning", 3));
-    }
+fn kinds_of_errors() {
+    let texts = ErrorKind::ALL.map(|kind| (kind.status(), kind.text()));
+    assert!(texts.iter().map(|it| it.0).eq(1..=15) && texts.iter().all(|it| !it.1.is_empty()));
+    assert_eq!((texts[5].1, texts[11].1), ("a program is not found", "the texts are not the dry runs of the call"));
 }
 
 #[test]
@@ -98,20 +88,20 @@ fn an_error_is_one_of_the_standard_library() {
 #[test]
 fn programs_are_looked_up() {
     let run = b"#$ PATH=/b:c\n#$ cicc k.cpp1.ii\n";
-    let asked = lookups(run, run, "/w").unwrap();
+    let asked = lookups(run, run, "/w".as_ref(), None).unwrap();
     assert_eq!(asked, [Lookup { program: "cicc".into(), path: "/b:c".into() }]);
-    assert_eq!(candidates(&asked[0], "/w").unwrap().iter().collect::<Vec<_>>(), ["/b/cicc", "/w/c/cicc"]);
-    assert_eq!(find_program(&asked[0], "/w").unwrap(), None);
-    let shell = Lookup { program: "sh".into(), path: "/nowhere:/bin".into() };
-    assert_eq!(find_program(&shell, "/w").unwrap().as_deref(), Some("/bin/sh"));
+    assert_eq!(candidates(&asked[0], "/w".as_ref()).unwrap().iter().collect::<Vec<_>>(), ["/b/cicc", "/w/c/cicc"]);
+    let disk = Disk::default();
+    assert_eq!(disk.find("cicc", "/b:c", "/w").unwrap(), None);
+    assert_eq!(disk.find("sh", "/nowhere:/bin", "/w").unwrap().as_deref(), Some("/bin/sh"));
     // a folder, a file that isn't executable, and a name that no file has
     for program in ["/etc", "/etc/passwd", "/bin/sh\0"] {
-        assert_eq!(find_program(&Lookup { program: program.into(), path: String::new() }, "/").unwrap(), None);
+        assert_eq!(disk.find(program, "", "/").unwrap(), None);
     }
 }
 
 #[test]
 fn many_folders_of_a_path() {
     let path = vec!["/some/folder"; 5000].join(":");
-    assert_eq!(candidates(&Lookup { program: "x".into(), path }, "/w").unwrap().len(), 5000);
+    assert_eq!(candidates(&Lookup { program: "x".into(), path }, "/w".as_ref()).unwrap().len(), 5000);
 }

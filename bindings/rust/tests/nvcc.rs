@@ -6,7 +6,7 @@ use std::os::unix::fs::PermissionsExt;
 use std::path::{Path, PathBuf};
 use std::sync::{Mutex, MutexGuard, PoisonError};
 
-use zigrunk::{Call, CallError, CommandTool, ErrorKind, NvccCall, Variable};
+use zigrunk::{Call, CommandTool, Error, ErrorKind, NvccCall, Variable};
 
 /// Prints a dry run whose programs are beside it. The second one has the directory for temporary files in its words. It notes its own
 /// words, and fails if one is `-Dbad`.
@@ -50,10 +50,10 @@ impl Room {
     }
 
     /// Plans words in an environment with the usual `PATH`.
-    fn plan(&self, words: &[&str], more: &[Variable<'_>]) -> Result<zigrunk::Plan, CallError> {
+    fn plan(&self, words: &[&str], more: &[Variable<'_>]) -> Result<zigrunk::Plan, Error> {
         let variables = [&[Variable::new("PATH", "/usr/bin:/bin")], more].concat();
         let (cwd, tmp, nvcc) = (self.path(""), self.path("t"), self.path("nvcc"));
-        Call::new(&NvccCall { nvcc: &nvcc, words, variables: &variables, cwd: cwd.trim_end_matches('/'), tmp: &tmp })?.plan()
+        Call::new(&NvccCall::new(&nvcc, words).at(cwd.trim_end_matches('/'), &tmp).variables(&variables))?.plan()
     }
 }
 
@@ -88,13 +88,13 @@ fn flags_of_the_environment_are_part_of_the_line() {
 #[test]
 fn calls_that_are_not_planned() {
     let room = Room::new("refused");
-    assert!(matches!(room.plan(&["-E", "k.cu"], &[]), Err(CallError::Planner(error)) if error.kind() == ErrorKind::ToNvcc));
+    let kind = |words: &[&str]| room.plan(words, &[]).unwrap_err().kind();
+    assert_eq!(kind(&["-E", "k.cu"]), ErrorKind::ToNvcc);
     let refused = room.plan(&["-c", "k.cu", "-Dbad"], &[]).unwrap_err();
-    assert!(matches!(&refused, CallError::Nvcc(said) if said == "nvcc fatal   : bad\n"), "{refused:?}");
-    assert_eq!(refused.to_string(), "nvcc fatal   : bad");
+    assert_eq!((refused.kind(), refused.to_string().as_str()), (ErrorKind::Nvcc, "nvcc fatal   : bad"));
     fs::remove_file(room.folder.join("cicc")).unwrap();
-    let missing = room.plan(&["-c", "k.cu"], &[]).unwrap_err();
-    assert!(matches!(&missing, CallError::Planner(error) if error.kind() == ErrorKind::NotFound), "{missing:?}");
+    assert_eq!(kind(&["-c", "k.cu"]), ErrorKind::NotFound);
     fs::remove_file(room.folder.join("nvcc")).unwrap();
-    assert!(matches!(room.plan(&["-c", "k.cu"], &[]), Err(CallError::Run(_))));
+    let unstarted = room.plan(&["-c", "k.cu"], &[]).unwrap_err();
+    assert!(unstarted.kind() == ErrorKind::Io && std::error::Error::source(&unstarted).is_some(), "{unstarted:?}");
 }

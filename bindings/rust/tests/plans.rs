@@ -3,12 +3,12 @@
 mod stored;
 
 use std::num::NonZeroUsize;
+use std::path::Path;
 
 use stored::Stored;
 use zigrunk::{
-    Command, CommandTool, Error, ErrorKind, Field, Form, FoundProgram, HostCompiler, LineCall, Missing, Plan, PlanCall, Reason,
-    Stage, Tool, Variable, candidates, find_programs, find_programs_within, line_words, lookups, lookups_within, needs, plan,
-    plan_text, variables,
+    Command, CommandTool, DropReason, Error, ErrorKind, Format, FoundProgram, HostCompiler, Input, LineCall, Missing, Plan,
+    PlanCall, Programs, Stage, Tool, Variable, candidates, find_programs, line_words, lookups, plan, variables,
 };
 
 const RUN: &[u8] = b"#$ PATH=/b\n#$ gcc -D__NVCC__ -E k.cu -o k.cpp1.ii\n#$ cicc --x k.gpu k.cpp1.ii -o k.ptx\n";
@@ -18,8 +18,8 @@ const RUN2: &[u8] = b"#$ PATH=/b\n#$ gcc -D__NVCC__ -E k.cu -o k.cpp1.ii\n#$ cic
 
 /// Answers each look-up with the first path that it tries, as if all programs were there.
 fn first_candidates(dry1: &[u8], dry2: &[u8]) -> Vec<FoundProgram> {
-    let first = |lookup| FoundProgram { found: Some(candidates(&lookup, "/w").unwrap()[0].to_string()), lookup };
-    lookups(dry1, dry2, "/w").unwrap().into_iter().map(first).collect()
+    let first = |lookup| FoundProgram { found: Some(candidates(&lookup, "/w".as_ref()).unwrap()[0].to_string()), lookup };
+    lookups(dry1, dry2, "/w".as_ref(), None).unwrap().into_iter().map(first).collect()
 }
 
 /// The kind and the message of an error.
@@ -29,12 +29,25 @@ fn said<T: std::fmt::Debug>(answer: Result<T, Error>) -> (ErrorKind, String) {
 }
 
 /// The field and the line of the place of an error.
-fn place<T: std::fmt::Debug>(answer: Result<T, Error>) -> Option<(Field, Option<usize>)> {
-    answer.unwrap_err().place().map(|place| (place.field, place.line))
+fn place<T: std::fmt::Debug>(answer: Result<T, Error>) -> Option<(Input, Option<usize>)> {
+    answer.unwrap_err().place().map(|place| (place.input, place.line))
 }
 
-fn call<'a>(run: &'a [u8], programs: &'a [FoundProgram]) -> PlanCall<'a> {
-    PlanCall { dry1: run, dry2: run, cwd: "/w", tmp: "/t", flag: "-c", programs, ..PlanCall::new(&[]) }
+fn call<'a>(run: &'a [u8], programs: &'a dyn Programs) -> PlanCall<'a> {
+    PlanCall { flag: "-c", ..PlanCall::new(run, run, programs).at("/w", "/t") }
+}
+
+/// No program at all.
+static NONE: Vec<FoundProgram> = Vec::new();
+
+/// The plan of a call in a format.
+fn plan_text(call: &PlanCall<'_>, format: Format) -> Result<String, Error> {
+    plan(call)?.text(format)
+}
+
+/// What each command of a plan waits for.
+fn needs(call: &PlanCall<'_>) -> Result<Vec<Vec<usize>>, Error> {
+    Ok(plan(call)?.commands().map(|command| command.needs().to_vec()).collect())
 }
 
 #[test]
@@ -42,8 +55,8 @@ fn real_calls_are_planned_as_cudaplan_does() {
     for Stored { name, dry1, dry2, flag, plan } in stored::calls() {
         let programs = first_candidates(&dry1, &dry2);
         let call = PlanCall { flag: &flag, dry2: &dry2, ..call(&dry1, &programs) };
-        assert_eq!(plan_text(&call, Form::Text).unwrap(), plan, "{name}");
-        for form in [Form::Json, Form::Ninja, Form::Shell] {
+        assert_eq!(plan_text(&call, Format::Text).unwrap(), plan, "{name}");
+        for form in [Format::Json, Format::Ninja, Format::Shell] {
             assert!(plan_text(&call, form).unwrap().contains("gcc"), "{name}");
         }
     }
@@ -66,7 +79,7 @@ fn printed(plan: &Plan) -> String {
     }
     for command in plan.dropped() {
         assert_eq!((command.group(), command.cwd(), command.variables().len()), (None, "", 0));
-        let (line, run, reason) = (command.line(), command.run(), command.reason().unwrap());
+        let (line, run, reason) = (command.line() - 1, command.run(), command.reason().unwrap());
         lines += &format!("dropped {line} run {run} {reason:?} {}\n", words(command));
     }
     lines
@@ -101,20 +114,20 @@ fn records_of_a_small_call() {
     assert_eq!((cicc.program(), cicc.cwd(), cicc.group(), cicc.is_cacheable()), ("/b/cicc", "/t", Some(1), true));
     assert_eq!(cicc.arguments().collect::<Vec<_>>(), ["x_0.cpp1.ii", "-o", "k.ptx"]);
     assert_eq!(cicc.variables().collect::<Vec<_>>(), [("PATH", "/b"), ("A", "1")]);
-    assert_eq!((cicc.line(), cicc.run()), (2, 1));
-    assert_eq!(plan, plan.clone());
-    assert!(plan.commands().eq(plan.clone().commands()) && plan.groups().eq(plan.clone().groups()));
+    assert_eq!((cicc.line(), cicc.run()), (3, 1));
+    let again = zigrunk::plan(&PlanCall { variables: &given, dry2: second, ..call(run, &programs) }).unwrap();
+    assert!(plan == again && plan.commands().eq(again.commands()) && plan.groups().eq(again.groups()));
     assert!(plan.commands().next() != Some(cicc) && plan.groups().next() != plan.groups().nth(1));
     let shown = concat!(
         r#"Command { program: "/b/cicc", arguments: ["x_0.cpp1.ii", "-o", "k.ptx"], variables: [("PATH", "/b"), ("A", "1")], "#,
-        r#"cwd: "/t", group: Some(1), reason: None, is_cacheable: true, run: 1, line: 2, needs: [0], reads: ["/t/x_0.cpp1.ii"], "#,
+        r#"cwd: "/t", group: Some(1), reason: None, is_cacheable: true, run: 1, line: 3, needs: [0], reads: ["/t/x_0.cpp1.ii"], "#,
         r#"writes: ["/t/k.ptx"], may_write: [], tool: Some(Cicc), missing: None }"#,
     );
     assert_eq!(format!("{cicc:?}"), shown);
     let gcc = plan.commands().next().unwrap();
     assert_eq!((gcc.tool(), gcc.missing()), (Some(CommandTool::Host), Some(Missing::Headers)));
     assert!(gcc.reads().eq(["/w/k.cu"]) && gcc.writes().eq(["/t/x_0.cpp1.ii"]) && gcc.may_write().len() == 0);
-    let dropped = plan.dropped().find(|command| command.reason() == Some(Reason::NoCiccGroup)).unwrap();
+    let dropped = plan.dropped().find(|command| command.reason() == Some(DropReason::NoCiccGroup)).unwrap();
     assert_eq!((dropped.needs(), dropped.tool(), dropped.missing()), ([].as_slice(), None, None));
     assert_eq!((dropped.reads().len(), dropped.writes().len(), dropped.may_write().len()), (0, 0, 0));
 }
@@ -132,9 +145,9 @@ fn a_command_for_a_cache() {
         assert_eq!(reads_headers, command.arguments().any(|word| word == "-E"), "{command:?}");
         let Some(tool) = command.tool().and_then(CommandTool::for_lines) else { continue };
         let words: Vec<&str> = command.arguments().collect();
-        let line = zigrunk::line_records(&LineCall { tool, cwd: command.cwd(), words: &words, variables: &[] }).unwrap();
+        let line = zigrunk::line_records(&LineCall { tool, cwd: command.cwd().as_ref(), words: &words, variables: &[] }).unwrap();
         assert!(line.outputs().all(|it| command.writes().chain(command.may_write()).any(|path| path == it.path)));
-        assert!(line_words(&LineCall { tool, cwd: command.cwd(), words: &words, variables: &[] }).is_ok());
+        assert!(line_words(&LineCall { tool, cwd: command.cwd().as_ref(), words: &words, variables: &[] }).is_ok());
         assert_eq!(command.missing(), None);
     }
 }
@@ -174,38 +187,37 @@ fn words_that_look_like_needs() {
     let programs = first_candidates(dry1.as_bytes(), dry2.as_bytes());
     let given = [Variable::new("needs", "[6]")];
     let call = PlanCall { variables: &given, dry2: dry2.as_bytes(), ..call(dry1.as_bytes(), &programs) };
-    let json = plan_text(&call, Form::Json).unwrap();
+    let json = plan_text(&call, Format::Json).unwrap();
     assert!(json.contains(r#"\"needs\":[7]"#), "{json}");
     assert_eq!(needs(&call).unwrap(), [vec![], vec![0]]);
 }
 
 #[test]
 fn needs_of_calls_without_a_plan() {
-    let without = PlanCall { dry2: RUN2, ..call(RUN, &[]) };
-    assert_eq!(said(needs(&without)), (ErrorKind::NotFound, "dry run 1, line 2: cannot find gcc".to_string()));
+    let without = PlanCall { dry2: RUN2, ..call(RUN, &NONE) };
+    assert_eq!(said(needs(&without)), (ErrorKind::NotFound, "dry run 1, line 2: cannot find gcc in PATH (/b)".to_string()));
 }
 
 #[test]
 fn errors_of_records() {
     let call = |programs| PlanCall { dry2: RUN2, ..call(RUN, programs) };
-    assert_eq!(said(plan(&call(&[]))), (ErrorKind::NotFound, "dry run 1, line 2: cannot find gcc".to_string()));
-    assert_eq!(place(plan(&call(&[]))), Some((Field::Dry1, Some(2))));
+    assert_eq!(said(plan(&call(&NONE))), (ErrorKind::NotFound, "dry run 1, line 2: cannot find gcc in PATH (/b)".to_string()));
+    assert_eq!(place(plan(&call(&NONE))), Some((Input::First, Some(2))));
     let programs = first_candidates(RUN, RUN2);
     let found: Vec<FoundProgram> = programs.iter().filter(|it| it.lookup.program != "rm").cloned().collect();
-    assert_eq!(place(plan(&call(&found))), Some((Field::Dry2, Some(4))));
+    assert_eq!(place(plan(&call(&found))), Some((Input::Second, Some(4))));
     let bad = PlanCall { suffixes: &["gpu"], ..call(&programs) };
     assert_eq!(said(plan(&bad)), (ErrorKind::BadSuffixes, "bad generated suffixes".to_string()));
-    assert_eq!(place(plan(&bad)), Some((Field::Suffixes, None)));
+    assert_eq!(place(plan(&bad)), Some((Input::Suffixes, None)));
     let broken = PlanCall { dry2: b"#$ PATH=/b\n\n#$ cicc '\n", ..call(&programs) };
     let open = "dry run 2, line 3: the command has an open quote or ends in a backslash";
     assert_eq!(said(plan(&broken)), (ErrorKind::BadDryRun, open.to_string()));
-    assert_eq!(place(plan(&broken)), Some((Field::Dry2, Some(3))));
+    assert_eq!(place(plan(&broken)), Some((Input::Second, Some(3))));
     let name = std::os::unix::ffi::OsStringExt::from_vec(vec![0xFF]);
     let pairs: [(std::ffi::OsString, &str); 1] = [(name, "1")];
     let unreadable = PlanCall { variables: &variables(&pairs), ..call(&programs) };
     assert_eq!(said(plan(&unreadable)), (ErrorKind::NotUtf8, "a text is not UTF-8".to_string()));
-    assert_eq!(place(plan(&unreadable)), Some((Field::Variables, None)));
-    assert_eq!(place(plan_text(&unreadable, Form::Json)), None);
+    assert_eq!(place(plan(&unreadable)), Some((Input::Variables, None)));
 }
 
 #[test]
@@ -215,13 +227,13 @@ fn what_is_no_dry_run() {
     assert!(plan(&good).is_ok());
     let refused = |call: PlanCall<'_>| (said(plan(&call)), place(plan(&call)));
     let no_line = |which| (ErrorKind::NoDryRun, format!("the {which} text is no dry run: no line begins with \"#$ \""));
-    assert_eq!(refused(PlanCall { dry1: b"", ..good }), (no_line("first"), Some((Field::Dry1, None))));
-    assert_eq!(refused(PlanCall { dry1: b"x #$ gcc\n#$gcc\n", ..good }), (no_line("first"), Some((Field::Dry1, None))));
-    assert_eq!(refused(PlanCall { dry2: b"\xFF", ..good }), (no_line("second"), Some((Field::Dry2, None))));
+    assert_eq!(refused(PlanCall { dry1: b"", ..good }), (no_line("first"), Some((Input::First, None))));
+    assert_eq!(refused(PlanCall { dry1: b"x #$ gcc\n#$gcc\n", ..good }), (no_line("first"), Some((Input::First, None))));
+    assert_eq!(refused(PlanCall { dry2: b"\xFF", ..good }), (no_line("second"), Some((Input::Second, None))));
     assert!(plan(&PlanCall { dry2: RUN, ..good }).is_ok(), "as nvcc prints for a C source");
     let flag = (ErrorKind::NoDryRun, "the flag isn't an option that says what nvcc makes".to_string());
     for flag_of_none in ["-C", "c", "-c ", "-E", "--dryrun"] {
-        assert_eq!(refused(PlanCall { flag: flag_of_none, ..good }), (flag.clone(), Some((Field::Flag, None))));
+        assert_eq!(refused(PlanCall { flag: flag_of_none, ..good }), (flag.clone(), Some((Input::Flag, None))));
     }
     for flag in ["", "-c", "--device-c", "-dw", "-ptx", "--cubin", "-fatbin", "-optix-ir"] {
         assert!(plan(&PlanCall { flag, ..good }).is_ok(), "{flag}");
@@ -238,14 +250,15 @@ fn odd_directories() {
     let refused = |call: PlanCall<'_>| (said(plan(&call)), place(plan(&call)));
     let kind = |which| (ErrorKind::OddDirectory, format!("the {which} has to be absolute, without an empty part, . or .."));
     for odd in ["", "w", "./w", "../w", "//", "//w", "/w/", "/w//x", "/w/.", "/w/./x", "/w/..", "/w/../x"] {
-        assert_eq!(refused(PlanCall { cwd: odd, ..good }), (kind("working directory"), Some((Field::Cwd, None))), "{odd}");
-        let tmp = (kind("directory for temporary files"), Some((Field::Tmp, None)));
-        assert_eq!(refused(PlanCall { tmp: odd, ..good }), tmp, "{odd}");
-        assert_eq!(said(plan_text(&PlanCall { cwd: odd, ..good }, Form::Json)), kind("working directory"), "{odd}");
-        assert_eq!(said(lookups(RUN, RUN2, odd)), kind("working directory"), "{odd}");
+        let odd = Path::new(odd);
+        assert_eq!(refused(PlanCall { cwd: odd, ..good }), (kind("working directory"), Some((Input::Cwd, None))), "{odd:?}");
+        let tmp = (kind("directory for temporary files"), Some((Input::Tmp, None)));
+        assert_eq!(refused(PlanCall { tmp: odd, ..good }), tmp, "{odd:?}");
+        assert_eq!(said(plan_text(&PlanCall { cwd: odd, ..good }, Format::Json)), kind("working directory"), "{odd:?}");
+        assert_eq!(said(lookups(RUN, RUN2, odd, None)), kind("working directory"), "{odd:?}");
     }
-    assert!(plan(&PlanCall { cwd: "/", tmp: "/.t/..u", ..good }).is_ok());
-    assert_eq!(plan(&PlanCall { cwd: "", ..good }).unwrap_err().status(), 13);
+    assert!(plan(&PlanCall { cwd: Path::new("/"), tmp: Path::new("/.t/..u"), ..good }).is_ok());
+    assert_eq!(plan(&PlanCall { cwd: Path::new(""), ..good }).unwrap_err().status(), 13);
 }
 
 #[test]
@@ -253,22 +266,22 @@ fn settings() {
     let programs = first_candidates(RUN, RUN);
     let given = [Variable::new("PATH", "/old"), Variable::new("A", "1")];
     let call = PlanCall { variables: &given, suffixes: &[".gpu"], ..call(RUN, &programs) };
-    let json = plan_text(&call, Form::Json).unwrap();
+    let json = plan_text(&call, Format::Json).unwrap();
     assert_eq!(json.matches(r#""env":[["PATH","/b"],["A","1"]]"#).count(), 2, "{json}");
     assert!(json.contains(r#"["--x","x_0.gpu","x_0.cpp1.ii","-o","k.ptx"]"#), "{json}");
-    let keeps = PlanCall { keep_dir: Some("/keep"), ..call };
-    assert!(plan_text(&keeps, Form::Text).unwrap().contains("cicc --x k.gpu k.cpp1.ii"));
+    let keeps = PlanCall { keeps_names: true, ..call };
+    assert!(plan_text(&keeps, Format::Text).unwrap().contains("cicc --x k.gpu k.cpp1.ii"));
     let bad = PlanCall { suffixes: &["gpu"], ..call };
-    assert_eq!(said(plan_text(&bad, Form::Text)), (ErrorKind::BadSuffixes, "bad generated suffixes".to_string()));
+    assert_eq!(said(plan_text(&bad, Format::Text)), (ErrorKind::BadSuffixes, "bad generated suffixes".to_string()));
     let unwritable = PlanCall { variables: &[Variable::new("", "1")], ..call };
-    assert_eq!(said(plan_text(&unwritable, Form::Shell)).0, ErrorKind::Unwritable);
+    assert_eq!(said(plan_text(&unwritable, Format::Shell)).0, ErrorKind::Unwritable);
 }
 
 #[test]
 fn host_compilers() {
     let run = b"#$ PATH=/b\n#$ cl -D__NVCC__ -P k.cu\n";
     let programs = first_candidates(run, run);
-    let plan = |host_compiler| plan_text(&PlanCall { host_compiler, ..call(run, &programs) }, Form::Text).unwrap();
+    let plan = |host_compiler| plan_text(&PlanCall { host_compiler, ..call(run, &programs) }, Format::Text).unwrap();
     assert_eq!(plan(HostCompiler::Gcc), "group 0\ngroup 1\nyes cd /w && /b/cl -D__NVCC__ -P k.cu\n");
     assert_eq!(plan(HostCompiler::Nvhpc), plan(HostCompiler::Gcc));
     assert_eq!(plan(HostCompiler::Msvc), "group 0\nno cd /w && /b/cl -D__NVCC__ -P k.cu\ngroup 1\n");
@@ -276,20 +289,26 @@ fn host_compilers() {
 
 #[test]
 fn programs_that_are_not_there() {
-    assert_eq!(said(plan_text(&call(RUN, &[]), Form::Json)), (ErrorKind::NotFound, "gcc: not found".to_string()));
-    let none = find_programs(RUN, RUN, "/w").unwrap();
+    assert_eq!(
+        said(plan_text(&call(RUN, &NONE), Format::Json)),
+        (ErrorKind::NotFound, "dry run 1, line 2: cannot find gcc in PATH (/b)".to_string())
+    );
+    let none = find_programs(RUN, RUN, "/w".as_ref(), None).unwrap();
     assert_eq!(none.len(), 2);
     assert!(none.iter().all(|program| program.found.is_none()));
-    assert_eq!(said(plan_text(&call(RUN, &none), Form::Json)), (ErrorKind::NotFound, "gcc: not found".to_string()));
+    assert_eq!(
+        said(plan_text(&call(RUN, &none), Format::Json)),
+        (ErrorKind::NotFound, "dry run 1, line 2: cannot find gcc in PATH (/b)".to_string())
+    );
     let real = b"#$ PATH=/nowhere:/bin\n#$ sh -D__NVCC__ k.cpp1.ii\n";
-    let found = find_programs(real, real, "/w").unwrap();
-    assert!(plan_text(&call(real, &found), Form::Text).unwrap().contains("/bin/sh"));
+    let found = find_programs(real, real, "/w".as_ref(), None).unwrap();
+    assert!(plan_text(&call(real, &found), Format::Text).unwrap().contains("/bin/sh"));
 }
 
 #[test]
 fn bad_dry_runs() {
     for run in [b"#$ cicc '\n".as_slice(), b"#$ A=\xFF\n"] {
-        let error = plan_text(&call(run, &[]), Form::Json).unwrap_err();
+        let error = plan_text(&call(run, &NONE), Format::Json).unwrap_err();
         assert_eq!(error.kind(), ErrorKind::BadDryRun, "{error:?}");
     }
 }
@@ -304,31 +323,26 @@ fn long_runs() {
     let programs = first_candidates(&run, &second);
     let pairs = vec![("N".repeat(100), "v".repeat(100)); 4];
     let call = PlanCall { variables: &variables(&pairs), dry2: &second, ..call(&run, &programs) };
-    let json = plan_text(&call, Form::Json).unwrap();
-    assert!(json.starts_with('{') && json.ends_with('}'));
+    let json = plan_text(&call, Format::Json).unwrap();
+    assert!(json.starts_with('{') && json.ends_with("}\n"));
     let records = plan(&call).unwrap();
-    assert_eq!(printed(&records), plan_text(&call, Form::Text).unwrap());
+    assert_eq!(printed(&records), plan_text(&call, Format::Text).unwrap());
 }
 
 #[test]
 fn threads_may_call() {
     let programs = first_candidates(RUN, RUN);
-    let expected = plan_text(&call(RUN, &programs), Form::Json).unwrap();
+    let expected = plan_text(&call(RUN, &programs), Format::Json).unwrap();
     std::thread::scope(|scope| {
         for _ in 0..8 {
-            scope.spawn(|| (0..50).for_each(|_| assert_eq!(plan_text(&call(RUN, &programs), Form::Json).unwrap(), expected)));
+            scope.spawn(|| (0..50).for_each(|_| assert_eq!(plan_text(&call(RUN, &programs), Format::Json).unwrap(), expected)));
         }
     });
 }
 
-/// What is said of a line that exceeds a limit: without its place as fields, and with it.
+/// What is said of a line that exceeds a limit.
 fn over_limit(run: usize, line: usize, limit: usize) -> (ErrorKind, String) {
-    (ErrorKind::OverLimit, format!("run {run} line {line}: over the limit of {limit} bytes"))
-}
-
-fn over_limit_at(run: usize, line: usize, limit: usize) -> (ErrorKind, String) {
-    let message = format!("dry run {run}, line {}: with this line, the dry run makes over {limit} bytes", line + 1);
-    (ErrorKind::OverLimit, message)
+    (ErrorKind::OverLimit, format!("dry run {run}, line {line}: with this line, the dry run makes over {limit} bytes"))
 }
 
 #[test]
@@ -338,16 +352,15 @@ fn limits_are_exact() {
     let programs = first_candidates(run, second);
     let limited = |limit| PlanCall { dry2: second, limit: NonZeroUsize::new(limit), ..call(run, &programs) };
     assert_eq!(plan(&limited(8222)).unwrap(), plan(&limited(0)).unwrap());
-    assert_eq!(said(plan(&limited(8221))), over_limit_at(1, 1, 8221));
-    assert_eq!(place(plan(&limited(8221))), Some((Field::Dry1, Some(2))));
-    assert_eq!(said(plan_text(&limited(8221), Form::Json)), over_limit(1, 1, 8221));
+    assert_eq!(said(plan(&limited(8221))), over_limit(1, 2, 8221));
+    assert_eq!(place(plan(&limited(8221))), Some((Input::First, Some(2))));
     let short = PlanCall { dry1: b"#$ PATH=/b\n", ..limited(8221) };
-    assert_eq!((said(plan(&short)), place(plan(&short))), (over_limit_at(2, 1, 8221), Some((Field::Dry2, Some(2)))));
+    assert_eq!((said(plan(&short)), place(plan(&short))), (over_limit(2, 2, 8221), Some((Input::Second, Some(2)))));
     assert_eq!(plan(&short).unwrap_err().status(), 11);
-    let asked = |limit| lookups_within(run, run, "/w", NonZeroUsize::new(limit));
-    assert_eq!(asked(8221), lookups(run, run, "/w"));
-    assert_eq!(said(asked(8220)), over_limit(1, 1, 8220));
-    assert_eq!(said(find_programs_within(run, run, "/w", NonZeroUsize::new(8220))), over_limit(1, 1, 8220));
+    let asked = |limit| lookups(run, run, "/w".as_ref(), NonZeroUsize::new(limit));
+    assert_eq!(asked(8221), asked(0));
+    assert_eq!(said(asked(8220)), over_limit(1, 2, 8220));
+    assert_eq!(said(find_programs(run, run, "/w".as_ref(), NonZeroUsize::new(8220))), over_limit(1, 2, 8220));
 }
 
 #[test]
@@ -357,7 +370,6 @@ fn a_text_that_explodes_is_refused() {
         run += &format!("#$ {0}=${1}.${1}.\n", names[0], names[1]);
     }
     run += "#$ $A.\n";
-    let limited = PlanCall { limit: NonZeroUsize::new(2 << 20), dry2: RUN, ..call(run.as_bytes(), &[]) };
-    assert_eq!(said(plan(&limited)), over_limit_at(1, 26, 2 << 20));
-    assert_eq!(said(plan_text(&limited, Form::Shell)), over_limit(1, 26, 2 << 20));
+    let limited = PlanCall { limit: NonZeroUsize::new(2 << 20), dry2: RUN, ..call(run.as_bytes(), &NONE) };
+    assert_eq!(said(plan(&limited)), over_limit(1, 27, 2 << 20));
 }

@@ -151,9 +151,8 @@ fn heaviest(plan: &[Command<'_>], number: usize) -> usize {
 fn plans_by_weight() {
     for Stored { name, dry1, dry2, flag, plan: printed } in stored::calls() {
         let found = |it: Lookup| FoundProgram { found: Some(format!("/b/{}", it.program)), lookup: it };
-        let programs: Vec<_> = lookups(&dry1, &dry2, "/w").unwrap().into_iter().map(found).collect();
-        let call =
-            PlanCall { dry1: &dry1, dry2: &dry2, cwd: "/w", tmp: "/t", flag: &flag, programs: &programs, ..PlanCall::new(&[]) };
+        let programs: Vec<_> = lookups(&dry1, &dry2, "/w".as_ref(), None).unwrap().into_iter().map(found).collect();
+        let call = PlanCall { flag: &flag, ..PlanCall::new(&dry1, &dry2, &programs).at("/w", "/t") };
         let plan = plan(&call).unwrap();
         let commands: Vec<_> = plan.commands().collect();
         let weighed = |(number, it): (usize, &Command<'_>)| ScheduledCommand {

@@ -32,6 +32,7 @@ use Rattle.c_texts.specs.declared.refusal.Refused.TheVariants.{Told, Plain}
 use Rattle.c_texts.specs.Outcomes.{Outcome, of_texts}
 use Rattle.nvcc_calls.specs.declared.answer.Answer.{Answer}
 use Rattle.nvcc_calls.specs.declared.answer.Answer.TheVariants.{Split, Pass}
+use Rattle.nvcc_calls.specs.Reasons.{text_of as reason_text}
 use Rattle.nvcc_calls.specs.declared.outline_texts.OutlineTexts.{OutlineTexts}
 use Rattle.nvcc_calls.specs.Answer.{nvcc_answer}
 use Rattle.nvcc_calls.specs.OutlineTexts.{texts_of}
@@ -127,7 +128,7 @@ list_of t = t.dependencies ∷ t.first ∷ t.second ∷ t.flag ∷ t.jobs ∷ t.
 -- the texts of an answer, or the refusal of a line that goes to nvcc
 abbrev pub texts_in : Answer → Result Outcome Refused
 texts_in (Split outline) = Ok (of_texts (list_of (texts_of outline)))
-texts_in (Pass why) = Err (Told ToNvcc (codes "goes to nvcc: " ++ why))
+texts_in (Pass why) = Err (Told ToNvcc (codes "goes to nvcc: " ++ reason_text why))
 
 -- the answer to a line of nvcc, or the refusal of its fault, by the temporary directory and the program of the call
 abbrev pub answer_at : List ℕ → List ℕ → Line → Result Answer Refused

@@ -63,7 +63,7 @@ fn texts_in(alloc: Global, answer: &Answer) -> Result<Outcome, Refused>
     match answer {
         Answer::Split(outline) => Ok(listed(alloc, outline)?),
         Answer::Pass(why) => {
-            let why = why.as_str();
+            let why = why.text();
             let message = format!(in alloc; "goes to nvcc: {why}")?;
             Err(Refused::Told(Status::ToNvcc, Text::new(message)))
         }

@@ -18,7 +18,6 @@ use Rattle.nvcc_calls.specs.declared.verdict.Verdict.{Verdict}
 use Rattle.nvcc_calls.specs.declared.verdict.Verdict.TheVariants as verdicts
 use Rattle.nvcc_calls.specs.Asked.{asked_of}
 use Rattle.nvcc_calls.specs.Keeping.{keeps}
-use Rattle.nvcc_calls.specs.Reasons.{text_of}
 use Rattle.nvcc_calls.specs.NormalForm.{settled, is_plain, judged}
 use Rattle.nvcc_calls.proofs.KeepingLemmas.{keeps-says}
 use Rattle.nvcc_calls.specs.declared.answer.Answer.{Answer}
@@ -48,7 +47,7 @@ module _ (call : NvccOf) (variables : List (List ℕ × List ℕ)) (asked : Aske
   by-outline command o (Err fault) threads t e = absurd (false≢true (ap is_some e))
 
   by-check : (p : ParsedArguments) (command : NvccCompileCommand) (o : Outline) (b : Bool) → keeps asked (asked_of [] command.arguments) ≡ b →
-      outline_in (cond b (and_then (outline_of call p variables command) (λ outline. Ok (Split outline))) (Ok (Pass (text_of OtherReading)))) ≡ Some o → DryRunsSayAs asked o command
+      outline_in (cond b (and_then (outline_of call p variables command) (λ outline. Ok (Split outline))) (Ok (Pass OtherReading))) ≡ Some o → DryRunsSayAs asked o command
   by-check p command o true t e = by-outline command o (dependencies_of call p variables) (threads_of_line call.cwd p) t e
   by-check p command o false t e = absurd (false≢true (ap is_some e))
 

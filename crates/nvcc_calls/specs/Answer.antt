@@ -16,7 +16,6 @@ use Rattle.nvcc_calls.specs.declared.verdict.Verdict.TheVariants as verdicts
 use Rattle.nvcc_calls.specs.Asked.{asked_of}
 use Rattle.nvcc_calls.specs.Keeping.{keeps}
 use Rattle.nvcc_calls.specs.NormalForm.{settled, judged, line_asked}
-use Rattle.nvcc_calls.specs.Reasons.{text_of}
 use Rattle.texts.specs.Results.{and_then}
 use Rattle.nvcc_calls.specs.declared.answer.Answer.{Answer}
 use Rattle.nvcc_calls.specs.declared.answer.Answer.TheVariants.{Split, Pass}
@@ -124,7 +123,7 @@ jobs_of_lines = refl
 abbrev pub answer_by : NvccOf → List (List ℕ × List ℕ) → Asked → ParsedArguments → NvccCompileCommand → Result Answer Fault
 answer_by call variables asked p command =
     if keeps asked (asked_of [] command.arguments) then and_then (outline_of call p variables command) (λ outline. Ok (Split outline))
-    else Ok (Pass (text_of OtherReading))
+    else Ok (Pass OtherReading)
 
 abbrev pub answer_to_arguments : NvccOf → List (List ℕ × List ℕ) → Asked → ParsedArguments → Result Answer Fault
 answer_to_arguments call variables asked p = and_then (command_of call p variables) (answer_by call variables asked p)
@@ -132,13 +131,13 @@ answer_to_arguments call variables asked p = and_then (command_of call p variabl
 -- the answer to a normal form, by what sccache's reader made of it. It accepts each normal form
 abbrev pub answer_to_reading : NvccOf → List (List ℕ × List ℕ) → Asked → Reading → Result Answer Fault
 answer_to_reading call variables asked (accepted p) = answer_to_arguments call variables asked p
-answer_to_reading call variables asked (cannot_cache text word) = Ok (Pass (text_of OtherReading))
-answer_to_reading call variables asked not_compilation = Ok (Pass (text_of OtherReading))
+answer_to_reading call variables asked (cannot_cache text word) = Ok (Pass OtherReading)
+answer_to_reading call variables asked not_compilation = Ok (Pass OtherReading)
 
 -- the answer to a line with a normal form, unless a plan of it would make something else
 abbrev pub unless_hazard : Option Reason → Result Answer Fault → Result Answer Fault
 unless_hazard None answer = answer
-unless_hazard (Some reason) answer = Ok (Pass (text_of reason))
+unless_hazard (Some reason) answer = Ok (Pass reason)
 
 abbrev pub answer_to_normal : NvccOf → List (List ℕ × List ℕ) → Asked → Call → Result Answer Fault
 answer_to_normal call variables asked normal =
@@ -148,14 +147,14 @@ answer_to_normal call variables asked normal =
 -- files in it
 abbrev pub answer_to_verdict : NvccOf → List (List ℕ × List ℕ) → Asked → Verdict → Result Answer Fault
 answer_to_verdict call variables asked (verdicts.Split normal) = answer_to_normal call variables asked normal
-answer_to_verdict call variables asked (verdicts.Pass reason) = Ok (Pass (text_of reason))
+answer_to_verdict call variables asked (verdicts.Pass reason) = Ok (Pass reason)
 
 abbrev pub answer_to_line : NvccOf → List (List ℕ × List ℕ) → Asked → Result Answer Fault
 answer_to_line call variables asked = answer_to_verdict call variables asked (judged (settled asked))
 
 abbrev pub answer_to : NvccOf → List (List ℕ × List ℕ) → Result Asked Reason → Result Answer Fault
 answer_to call variables (Ok asked) = answer_to_line call variables asked
-answer_to call variables (Err reason) = Ok (Pass (text_of reason))
+answer_to call variables (Err reason) = Ok (Pass reason)
 
 -- the answer to a line, given the options files by name and text. Its commands have the words of these in it
 abbrev pub nvcc_answer : NvccOf → List (List ℕ × List ℕ) → List (List ℕ × List ℕ) → Result Answer Fault
@@ -199,5 +198,5 @@ words_of_a_file = refl
 
 pub passed_lines :
     map (λ words. nvcc_answer (line_at words) [] []) (spaced "-E k.cu" ∷ spaced "-c a.cu b.cu" ∷ [] ∷ spaced "-ptx k.cu -o k.cpp1.ii" ∷ [])
-    ≡ Ok (Pass (text_of OtherPhase)) ∷ Ok (Pass (text_of SeveralInputs)) ∷ Ok (Pass (text_of Links)) ∷ Ok (Pass (text_of GeneratedName)) ∷ []
+    ≡ Ok (Pass OtherPhase) ∷ Ok (Pass SeveralInputs) ∷ Ok (Pass Links) ∷ Ok (Pass GeneratedName) ∷ []
 passed_lines = refl

@@ -1,10 +1,8 @@
 //! What becomes of an nvcc line.
 
-ghost use Rattle.std.specs.Prelude.{Ok, map};
+ghost use Rattle.std.specs.Prelude.{map};
 ghost use Rattle.texts.specs.Fault.{UnlessMemory};
 ghost use Rattle.texts.specs.Variables.{pair_of};
-ghost use Rattle.nvcc_calls.specs.Reasons.{text_of};
-ghost use Rattle.nvcc_calls.specs.declared.answer.Answer.TheVariants.{Pass};
 ghost use Rattle.nvcc_calls.specs.Answer as spec;
 ghost use Rattle.compilers.specs.Calls.{nvcc_of};
 
@@ -17,7 +15,6 @@ use compilers::compiler::CCompilerImpl;
 use host_lines::nvcc::Nvcc;
 use std::alloc::Global;
 use texts::fault::Fault;
-use texts::text::Text;
 
 /// What becomes of an nvcc line.
 #[derive(Debug, Drop)]
@@ -25,7 +22,7 @@ pub enum Answer {
     /// It compiles one source: what to run.
     Split(Outline),
     /// It goes to nvcc unchanged: why.
-    Pass(Text),
+    Pass(Reason),
 }
 
 /// Reads an nvcc line as nvcc does, at the call's working directory, with `variables`, those of the environment that nvcc and
@@ -49,7 +46,7 @@ pub fn read_call(
             drop(asked);
             answer
         }
-        Err(reason) => passed(alloc, reason),
+        Err(reason) => Ok(Answer::Pass(reason)),
     }
 }
 
@@ -63,7 +60,7 @@ fn answer_to_line(
 {
     match asked.verdict(alloc)? {
         Verdict::Split(normal) => answer_to_normal(alloc, call, variables, asked, &normal),
-        Verdict::Pass(reason) => passed(alloc, reason),
+        Verdict::Pass(reason) => Ok(Answer::Pass(reason)),
     }
 }
 
@@ -78,12 +75,12 @@ fn answer_to_normal(
     ensures { UnlessMemory result (spec.answer_to_normal (nvcc_of call.now) (map pair_of variables.now) asked.now normal.now) }
 {
     if let Some(reason) = hazard_of(alloc, call, asked, normal)? {
-        return passed(alloc, reason);
+        return Ok(Answer::Pass(reason));
     }
     let reading = Nvcc::gcc().parse_arguments(alloc, normal.words.as_slice(), call.cwd, &[])?;
     let answer = match &reading {
         CompilerArguments::Ok(parsed) => answer_to_arguments(alloc, call, variables, asked, parsed),
-        _ => passed(alloc, Reason::OtherReading),
+        _ => Ok(Answer::Pass(Reason::OtherReading)),
     };
     drop(reading);
     answer
@@ -101,14 +98,7 @@ fn answer_to_arguments(
 {
     let command = command(alloc, call, parsed, variables)?;
     if !asked.is_kept_in(alloc, command.arguments.as_slice())? {
-        return passed(alloc, Reason::OtherReading);
+        return Ok(Answer::Pass(Reason::OtherReading));
     }
     Ok(Answer::Split(outline_of(alloc, call, parsed, variables, &command)?))
-}
-
-// The answer to a line that goes to nvcc.
-fn passed(alloc: Global, reason: Reason) -> Result<Answer, Fault>
-    ensures { UnlessMemory result (Ok (Pass (text_of reason))) }
-{
-    Ok(Answer::Pass(Text::copy_of(alloc, reason.text())?))
 }

@@ -10,18 +10,18 @@ mod records;
 mod turns;
 
 use crate::call::FEWEST_FILES;
-use crate::environments::Environment;
 use crate::farm::Farm;
 use crate::folder::CallFolder;
 use crate::host::Host;
 use crate::jobserver::Make;
 use crate::machine::Machine;
 use crate::places::{absolute, working_directory};
-use crate::programs;
 use crate::rule::Refusals;
 use crate::settings::Settings;
 use crate::streams::{complain, say};
 use crate::system;
+use call::compiler::is_nvcc;
+use call::environments::Environment;
 use calls::{Asked, BatchCall, Context, Made};
 use graph::{Calls, Graph, Limits, Outcomes};
 use lists::Listed;
@@ -59,7 +59,7 @@ fn asked(words: Vec<String>, settings: &Settings) -> Asked {
         Asked::Nvcc(words[1..].to_vec())
     } else if name == "zigrunk" && words.get(1).is_some_and(|word| word == "nvcc") {
         Asked::Nvcc(words[2..].to_vec())
-    } else if first.starts_with('-') || programs::is_nvcc(first.as_bytes()) || settings.nvcc == *first {
+    } else if first.starts_with('-') || is_nvcc(first.as_bytes()) || settings.nvcc == *first {
         Asked::Nvcc(words)
     } else if ["gcc", "++", "clang"].iter().any(|end| stem.ends_with(end)) || name == "cc" {
         Asked::Compiler(words)

@@ -27,7 +27,7 @@ mod words;
 
 use crate::host;
 use crate::machine::{Ended, Job};
-use crate::planner::PlannedCommand;
+use crate::planned::PlannedCommand;
 use crate::run::{Done, Step, Task};
 use crate::settings::Settings;
 use crate::streams::{complain, content_of, write_all};

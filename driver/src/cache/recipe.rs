@@ -6,7 +6,7 @@ use crate::cache::tool::Kind;
 use crate::cache::words::{self, Role as WordRole};
 use crate::late;
 use crate::machine::Job;
-use crate::planner::PlannedCommand;
+use crate::planned::PlannedCommand;
 use crate::tasks::OWN;
 use std::borrow::Cow;
 use std::collections::{BTreeMap, BTreeSet};

@@ -12,11 +12,12 @@ use crate::cache::tool::{Kind, Run, is_called, is_disguised};
 use crate::cache::words::{self, Role};
 use crate::cache::{Candidate, Session, State, names, terminal};
 use crate::machine::Job;
-use crate::planner::{Line, PlannedCommand};
-use crate::programs;
+use crate::planned::PlannedCommand;
 use crate::run::{Done, Task};
 use crate::split::Said;
 use crate::streams::content_of;
+use call::NvccLine;
+use call::programs;
 use std::collections::{BTreeMap, BTreeSet, HashMap};
 use std::env;
 use std::ffi::{OsStr, OsString};
@@ -38,7 +39,7 @@ fn read_by(job: &Job) -> Option<Vec<PathBuf>> {
 
 /// A call that has come to its end, and has succeeded.
 pub struct Finished<'a> {
-    pub line: &'a Line,
+    pub line: &'a NvccLine,
     pub commands: &'a [PlannedCommand],
     pub tasks: &'a [Task],
     /// Its dependency file, if it has one.
@@ -137,7 +138,7 @@ struct Gathered<'a> {
 }
 
 /// Whether a line has nvcc read further words from a file.
-fn has_lists(line: &Line) -> bool {
+fn has_lists(line: &NvccLine) -> bool {
     let more = line.variables.iter().flat_map(|(_, value)| value.split_ascii_whitespace());
     let names_list = |option: &str| option.starts_with("optf") || option.starts_with("options-file");
     let is_list = |word: &str| word.starts_with('@') || (word.starts_with('-') && names_list(word.trim_start_matches('-')));
@@ -145,7 +146,7 @@ fn has_lists(line: &Line) -> bool {
 }
 
 /// Whether a line asks for the targets of the machine's own GPUs, which nvcc looks for at each call.
-fn asks_for_native(line: &Line) -> bool {
+fn asks_for_native(line: &NvccLine) -> bool {
     let texts = line.words.iter().chain(line.variables.iter().map(|(_, value)| value));
     texts.flat_map(|text| text.split([' ', '\t', '=', ','])).any(|part| part == "native")
 }
@@ -545,7 +546,7 @@ mod tests {
         let task = |(number, one): (usize, &PlannedCommand)| Task { command: Some(number), job: job(one), ..Task::default() };
         let tasks: Vec<Task> = commands.iter().enumerate().map(task).collect();
         let store = Store::new(cwd.join("no-entries"), 1 << 20);
-        let line = Line { cwd: cwd.to_string_lossy().into_owned(), nvcc: "nvcc".into(), words: Vec::new(), variables: Vec::new() };
+        let line = NvccLine { cwd: cwd.to_string_lossy().into_owned(), nvcc: "nvcc".into(), words: Vec::new(), variables: Vec::new() };
         let call = Finished { line: &line, commands, tasks: &tasks, rule: None, said, begun: SystemTime::now() };
         test(&mut Session::new(&store, "/t", commands, &tasks), &call)
     }
@@ -653,7 +654,7 @@ mod tests {
         let asks = |words: &[&str], flags: &str| {
             let words = words.iter().map(|word| (*word).into()).collect();
             let variables = vec![("NVCC_APPEND_FLAGS".into(), flags.into())];
-            asks_for_native(&Line { cwd: "/w".into(), nvcc: "nvcc".into(), words, variables })
+            asks_for_native(&NvccLine { cwd: "/w".into(), nvcc: "nvcc".into(), words, variables })
         };
         assert!(asks(&["-arch=native", "-c", "k.cu"], "") && asks(&["-arch", "native"], "") && asks(&["-c"], "-O2 -arch=native"));
         assert!(!asks(&["-c", "native/k.cu", "-o", "native.o"], "-DNATIVE"));
@@ -663,7 +664,7 @@ mod tests {
     fn words_or_variables_may_name_lists_of_words() {
         let has = |words: &[&str], flags: &str| {
             let words = words.iter().map(|word| (*word).into()).collect();
-            has_lists(&Line { cwd: "/w".into(), nvcc: "nvcc".into(), words, variables: vec![("NVCC_APPEND_FLAGS".into(), flags.into())] })
+            has_lists(&NvccLine { cwd: "/w".into(), nvcc: "nvcc".into(), words, variables: vec![("NVCC_APPEND_FLAGS".into(), flags.into())] })
         };
         for words in [["-optf", "words"], ["-c", "-optf=words"], ["--options-file", "words"], ["-c", "--options-file=words"], ["-c", "@words"]] {
             assert!(has(&words, "-O2") && has(&["-c", "k.cu"], &format!("-O2 {}", words.join(" "))), "{words:?}");

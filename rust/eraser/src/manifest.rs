@@ -84,15 +84,13 @@ fn description(erased: &ErasedCrate) -> String {
         .replace('`', "")
 }
 
-/// The manifest of the workspace. Cargo builds `members` unless asked for others, and `others` only if asked for.
-pub fn workspace(version: &str, members: &[PathBuf], others: &[PathBuf]) -> String {
-    let lines = |paths: &mut dyn Iterator<Item = &PathBuf>| -> String {
-        paths
-            .map(|it| format!("    \"{}\",\n", it.display()))
-            .collect()
-    };
+/// The manifest of the workspace.
+pub fn workspace(version: &str, members: &[PathBuf]) -> String {
+    let members: String = members
+        .iter()
+        .map(|it| format!("    \"{}\",\n", it.display()))
+        .collect();
     include_str!("../templates/workspace.toml")
-        .replace("@MEMBERS@", &lines(&mut members.iter().chain(others)))
-        .replace("@DEFAULT_MEMBERS@", &lines(&mut members.iter()))
+        .replace("@MEMBERS@", &members)
         .replace("@VERSION@", version)
 }

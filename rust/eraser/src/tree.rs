@@ -23,15 +23,15 @@ impl Tree {
         self.files.insert(path.into(), text.into());
     }
 
-    /// Adds the files of a folder, but for what cargo made there, and for those in the folder `without`.
-    pub fn copy(&mut self, from: &Path, to: &Path, without: Option<&str>) -> Result<(), Error> {
+    /// Adds the files of a folder, but for what cargo made there.
+    pub fn copy(&mut self, from: &Path, to: &Path) -> Result<(), Error> {
         for name in names(from)? {
             let (source, target) = (from.join(&name), to.join(&name));
-            if LEFT.contains(&name.as_str()) || without == Some(name.as_str()) {
+            if LEFT.contains(&name.as_str()) {
                 continue;
             }
             if source.is_dir() {
-                self.copy(&source, &target, None)?;
+                self.copy(&source, &target)?;
             } else {
                 self.add(
                     target,

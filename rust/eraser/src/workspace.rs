@@ -13,26 +13,20 @@ use std::path::{Path, PathBuf};
 struct ByHand {
     from: &'static str,
     to: &'static str,
-    /// Whether cargo builds it unless told otherwise.
-    is_default: bool,
 }
 
 const BY_HAND: [ByHand; 3] = [
     ByHand {
+        from: "call",
+        to: "call",
+    },
+    ByHand {
         from: "bindings/rust",
         to: "zigrunk",
-        is_default: true,
-    },
-    // It links with the library, which is made of this workspace too.
-    ByHand {
-        from: "bindings/rust/sys",
-        to: "zigrunk-sys",
-        is_default: false,
     },
     ByHand {
         from: "driver",
         to: "driver",
-        is_default: true,
     },
 ];
 
@@ -47,7 +41,6 @@ pub struct Workspace {
     /// The roots of the erased crates: the files that rustfmt begins with.
     pub roots: Vec<PathBuf>,
     members: Vec<PathBuf>,
-    others: Vec<PathBuf>,
     record: String,
 }
 
@@ -65,16 +58,16 @@ pub fn workspace_of(root: &Path, drivers: bool) -> Result<Workspace, Error> {
         found.add_crate(root, one, &known)?;
     }
     for name in names(&stand)? {
-        found.add_copy(&stand.join(&name), &Path::new("stand").join(&name), true)?;
+        found.add_copy(&stand.join(&name), &Path::new("stand").join(&name))?;
     }
     for one in BY_HAND {
-        found.add_copy(&root.join(one.from), Path::new(one.to), one.is_default)?;
+        found.add_copy(&root.join(one.from), Path::new(one.to))?;
     }
     let version = root.join("VERSION");
     let version = fs::read_to_string(&version).map_err(|it| Error::io(&version, it))?;
     found.tree.add(
         "Cargo.toml",
-        workspace(version.trim(), &found.members, &found.others),
+        workspace(version.trim(), &found.members),
     );
     found.tree.add("erased.txt", found.record.as_str());
     Ok(found)
@@ -106,14 +99,10 @@ impl Workspace {
     }
 
     // Adds a crate that is written by hand, if it is there and made for this workspace.
-    fn add_copy(&mut self, from: &Path, to: &Path, is_default: bool) -> Result<(), Error> {
+    fn add_copy(&mut self, from: &Path, to: &Path) -> Result<(), Error> {
         if is_member(&from.join("Cargo.toml")) {
-            self.tree.copy(from, to, Some("sys"))?;
-            let members = match is_default {
-                true => &mut self.members,
-                false => &mut self.others,
-            };
-            members.push(to.to_path_buf());
+            self.tree.copy(from, to)?;
+            self.members.push(to.to_path_buf());
         }
         Ok(())
     }

@@ -1,33 +1,24 @@
 //! The misuses of `tests/callers/misuses.txt`: `misuses ROOM < misuses.txt`. It prints each with what comes of it.
 
 use std::error::Error;
+use std::path::PathBuf;
 use std::{env, fs, io};
 
-use zigrunk::{Call, CommandTool, ErrorKind, Field, NvccCall, find_programs, variables};
-
-/// The number of a field of a dry run in `zigrunk.h`.
-fn number(field: Field) -> u32 {
-    match field {
-        Field::Dry1 => 1,
-        Field::Dry2 => 2,
-        _ => 99,
-    }
-}
+use zigrunk::{Call, CommandTool, Disk, DryRuns, NvccCall, variables};
 
 fn main() -> Result<(), Box<dyn Error>> {
-    let room = env::args().nth(1).ok_or("usage: misuses ROOM")?;
+    let room = PathBuf::from(env::args_os().nth(1).ok_or("usage: misuses ROOM")?);
     let environment: Vec<_> = env::vars_os().collect();
     for row in io::stdin().lines() {
         let row = row?;
-        let [name, tmp, first, second, ..] = row.split_whitespace().collect::<Vec<_>>()[..] else {
+        let [name, tmp, first, second, .., own] = row.split_whitespace().collect::<Vec<_>>()[..] else {
             return Err("a short row".into());
         };
-        let (nvcc, cwd, tmp) = (format!("{room}/bin/nvcc"), format!("{room}/w"), format!("{room}/{tmp}"));
+        let (nvcc, cwd, tmp) = (room.join("bin/nvcc"), room.join("w"), room.join(tmp));
         let words = ["-c", "kernel.cu", "-o", "kernel.o"];
-        let call =
-            Call::new(&NvccCall { nvcc: &nvcc, words: &words, variables: &variables(&environment), cwd: &cwd, tmp: &tmp })?;
-        let (first, second) = (fs::read(format!("{room}/{first}"))?, fs::read(format!("{room}/{second}"))?);
-        match call.plan_of(&first, &second, &find_programs(&first, &second, &cwd)?, None) {
+        let call = Call::new(&NvccCall::new(&nvcc, &words).at(&cwd, &tmp).variables(&variables(&environment)))?;
+        let read = |name: &str| fs::read(room.join(name));
+        match call.plan_of(&DryRuns::new(read(own)?, read(first)?, read(second)?), &Disk::default(), None) {
             Ok(plan) => {
                 // (the other tools are scripts here)
                 let keyed = plan.commands().filter(|command| matches!(command.cache_key(), Ok(Some(_))));
@@ -36,10 +27,8 @@ fn main() -> Result<(), Box<dyn Error>> {
                 println!("{name} 0 0 0");
             }
             Err(error) => {
-                let place = error.place();
-                let line = place.and_then(|it| it.line).unwrap_or(0);
-                println!("{name} {} {} {line}", error.status(), place.map_or(0, |it| number(it.field)));
-                assert_ne!(error.kind(), ErrorKind::Unsettled);
+                let (input, line) = error.place().map_or((0, None), |place| (place.input.number(), place.line));
+                println!("{name} {} {input} {}", error.status(), line.unwrap_or(0));
             }
         }
     }
