@@ -130,7 +130,7 @@ impl Answer {
 
     /// Whether its messages would be the same now.
     fn may_be_said(&self) -> bool {
-        self.is_silent_success() || self.terminal == terminal()
+        self.is_silent() || self.terminal == terminal()
     }
 }
 

@@ -327,7 +327,7 @@ impl<'a> Session<'a> {
     pub fn misnames_lines(&self, tasks: &[Task], done: &[Done]) -> bool {
         let compiles =
             |task: &Task| !task.preprocesses && task.job.words.first().is_none_or(|program| Kind::of(program).is_none_or(|kind| kind == Kind::Host));
-        let speaks = |(task, done): (&Task, &Done)| compiles(task) && !done.ended.as_ref().is_none_or(Ended::is_silent);
+        let speaks = |(task, done): (&Task, &Done)| compiles(task) && !done.ended.as_ref().is_none_or(Ended::is_silent_success);
         self.has_other_lines && tasks.iter().zip(done).any(speaks)
     }
 
