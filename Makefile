@@ -23,7 +23,10 @@ endif
 driver = $(workspace)/target/release/zigrunk-driver
 archive = $(workspace)/target/release/libzigrunk_c.a
 
-.PHONY: help demo build lib header rust rust-sources rust-install check install install-programs install-library install-rust uninstall dist bench drivers erased-kit must-fail refused-memory end-to-end odd-calls random-calls mutants-by-lot versions cache cache-edits peer cluster field platforms test-install dist-test check-docs lint one test
+# $(call needs_kit,COMMANDS): ends a target that proves, if the Rattle kit isn't there: what to run instead.
+needs_kit = $(if $(shell command -v rt),,$(error make $@ needs the Rattle kit, whose rt is not on PATH. Without it, run: $(1)))
+
+.PHONY: help demo build lib header rust rust-sources rust-install check install install-programs install-library install-rust uninstall dist bench drivers erased-kit must-fail refused-memory end-to-end odd-calls random-calls mutants-by-lot versions cache cache-edits cache-attacks peer cluster field platforms test-install dist-test check-docs lint one test
 
 help:
 	@echo 'make demo             run cudaplan, unproved, on two calls; a minute from a fresh clone'
@@ -52,6 +55,7 @@ help:
 	@echo 'make versions         the same with nvcc 11.2, 11.8 and 12.4, which it downloads from Debian, up to 3 GB; or CUDA_VERSIONS=FOLDER'
 	@echo 'make cache            compare builds and rebuilds with and without ccache and sccache; needs both, sccache 0.9 or later; PARTS="edits alone"'
 	@echo 'make cache-edits      build a small project by nvcc and with our cache after each of 200 random edits; SEED=, COUNT='
+	@echo 'make cache-attacks    change all that a call may depend on, and compare the cache with nvcc each time; CASES='
 	@echo 'make peer             build Debian'\''s sccache as it is and on the crate zigrunk, which it downloads with its crates, 30 MB; run its tests'
 	@echo '                      and calls of nvcc by both; needs nvcc and cargo 1.85. No part of the gate'
 	@echo 'make field            build the CUDA code of real projects by nvcc and by zigrunk-nvcc, and compare; needs nvcc and CMake;'
@@ -79,11 +83,13 @@ endif
 
 # rt builds a program only when it runs it, and leaves it in out/. So it makes a short call, whose output is thrown away.
 build:
+	$(call needs_kit,make rust)
 	cd crates/cudaplan && rt check && rt run -- line cicc /w x.cpp1.ii -o x.ptx > /dev/null
 	@.ci/built record programs
 
 # What you want after each edit. It keeps what it proves outside the clone.
 check:
+	$(call needs_kit,make rust)
 	@tests/quick $(CRATE) $(FUNCTION)
 
 # The planner for programs in C, C++, Go and Python (docs/EMBEDDING.md).
@@ -117,10 +123,12 @@ erased-kit:
 
 # The programs that run cases, the tests of what no case can say, and cudabench, none of them proved.
 drivers:
+	$(call needs_kit,make rust && tests/driver.sh)
 	@tests/drivers.sh $(NAMES)
 
 # The prover has to reject each wrong body in crates/NAME/must-fail and crates/NAME/wrong-bodies. It notes in tests/must_fail.tried what it tried.
 must-fail:
+	$(call needs_kit,make rust && tests/driver.sh)
 	tests/must_fail.py $(CRATES)
 
 # The test cases and calls of the programs, with the first allocation failing, then the second, and so on.
@@ -163,6 +171,10 @@ cache: rust
 cache-edits: rust
 	@tests/driver_cache/edits.py $(workspace)/target/release/zigrunk-driver --seed "$(SEED)" --count "$(if $(filter command line environment,$(origin COUNT)),$(COUNT),200)"
 
+# Outside the gate: changes of all that a call may depend on, each made on purpose. CASES names some.
+cache-attacks: rust
+	@tests/driver_cache/attacks.py $(workspace)/target/release/zigrunk-driver $(CASES)
+
 # Outside the gate. It takes the proved libzigrunk if out/ has it. Otherwise it compiles one without proof, and says so.
 peer:
 	@tests/peer.sh
@@ -199,9 +211,11 @@ dist-test:
 	@packaging/test.sh $(ROOTS)
 
 test-install:
+	$(call needs_kit,make rust-install PREFIX=/tmp/zigrunk)
 	@.ci/built check programs || $(MAKE) build
 	@tests/install.sh
 
 # rt ci: every proof, wrong bodies, tests and programs. Beside it all other tests, of what it built.
 test:
+	$(call needs_kit,make rust lint check-docs && tests/driver.sh && tests/driver_batch.sh)
 	@.ci/gate

@@ -149,7 +149,7 @@ use zigrunk::{Call, NvccCall, variables};
 fn main() {
     let environment: Vec<_> = std::env::vars_os().collect();
     let words = ["-c", "k.cu", "-o", "k.o"];
-    let call = Call::new(&NvccCall { nvcc: "/none", words: &words, variables: &variables(&environment), cwd: "/w", tmp: "/t" });
+    let call = Call::new(&NvccCall::new("/none", &words).at("/w", "/t").variables(&variables(&environment)));
     println!("{}", call.is_ok_and(|call| call.plan().is_err()));
 }
 END

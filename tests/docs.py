@@ -201,7 +201,7 @@ def commands(page: str) -> Iterator[str]:
 def version() -> Iterator[str]:
     """Places whose version isn't that of VERSION."""
     number = text_of("VERSION").strip()
-    places = {"CHANGELOG.md": f"## [{number}]", "crates/programs/src/page.rt": f"zigrunk {number}\\n",
+    places = {"CHANGELOG.md": f"## [{number}]", "driver/Cargo.toml": f'version = "{number}"',
               **{f"man/{name}": f'"zigrunk {number}"' for name in os.listdir(f"{TOP}/man")}}
     yield from (f"{place} lacks {text!r}" for place, text in places.items() if text not in text_of(place))
 

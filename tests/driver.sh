@@ -15,7 +15,6 @@ unset NVCC_PREPEND_FLAGS NVCC_APPEND_FLAGS CDPATH MAKEFLAGS MFLAGS "${!ZIGRUNK@}
 export ZIGRUNK_LATE=0
 user=$(id -u)
 shell=(driver)
-end_shell() { summary; exit 1; }
 
 # unit: the unit tests, each as a case.
 unit() {
@@ -45,7 +44,10 @@ stand_ins=$PWD/tests/driver
 # The toolkit of the stand-ins.
 export CUDA=$scratch/cuda DATA=$data
 mkdir -p "$CUDA/bin" "$CUDA/nvvm/bin" "$scratch/bin"
-for tool in gcc cudafe++ ptxas fatbinary; do ln -s "$stand_ins/tool" "$CUDA/bin/$tool"; done
+# (only gcc itself compiles in two halves, so this one is a program)
+export STAND_IN=$stand_ins/tool
+cc -O1 -o "$CUDA/bin/gcc" tests/driver_cache/program.c || exit 1
+for tool in cudafe++ ptxas fatbinary; do ln -s "$stand_ins/tool" "$CUDA/bin/$tool"; done
 ln -s "$stand_ins/tool" "$CUDA/nvvm/bin/cicc"
 ln -s "$stand_ins/nvcc" "$CUDA/bin/nvcc"
 cp "$driver" "$scratch/bin/zigrunk-nvcc"
@@ -97,7 +99,7 @@ within() {
 has_begun() { grep -q "^+ $1" "$room/log"; }
 # waits_for_cudafe: whether cudafe++ alone still runs of a call that $waits holds up.
 waits_for_cudafe() { has_begun cudafe++ && [ "$(grep -c '^- ptxas' "$room/log")" = 2 ]; }
-none_run() { ! pgrep -f "$room" > /dev/null; }
+none_run() { [ -z "$(running "$room")" ]; }
 # has_guard: whether the call has its guard, which is $guard then.
 has_guard() { guard=$(pgrep -P "$process" -f zigrunk-nvcc | head -n 1) && [ -n "$guard" ]; }
 
@@ -105,12 +107,12 @@ has_ended() { [[ $(cut -d ' ' -f 3 "/proc/$process/stat" 2> /dev/null) != [A-Ya-
 
 # ended STATUS: a problem, unless the driver ends within eight seconds of an idle machine, with this status.
 ended() {
-    within 8 has_ended || { problems+='  it ends late'$'\n'; kill -KILL "$process"; }
-    { wait "$process"; } 2> /dev/null
+    # (the shell would say by which signal it ended)
+    { within 8 has_ended || { problems+='  it ends late'$'\n'; kill -KILL "$process"; }; wait "$process"; } 2> /dev/null
     local ended=$?
     same status "$ended" "$1"
     [ "$ended" = "$1" ] || problems+="  it says: $(head -c 500 "$room/err")"$'\n'
-    within 5 none_run || problems+="  processes: $(pgrep -af "$room")"$'\n'
+    within 5 none_run || problems+="  processes: $(shown "$room")"$'\n'
 }
 
 # end: counts the case. Nothing stays but the user's folder and the slots.
@@ -264,6 +266,26 @@ ROOM/work/../tmp:ROOM/tmp
 ROWS
         end
     fi
+    if case_of 'a TMPDIR by a link and back'; then
+        mkdir -p a "$room/other/below" "$room/other/t"
+        ln -s "$room/other/below" a/link
+        for form in a/link/../t "$room/work/a/link/../t"; do
+            call TMPDIR="$form" TOOL_DOES="$notes" -c k.cu -o k.o
+            splits "with $form"
+            same "where with $form" "$(sed 's,/zigrunk-[0-9]*/.*,,' "$room/log.cicc.80")" "$room/other/t"
+            # the same again, beside a directory that the text alone would mean
+            mkdir -p a/t
+        done
+        same 'files in the other' "$(ls -A a/t)" ''
+        end
+    fi
+    if case_of 'zigrunk cache without a folder'; then
+        for word in stats clear limit; do
+            status=$(env -u HOME -u XDG_CACHE_HOME "$scratch/bin/zigrunk" cache $word > "$room/out" 2>&1; echo $?)
+            same "status and messages of $word" "$status $(cat "$room/out")" '1 zigrunk cache: there is no folder: set ZIGRUNK_CACHE'
+        done
+        end
+    fi
     if case_of 'a TMPDIR that is missing'; then
         call "${plain[@]}" TMPDIR="$room/missing" -c k.cu -o k.o
         same 'status and reason' "$status $(head -n 1 "$room/err")" '5 zigrunk-nvcc: nvcc itself: no temporary directory'
@@ -275,9 +297,16 @@ ROWS
             [[ $way != chown* || $user == 0 ]] || continue
             rm -rf "$base" "$base.x" && mkdir -m 700 "$base" && eval "$way"
             call TOOL_DOES="$notes" -c k.cu -o k.o
+            cat "$room/err" >> "$room/errs"
+            : > "$room/err"
             splits "with $way"
             same "where with $way" "$(grep -c "^$room/tmp/zigrunk\.......\$" "$room/log.cicc.80")" 1
         done
+        same 'messages of one day' "$(sed "s,$base,BASE," "$room/errs")" 'zigrunk-nvcc: cannot use BASE, so temporary directories have random names: its mode is 755, not 700'
+        touch -d '2 days ago' "$room/run/zigrunk-$user/said-folder"
+        rm -rf "$base" && : > "$base"
+        for _ in 1 2; do call -c k.cu -o k.o; cat "$room/err"; done > "$room/errs"
+        same 'messages of another day' "$(sed "s,$base,BASE," "$room/errs")" 'zigrunk-nvcc: cannot use BASE, so temporary directories have random names: it is no folder'
         rm -rf "$base" "$base.x"
         end
     fi
@@ -300,9 +329,10 @@ ROWS
         for number in $(seq 64); do
             [ "$number" != 1 ] || number=''
             exec {lock}> "$base${number:+-$number}.lock" && flock "$lock" && locks+=("$lock")
-            case $number in 63 | 64) call TOOL_DOES="$notes" -c k.cu -o k.o; splits "$number"; sed "s,^$base,," "$room/log.cicc.80" >> "$room/places" ;; esac
+            case $number in 63 | 64) call ZIGRUNK_LOG="$room/calls" TOOL_DOES="$notes" -c k.cu -o k.o; splits "$number"; sed "s,^$base,," "$room/log.cicc.80" >> "$room/places" ;; esac
         done
         same 'where' "$(sed 's,/zigrunk\.[0-9a-f]\{6\}$,/RANDOM,; s,^.*/RANDOM,RANDOM,' "$room/places" | paste -sd ' ')" '-64 RANDOM'
+        same 'the hint' "$(grep '^{"hint"' "$room/calls")" '{"hint":"make zigrunk-UID below TMPDIR yours alone, with mode 700: the same call then always has the same directory"}'
         for lock in "${locks[@]}"; do exec {lock}>&-; done
         rm -f "$base"*.lock
         end
@@ -333,7 +363,7 @@ ROWS
         end
     fi
     if case_of 'the call and its guard are killed'; then
-        start TOOL_DOES='[ "$name" != cudafe++ ] || exec sleep 300' -c k.cu -o k.o
+        start CHILDLESS=1 TOOL_DOES='[ "$name" != cudafe++ ] || exec sleep 300' -c k.cu -o k.o
         within 20 has_begun cudafe++
         within 20 has_guard
         kill -KILL "$guard" "$process"
@@ -391,7 +421,7 @@ early_starts() {
     if case_of 'cudafe++ fails, and cicc has begun'; then
         call ZIGRUNK_SLOTS=8 EARLY=cicc.80 TOOL_DOES="[ \"\$name\" != cudafe++ ] || { $begins; exit 5; }; $reads" -c k.cu -o k.o
         same 'status and what ended' "$status $(grep -c '^- cicc' "$room/log")" '5 0'
-        within 5 none_run || problems+="  processes: $(pgrep -af "$room")"$'\n'
+        within 5 none_run || problems+="  processes: $(shown "$room")"$'\n'
         end
     fi
     if case_of 'cicc has begun, and cudafe++ writes nothing for it'; then
@@ -418,6 +448,14 @@ late_starts() {
         same 'what the compiler includes' "$(sed "s,$room/tmp/.*/,TMP/," "$room/log.read.gcc-S")" $'made\n# 1 "TMP/kernel.compute_90.cudafe1.stub.c"'
         end
     fi
+    if case_of 'the last compile waits for no alone'; then
+        for value in '' 1 yes; do
+            call "${late[@]}" ZIGRUNK_LATE="$value" TOOL_DOES="$reads" -c k.cu -o k.o
+            same "status, messages and product with '$value'" "$status$(cat "$room/err" k.o)" 0made
+            same "what begins with '$value'" "$(grep -c '^+ gcc-S' "$room/log") $(grep -c '^+ gcc-c' "$room/log")" '1 1'
+        done
+        end
+    fi
     if case_of 'the last compile waits'; then
         for settings in ZIGRUNK_LATE=0 GCC_COMPARE_DEBUG= ZIGRUNK_LAUNCHER=env ZIGRUNK_RUNNER=env; do
             call "${late[@]}" "$settings" TOOL_DOES="$reads" -c k.cu -o k.o
@@ -432,8 +470,9 @@ late_starts() {
         end
     fi
     if case_of 'an assembler that says something'; then
-        call "${late[@]}" "${plain[@]}" TOOL_DOES='[ "$name" != gcc-c ] || echo odd >&2' -c k.cu -o k.o
-        by_nvcc 'its assembler fails, or says something'
+        call "${late[@]}" "${plain[@]}" TOOL_DOES="[ \$name != gcc-c ] || echo odd >&2; $reads" -c k.cu -o k.o
+        same 'status, messages and product' "$status$(cat "$room/err" k.o)" $'0odd\nmade'
+        same 'commands' "$(grep '^+ gcc-[cS]' "$room/log" | paste -sd ' ')" '+ gcc-S + gcc-c + gcc-c'
         call "${late[@]}" "${plain[@]}" FATBIN=/dev/null -c k.cu -o k.o
         by_nvcc "fatbinary's file has another form"
         end
@@ -489,6 +528,18 @@ ROWS
             call "$settings" "${plain[@]}" k.cu
             by_nvcc 'it links'
         done
+        end
+    fi
+    if case_of 'an nvcc by a path from the working directory'; then
+        mkdir sub && printf '%s\n' '#!/bin/sh' 'echo sub >> "$LOG"' "exec $stand_ins/nvcc \"\$@\"" > sub/nvcc && chmod +x sub/nvcc
+        call ZIGRUNK_NVCC=sub/nvcc -c k.cu -o k.o
+        splits
+        same 'dry runs by it' "$(grep -c '^sub' "$room/log")" 2
+        call "${plain[@]}" ZIGRUNK_NVCC=sub/nvcc k.cu
+        by_nvcc 'it links'
+        same 'calls by it' "$(grep -c '^sub' "$room/log")" 1
+        call ZIGRUNK_NVCC=sub/missing -V
+        same 'one that is missing' "$status $(cat "$room/err")" '127 zigrunk-nvcc: cannot find sub/missing in PATH'
         end
     fi
     if case_of 'which nvcc is the next'; then
@@ -599,6 +650,7 @@ the kept one fails|a dry run fails|KEPT_STATUS=1
 other commands|nvcc reads the line otherwise|OWN_FORM='s,-arch=sm_80,-arch=sm_86,'
 another command|nvcc reads the line otherwise|OWN_DOES='echo "#\$ ptxas k.ptx" >&2'
 a preprocessor more|nvcc reads the line otherwise|OWN_DOES='echo "#\$ gcc -E k.cu -o \"k.cpp4.ii\" " >&2'
+the host compiler writes a dependency file|several preprocessors may write one file|OWN_FORM='s,-D__CUDACC__,-MD -MF x.d &,' KEPT_FORM='s,-D__CUDACC__,-MD -MF x.d &,'
 it fails for several threads, and for one|a dry run fails|OWN_STATUS=1 WARNING='Could not open input file /tmp/tmpxft_00a1-10_8ed_stdout'
 ROWS
     while IFS='|' read -r what dry_runs settings; do
@@ -661,14 +713,14 @@ outputs() {
     if case_of 'a command fails, and nvcc has several threads'; then
         prints='/^#\$ [a-z]/ s,$, > /t/1_stdout 2>/t/1_stderr,'
         call OWN_FORM="$prints" TOOL_DOES='case $name in cicc.80) until grep -q "^- gcc-E.90" "$LOG"; do sleep 0.05; done; echo "bad $name" >&2; exit 6 ;; gcc-E.90) echo "says $name" >&2 ;; esac' -t2 -c k.cu -o k.o
-        same 'status and messages' "$status $(cat "$room/err")" $'255 bad cicc.80\nsays gcc-E.90'
+        same 'status and messages' "$status $(cat "$room/err")" $'255 says gcc-E.90\nbad cicc.80'
         call OWN_FORM="$prints" -t2 -c k.cu -o k.o
         splits
         end
     fi
     while IFS='|' read -r what wanted does; do
         case_of "a command fails: $what" || continue
-        call TOOL_DOES="$does" -c k.cu -o k.o
+        call CHILDLESS=1 TOOL_DOES="$does" -c k.cu -o k.o
         same 'status and messages' "$status $(cat "$room/err")" "$wanted"
         end
     done << 'ROWS'
@@ -681,7 +733,7 @@ ROWS
     if case_of 'a command fails: each signal that a shell names'; then
         for signal in '132 ILL Illegal instruction' '134 ABRT Aborted' '135 BUS Bus error' '136 FPE Floating point exception' '137 KILL Killed' '143 TERM Terminated'; do
             read -r wanted number text <<< "$signal"
-            call TOOL_DOES="[ \$name != cudafe++ ] || { ulimit -c 0; kill -$number \$\$; }" -c k.cu -o k.o
+            call CHILDLESS=1 TOOL_DOES="[ \$name != cudafe++ ] || { ulimit -c 0; kill -$number \$\$; }" -c k.cu -o k.o
             same "status and messages, $number" "$status $(cat "$room/err")" "$wanted $text"
         done
         end
@@ -771,16 +823,52 @@ products() {
     fi
 }
 
+# A program for Python that starts a command, and notes its process, and how it ended, in a file.
+reports_end='
+import subprocess, sys
+with open(sys.argv[1], "w", buffering=1) as noted:
+    with subprocess.Popen(sys.argv[2:]) as process:
+        print(process.pid, file=noted)
+        print(process.wait(), file=noted)
+'
+
 signals() {
     for signal in HUP:129 INT:130 TERM:143; do
         case_of "the signal ${signal%:*}" || continue
-        start TOOL_DOES='if [ "$name" = cudafe++ ]; then trap "sleep 0.3; echo stopped >> $LOG.stopped; exit 2" HUP INT TERM; echo "+ trap" >> "$LOG"; sleep 300 & wait; fi' -c k.cu -o k.o
+        start TOOL_DOES='if [ "$name" = cudafe++ ]; then trap "sleep 0.3; echo stopped >> $LOG.stopped; exit 2" HUP INT TERM; echo "+ trap" >> "$LOG"; env --default-signal=INT sleep 300 & wait; fi' -c k.cu -o k.o
         within 20 has_begun trap
         kill -s "${signal%:*}" "$process"
         ended "${signal#*:}"
         same 'the command' "$(cat "$room/log.stopped")" stopped
         end
     done
+    if case_of 'a call ends by the signal that ends it'; then
+        for signal in HUP:1 INT:2 TERM:15; do
+            command -v python3 > /dev/null || break
+            : > "$room/log"
+            env --default-signal=HUP,INT,TERM LOG="$room/log" TMPDIR="$room/tmp" XDG_RUNTIME_DIR="$room/run" TOOL_DOES="$waits" \
+                python3 -c "$reports_end" "$room/ended" "$nvcc_driver" -c k.cu -o k.o > "$room/out" 2> "$room/err" &
+            process=$!
+            within 20 has_begun cudafe++
+            kill -s "${signal%:*}" "$(head -n 1 "$room/ended")"
+            wait "$process"
+            same "end by ${signal%:*}" "$(tail -n 1 "$room/ended")$(cat "$room/err")" "-${signal#*:}"
+        done
+        end
+    fi
+    if case_of 'INT ends the loop of a shell, too'; then
+        : > "$room/log"
+        set -m
+        (exec 5>&-; exec env --default-signal=HUP,INT,TERM LOG="$room/log" TMPDIR="$room/tmp" XDG_RUNTIME_DIR="$room/run" TOOL_DOES="$waits" \
+            bash -c 'for _ in 1 2; do "$0" -c k.cu -o k.o; echo "$?" >> statuses; done' "$nvcc_driver") > "$room/out" 2> "$room/err" &
+        process=$!
+        set +m
+        within 20 has_begun cudafe++
+        kill -INT -- "-$process"
+        ended 130
+        same 'calls after which the loop went on' "$(cat statuses 2> /dev/null)" ''
+        end
+    fi
     if case_of 'a command that ignores TERM'; then
         start TOOL_DOES='if [ "$name" = cudafe++ ]; then trap "" TERM; echo "+ trap" >> "$LOG"; sleep 300; sleep 300; fi' -c k.cu -o k.o
         within 20 has_begun trap
@@ -895,7 +983,7 @@ signals() {
         end
     fi
     if case_of 'KILL to a call that nvcc makes, with a log'; then
-        start ZIGRUNK_LOG="$room/calls" NVCC_DOES='trap "echo ended > $LOG.ended; kill \$!; exit 3" TERM; echo "+ nvcc" >> "$LOG"; sleep 300 & wait' k.cu
+        start ZIGRUNK_LOG="$room/calls" NVCC_DOES='trap "echo ended > $LOG.ended; kill -KILL \$!; exit 3" TERM; echo "+ nvcc" >> "$LOG"; sleep 300 & wait' k.cu
         within 20 has_begun nvcc
         kill -KILL "$process"
         wait "$process" 2> /dev/null
@@ -916,7 +1004,7 @@ signals() {
         end
     fi
     if case_of 'TERM to a call that nvcc makes, with a log'; then
-        start ZIGRUNK_LOG="$room/calls" NVCC_DOES='trap "echo ended > $LOG.ended; exit 3" TERM; echo "+ nvcc" >> "$LOG"; sleep 300 & wait' k.cu
+        start ZIGRUNK_LOG="$room/calls" NVCC_DOES='trap "echo ended > $LOG.ended; kill -KILL \$!; exit 3" TERM; echo "+ nvcc" >> "$LOG"; sleep 300 & wait' k.cu
         within 20 has_begun nvcc
         kill "$process"
         ended 3
@@ -1012,10 +1100,23 @@ slots() {
         ran 120 2 2
         end
     fi
-    if case_of 'slots: the processors are the limit, and no number'; then
+    if case_of 'slots: the processors are the limit'; then
         graph 4
-        many ZIGRUNK_SLOTS=some taskset -c "$(taskset -cp $$ | sed 's/.*[:,-] *//')" ninja -j4
+        many taskset -c "$(taskset -cp $$ | sed 's/.*[:,-] *//')" ninja -j4
         ran 40 1
+        end
+    fi
+    if case_of 'slots: a quota of processor time is the limit'; then
+        group=/sys/fs/cgroup/cpu/zigrunk-$$
+        if mkdir "$group" 2> /dev/null && echo 100000 > "$group/cpu.cfs_period_us" && echo 100000 > "$group/cpu.cfs_quota_us"; then
+            before_group=/sys/fs/cgroup/cpu$(sed -n 's/^[0-9]*:cpu\(,cpuacct\)\?://p' /proc/self/cgroup)
+            graph 4
+            echo $$ > "$group/tasks"
+            many ninja -j4
+            echo $$ > "$before_group/tasks"
+            ran 40 1
+        fi
+        rmdir "$group" 2> /dev/null
         end
     fi
     if case_of 'slots: no limit'; then
@@ -1113,7 +1214,7 @@ slots() {
         export LOG=$room/log TMPDIR=$room/tmp XDG_RUNTIME_DIR=$room/run ZIGRUNK_SLOTS=2
         RANDOM=20261127
         for _ in 1 2 3; do
-            for number in $(seq 8); do TOOL_DOES='sleep 0.05' "$nvcc_driver" -c "$number.cu" -o "$number.o" > said 2>&1 & done
+            for number in $(seq 8); do CHILDLESS=1 TOOL_DOES='sleep 0.05' "$nvcc_driver" -c "$number.cu" -o "$number.o" > said 2>&1 & done
             for _ in $(seq 20); do
                 mapfile -t victims < <(jobs -pr; pgrep -f "$room")
                 [ "${#victims[@]}" -eq 0 ] || kill -KILL "${victims[RANDOM % ${#victims[@]}]}" 2> /dev/null
@@ -1225,6 +1326,44 @@ jobservers() {
     fi
 }
 
+# refused [NAME=VALUE..] WORD..: a problem, unless the program refuses its settings, before anything is made.
+refused() {
+    call "$@"
+    same "status of $1" "$status$(cat "$room/log" "$room/out")" 2
+    same "what is made with $1" "$(ls -A "$room/tmp" "$room/run" | grep -v :)" ''
+}
+
+settings() {
+    case_of 'a setting that cannot be' || return
+    while IFS='|' read -r setting allowed; do
+        for program in nvcc plan batch cache; do
+            words=()
+            case $program in nvcc) words=(-c k.cu -o k.o) ;; plan) words=(json nvcc -c k.cu) ;; batch) words=(/dev/null) ;; cache) words=(stats) ;; esac
+            as=$scratch/bin/zigrunk-$program refused "$setting" "${words[@]}"
+            same "messages of $program with $setting" "$(cat "$room/err")" "zigrunk-$program: $setting: expected $allowed"
+        done
+    done << 'ROWS'
+ZIGRUNK_CACHE=cache|yes, no, or a folder's path with a slash, such as ./cache
+ZIGRUNK_CACHE_SIZE=5x|a number of bytes, or one with K, M, G or T, such as 5G
+ZIGRUNK_JOBS=abc|a number of commands, such as 8
+ZIGRUNK_SLOTS=-1|a number of commands, such as 8, or 0 for no limit
+ZIGRUNK_EXPLAIN=please|yes or no (or 1, 0, true, false, on, off)
+ZIGRUNK_EARLY=never|yes or no (or 1, 0, true, false, on, off)
+ZIGRUNK_LATE=never|yes or no (or 1, 0, true, false, on, off)
+ZIGRUNK_CALLS=never|yes or no (or 1, 0, true, false, on, off)
+ROWS
+    for program in nvcc batch; do
+        as=$scratch/bin/zigrunk-$program refused ZIGRUNK_JOBS=abc ZIGRUNK_SLOTS=x "${words[@]}"
+    done
+    for program in batch cache plan; do
+        as=$scratch/bin/zigrunk-$program call ZIGRUNK_JOBS=abc --help
+        same "status of $program --help" "$status$(cat "$room/err")" 0
+    done
+    call ZIGRUNK_EXPLAIN=off NVCC_STATUS=5 k.cu
+    same 'messages with ZIGRUNK_EXPLAIN=off' "$status $(cat "$room/err")" '5 nvcc says'
+    end
+}
+
 logs() {
     if case_of 'the log'; then
         call ZIGRUNK_LOG="$room/calls" -c k.cu -o k.o
@@ -1241,7 +1380,7 @@ logs() {
             awk 'NF && !call { call = $1; end = $2 } NF && call != $1 && (call > $1 || $1 > $2 || $2 > $3 || $3 > end) { print "odd" } END { print NR }')" 12
         same 'needs' "$(head -n 1 "$room/calls" | grep -o '"needs":[^]]*' | cut -d '[' -f 2 | paste -sd ' ')" ' 0  1,2 3  1,5 6 0,1,2,3,4,5,6,7 0,1,2,3,4,5,6,7,8'
         "$scratch/bin/zigrunk" report "$room/calls" > "$room/report" 2>&1
-        same 'the report' "$(sed -n 1,2p "$room/report")" $'calls: 5, failed: 2\nsplit: 2 of 5 (40 %)'
+        same 'the report' "$(sed -n 1,4p "$room/report")" $'calls: 5, failed: 2\n  status 7: nvcc k.cu a "b\n  status 6: nvcc -c k.cu -o k.o\nsplit: 2 of 5 (40 %)'
         { call ZIGRUNK_LOG="$room/calls" NVCC_DOES='kill -TERM $$' k.cu; } 2> /dev/null
         same 'a signal of nvcc' "$status $(tail -n 1 "$room/calls" | grep -o '"status":[0-9]*')" '143 "status":143'
         end
@@ -1344,10 +1483,10 @@ plans() {
         prints 'the help of a word' "$("$zigrunk" plan --help)" help plan
         same 'lines and columns of the help' "$("$zigrunk" help | awk 'length > 80 || NR > 24' | wc -l)" 0
         same 'formats in the manual' "$(listed_in "$manual/zigrunk-plan.1")" "$("$zigrunk" plan --formats)"
-        same 'formats in the help' "$("$zigrunk" help plan | sed -n 's/^  \([a-z]*\)  .*/\1/p' | grep -vx nvcc)" "$("$zigrunk" plan --formats)"
+        same 'formats in the help' "$("$zigrunk" help plan | sed -n 's/^  \([a-z]\{1,\}\)  .*/\1/p')" "$("$zigrunk" plan --formats)"
         end
     fi
 }
 
-for part in ${PARTS-unit end_to_end folders early_starts late_starts compilers to_nvcc outputs products signals logs plans slots jobservers}; do "$part"; done
+for part in ${PARTS-unit end_to_end folders early_starts late_starts compilers to_nvcc outputs products signals settings logs plans slots jobservers}; do "$part"; done
 summary

@@ -15,7 +15,6 @@ unset NVCC_PREPEND_FLAGS NVCC_APPEND_FLAGS CDPATH MAKEFLAGS MFLAGS "${!ZIGRUNK@}
 export ZIGRUNK_LATE=0
 user=$(id -u)
 shell=(driver)
-end_shell() { summary; exit 1; }
 driver=$(realpath "${1:-out/rust/target/release/zigrunk-driver}")
 [ -x "$driver" ] || skip_all 'the batch' "there is no $driver: tests/driver.sh builds it"
 stand_ins=$PWD/tests/driver
@@ -99,7 +98,7 @@ within() {
         sleep 0.02
     done
 }
-none_run() { ! pgrep -f "$room" > /dev/null; }
+none_run() { [ -z "$(running "$room")" ]; }
 
 lists() {
     if case_of 'calls that are split, and one that is not'; then
@@ -224,7 +223,7 @@ products() {
         printf '%s\n' '#!/bin/sh' 'echo "sleep $1" >> "$LOG"' '[ "$1" != 2 ] || echo made > p' > "$room/bin/sleep"
         chmod +x "$room/bin/sleep"
         list='gcc -c a.c -o p'
-        batch PATH="$room/bin:$PATH" LOSE=1 ZIGRUNK_RUNNER=runner
+        batch CHILDLESS=1 PATH="$room/bin:$PATH" LOSE=1 ZIGRUNK_RUNNER=runner
         same 'status, messages and pauses' "$status$(complained) $(grep sleep "$room/log" | paste -sd ' ')" '0 sleep 1 sleep 2'
         rm -f p
         same 'files left beside it' "$(ls -A)" ''
@@ -250,7 +249,7 @@ failures() {
         write a.cu 'kill -KILL $$'
         list='-c a.cu -o a.o'
         for settings in ZIGRUNK_RUNNER= ZIGRUNK_RUNNER=env "ZIGRUNK_LOG=$room/calls"; do
-            batch "$settings"
+            batch CHILDLESS=1 "$settings"
             same "status and messages, $settings" "$status $(complained)" $'137 Killed\nzigrunk batch: line 1: exit status 137: -c a.cu -o a.o'
         done
         same 'commands in the log' "$(grep -o '"status":137' "$room/calls" | wc -l)" 2
@@ -329,6 +328,11 @@ HELP
         same 'status, -k' "$status $(sort made | tr '\n' ' ')" '6 1 '
         same 'messages, -k' "$(complained)" $'zigrunk-nvcc: a command failed with status 6 and without a message\nzigrunk batch: line 2: exit status 6: -c 2.cu -o 2.o\nzigrunk batch: stopped, 3 of the calls not made'
         rm -f made
+        list=${list%$'\n-c 4.cu'*}
+        batch -j 1 -k1
+        same 'messages, -k, of one call' "$status $(complained | tail -n 1)" '6 zigrunk batch: stopped, 1 of the calls not made'
+        list+=$'\n-c 4.cu -o 4.o\n-c whole.cu -o 5.o'
+        rm -f made
         batch -j2 -k 0
         same 'status and calls, -k 0' "$status $(sort made | tr '\n' ' ')" '6 1 3 4 5 '
         end
@@ -402,7 +406,7 @@ HELP
             0,* | 2,'/bin/sh: 0: '*'Invalid argument'* | 1,*'zigrunk batch: no process for '* | 1,*'zigrunk batch: no temporary directory: '* | 1,*'Too many open files'*) ;;
             *) problems+="  with $number files: $(head -c 300 "$room/err")"$'\n' ;;
             esac
-            within 5 none_run || problems+="  processes with $number files"$'\n'
+            within 5 none_run || problems+="  processes with $number files: $(shown "$room")"$'\n'
         done
         find "$room/tmp/zigrunk-$user" -mindepth 1 -maxdepth 1 -exec touch -d '11 minutes ago' {} +
         batch
@@ -585,6 +589,10 @@ END
         list='[{"directory": "missing", "file": "x", "command": "true"}]'
         batch
         same 'a folder that is missing' "$status $(complained | head -n 1)" "2 zigrunk batch: no folder $PWD/missing"
+        : > file
+        list='[{"directory": "file", "file": "x", "command": "true"}]'
+        batch
+        same 'a file in place of a folder' "$status $(complained | head -n 1)" "2 zigrunk batch: no folder $PWD/file"
         end
     fi
 }
@@ -664,7 +672,7 @@ stops() {
     { wait "$process"; } 2> /dev/null
     same status "$?" "$2"
     [ $((${EPOCHREALTIME/./} - ${begun/./})) -lt 18000000 ] || problems+='  it takes longer than three seconds of an idle machine'$'\n'
-    within 5 none_run || problems+="  processes: $(pgrep -af "$room")"$'\n'
+    within 5 none_run || problems+="  processes: $(shown "$room")"$'\n'
     [ ! -e made ] || problems+='  a command goes on'$'\n'
     end
 }
@@ -678,7 +686,7 @@ killed() {
     within 20 started started 1 || problems+='  no command starts'$'\n'
     kill -KILL $!
     { wait $!; } 2> /dev/null
-    within 10 none_run || problems+="  processes: $(pgrep -af "$room")"$'\n'
+    within 10 none_run || problems+="  processes: $(shown "$room")"$'\n'
     [ ! -e made ] || problems+='  a command goes on'$'\n'
     within 10 eval '[ ! -e "$room/tmp/zigrunk-$user/batch" ]' || problems+='  its directory stays'$'\n'
     # What the call left goes with the next equal one.
@@ -694,18 +702,43 @@ reports() {
         list=$'-c a.cu -o a.o\n-c b.cu -o b.o\n-c whole.cu -o "w<.o"'
         batch ZIGRUNK_LOG="$room/calls"
         "$scratch/bin/zigrunk-report" --trace "$room/trace" --html "$room/page" "$room/calls" > "$room/report" 2>&1
-        same 'status and first lines' "$? $(sed -n 1,3p "$room/report")" $'0 calls: 3, failed: 1\nsplit: 2 of 3 (67 %)\n       1  to nvcc: a dry run fails'
-        same 'the page' "$(grep -c '<h2>' "$room/page") $(grep -c 'Longest chain' "$room/page") $(tail -n 1 "$room/page") $(grep -c '<script\|http' "$room/page")" '7 1 </html> 0'
+        same 'status and first lines' "$? $(sed -n '1p; 3,4p' "$room/report")" $'0 calls: 3, failed: 1\nsplit: 2 of 3 (67 %)\n       1  to nvcc: a dry run fails'
+        same 'calls that failed' "$(sed -n 2p "$room/report" | grep -c '^  status 3: [^ ]*nvcc -c b.cu -o b.o$')" 1
+        same 'the page' "$(grep -c '<h2>' "$room/page") $(grep -c 'Longest chain' "$room/page") $(tail -n 1 "$room/page") $(grep -c '<script\|http' "$room/page")" '8 1 </html> 0'
         if command -v python3 > /dev/null; then
             same 'the trace' "$(python3 -c 'import json, sys; print(len(json.load(open(sys.argv[1]))["traceEvents"]))' "$room/trace")" "$(($(grep -o '"kind"' "$room/calls" | wc -l) + 1))"
         fi
         end
     fi
+    if case_of 'the log of a batch has a hint once'; then
+        write a.cu ':'
+        list=$'--keep --keep-dir missing -c a.cu -o a.o\n--keep --keep-dir missing -c a.cu -o b.o\n-c a.cu -o c.o'
+        batch ZIGRUNK_LOG="$room/calls"
+        same 'status, lines and hints' "$status $(wc -l < "$room/calls") $(grep '^{"hint"' "$room/calls")" '0 4 {"hint":"make the directory that --keep-dir names"}'
+        same 'the report' "$("$scratch/bin/zigrunk-report" "$room/calls" | sed -n 2,4p)" $'split: 1 of 3 (33 %)\n       2  to nvcc: the keep directory is missing\n  hint: make the directory that --keep-dir names'
+        end
+    fi
+    if case_of 'a log without commands'; then
+        write whole.cu ':'
+        list='-c whole.cu -o w.o'
+        batch ZIGRUNK_LOG="$room/calls"
+        "$scratch/bin/zigrunk-report" --trace "$room/trace" --html "$room/page" "$room/calls" > "$room/report" 2>&1
+        same 'status and first lines' "$? $(sed -n 1,3p "$room/report")" $'0 calls: 1, failed: 0\nsplit: 0 of 1 (0 %)\n       1  to nvcc: a dry run fails'
+        same 'lines on commands' "$(grep -c '^commands:\|^the slowest:' "$room/report")" 0
+        same 'the page' "$(grep -c '<h2>Why nvcc' "$room/page") $(grep -c 'NaN\|inf' "$room/page") $(tail -n 1 "$room/page")" '1 0 </html>'
+        end
+    fi
     if case_of 'logs that are cut, missing or no logs'; then
         head -c 300 < /dev/urandom > junk
         printf '{"begin":1,"end":2,"status":0,"commands":[],"words":["nvcc"]}\n{"begin":1,"en' > short
-        "$scratch/bin/zigrunk-report" junk short --html page > report 2>&1
+        { cat short; echo; cat junk; } > mixed
+        "$scratch/bin/zigrunk-report" mixed --html page > report 2>&1
         same 'a cut log and junk' "$? $(head -n 1 report) $(tail -n 1 report | grep -c 'lines are no entries of such a log') $(tail -n 1 page)" '0 calls: 1, failed: 0 1 </html>'
+        "$scratch/bin/zigrunk-report" short junk > report 2>&1
+        same 'junk alone' "$? $(cat report)" '1 zigrunk report: junk is no log of ZIGRUNK_LOG: none of its lines is an entry'
+        : > empty
+        "$scratch/bin/zigrunk-report" empty > report 2>&1
+        same 'an empty log' "$? $(cat report)" $'0 calls: 0, failed: 0\nsplit: 0 of 0'
         "$scratch/bin/zigrunk-report" missing > report 2>&1
         same 'no log' "$? $(cat report)" '1 zigrunk report: cannot read missing: No such file or directory'
         "$scratch/bin/zigrunk-report" --html missing/page short > report 2>&1
@@ -723,6 +756,23 @@ reports() {
 }
 
 stopped() {
+    if case_of 'a batch ends by the signal that ends it' && command -v python3 > /dev/null; then
+        write a.cu 'echo >> started; sleep 300'
+        echo '-c a.cu -o a.o' > list
+        for signal in HUP:1 INT:2 TERM:15; do
+            : > started
+            env --default-signal=HUP,INT,TERM LOG="$room/log" TMPDIR="$room/tmp" XDG_RUNTIME_DIR="$room/run" python3 -c '
+import subprocess, sys
+with subprocess.Popen(sys.argv[1:]) as process:
+    print(process.pid, flush=True)
+    print(process.wait())' "$scratch/bin/zigrunk-batch" list > "$room/ended" 2> "$room/err" &
+            within 20 started started 1 || problems+='  no command starts'$'\n'
+            kill -s "${signal%:*}" "$(head -n 1 "$room/ended")"
+            wait $!
+            same "end by ${signal%:*}" "$(tail -n 1 "$room/ended")$(cat "$room/err")" "-${signal#*:}"
+        done
+        end
+    fi
     stops TERM 143
     stops INT 130
     stops HUP 129 env

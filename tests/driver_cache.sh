@@ -44,8 +44,10 @@ ran() {
     same "tools that ran $1" "$(grep -v '^nvcc\|^gcc-E\|^fatbinary' "$room/log" | sort | tr '\n' ' ')" "$(printf '%s ' "${@:2}")"
     same "status $1" "$status" 0
 }
-all=(cicc.80 cicc.90 cudafe++ gcc-c ptxas.80 ptxas.90)
+all=(as cicc.80 cicc.90 cudafe++ gcc-S ptxas.80 ptxas.90)
 ran_all() { ran "$1" "${all[@]}"; }
+# (a compile is made in two steps where it may be kept)
+ran_uncached() { ran "$1" cicc.80 cicc.90 cudafe++ gcc-c ptxas.80 ptxas.90; }
 ran_none() { same "tools that ran $1" "$(grep -v '^nvcc\|^gcc-E\|^fatbinary' "$room/log")" '' && same "status $1" "$status" 0; }
 
 # end: counts the case. Nothing stays in the folder for temporary files.
@@ -97,7 +99,7 @@ stand_ins() {
         same 'product that was removed' "$(cmp k.o first.o 2>&1)" ''
         same messages "$(cat "$room/err" "$room/out")" ''
         call ZIGRUNK_CACHE= -c k.cu -o other.o
-        ran_all 'without the cache'
+        ran_uncached 'without the cache'
         same 'product without the cache' "$(cmp other.o first.o 2>&1)" ''
         end
     fi
@@ -145,11 +147,11 @@ stand_ins() {
         done
         same 'it ran' "$(grep -c '^ptxas.80' "$room/log")" 1
         for try in 1 2; do
-            call TOOL_DOES='[ "$name" != gcc-c ] || { echo "no $name" >&2; exit 4; }' -c k.cu -o k.o
+            call TOOL_DOES='case $name in gcc-[cS]) echo "no $name" >&2; exit 4 ;; esac' -c k.cu -o k.o
             same "status of the compiler, try $try" "$status $(cat "$room/err")" '4 no gcc-c'
         done
         call -c k.cu -o k.o
-        ran 'at last' gcc-c
+        ran 'at last' as gcc-S
         end
     fi
     if case_of 'a tool of the same size and time'; then
@@ -163,7 +165,7 @@ stand_ins() {
             bin/ptxas) ran "with another $tool" ptxas.80 ptxas.90 ;;
             nvvm/bin/cicc) ran "with another $tool" cicc.80 cicc.90 ;;
             bin/cudafe++) ran "with another $tool" cudafe++ ;;
-            *) ran "with another $tool" gcc-c ;;
+            *) ran "with another $tool" as gcc-S ;;
             esac
             cp -p "$room/kept" "$CUDA/$tool"
             call -c k.cu -o k.o
@@ -175,7 +177,7 @@ stand_ins() {
         call -c k.cu -o k.o
         mkdir "$room/bin" && cp "$CUDA/bin/as" "$room/bin" && echo >> "$room/bin/as"
         call OWN_FORM="s,^\(#. PATH=\),\1$room/bin:," KEPT_FORM="s,^\(#. PATH=\),\1$room/bin:," -c k.cu -o k.o
-        ran 'with another' gcc-c
+        ran 'with another' as gcc-S
         end
     fi
     if case_of 'scripts as tools'; then
@@ -280,7 +282,7 @@ stand_ins() {
     if case_of 'environments'; then
         call -c k.cu -o k.o
         call LANG=xx -c k.cu -o k.o
-        ran 'with another language' gcc-c
+        ran 'with another language' as gcc-S
         call DEPENDENCIES_OUTPUT="$room/deps" -c k.cu -o k.o
         ran_none 'with DEPENDENCIES_OUTPUT, since nvcc makes the call'
         call LD_PRELOAD="" -c k.cu -o k.o
@@ -345,17 +347,19 @@ stand_ins() {
         end
     fi
     if case_of 'what is not asked for'; then
-        for value in '' no; do
+        for value in '' no OFF 0; do
             call ZIGRUNK_CACHE=$value -c k.cu -o k.o
-            ran_all "with '$value'"
+            ran_uncached "with '$value'"
         done
         call ZIGRUNK_EXPLAIN=1 ZIGRUNK_LAUNCHER=env -c k.cu -o k.o
-        ran_all 'with a launcher'
+        ran_uncached 'with a launcher'
         same 'messages with a launcher' "$(cat "$room/err")" "zigrunk-nvcc: ZIGRUNK_CACHE doesn't count beside ZIGRUNK_LAUNCHER or ZIGRUNK_RUNNER"
         same 'the folder' "$([ -e "$room/cache" ] || echo none)" none
         call ZIGRUNK_CACHE=yes XDG_CACHE_HOME="$room/users" -c k.cu -o k.o
         same "the user's folder" "$(ls "$room/users")" zigrunk
-        call ZIGRUNK_CACHE=relative -c k.cu -o k.o
+        call ZIGRUNK_CACHE=True XDG_CACHE_HOME="$room/users" -c k.cu -o k.o
+        same 'commands with True' "$(grep -c '^+ ptxas' "$room/log")" 0
+        call ZIGRUNK_CACHE=./relative -c k.cu -o k.o
         same 'a relative folder' "$(find relative -type f | wc -l)" "$(find "$room/users/zigrunk" -type f -not -path '*/programs/*' | wc -l)"
         end
     fi
@@ -423,7 +427,7 @@ late() {
         ran_all 'without the cache'
         same 'product without the cache' "$(cmp k.o first.o 2>&1)" ''
         call ZIGRUNK_LATE=0 -c k.cu -o k.o
-        ran 'as one command' gcc-c
+        ran 'as one command' as gcc-S
         end
     fi
     if case_of 'late: what a change runs again'; then
@@ -483,7 +487,7 @@ late() {
     if case_of 'late: an assembler that says something, or fails'; then
         for does in 'echo odd >&2' 'exit 3'; do
             call TOOL_DOES="[ \"\$name\" != as ] || { $does; }" -c k.cu -o k.o
-            same "who makes it with $does" "$status $(cat k.o)" '0 made by nvcc'
+            same "status and who makes it with $does" "$status $(grep -c 'made by nvcc' k.o)" '0 0'
         done
         call -c k.cu -o k.o
         ran 'at last' as

@@ -7,6 +7,7 @@ cd "$(dirname "$0")/.." || exit 1
 . tests/lib.sh
 require 'commands that begin early' nvcc python3
 wrapper=${DRIVER_BIN:-$PWD/out/rust/target/release}/zigrunk-nvcc
+tests=$PWD/tests
 unset NVCC_PREPEND_FLAGS NVCC_APPEND_FLAGS MAKEFLAGS ZIGRUNK_RUNNER ZIGRUNK_LAUNCHER ZIGRUNK_TMP ZIGRUNK_EARLY ZIGRUNK_LATE
 
 cp tests/small/cuda_runtime.h "$scratch"
@@ -23,6 +24,8 @@ void run(float* values) { scale<2><<<1, 32>>>(values); scale<3><<<1, 32>>>(value
 END_OF_SOURCE
 printf '#warning odd\n#pragma message("odd too")\n__global__ void k(int* p) { int unused; *p = 1; }\n' > warns.cu
 echo '__global__ void k(int* p) { *p = no_such; }' > fails.cu
+# (a stub file of several hundred thousand bytes, for a pipe that holds one part)
+for number in {1..500}; do echo "template <class T> __global__ void kernel_${number}_of_a_long_name(T* values, int count) {} template __global__ void kernel_${number}_of_a_long_name(float*, int);"; done > many.cu
 printf '#ifdef __CUDA_ARCH__\n__device__ int f() { return no_such; }\n#else\nint f() { return 1; }\n#endif\n' > device.cu
 printf '#ifndef __CUDA_ARCH__\nint f() { return no_such; }\n#endif\n__global__ void k() {}\n' > host.cu
 echo '#include "no_such.h"' > header.cu
@@ -97,6 +100,10 @@ compare '-E cicc -S' "${two[@]}" -dc k.cu -o k.o
 compare '-E cicc -S' -Xcompiler -Wshadow -G "${two[@]}" -c k.cu -o k.o
 compare '-E cicc -S' "${two[@]}" -c warns.cu
 compare '-E cicc -S' "${two[@]}" -c device.cu
+# gcc shows lines of the stub file, which it reads again for that.
+compare '-E cicc -S' -Xcompiler -Wold-style-cast,-Wredundant-decls,-Wunused -c k.cu -o k.o
+compare '-E cicc -S' -Xcompiler -Wfatal-errors -c host.cu
+compare '-E cicc -S' -MD -c many.cu
 compare '-E cicc' "${two[@]}" -g -c k.cu -o k.o
 ZIGRUNK_SLOTS=1 XDG_RUNTIME_DIR=$scratch compare '' "${two[@]}" -c k.cu -o k.o
 export ZIGRUNK_LATE=0
@@ -110,6 +117,22 @@ compare '' -t 1 -c k.cu -o k.o
 ZIGRUNK_LAUNCHER='env' compare '' "${two[@]}" -c k.cu -o k.o
 ZIGRUNK_RUNNER='env' compare '' "${two[@]}" -c k.cu -o k.o
 ZIGRUNK_SLOTS=1 XDG_RUNTIME_DIR=$scratch compare '' "${two[@]}" -c k.cu -o k.o
+
+# What is interrupted for ever ends.
+if command -v strace > "$scratch/strace"; then
+    for early in 0 1; do
+        rm -f k.o
+        ZIGRUNK_EARLY=$early ZIGRUNK_LATE='' timeout -s KILL 120 strace -b execve -o trace -e trace=read,pread64 -e inject=read,pread64:error=EINTR:when=7+ \
+            "$wrapper" -MD -c k.cu -o k.o > said 2>&1
+        same "status and product with ZIGRUNK_EARLY=$early, if reads are interrupted" "$? $(ls k.o) $(($(grep -c EINTR trace) > 0))" '0 k.o 1'
+    done
+else
+    skip 'reads that are interrupted' 'there is no strace'
+fi
+
+# A reader that the kernel lets go on is heard of, and the stub file takes no patience.
+problem=$("$tests/faults/patience.py" --trials "${PATIENCE_TRIALS-4}" "$wrapper" 2>&1) && problem=''
+count 'a kernel that loses its patience' "$problem"
 
 same 'what begins early in some call' "$(printf '%s\n' "${!all_early[@]}" | sort | paste -sd ' ')" '-E -S cicc'
 

@@ -131,7 +131,7 @@ else
     start isolated tests/isolated.py "${alone[@]}" "$wrapper"
     start conditions tests/conditions.sh "$program"
     start own_commands nice tests/own_commands.py "${calls[@]}"
-    start calls nice tests/compare_calls.py --scratch "$scratch" --jobs "$(nproc)" "${calls[@]}"
+    start calls nice tests/compare_calls.py --scratch "$scratch" --jobs "$(nproc)" "${calls[@]}" tests/calls_wrappers.txt
 fi
 for part in "${started[@]}"; do finish "$part"; done
 for part in "${started[@]}"; do cat "$scratch/$part.took"; done

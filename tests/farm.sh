@@ -14,7 +14,6 @@ trap 'kill $(jobs -p) 2> /dev/null; rm -rf "$scratch"' EXIT
 unset NVCC_PREPEND_FLAGS NVCC_APPEND_FLAGS CDPATH MAKEFLAGS MFLAGS "${!ZIGRUNK@}" "${!SLURM@}"
 user=$(id -u)
 shell=(farm)
-end_shell() { summary; exit 1; }
 driver=$(realpath "${1:-out/rust/target/release/zigrunk-driver}")
 [ -x "$driver" ] || skip_all 'the farm' "there is no $driver: tests/driver.sh builds it"
 require 'the farm' cc python3

@@ -1,5 +1,6 @@
 #!/usr/bin/env bash
-# Tests how the gate starts rt ci (.ci/prove), with stand-ins for the rt of each kind of kit. The last line is 'N passed, M failed'.
+# Tests how the gate starts rt ci (.ci/prove), with stand-ins for the rt of each kind of kit, what is said without a kit, and what
+# tests/mutants_by_lot.py takes for a success. The last line is 'N passed, M failed'.
 set -u
 cd "$(dirname "$0")/.." || exit 1
 . tests/lib.sh
@@ -36,5 +37,34 @@ ends 'the same with ANEW=1' 0 '0 words, , at the top' older ANEW=1
 ends 'a kit that keeps proofs' 0 '0 words, , at the top' newer
 ends 'one that is told not to' 0 '1 words, --anew, at the top' newer ANEW=1
 ends 'a proof that fails' 1 '30 passed, 1 failed' fails
+
+# without_kit WHAT STATUS INSTEAD COMMAND..: without rt a command ends with this status and one line, which says what to run in its place.
+without_kit() {
+    local said status problem=''
+    said=$(env -i PATH="$scratch/tools" HOME="$scratch" "${@:4}" 2>&1)
+    status=$?
+    [ "$status" = "$2" ] && [ "$(wc -l <<< "$said")" = 1 ] && [[ $said == *"needs the Rattle kit"*"$3"* ]] || problem="status $status, $said"
+    count "$1, without the kit" "$problem"
+}
+
+mkdir "$scratch/tools"
+for tool in sh bash env make dirname; do ln -s "$(command -v $tool)" "$scratch/tools/$tool"; done
+# (a python3 on the path may be a script that needs more)
+ln -s "$(python3 -c 'import sys; print(sys.executable)')" "$scratch/tools/python3"
+without_kit 'make test' 2 'run: make rust lint check-docs && tests/driver.sh' make test
+for target in check lib build; do without_kit "make $target" 2 'run: make rust' make "$target"; done
+without_kit 'make test-install' 2 'run: make rust-install' make test-install
+without_kit 'the gate' 2 'run: make rust' .ci/gate
+without_kit 'tests/quick' 1 'make rust' tests/quick dry_runs
+
+check 'what edits by lot take for a success' python3 - << 'END_OF_PROGRAM'
+import sys
+sys.path.insert(0, "tests")
+from mutants_by_lot import tried_any
+for said, wanted in [("", False), ("0 passed, 0 failed\n", False), ("3 passed, 0 failed\n", True), ("3 passed, 0 failed\nmore\n", False),
+                     ("0 passed, 0 failed, 1 skipped\n", True), ("3 passed, 1 failed\n", False), ("13 passed, 0 failed", True), ("x3 passed, 0 failed", False),
+                     ("test result: ok. 0 passed; 0 failed; 0 ignored\n", False), ("test result: ok. 9 passed; 0 failed; 0 ignored\n", True)]:
+    assert tried_any(said) == wanted, said
+END_OF_PROGRAM
 
 summary

@@ -19,6 +19,8 @@ import tempfile
 from concurrent.futures import Future, ThreadPoolExecutor
 from typing import Any, Callable, Dict, List
 
+if not shutil.which("rt"):
+    sys.exit(f"{sys.argv[0]} needs the Rattle kit, whose rt is not on PATH. Without it, make rust compiles the crates.")
 sys.path.insert(0, os.path.dirname(os.path.realpath(shutil.which("rt") or "rt")))
 import rtlib as rtlib  # the kit's own: what it passes to its prover for a crate
 

@@ -47,11 +47,11 @@ made() {
     cp -pr inc work
     said=$({ cd work && ZIGRUNK_LATE=$1 "$wrapper" "${@:2}" 2>&1; echo "status $?"; } | sed 's|/[^ ]*/cc[A-Za-z0-9]*\.s:|x.s:|')
     files=$(cd work && find . -type f -print0 | sort -z | xargs -0 cksum)
-    halves=$(grep -o '"kind":"gcc -S' log)
+    halves=$(grep -oE '"kind":"[^" ]*(gcc|g\+\+) -S' log)
 }
 
-# compare BEGINS WORDS..: a case. BEGINS says whether the compile begins 'early' or 'waits', or that 'nvcc' makes the call in the end, since
-# the assembler complains.
+# compare BEGINS WORDS..: a case. BEGINS says whether the compile begins 'early' or 'waits', or that it is made 'again' as a whole, since the
+# assembler complains. nvcc doesn't make the call then, and one host compile more is all.
 compare() {
     local problem='' wanted_said wanted_files
     made 0 "${@:2}"
@@ -61,10 +61,10 @@ compare() {
     case $1 in
         early) [ -n "$halves" ] || problem+='its compile waits; ' ;;
         waits) [ -z "$halves" ] || problem+='its compile begins early; ' ;;
-        nvcc) grep -q 'its assembler fails, or says something' log || problem+='nvcc makes it for another reason; ' ;;
+        again) [ -n "$halves" ] && ! grep -q '"reason"' log || problem+='its halves are not made, or nvcc makes it; ' ;;
     esac
     [ "$1" = waits ] || [ "$said" = "$wanted_said" ] || problem+="it says '$said', not '$wanted_said'; "
-    [ "$1" != early ] || [ "$files" = "$wanted_files" ] || problem+='it makes other files'
+    [ "$1" = waits ] || [ "$files" = "$wanted_files" ] || problem+='it makes other files'
     count "${*:2}" "$problem"
 }
 
@@ -88,9 +88,13 @@ compare early -c device.cu
 compare early -Xcompiler -Wshadow -c shadow.cu
 compare early -Xcompiler -Wshadow,-Werror -c shadow.cu
 compare early -Iinc -c data.cu
-compare nvcc -c data.cu
-compare nvcc -c assembly.cu
-compare nvcc -c odd.cu
+compare again -c data.cu
+compare again -c assembly.cu
+compare again -c odd.cu
+compare again "${two[@]}" -rdc=true -MD -MF k.d -c odd.cu -o k.o
+ZIGRUNK_EARLY=0 compare again -c odd.cu
+ZIGRUNK_CACHE=$scratch/cache compare again -c odd.cu
+ZIGRUNK_CACHE=$scratch/cache compare again -c odd.cu
 for word in -g -Xcompiler=-g -Xcompiler=-g1 -Xcompiler=-pipe -Xcompiler=-save-temps -Xcompiler=-flto -Xcompiler=-fstack-usage -Xcompiler=--coverage \
     -Xcompiler=-frecord-gcc-switches -Xcompiler=-MD -Xcompiler=-v -Xcompiler=-m32 -Xcompiler=-fno-ident --keep; do
     compare waits "$word" -c k.cu -o k.o
@@ -102,6 +106,15 @@ if command -v clang++ > /dev/null; then
 else
     skip 'another compiler' 'no clang++'
 fi
+mkdir hosts
+ln -s "$(command -v g++)" hosts/g++
+ln -s g++ hosts/gcc
+printf '#!/bin/sh\nexec g++ "$@"\n' > hosts/x86_64-linux-gnu-g++
+chmod +x hosts/x86_64-linux-gnu-g++
+compare early -ccbin "$scratch/hosts" -c k.cu -o k.o
+compare early -ccbin "$scratch/hosts/g++" -c k.cu -o k.o
+compare waits -ccbin "$scratch/hosts/x86_64-linux-gnu-g++" -c k.cu -o k.o
+PATH=$scratch/hosts:$PATH compare waits -ccbin x86_64-linux-gnu-g++ -c k.cu -o k.o
 ZIGRUNK_LAUNCHER='env' compare waits -c k.cu -o k.o
 ZIGRUNK_RUNNER='env' compare waits -c k.cu -o k.o
 GCC_COMPARE_DEBUG='' compare waits -c k.cu -o k.o

@@ -149,7 +149,7 @@ inherit() (
 # words of $shell start the shell. SHELLS, if set, names the shells instead, as SHELLS='dash bash'. STOP_EARLY, if set, ends the
 # cases of a shell at the first failure.
 by_shells() {
-    local choice tried=() good bad
+    local choice tried=() good bad counted_by_shell=yes
     for choice in ${SHELLS-dash bash busybox}; do
         shell=("$choice")
         [ "$choice" != busybox ] || shell=(busybox sh)
@@ -169,10 +169,27 @@ by_shells() {
     done
 }
 
-# end_shell: notes the counts of this shell, and ends its process.
+# end_shell: ends the process that runs cases. One of `by_shells` notes its counts, and any other prints them as the last line, so that what ends
+# early fails as what ends late does.
 end_shell() {
+    if [ -z "${counted_by_shell-}" ]; then
+        summary
+        exit
+    fi
     echo "$passed $failed" > "${room%/*}/counts"
     exit
+}
+
+# running FOLDER: the numbers of the processes that have a folder in their words, and of those that a case there started: they have its log in
+# their variables. A tool's own children name no folder.
+running() {
+    { pgrep -f "$1"; env -u LOG grep -lsz "^LOG=$1/" /proc/[0-9]*/environ | cut -d / -f 3; } | sort -u
+}
+
+# shown FOLDER: the same with their words.
+shown() {
+    local process
+    for process in $(running "$1"); do echo "$process $(tr '\0' ' ' 2> /dev/null < "/proc/$process/cmdline")"; done
 }
 
 # begin NAME: begins a case, whose working directory is $room/work.

@@ -583,7 +583,7 @@ plan_schema() {
     said=$(tests/schema.py "$program") || said+=$'\n'"status $?"
     case $said in
     *' skipped'*) echo "$said" ;;
-    *' passed, 0 failed') count 'the JSON of real plans' '' ;;
+    *[1-9]' passed, 0 failed' | *[1-9]0' passed, 0 failed') count 'the JSON of real plans' '' ;;
     *) count 'the JSON of real plans' "$said" ;;
     esac
 }
@@ -642,7 +642,6 @@ long_exports() {
         counts "a thousand programs as $format" "$dropped" 'bin/p[0-9]\+' "$format" /w /t -c "$scratch/programs" "$scratch/programs.2"
     done
     counts 'a fatbin of a thousand images as json' 2000 'k[0-9]\+\.cubin' json /w /t -c "$scratch/images" "$scratch/images.2"
-        dot /w /t -c "$scratch/programs" "$scratch/programs.2"
     counts 'a command of ten thousand words as a compilation database' 10000 '-DA' compdb /w /t -c "$scratch/words" "$scratch/words.2"
     counts 'a thousand sources as a compilation database' 1000 '"file":"/w/s[0-9]\+\.cu"' compdb /w /t -c "$scratch/sources" "$scratch/sources.2"
     counts 'a hundred device groups as a compilation database' 100 'x_[0-9]\+\.cpp1\.ii' compdb /w /t -c "$scratch/groups" "$scratch/groups.2"
@@ -899,7 +898,7 @@ long_messages() {
         json --limit 100000000 /w /t -c "$scratch/kernel" "$scratch/bad"
     lines_of bad "#\$ PATH=/$long" '#$ nowhere'
     check 'a program that is not in a path of a megabyte' 1 '' \
-        "zigrunk plan: $scratch/bad:2: cannot find nowhere in PATH (/${long:0:999}..)"$'\n    #$ nowhere\n' json /w /t -c "$scratch/kernel" "$scratch/bad"
+        "zigrunk plan: $scratch/bad:2: cannot find nowhere in PATH (/${long:0:970}.."$'\n    #$ nowhere\n' json /w /t -c "$scratch/kernel" "$scratch/bad"
     long=${long:0:100000}
     fails 'a file with a name of 100,000 bytes' "cannot read ${long:0:1000}..: File name too long" json /w /t -c "$long" x
 }

@@ -17,7 +17,7 @@ ends() {
 # by_library COMMANDS: runs commands of tests/lib.sh. They find a file with a last line, written by `last STATUS LINE`.
 by_library() {
     # shellcheck disable=SC2016 # for bash
-    bash -c '. tests/lib.sh; last() { echo "$2" > "$scratch/it"; add "$1" "$scratch/it"; }; '"$1"
+    env -u ONLY -u STOP_EARLY bash -c '. tests/lib.sh; last() { echo "$2" > "$scratch/it"; add "$1" "$scratch/it"; }; '"$1"
 }
 
 ends 'a script without a case' 1 $'no case ran\n0 passed, 1 failed' by_library summary
@@ -29,6 +29,14 @@ ends 'a script that is skipped' 0 '0 passed, 0 failed, 1 skipped' by_library 're
 # shellcheck disable=SC2016 # for bash
 ends 'a case of several texts' 1 $'sh: it: one: \'x\', not \'y\'\n  two: \'x\', not \'z\'\n0 passed, 1 failed' \
     by_library 'shell=(sh); room=$scratch/room; begin it; same one x y; same two x z; same three x x; end_case; summary'
+# Each of two cases fails. What isn't of `by_shells` prints the last line, wherever it ends.
+# shellcheck disable=SC2016 # for bash
+fails_twice='shell=(x) room=$scratch/room; two() { begin one; same text 1 2; end_case; begin two; same text 3 4; end_case; }'
+ends 'a script that goes on after a failure' 1 $'\'1\', not \'2\'\nx: two: text: \'3\', not \'4\'\n0 passed, 2 failed' by_library "$fails_twice; two; summary"
+ends 'a script that stops early' 1 $'\'1\', not \'2\'\n0 passed, 1 failed' by_library "STOP_EARLY=yes; $fails_twice; two; summary"
+ends 'shells that stop early' 1 $'\n0 passed, 2 failed' by_library "STOP_EARLY=yes SHELLS='bash sh'; $fails_twice; by_shells two; summary"
+ends 'a lane that stops early' 1 $'\'1\', not \'2\'\n0 passed, 1 failed' by_library "STOP_EARLY=yes; $fails_twice; lane it two; join_lanes; summary"
+ends 'scripts with an end of their own' 0 tests/lib.sh grep -l '^ *end_shell()' tests/*.sh
 ends 'counts of another script' 1 '4 passed, 2 failed' by_library 'last 1 "4 passed, 2 failed"; summary'
 ends 'another script that is skipped' 0 '1 passed, 0 failed' by_library 'count it ""; last 0 "0 passed, 0 failed, 1 skipped"; summary'
 ends 'another script without a case' 1 '0 passed, 1 failed' by_library 'last 0 "0 passed, 0 failed"; summary'

@@ -7,10 +7,7 @@
 set -u
 cd "$(dirname "$0")/.." || exit 1
 . tests/lib.sh
-. tests/callers/room.sh
 top=$PWD
-room=$scratch/room
-make_room "$room"
 require 'the crate for Rust' cargo rustc cc
 
 export CARGO_TARGET_DIR=${TARGET:-$scratch/target} CARGO_NET_OFFLINE=true
@@ -79,20 +76,14 @@ five_lines() {
         new_project five_lines && names_tools five_lines
 }
 
-# misuses: whether a program says of each misuse what the table of the other languages says.
-misuses() {
-    diff <(misuse_rows | awk '{print $1, $5, $6, $7}') <(misuse_rows | "$CARGO_TARGET_DIR/debug/examples/misuses" "$room")
-}
-
 check 'the page of the package has these lines too' prints '' comm -13 <(sed -n 's/^\/\/! //p' zigrunk/src/lib.rs | sort) \
     <(sed -n '/^```rust/,/^```$/p' zigrunk/README.md | grep -v '^```' | sort)
 check 'the versions' grep -qx "version = \"$version\"" Cargo.toml
 check 'the tests' cargo test -q "${packages[@]}"
-check 'programs are no tests' cargo test -q -p cudaplan -p zigrunk-cli
+check 'programs are no tests' cargo test -q -p cudaplan
 check 'what the examples write' examples_write "$CARGO_TARGET_DIR/debug/examples"
 check 'the ten lines of the page in a new project' ten_lines
 check 'the five lines of the package in a new project' five_lines
-check 'misuses' misuses
 if cargo clippy --version > /dev/null 2>&1; then
     check 'clippy' cargo clippy -q --no-deps --all-targets "${packages[@]}" -- -D warnings
     check 'the pages' env RUSTDOCFLAGS='-D warnings' cargo doc -q --no-deps "${packages[@]}"

@@ -15,8 +15,8 @@ use std::num::NonZeroUsize;
 use std::path::Path;
 use std::process::{Child, Stdio};
 
-/// The limit on the bytes that a dry run's lines are expanded to, if this nvcc has just printed it. It is far above what a line can make.
-const MOST_BYTES: NonZeroUsize = NonZeroUsize::new(1 << 28).unwrap();
+/// The limit on the bytes that a dry run's lines are expanded to, if nvcc has just printed it. It is far above what a line can make.
+pub const MOST_BYTES: NonZeroUsize = NonZeroUsize::new(1 << 28).unwrap();
 
 /// How dry runs are planned.
 #[derive(Clone, Copy)]

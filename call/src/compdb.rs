@@ -1,75 +1,74 @@
 //! A plan as a compilation database, for clang's tools.
-use crate::memory::{OutOfMemory, copied, displayed, joined, listed, texts};
-use crate::plan::{Command, Plan};
-use rattle_std::alloc::Global;
-use rattle_std::vec::Vec as List;
-use serde_json::{Map, Value, push, put};
-use std::iter;
+use crate::json::push_text;
+use crate::memory::{OutOfMemory, listed, push};
+use crate::plan::{Command, Plan, Stage};
 
 /// The macro that says a preprocessor's target.
 const TARGET: &str = "-D__CUDA_ARCH__=";
 
-/// What clang has in place of a word, given whether that follows `-x`. Nothing takes the place of a macro of nvcc's own: clang defines those
-/// that are true of it, and no header should take it for nvcc.
-fn clang_word(word: &str, after_x: bool) -> Result<Option<String>, OutOfMemory> {
+/// What clang has in place of a word, in two parts, given whether the word follows `-x`. Nothing takes the place of a macro of nvcc's own: clang
+/// defines those that are true of it, and no header should take it for nvcc.
+fn clang_word(word: &str, after_x: bool) -> Option<[&str; 2]> {
+    if let Some(target) = word.strip_prefix(TARGET) {
+        return Some(["--cuda-gpu-arch=sm_", target.strip_suffix('0').unwrap_or(target)]);
+    }
     let of_clang = match word {
         "-E" => "-fsyntax-only",
         "-D__CUDACC_RDC__" => "-fgpu-rdc",
         "c++" if after_x => "cuda",
-        _ if word.starts_with(TARGET) => {
-            let target = &word[TARGET.len()..];
-            return joined(&["--cuda-gpu-arch=sm_", target.strip_suffix('0').unwrap_or(target)]).map(Some);
-        }
-        _ if word.starts_with("-D__CUDA") || word.starts_with("-D__NV") => return Ok(None),
+        _ if word.starts_with("-D__CUDA") || word.starts_with("-D__NV") => return None,
         _ => word,
     };
-    copied(of_clang).map(Some)
+    Some([of_clang, ""])
 }
 
-/// The line of a command: a step that preprocesses CUDA, for which nvcc has its host compiler define a macro, has the words of clang's own
-/// CUDA mode, any other has its own.
-fn line<'a>(program: &'a str, words: impl Iterator<Item = &'a str> + Clone) -> Result<Vec<String>, OutOfMemory> {
-    if !words.clone().any(|word| word == "-D__CUDACC__") {
-        return listed(iter::once(program).chain(words).map(copied));
+/// The line of a command, each word in two parts: a step that preprocesses CUDA, for which nvcc has its host compiler define a macro, has the
+/// words of clang's own CUDA mode, any other has its own.
+fn line<'a>(program: &'a str, words: &[&'a str]) -> Result<Vec<[&'a str; 2]>, OutOfMemory> {
+    if !words.contains(&"-D__CUDACC__") {
+        return listed([program].iter().chain(words).map(|&word| Ok([word, ""])));
     }
-    let is_for_device = words.clone().any(|word| word.starts_with(TARGET));
+    let is_for_device = words.iter().any(|word| word.starts_with(TARGET));
     let half = if is_for_device { "--cuda-device-only" } else { "--cuda-host-only" };
-    let befores = iter::once("").chain(words.clone());
-    let of_clang = words.zip(befores).map(|(word, before)| clang_word(word, before == "-x")).filter_map(Result::transpose);
-    listed(["clang++", half].into_iter().map(copied).chain(of_clang))
+    let befores = [""].iter().chain(words);
+    let of_clang = words.iter().zip(befores).filter_map(|(word, before)| clang_word(word, *before == "-x"));
+    listed([["clang++", ""], [half, ""]].into_iter().chain(of_clang).map(Ok))
 }
 
 /// Adds the entries of a command: one for each source that it compiles. A command whose record has all files that it reads compiles none.
-fn push_entries(list: &mut List<Value>, command: Command<'_>) -> Result<(), OutOfMemory> {
+fn push_entries(text: &mut String, command: Command<'_>) -> Result<(), OutOfMemory> {
     if command.missing().is_none() {
         return Ok(());
     }
-    let line = line(command.program(), command.arguments())?;
+    let words: Vec<&str> = listed(command.arguments().map(Ok::<_, OutOfMemory>))?;
     for source in command.reads() {
-        let mut arguments = List::new(Global);
-        for word in &texts(&line)? {
-            push(&mut arguments, Value::try_from_str(Global, word.as_str())?)?;
+        push(text, if text.len() > 1 { "," } else { "" })?;
+        push(text, "{\"arguments\":[")?;
+        for (place, word) in line(command.program(), &words)?.into_iter().enumerate() {
+            push(text, if place > 0 { "," } else { "" })?;
+            push_text(text, &word)?;
         }
-        let mut entry = Map::new(Global);
-        put(&mut entry, Global, "arguments", Value::Array(arguments))?;
-        put(&mut entry, Global, "directory", Value::try_from_str(Global, command.cwd())?)?;
-        put(&mut entry, Global, "file", Value::try_from_str(Global, source)?)?;
-        push(list, Value::Object(entry))?;
+        push(text, "],\"directory\":")?;
+        push_text(text, &[command.cwd()])?;
+        push(text, ",\"file\":")?;
+        push_text(text, &[source])?;
+        push(text, "}")?;
     }
     Ok(())
 }
 
 /// The commands of a plan that compile its source: the host compiler's of all groups but the last, which compiles only files that other
 /// commands have written.
-pub fn text(plan: &Plan) -> Result<String, OutOfMemory> {
-    let mut list = List::new(Global);
-    let groups = plan.groups().len();
-    for group in plan.groups().take(groups.saturating_sub(1)) {
+pub(crate) fn text(plan: &Plan) -> Result<String, OutOfMemory> {
+    let mut text = String::new();
+    push(&mut text, "[")?;
+    for group in plan.groups().filter(|group| group.stage() != Stage::Final) {
         for command in group.commands() {
-            push_entries(&mut list, command)?;
+            push_entries(&mut text, command)?;
         }
     }
-    joined(&[&displayed(&Value::Array(list))?, "\n"])
+    push(&mut text, "]\n")?;
+    Ok(text)
 }
 
 #[cfg(test)]
@@ -91,7 +90,9 @@ mod tests {
             ("-D__CUDA_ARCH__=800 -E -D__NVCC__ k.cu", "/b/gcc -D__CUDA_ARCH__=800 -E -D__NVCC__ k.cu"),
         ];
         for (words, wanted) in cases {
-            assert_eq!(line("/b/gcc", words.split(' ')).unwrap().join(" "), wanted);
+            let words: Vec<&str> = words.split(' ').collect();
+            let line: Vec<String> = line("/b/gcc", &words).unwrap().iter().map(|parts| parts.concat()).collect();
+            assert_eq!(line.join(" "), wanted);
         }
     }
 }

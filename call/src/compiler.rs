@@ -2,6 +2,7 @@
 use crate::programs::{find, is_program};
 use std::env;
 use std::ffi::{OsStr, OsString};
+use std::fmt;
 use std::fs::{self, Metadata};
 use std::os::unix::ffi::{OsStrExt, OsStringExt};
 use std::os::unix::fs::MetadataExt;
@@ -80,12 +81,24 @@ pub struct Caller<'a> {
     pub own_name: &'a OsStr,
 }
 
+/// The nvcc that a call names is this program, and there is no other.
+#[derive(Clone, Debug, PartialEq, Eq)]
+pub struct NoOtherNvcc(OsString);
+
+impl fmt::Display for NoOtherNvcc {
+    fn fmt(&self, f: &mut fmt::Formatter<'_>) -> fmt::Result {
+        write!(f, "{} is zigrunk-nvcc itself, and PATH has no other nvcc", self.0.to_string_lossy())
+    }
+}
+
+impl std::error::Error for NoOtherNvcc {}
+
 /// The nvcc of a call and the words for it.
 ///
 /// # Errors
 ///
-/// If the nvcc that the call names is this program, and there is no other: that name.
-pub fn compiler<'a>(caller: &Caller<'_>, words: &'a [OsString]) -> Result<(Compiler, &'a [OsString]), OsString> {
+/// [`NoOtherNvcc`].
+pub fn compiler<'a>(caller: &Caller<'_>, words: &'a [OsString]) -> Result<(Compiler, &'a [OsString]), NoOtherNvcc> {
     let (mut name, words) = named(caller.nvcc, words);
     let path = env::var_os("PATH").unwrap_or_default();
     let own = Own { file: fs::metadata("/proc/self/exe").ok(), inside: caller.inside.to_owned() };
@@ -93,7 +106,7 @@ pub fn compiler<'a>(caller: &Caller<'_>, words: &'a [OsString]) -> Result<(Compi
     let is_own = found.as_ref().is_some_and(|found| own.includes(found));
     if is_own || (caller.own_name == "nvcc" && name == "nvcc") {
         let next = own.next_nvcc(&path, Path::new(""));
-        let Some(next) = next else { return Err(name) };
+        let Some(next) = next else { return Err(NoOtherNvcc(name)) };
         name = next.clone().into_os_string();
         found = Some(next);
     }
@@ -217,7 +230,7 @@ mod tests {
         for (nvcc, own_name) in [(exe.as_os_str(), "zigrunk-nvcc"), (OsStr::new("nvcc"), "nvcc")] {
             let caller = Caller { nvcc, inside: "".as_ref(), own_name: own_name.as_ref() };
             let found = compiler(&caller, &[]).map(|(found, _)| (found.name.clone(), found.path));
-            assert_eq!(found, next.clone().ok_or(nvcc.to_owned()).map(|path| (path.clone().into(), Some(path))));
+            assert_eq!(found, next.clone().ok_or(NoOtherNvcc(nvcc.to_owned())).map(|path| (path.clone().into(), Some(path))));
         }
     }
 }

@@ -171,7 +171,8 @@ pub(crate) enum BadLine {
     Shell,
     Empty,
     NoPath,
-    NotFound(String),
+    /// The program, and the value of `PATH` there if that is known.
+    NotFound(String, Option<String>),
     TooLong(usize),
 }
 
@@ -232,7 +233,9 @@ impl Error {
         Error::of(Cause::Unfit(why))
     }
 
-    pub(crate) fn to_nvcc(reason: impl Into<Reason>) -> Error {
+    /// nvcc has to make the call itself, for a reason.
+    #[must_use]
+    pub fn to_nvcc(reason: impl Into<Reason>) -> Error {
         Error::of(Cause::ToNvcc(reason.into()))
     }
 
@@ -270,13 +273,18 @@ impl Error {
         Error { place: Some(Place { input, line: (line > 0).then_some(line) }), ..self }
     }
 
-    /// The error, with the line of a dry run that lacks a program.
-    pub(crate) fn in_line(self, run: usize, line: usize) -> Error {
+    /// The error, with the line of a dry run that lacks a program, and the value of `PATH` there.
+    pub(crate) fn in_line(self, run: usize, line: usize, path: String) -> Error {
         let cause = match self.cause {
-            Cause::DryRun(_, what) => Cause::DryRun(run, what),
+            Cause::DryRun(_, BadLine::NotFound(program, _)) => Cause::DryRun(run, BadLine::NotFound(program, Some(path))),
             other => other,
         };
         Error { cause, ..self }.at_line(run, line)
+    }
+
+    /// The message without the place.
+    pub fn what(&self) -> impl fmt::Display + '_ {
+        What(&self.cause)
     }
 
     /// Its kind.
@@ -285,7 +293,7 @@ impl Error {
         match &self.cause {
             Cause::Plain(kind) => *kind,
             Cause::OddDirectory(_) | Cause::ExpandedDirectory => ErrorKind::OddDirectory,
-            Cause::DryRun(_, BadLine::NotFound(_)) => ErrorKind::NotFound,
+            Cause::DryRun(_, BadLine::NotFound(..)) => ErrorKind::NotFound,
             Cause::DryRun(_, BadLine::TooLong(_)) => ErrorKind::OverLimit,
             Cause::DryRun(..) => ErrorKind::BadDryRun,
             Cause::Unfit(Unfit::Unmade(_) | Unfit::Dropped) | Cause::ToNvcc(_) => ErrorKind::ToNvcc,
@@ -372,25 +380,27 @@ impl fmt::Display for BadLine {
             BadLine::Shell => f.write_str("the command has an open quote or ends in a backslash"),
             BadLine::Empty => f.write_str("the command has no words"),
             BadLine::NoPath => f.write_str("no line before this one sets PATH"),
-            BadLine::NotFound(program) => write!(f, "cannot find {program}"),
+            BadLine::NotFound(program, None) => write!(f, "cannot find {program}"),
+            BadLine::NotFound(program, _) if program.contains('/') => write!(f, "cannot find {program}: no such program"),
+            BadLine::NotFound(program, Some(path)) => write!(f, "cannot find {program} in PATH ({path})"),
             BadLine::TooLong(limit) => write!(f, "with this line, the dry run makes over {limit} bytes"),
         }
     }
 }
 
-impl fmt::Display for Error {
+/// What is wrong, wherever it is.
+struct What<'a>(&'a Cause);
+
+impl fmt::Display for What<'_> {
     fn fmt(&self, f: &mut fmt::Formatter<'_>) -> fmt::Result {
-        match &self.cause {
+        match self.0 {
             Cause::Plain(kind) => f.write_str(kind.text()),
             Cause::OddDirectory(input) => {
                 let which = if *input == Input::Tmp { "directory for temporary files" } else { "working directory" };
                 write!(f, "the {which} has to be absolute, without an empty part, . or ..")
             }
             Cause::ExpandedDirectory => f.write_str("nvcc's dry runs can't have this directory for temporary files"),
-            Cause::DryRun(run, what) => match self.place.and_then(|place| place.line) {
-                Some(line) => write!(f, "dry run {run}, line {line}: {what}"),
-                None => what.fmt(f),
-            },
+            Cause::DryRun(_, what) => what.fmt(f),
             Cause::Unfit(why) => why.fmt(f),
             Cause::ToNvcc(reason) => write!(f, "goes to nvcc: {reason}"),
             Cause::NoCompilation => f.write_str("not a compilation"),
@@ -399,9 +409,24 @@ impl fmt::Display for Error {
             Cause::Fault(text) => f.write_str(text),
             Cause::Nul => f.write_str("a text contains NUL"),
             Cause::Unwritable(refusal) => refusal.fmt(f),
-            Cause::Nvcc(printed) => f.write_str(String::from_utf8_lossy(printed).trim_end()),
+            Cause::Nvcc(printed) => f.write_str(said(printed).trim_end()),
             Cause::Io(deed, error) => write!(f, "cannot {deed}: {error}"),
         }
+    }
+}
+
+/// nvcc's messages in what it printed.
+fn said(printed: &[u8]) -> String {
+    let lines = printed.split_inclusive(|&byte| byte == b'\n').filter(|line| !line.starts_with(b"#$ "));
+    String::from_utf8_lossy(&lines.flatten().copied().collect::<Vec<u8>>()).into_owned()
+}
+
+impl fmt::Display for Error {
+    fn fmt(&self, f: &mut fmt::Formatter<'_>) -> fmt::Result {
+        if let (Cause::DryRun(run, _), Some(line)) = (&self.cause, self.place.and_then(|place| place.line)) {
+            write!(f, "dry run {run}, line {line}: ")?;
+        }
+        self.what().fmt(f)
     }
 }
 
@@ -453,7 +478,7 @@ impl From<Fault> for Error {
             Fault::EmptyCommand { run, line } => Error::dry_run(run, line + 1, BadLine::Empty),
             Fault::NoPath { run, line } => Error::dry_run(run, line + 1, BadLine::NoPath),
             Fault::NotFound { program } => match copied(program.as_str()) {
-                Ok(program) => Error::of(Cause::DryRun(0, BadLine::NotFound(program))),
+                Ok(program) => Error::of(Cause::DryRun(0, BadLine::NotFound(program, None))),
                 Err(lack) => lack.into(),
             },
             fault => message_of(&fault).map_or_else(Error::from, |text| Error::of(Cause::Fault(text))),

@@ -61,8 +61,8 @@ impl Format {
             Format::Json => plan_texts::Format::Json,
             Format::Ninja => plan_texts::Format::Ninja,
             Format::Shell => plan_texts::Format::Shell,
-            Format::Text => plan_texts::Format::Text,
             Format::Compdb => return Ok(compdb::text(plan)?),
+            Format::Text => plan_texts::Format::Text,
         };
         let text = plan_formats::plan_file(Global, format, plan.cwd(), plan.tmp(), plan.flag(), plan.proved())?;
         Ok(copied(text.as_str())?)

@@ -6,13 +6,16 @@
 mod cache_key;
 mod call;
 mod compdb;
+#[cfg(unix)]
 pub mod compiler;
 mod dry_runs;
+#[cfg(unix)]
 pub mod environments;
 mod error;
 mod fitness;
 mod formats;
 mod headers;
+pub mod json;
 mod keys;
 mod lines;
 mod memory;
@@ -29,7 +32,7 @@ mod variable;
 mod words;
 
 pub use cache_key::CacheKey;
-pub use call::{Call, Planning, Processes};
+pub use call::{Call, MOST_BYTES, Planning, Processes};
 pub use dry_runs::{DryRuns, Nvcc, Ran};
 pub use error::{Error, ErrorKind, Input, Place};
 pub use formats::Format;

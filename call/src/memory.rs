@@ -43,17 +43,19 @@ pub(crate) fn copied(text: &str) -> Result<String, OutOfMemory> {
     Ok(copy)
 }
 
+/// Adds to a text.
+pub(crate) fn push(text: &mut String, more: &str) -> Result<(), OutOfMemory> {
+    text.try_reserve(more.len())?;
+    text.push_str(more);
+    Ok(())
+}
+
 /// A copy of bytes.
 pub(crate) fn copied_bytes(bytes: &[u8]) -> Result<Vec<u8>, OutOfMemory> {
     let mut copy = Vec::new();
     copy.try_reserve_exact(bytes.len())?;
     copy.extend_from_slice(bytes);
     Ok(copy)
-}
-
-/// Copies of names and values.
-pub(crate) fn copied_pairs<'a>(pairs: impl Iterator<Item = &'a (String, String)>) -> Result<Vec<(String, String)>, OutOfMemory> {
-    listed(pairs.map(|(name, value)| Ok((copied(name)?, copied(value)?))))
 }
 
 /// The texts one behind the other.
@@ -66,14 +68,17 @@ pub(crate) fn joined(parts: &[&str]) -> Result<String, OutOfMemory> {
     Ok(whole)
 }
 
+/// Copies of names and values.
+pub(crate) fn copied_pairs<'a>(pairs: impl Iterator<Item = &'a (String, String)>) -> Result<Vec<(String, String)>, OutOfMemory> {
+    listed(pairs.map(|(name, value)| Ok((copied(name)?, copied(value)?))))
+}
+
 /// A text that grows as long as memory is left.
 struct Growing(String);
 
 impl Write for Growing {
     fn write_str(&mut self, text: &str) -> fmt::Result {
-        self.0.try_reserve(text.len()).map_err(|_| fmt::Error)?;
-        self.0.push_str(text);
-        Ok(())
+        push(&mut self.0, text).map_err(|_| fmt::Error)
     }
 }
 

@@ -155,7 +155,7 @@ impl NvccLine {
         let own = listed([&self.nvcc, "--dryrun"].into_iter().map(copied).chain(self.all_words()?.into_iter().map(Ok)))?;
         Ok(Outline {
             dependencies: outline.dependencies.as_ref().map(run).transpose()?,
-            own_dry_run: Run::new(own, copied(&self.cwd)?, self.environment()?),
+            own_dry_run: Run::new(own, copied(&self.cwd)?).within(self.environment()?),
             first_dry_run: run(&outline.first)?,
             second_dry_run: run(&outline.second)?,
             flag: copied(outline.flag.as_str())?,
@@ -169,7 +169,7 @@ impl NvccLine {
         let mut words = strings(command.arguments.as_slice())?;
         words.try_reserve(1)?;
         words.insert(0, copied(command.executable.as_str())?);
-        Ok(Run::new(words, copied(command.cwd.as_str())?, self.environment()?))
+        Ok(Run::new(words, copied(command.cwd.as_str())?).within(self.environment()?))
     }
 
     /// The environment without the variables of flags.
@@ -177,7 +177,6 @@ impl NvccLine {
         copied_pairs(self.variables.iter().filter(|(name, _)| !FLAG_VARIABLES.contains(&name.as_str())))
     }
 }
-
 
 #[cfg(test)]
 mod tests {

@@ -11,8 +11,14 @@ pub struct Run {
 }
 
 impl Run {
-    pub(crate) fn new(words: Vec<String>, cwd: String, environment: Vec<(String, String)>) -> Run {
-        Run { words, cwd, environment }
+    /// A program with its words in a directory, without an environment.
+    #[must_use]
+    pub fn new(words: Vec<String>, cwd: String) -> Run {
+        Run { words, cwd, environment: Vec::new() }
+    }
+
+    pub(crate) fn within(self, environment: Vec<(String, String)>) -> Run {
+        Run { environment, ..self }
     }
 
     /// The program's name or path, and its words.

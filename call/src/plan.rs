@@ -167,17 +167,18 @@ fn placed(call: &PlanCall<'_>, cwd: &str, fault: LimitedFault) -> Error {
     let error = within(fault, call.limit.map_or(0, NonZeroUsize::get));
     let line = if is_lack { bad_line(call, cwd) } else { Ok(None) };
     match line {
-        Ok(Some((run, line))) => error.in_line(run, line),
+        Ok(Some((run, line, path))) => error.in_line(run, line, path),
         Ok(None) => error,
         Err(lack) => lack.into(),
     }
 }
 
-/// The first bad line of the first dry run, or of the second if the first has none.
-fn bad_line(call: &PlanCall<'_>, cwd: &str) -> Result<Option<(usize, usize)>, OutOfMemory> {
+/// The first bad line of the first dry run, or of the second if the first has none, and the value of `PATH` there.
+fn bad_line(call: &PlanCall<'_>, cwd: &str) -> Result<Option<(usize, usize, String)>, OutOfMemory> {
     for (run, text) in [(1, call.dry1), (2, call.dry2)] {
-        if let Some(line) = parse_dry_run(Global, text, run)?.bad_line(Global, cwd, &Proved(call.programs))? {
-            return Ok(Some((run, line + 1)));
+        let parsed = parse_dry_run(Global, text, run)?;
+        if let Some(line) = parsed.bad_line(Global, cwd, &Proved(call.programs))? {
+            return Ok(Some((run, line + 1, copied(parsed.path())?)));
         }
     }
     Ok(None)

@@ -10,22 +10,32 @@ use rattle_std::string::String as Text;
 use std::cell::RefCell;
 use std::env;
 use std::ffi::OsStr;
-use std::fs;
+use std::fs::{self, Metadata};
 use std::num::NonZeroUsize;
-use std::os::unix::ffi::OsStrExt;
-use std::os::unix::fs::PermissionsExt;
 use std::path::{Path, PathBuf};
+
+/// Whether a file has an execute bit.
+#[cfg(unix)]
+fn is_executable(file: &Metadata) -> bool {
+    std::os::unix::fs::MetadataExt::mode(file) & 0o111 != 0
+}
+
+/// Whether a file may be run. Nothing here says more.
+#[cfg(not(unix))]
+fn is_executable(_: &Metadata) -> bool {
+    true
+}
 
 /// Whether a path is that of a program: a plain file with an execute bit.
 #[must_use]
 pub fn is_program(path: &Path) -> bool {
-    fs::metadata(path).is_ok_and(|file| file.is_file() && file.permissions().mode() & 0o111 != 0)
+    fs::metadata(path).is_ok_and(|file| file.is_file() && is_executable(&file))
 }
 
 /// The path of a program by its name and the value of `PATH`, as a shell in `folder` finds it.
 #[must_use]
 pub fn find(name: &OsStr, path: &OsStr, folder: &Path) -> Option<PathBuf> {
-    if name.as_bytes().contains(&b'/') {
+    if name.as_encoded_bytes().contains(&b'/') {
         let found = folder.join(name);
         return is_program(&found).then_some(found);
     }
@@ -175,6 +185,7 @@ pub fn find_programs(dry1: &[u8], dry2: &[u8], cwd: &Path, limit: Option<NonZero
 mod tests {
     use super::*;
     use crate::test_folder::TestFolder;
+    use std::os::unix::fs::PermissionsExt;
 
     /// A file of a folder, with a mode.
     fn tool(folder: &TestFolder, mode: u32) -> PathBuf {

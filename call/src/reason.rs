@@ -1,34 +1,12 @@
 //! Why nvcc makes a call as it is.
 use crate::error::Error;
 use std::fmt;
-use std::mem;
 
 /// What the reader of lines says of a line that isn't split.
-#[derive(Clone, Copy, Debug)]
-pub struct LineReason(nvcc_calls::Reason);
-
-impl PartialEq for LineReason {
-    fn eq(&self, other: &LineReason) -> bool {
-        mem::discriminant(&self.0) == mem::discriminant(&other.0)
-    }
-}
-
-impl Eq for LineReason {}
-
-impl From<nvcc_calls::Reason> for LineReason {
-    fn from(reason: nvcc_calls::Reason) -> LineReason {
-        LineReason(reason)
-    }
-}
-
-impl fmt::Display for LineReason {
-    fn fmt(&self, f: &mut fmt::Formatter<'_>) -> fmt::Result {
-        f.write_str(self.0.text())
-    }
-}
+pub use nvcc_calls::Reason as LineReason;
 
 /// Why nvcc makes a call as it is. Each says in a few words why.
-#[derive(Clone, Debug, PartialEq, Eq)]
+#[derive(Clone, Debug, PartialEq)]
 #[non_exhaustive]
 pub enum Reason {
     /// What the line asks for isn't split.
@@ -91,9 +69,9 @@ pub enum Reason {
     Machine(String),
 }
 
-impl From<nvcc_calls::Reason> for Reason {
-    fn from(reason: nvcc_calls::Reason) -> Reason {
-        Reason::Line(reason.into())
+impl From<LineReason> for Reason {
+    fn from(reason: LineReason) -> Reason {
+        Reason::Line(reason)
     }
 }
 
@@ -101,13 +79,12 @@ impl Reason {
     /// What a user can do about it, if there is something.
     #[must_use]
     pub fn hint(&self) -> Option<&'static str> {
-        use nvcc_calls::Reason::{OptionsFile, VariableQuotes};
         match self {
             Reason::NoTemporaryDirectory | Reason::NoTemporaryRoom => Some("make room for temporary files, or set TMPDIR"),
             Reason::NoKeepDirectory => Some("make the directory that --keep-dir names"),
             Reason::TooFewFiles => Some("raise the number of open files, with ulimit -n"),
-            Reason::Line(LineReason(OptionsFile)) => Some("set CMAKE_CUDA_USE_RESPONSE_FILE_FOR_INCLUDES to 0, if CMake writes the file"),
-            Reason::Line(LineReason(VariableQuotes)) => Some("take quotes out of NVCC_PREPEND_FLAGS and NVCC_APPEND_FLAGS"),
+            Reason::Line(LineReason::OptionsFile) => Some("set CMAKE_CUDA_USE_RESPONSE_FILE_FOR_INCLUDES to 0, if CMake writes the file"),
+            Reason::Line(LineReason::VariableQuotes) => Some("take quotes out of NVCC_PREPEND_FLAGS and NVCC_APPEND_FLAGS"),
             _ => None,
         }
     }
@@ -148,7 +125,7 @@ impl Reason {
 impl fmt::Display for Reason {
     fn fmt(&self, f: &mut fmt::Formatter<'_>) -> fmt::Result {
         match self {
-            Reason::Line(reason) => reason.fmt(f),
+            Reason::Line(reason) => f.write_str(reason.text()),
             Reason::Unplanned(error) => error.fmt(f),
             Reason::Lacks(thing) => write!(f, "no {thing} for the call"),
             Reason::Machine(text) => f.write_str(text),
@@ -180,9 +157,9 @@ mod tests {
     fn reasons_that_a_user_can_mend_have_hints() {
         let mend = |reason: Reason| reason.hint().and_then(|hint| hint.split_whitespace().nth(1));
         let cases = [
-            (nvcc_calls::Reason::VariableQuotes.into(), Some("quotes")),
-            (nvcc_calls::Reason::OptionsFile.into(), Some("CMAKE_CUDA_USE_RESPONSE_FILE_FOR_INCLUDES")),
-            (nvcc_calls::Reason::Links.into(), None),
+            (LineReason::VariableQuotes.into(), Some("quotes")),
+            (LineReason::OptionsFile.into(), Some("CMAKE_CUDA_USE_RESPONSE_FILE_FOR_INCLUDES")),
+            (LineReason::Links.into(), None),
             (Reason::NoTemporaryDirectory, Some("room")),
             (Reason::NoTemporaryRoom, Some("room")),
             (Reason::NoKeepDirectory, Some("the")),
@@ -198,7 +175,7 @@ mod tests {
     fn a_reason_says_why() {
         let error = Error::no_dry_run(crate::error::Unfit::NoCommand);
         let cases = [
-            (Reason::from(nvcc_calls::Reason::Links), "it links"),
+            (Reason::from(LineReason::Links), "it links"),
             (Reason::from(error), "the plan has no command"),
             (Reason::Lacks("memory"), "no memory for the call"),
             (Reason::Machine("lost".into()), "lost"),
@@ -207,7 +184,7 @@ mod tests {
         for (reason, wanted) in cases {
             assert_eq!(reason.to_string(), wanted);
         }
-        assert_ne!(Reason::from(nvcc_calls::Reason::Links), nvcc_calls::Reason::Prints.into());
-        assert_eq!(Reason::from(nvcc_calls::Reason::Links), nvcc_calls::Reason::Links.into());
+        assert_ne!(Reason::from(LineReason::Links), LineReason::Prints.into());
+        assert_eq!(Reason::from(LineReason::Links), LineReason::Links.into());
     }
 }

@@ -4,9 +4,10 @@ use crate::json_values::{self, Value};
 use crate::machine::{Job, Machine};
 use crate::run::{self, NoRule, Stopped, Task};
 use crate::settings::Settings;
+use crate::streams::content_of;
 use crate::tasks::OWN;
 use std::env;
-use std::fs;
+use std::path::Path;
 
 /// The variables by which caches get a file for what came of a command.
 const FILES: [&str; 2] = ["CCACHE_STATSLOG", "CACHE_LOG"];
@@ -24,7 +25,7 @@ pub fn variables_of(file: Option<&String>) -> impl Iterator<Item = (String, Opti
 
 /// Whether the cache had what a command makes, if it has written that into this file.
 pub fn had(file: &str) -> Option<bool> {
-    fs::read_to_string(file).ok().and_then(|said| is_hit(&said))
+    content_of(Path::new(file)).ok().and_then(|said| is_hit(&String::from_utf8_lossy(&said)))
 }
 
 /// The same of what is in the file: counters as ccache has them, or lines `hit PROGRAM` and `miss PROGRAM`.

@@ -1,19 +1,20 @@
 //! A call of zigrunk-nvcc, from its words to its status.
-use crate::environments::Environment;
 use crate::folder::CallFolder;
 use crate::host::{self, Host};
 use crate::jobserver::Make;
 use crate::log::{self, LoggedCall};
 use crate::places::{absolute, working_directory};
-use crate::planner::{self, Line};
 use crate::products;
-use crate::programs::{self, Compiler};
 use crate::rule::Refusals;
 use crate::served;
 use crate::settings::Settings;
 use crate::split::{self, Outcome, Stop, by_nvcc};
 use crate::streams::{complain, say};
 use crate::system::{self, CHLD, Signals, Status, TSTP};
+use call::compiler::{self, Compiler};
+use call::environments::Environment;
+use call::programs::find;
+use call::{LineReason, NvccLine, Reason};
 use std::env;
 use std::ffi::{OsStr, OsString};
 use std::path::Path;
@@ -22,10 +23,8 @@ use std::time::SystemTime;
 
 /// With fewer files that it may still open, nvcc makes the call.
 pub const FEWEST_FILES: usize = 27;
-/// Why a call goes to nvcc that may have fewer.
-pub const TOO_FEW_FILES: &str = "it may open too few files";
-/// Why a call goes to nvcc that can have no directory.
-pub const NO_DIRECTORY: &str = "no temporary directory";
+/// What a user can do whose calls have directories of random names.
+pub const NAME_HINT: &str = "make zigrunk-UID below TMPDIR yours alone, with mode 700: the same call then always has the same directory";
 
 /// How many milliseconds a call that waits for nvcc sleeps at most, until it looks again.
 const LOOK: i32 = 1000;
@@ -41,10 +40,17 @@ struct Call<'a> {
     folder: Option<Rc<CallFolder>>,
 }
 
-/// Makes a call, given the name by which the program was started and its words. Says its status.
+/// Makes a call, given the name by which the program was started and its words. Says its status. If a signal ends the call, it ends this
+/// process too.
 pub fn make(own_name: &OsStr, words: &[OsString]) -> i32 {
-    let settings = Settings::of_environment();
-    let (compiler, words) = match programs::compiler(&settings, own_name, words) {
+    let settings = match Settings::of_environment() {
+        Ok(settings) => settings,
+        Err(complaint) => {
+            complain(&format!("zigrunk-nvcc: {complaint}"));
+            return 2;
+        }
+    };
+    let (compiler, words) = match compiler::compiler(&settings.caller(own_name), words) {
         Ok(found) => found,
         Err(complaint) => {
             complain(&format!("zigrunk-nvcc: {complaint}"));
@@ -56,18 +62,24 @@ pub fn make(own_name: &OsStr, words: &[OsString]) -> i32 {
         return call.become_nvcc(&[]);
     }
     match call.split() {
-        Ok(status) => call.end(status),
+        Ok(status) => {
+            call.leave();
+            status
+        }
         Err(Stop::ByNvcc(reason)) => call.by_nvcc(&reason),
-        Err(Stop::Signal(number)) => call.end(128 + number),
+        Err(Stop::Signal(number)) => {
+            call.leave();
+            system::end_by(number)
+        }
     }
 }
 
 /// Why a call goes to nvcc at once. A cache that looks up whole calls asks for the version at each one, and preprocesses those that it
 /// doesn't find.
-fn plain_reason(words: &[OsString]) -> Option<&'static str> {
+fn plain_reason(words: &[OsString]) -> Option<Reason> {
     words.iter().find_map(|word| match word.to_str() {
-        Some("-E" | "--preprocess") => Some("its phase isn't split"),
-        Some("-V" | "--version") => Some("it prints something"),
+        Some("-E" | "--preprocess") => Some(LineReason::OtherPhase.into()),
+        Some("-V" | "--version") => Some(LineReason::Prints.into()),
         _ => None,
     })
 }
@@ -79,31 +91,32 @@ impl Call<'_> {
             return by_nvcc(reason);
         }
         if system::spare_files() < FEWEST_FILES {
-            return by_nvcc(TOO_FEW_FILES);
+            return by_nvcc(Reason::TooFewFiles);
         }
         let make = Make::of_environment();
-        let cwd = working_directory().ok_or_else(|| "there is no working directory".to_owned())?;
+        let cwd = working_directory().ok_or(Reason::NoWorkingDirectory)?;
         let line = self.line(&cwd, &make)?;
         if self.is_served(&line) {
             return Ok(0);
         }
         let temporary = absolute(self.settings.plans(), &cwd);
-        let taken = CallFolder::take(&temporary, &planner::directory_of(&line)?);
-        let folder = Rc::new(taken.map_err(|_| NO_DIRECTORY.to_owned())?);
+        let taken = CallFolder::take(&temporary, &line.directory_name()?);
+        let folder = Rc::new(taken.map_err(|_| Reason::NoTemporaryDirectory)?);
+        folder.tell_if_taken(&temporary);
         self.folder = Some(Rc::clone(&folder));
         let refusals = Refusals::default();
         let at_once = system::processors() + 2;
         let split = split::Call { settings: &self.settings, line: &line, folder: &folder, at_once, refusals: &refusals };
-        let outline = split.outline()?;
+        let call = split.read()?;
         let environment = Environment::own().with("ZIGRUNK_INSIDE", &self.compiler.inside);
         let host = Host::of_process(&self.settings, make, environment, Rc::clone(&folder));
-        let mut host = host.map_err(|lacks| format!("no {lacks} for the call"))?;
+        let mut host = host.map_err(Reason::Lacks)?;
         host.give_way();
         let begun = SystemTime::now();
-        let outcome = split.run(&mut host, &outline, &mut |is_error, text| drop(say(if is_error { 2 } else { 1 }, text)));
+        let outcome = split.run(&mut host, &call, &mut |is_error, text| drop(say(if is_error { 2 } else { 1 }, text)));
         self.host = Some(host);
         let outcome = outcome?;
-        if let Some(keep_dir) = &outline.keep_dir {
+        if let Some(keep_dir) = call.keep_dir() {
             products::keep(folder.path(), Path::new(keep_dir), begun);
         }
         self.log(&outcome);
@@ -111,8 +124,8 @@ impl Call<'_> {
     }
 
     /// The call as a line, if its texts are UTF-8.
-    fn line(&self, cwd: &Path, make: &Make) -> Result<Line, Stop> {
-        let text = |text: &OsStr| text.to_str().map(String::from).ok_or_else(|| "a word isn't UTF-8".to_owned());
+    fn line(&self, cwd: &Path, make: &Make) -> Result<NvccLine, Stop> {
+        let text = |text: &OsStr| text.to_str().map(String::from).ok_or(Reason::WordNotUtf8);
         let mut variables = Vec::new();
         for name in ["NVCC_PREPEND_FLAGS", "NVCC_APPEND_FLAGS", "ZIGRUNK_JOBS", "MAKEFLAGS"] {
             let counts = name != "MAKEFLAGS" || make.flags.server.is_none() || (make.server.is_none() && make.flags.jobs.is_none());
@@ -121,11 +134,11 @@ impl Call<'_> {
             }
         }
         let words = self.words.iter().map(|word| text(word)).collect::<Result<_, _>>()?;
-        Ok(Line { cwd: text(cwd.as_os_str())?, nvcc: text(&self.compiler.name)?, words, variables })
+        Ok(NvccLine { cwd: text(cwd.as_os_str())?, nvcc: text(&self.compiler.name)?, words, variables })
     }
 
     /// Whether the cache had the whole call.
-    fn is_served(&self, line: &Line) -> bool {
+    fn is_served(&self, line: &NvccLine) -> bool {
         let Some((said, outcome)) = served::serve(&self.settings, line, self.begun) else { return false };
         for (is_error, text) in said {
             let _ = say(if is_error { 2 } else { 1 }, &text);
@@ -137,22 +150,17 @@ impl Call<'_> {
     fn log(&self, outcome: &Outcome) {
         let Some(file) = &self.settings.log else { return };
         let random = self.folder.as_ref().is_some_and(|folder| !folder.is_named());
-        let hint_on = random.then_some("a random name");
+        let hint = random.then_some(NAME_HINT);
         let Outcome { status, commands, counted, .. } = outcome;
         let (status, counted, words) = (*status, *counted, &self.logged_words()[..]);
-        log::append(file, &LoggedCall { begun: self.begun, status, reason: None, hint_on, commands, counted, words });
+        log::append(file, &LoggedCall { begun: self.begun, status, reason: None, hint, commands, counted, words });
     }
 
     fn logged_words(&self) -> Vec<&OsStr> {
         [self.compiler.name.as_os_str()].into_iter().chain(self.words.iter().map(OsString::as_os_str)).collect()
     }
 
-    /// Leaves nothing behind, and says the status.
-    fn end(&mut self, status: i32) -> i32 {
-        self.leave();
-        status
-    }
-
+    /// Leaves nothing behind.
     fn leave(&mut self) {
         if let Some(folder) = self.folder.take() {
             folder.remove();
@@ -162,9 +170,8 @@ impl Call<'_> {
         }
     }
 
-    /// Has nvcc make the call, for a reason of which the first line counts.
-    fn by_nvcc(&mut self, reason: &str) -> i32 {
-        let reason = reason.lines().next().unwrap_or_default();
+    /// Has nvcc make the call.
+    fn by_nvcc(&mut self, reason: &Reason) -> i32 {
         self.leave();
         if self.settings.explains {
             complain(&format!("zigrunk-nvcc: nvcc itself: {reason}"));
@@ -193,7 +200,7 @@ impl Call<'_> {
     }
 
     /// Runs nvcc, and adds a line to the log. Its status is this process's, and its signal too.
-    fn run_nvcc(&mut self, runner: &[OsString], reason: &str, file: &Path) -> i32 {
+    fn run_nvcc(&mut self, runner: &[OsString], reason: &Reason, file: &Path) -> i32 {
         let opened = if self.host.is_none() { Signals::open().ok() } else { None };
         let Some(signals) = self.host.as_ref().map(Host::signals).or(opened.as_ref()) else { return self.become_nvcc(runner) };
         let child = system::fork_to(|| {
@@ -206,13 +213,10 @@ impl Call<'_> {
             complain("zigrunk-nvcc: the end of nvcc is unknown");
             return 1;
         };
-        let (reason, words) = (Some(reason), &self.logged_words());
-        let call = LoggedCall { begun: self.begun, status: status.code, reason, hint_on: reason, commands: &[], counted: None, words };
+        let (reason, hint, words) = (Some(reason), reason.hint(), &self.logged_words());
+        let call = LoggedCall { begun: self.begun, status: status.code, reason, hint, commands: &[], counted: None, words };
         log::append(file, &call);
-        if let Some(number) = status.signal {
-            system::end_by(number);
-        }
-        status.code
+        status.signal.map_or(status.code, system::end_by)
     }
 }
 
@@ -236,7 +240,7 @@ fn end_of(child: i32, signals: &Signals) -> Option<Status> {
 /// Becomes a program by its name or path. Comes back with the reason if that can't be done.
 pub(crate) fn become_program(words: &[&OsStr], environment: &Environment) -> String {
     let path = environment.get("PATH").unwrap_or_default();
-    let Some(program) = programs::find(words[0], path, Path::new("")) else { return "not found".into() };
+    let Some(program) = find(words[0], path, Path::new("")) else { return "not found".into() };
     let image = environment.changed(&[]).and_then(|variables| host::image(program.as_os_str(), words.iter().copied(), variables, ""));
     image.map_or_else(|error| error.to_string(), |image| image.become_it().to_string())
 }
@@ -249,15 +253,15 @@ mod tests {
     fn some_words_make_a_call_nvccs() {
         let cases = [
             ("-c k.cu", None),
-            ("-c k.cu -E", Some("its phase isn't split")),
-            ("--preprocess", Some("its phase isn't split")),
-            ("--version -E", Some("it prints something")),
-            ("-V", Some("it prints something")),
+            ("-c k.cu -E", Some(LineReason::OtherPhase)),
+            ("--preprocess", Some(LineReason::OtherPhase)),
+            ("--version -E", Some(LineReason::Prints)),
+            ("-V", Some(LineReason::Prints)),
             ("-Ex --Version", None),
         ];
         for (line, wanted) in cases {
             let words: Vec<OsString> = line.split(' ').map(OsString::from).collect();
-            assert_eq!(plain_reason(&words), wanted, "{line}");
+            assert_eq!(plain_reason(&words), wanted.map(Reason::from), "{line}");
         }
     }
 }

@@ -1,22 +1,32 @@
 //! Which commands may begin before one that they need has ended.
 //!
-//! cicc reads cudafe++'s module id once it has parsed its input, so it may parse while cudafe++ runs. The last host compile reads cicc's stub
-//! file at the end of its input, so it may parse beside cicc. A preprocessor for a device needs the host's only by the plan's rule that a
+//! cicc reads cudafe++'s module id once it has parsed its input, so it may parse while cudafe++ runs: the kernel has it wait for the file, since it
+//! takes no pipe. The last host compile reads cicc's stub file at the end of its input, so it may parse beside cicc. It gets the file through a
+//! pipe, however long that takes. A preprocessor for a device needs the host's only by the plan's rule that a
 //! missing header shows once, and a call prints nothing behind its first failure anyway.
 use crate::machine::Job;
-use crate::planner::{PlannedCommand, list_of};
+use crate::planned::{PlannedCommand, list_of};
 use crate::run::Task;
 use crate::settings::Settings;
-use crate::streams::{content_of, write_file};
+use crate::streams::{content_of, replace_file};
 use crate::tasks::{OWN, program_of};
 use early_starts::renamed;
 use rattle_std::alloc::Global;
-use std::env;
 use std::io;
 use std::path::{Path, PathBuf};
 
 /// The option behind which cicc names the stub file.
 const STUB: &str = "--stub_file_name";
+
+/// How a task waits for the file that it reads late.
+#[derive(Clone, Copy, PartialEq, Eq, Debug, Default)]
+pub enum Wait {
+    /// It opens the file by a name of its own, and the kernel lets it go on.
+    #[default]
+    Opening,
+    /// It reads a pipe in the file's place. It always reads the file by this name, which the file's own line marker then has.
+    Reading,
+}
 
 /// How a task may begin before one that it needs has ended.
 #[derive(Clone, PartialEq, Eq, Debug, Default)]
@@ -29,8 +39,7 @@ pub struct HeadStart {
     pub withheld: PathBuf,
     /// The task's job with this name.
     pub job: Job,
-    /// Whether the task always reads the file by this name, which the file's own line marker then has.
-    pub has_one_name: bool,
+    pub wait: Wait,
 }
 
 impl HeadStart {
@@ -38,26 +47,28 @@ impl HeadStart {
     /// An error if the file can't be read, or its name isn't UTF-8.
     pub fn content(&self) -> io::Result<Vec<u8>> {
         let content = content_of(&self.file)?;
-        if !self.has_one_name {
+        if self.wait == Wait::Opening {
             return Ok(content);
         }
         let text = String::from_utf8(content).map_err(|_| io::ErrorKind::InvalidData)?;
-        let [own, other] = [&self.file, &self.withheld].map(|path| format!("\n# 1 \"{}\"\n", path.display()));
-        Ok(text.replacen(&own, &other, 1).into_bytes())
+        let [own, other] = [&self.file, &self.withheld].map(|path| format!("# 1 \"{}\"\n", path.display()));
+        Ok(text.replace(&own, &other).into_bytes())
     }
 
     /// Writes what the task reads, if it reads it by the other name though all that it needs has ended.
     /// Errors: why nvcc makes the call.
     pub fn write(&self) -> Result<(), String> {
-        let written = if self.has_one_name { self.content().and_then(|content| write_file(&self.withheld, content)) } else { Ok(()) };
+        let written = match self.wait {
+            Wait::Opening => Ok(()),
+            Wait::Reading => self.content().and_then(|content| replace_file(&self.withheld, &content)),
+        };
         written.map_err(|_| "a stub file is missing, or there is no room for it".into())
     }
 }
 
 /// Whether commands of a call may begin so. A launcher, a runner and workers get the plan's own commands.
 pub fn is_on(settings: &Settings) -> bool {
-    let is_off = env::var_os("ZIGRUNK_EARLY").is_some_and(|value| value == "0");
-    !is_off && settings.launcher.is_empty() && settings.runs_here()
+    !settings.waits.for_needs && settings.launcher.is_empty() && settings.runs_here()
 }
 
 /// The place behind an option among the words of a command of this program.
@@ -74,7 +85,7 @@ fn head_start(command: &PlannedCommand, number: usize, job: &Job, tmp: &str) -> 
     let mut job = job.clone();
     job.words.truncate(job.words.len().checked_sub(command.words.len())?);
     job.words.extend(words.as_slice().iter().map(|word| word.as_str().to_owned()));
-    Some(HeadStart { beside: early.beside, file: PathBuf::from(&early.file), withheld: withheld.into(), job, has_one_name: false })
+    Some(HeadStart { beside: early.beside, file: PathBuf::from(&early.file), withheld: withheld.into(), job, wait: Wait::Opening })
 }
 
 /// A stub file that cicc writes under another name.
@@ -103,7 +114,7 @@ impl MovedStub {
     pub fn allow(self, tasks: &mut [Task]) {
         let task = &mut tasks[self.compile];
         let (beside, job) = (self.writer, task.job.clone());
-        task.head_start = Some(HeadStart { beside, file: self.from.into(), withheld: self.to.into(), job, has_one_name: true });
+        task.head_start = Some(HeadStart { beside, file: self.from.into(), withheld: self.to.into(), job, wait: Wait::Reading });
     }
 }
 
@@ -124,7 +135,7 @@ pub fn allow(tasks: &mut [Task], commands: &[PlannedCommand], tmp: &str) {
 #[cfg(test)]
 mod tests {
     use super::*;
-    use crate::planner::Early;
+    use crate::planned::Early;
     use crate::test_folder::TestFolder;
     use std::fs;
 
@@ -148,7 +159,7 @@ mod tests {
         let mut tasks = vec![Task::default(); 4];
         moved.allow(&mut tasks);
         let start = tasks[3].head_start.clone().unwrap();
-        assert_eq!((start.beside, start.has_one_name), (2, true));
+        assert_eq!((start.beside, start.wait), (2, Wait::Reading));
         assert_eq!([start.file, start.withheld], ["/t/zigrunk.tmp/stub.c", "/t/k.cudafe1.stub.c"].map(PathBuf::from));
         assert!(move_stub(&mut [cudafe, other, compile], 2, "/t").is_none(), "no cicc names the file");
     }
@@ -157,19 +168,19 @@ mod tests {
     fn a_stub_file_has_the_name_by_which_it_is_read() {
         let folder = TestFolder::new();
         let [file, withheld] = ["own.c", "other.c"].map(|name| folder.join(name));
-        let text = |path: &Path| format!("#define A\n# 4 \"k.cu\"\n# 1 \"{}\"\nx\n", path.display());
+        let text = |path: &Path| format!("#define A\n# 4 \"k.cu\"\n# 1 \"{0}\"\nx\n# 2 \"k.cu\"\n# 1 \"{0}\"\ny\n", path.display());
         fs::write(&file, text(&file)).unwrap();
-        let mut start = HeadStart { file: file.clone(), withheld: withheld.clone(), has_one_name: true, ..HeadStart::default() };
+        let mut start = HeadStart { file: file.clone(), withheld: withheld.clone(), wait: Wait::Reading, ..HeadStart::default() };
         assert_eq!(start.content().unwrap(), text(&withheld).into_bytes());
         start.write().unwrap();
         assert_eq!(fs::read_to_string(&withheld).unwrap(), text(&withheld));
-        start.has_one_name = false;
+        start.wait = Wait::Opening;
         assert_eq!(start.content().unwrap(), text(&file).into_bytes());
         fs::remove_file(&withheld).unwrap();
         start.write().unwrap();
         assert!(!withheld.exists(), "a task with a name of its own for the file needs no other");
         fs::remove_file(&file).unwrap();
-        start.has_one_name = true;
+        start.wait = Wait::Reading;
         assert!(start.content().is_err() && start.write().is_err());
     }
 

@@ -2,7 +2,9 @@
 //!
 //! The user's folder is made once, checked once opened, and never removed: nobody else can come between the check and the use.
 use crate::host::nanoseconds;
-use crate::system::{self, Opening};
+use crate::streams::{complain, content_of, write_all};
+use crate::system::{self, Access, Opening};
+use std::env;
 use std::ffi::OsStr;
 use std::fs::{self, File, Metadata};
 use std::io;
@@ -24,14 +26,22 @@ pub const ELSEWHERE: &str = "elsewhere";
 /// How the names of such folders begin.
 pub const DRAFTS: &str = ".zigrunk.";
 
+/// Removes a folder with all that it holds, unless each try to open it is interrupted: std would try for ever.
+fn remove_all(folder: &Path) -> io::Result<()> {
+    match system::open(folder, Access::Folder) {
+        Err(error) if error.kind() == io::ErrorKind::Interrupted => Err(error),
+        _ => fs::remove_dir_all(folder),
+    }
+}
+
 /// Removes the folders that a call's directory names. What still runs may make a file while that happens.
 fn remove_elsewhere(call: &Path) {
-    let names = fs::read(call.join(ELSEWHERE)).unwrap_or_default();
+    let names = content_of(&call.join(ELSEWHERE)).unwrap_or_default();
     // A name without its NUL is that of a folder which wasn't made any more.
     let whole = names.split_inclusive(|&byte| byte == 0).filter_map(|name| name.strip_suffix(&[0]));
     for folder in whole.map(|name| Path::new(OsStr::from_bytes(name))) {
         if folder.file_name().is_some_and(|name| name.as_bytes().starts_with(DRAFTS.as_bytes())) {
-            let _ = (0..3).find(|_| fs::remove_dir_all(folder).map_or_else(|error| error.kind() == io::ErrorKind::NotFound, |()| true));
+            let _ = (0..3).find(|_| remove_all(folder).map_or_else(|error| error.kind() == io::ErrorKind::NotFound, |()| true));
         }
     }
 }
@@ -40,6 +50,64 @@ fn remove_elsewhere(call: &Path) {
 fn is_at(path: &Path, file: &File) -> bool {
     let place = |status: Metadata| (status.dev(), status.ino());
     matches!((fs::symlink_metadata(path).map(place), file.metadata().map(place)), (Ok(named), Ok(opened)) if named == opened)
+}
+
+/// Whether a folder is the user's, and nobody else may use it.
+fn is_private(status: &Metadata) -> bool {
+    status.uid() == system::user() && status.mode() & 0o7777 == 0o700
+}
+
+/// What has the name of a private folder, if it is no such folder.
+fn taken_by(path: &Path) -> Option<String> {
+    let status = fs::symlink_metadata(path).ok()?;
+    if status.uid() != system::user() {
+        Some(format!("it belongs to user {}", status.uid()))
+    } else if !status.is_dir() {
+        Some("it is no folder".into())
+    } else {
+        (!is_private(&status)).then(|| format!("its mode is {:o}, not 700", status.mode() & 0o7777))
+    }
+}
+
+/// The name of the user's folder.
+fn user_folder() -> String {
+    format!("zigrunk-{}", system::user())
+}
+
+/// How long a user isn't told the same thing again.
+const A_DAY: Duration = Duration::from_secs(24 * 60 * 60);
+
+/// Whether something of this name is due to be said: it wasn't within a day. A file in the user's folder, in the first of these places that
+/// can have it, says when it was. Of calls that run at once one says it.
+fn is_due(name: &str, places: &[PathBuf]) -> bool {
+    let open = |place: &PathBuf| {
+        let folder = Folder::private(place, &user_folder()).ok()?;
+        system::open_below(folder.as_fd(), &format!("said-{name}"), Opening::Kept).map(File::from).ok()
+    };
+    let Some(stamp) = places.iter().find_map(open) else { return true };
+    if !system::try_lock(stamp.as_fd()).unwrap_or(true) {
+        return false;
+    }
+    let age = |status: Metadata| status.modified().ok()?.elapsed().ok();
+    let is_fresh = |status: Metadata| status.len() > 0 && age(status).is_none_or(|age| age < A_DAY);
+    let is_due = !stamp.metadata().is_ok_and(is_fresh);
+    if is_due {
+        let _ = stamp.set_len(0).and_then(|()| write_all(&stamp, b"+"));
+    }
+    is_due
+}
+
+/// The folders in which a user may have folders, besides that for temporary files.
+fn places() -> Vec<PathBuf> {
+    let run = env::var_os("XDG_RUNTIME_DIR").filter(|it| !it.is_empty()).map(PathBuf::from);
+    run.into_iter().chain(["/tmp".into(), "/dev/shm".into()]).collect()
+}
+
+/// Says once a day what it costs that the name of a private folder is taken, if it is.
+pub fn tell_taken(path: &Path, name: &str, costs: &str, stamps: &[PathBuf]) {
+    if let Some(reason) = taken_by(path).filter(|_| is_due(name, stamps)) {
+        complain(&format!("zigrunk-nvcc: cannot use {}, so {costs}: {reason}", path.display()));
+    }
 }
 
 /// An open folder.
@@ -53,15 +121,13 @@ impl Folder {
     /// Opens a folder of this name, and makes it if it isn't there. It has to be the user's alone.
     /// An error if it can't be made, or is another's, or others may use it.
     pub fn private(above: &Path, name: &str) -> io::Result<Folder> {
-        let parent = File::open(above)?;
+        let parent = system::open(above, Access::Read)?;
         match system::make_folder(parent.as_fd(), name) {
             Err(error) if error.kind() != io::ErrorKind::AlreadyExists => return Err(error),
             _ => {}
         }
         let folder = Folder { file: system::open_below(parent.as_fd(), name, Opening::Folder)?.into(), path: above.join(name) };
-        let status = folder.file.metadata()?;
-        let is_private = status.uid() == system::user() && status.mode() & 0o7777 == 0o700;
-        if is_private { Ok(folder) } else { Err(io::ErrorKind::PermissionDenied.into()) }
+        if is_private(&folder.file.metadata()?) { Ok(folder) } else { Err(io::ErrorKind::PermissionDenied.into()) }
     }
 
     pub fn as_fd(&self) -> BorrowedFd<'_> {
@@ -94,7 +160,7 @@ impl Folder {
     fn clear(&self, name: &str) {
         if self.is_there() {
             remove_elsewhere(&self.path.join(name));
-            let _ = fs::remove_dir_all(self.path.join(name));
+            let _ = remove_all(&self.path.join(name));
         }
     }
 
@@ -133,7 +199,7 @@ impl CallFolder {
     /// folder isn't the user's alone, or the disk has no locks, it is one of a random name.
     /// An error if no directory can be made.
     pub fn take(above: &Path, name: &str) -> io::Result<CallFolder> {
-        if let Ok(user) = Folder::private(above, &format!("zigrunk-{}", system::user())) {
+        if let Ok(user) = Folder::private(above, &user_folder()) {
             for number in 1..=MOST_EQUAL_CALLS {
                 let name = if number == 1 { name.to_owned() } else { format!("{name}-{number}") };
                 match lock(&user, &name) {
@@ -147,6 +213,13 @@ impl CallFolder {
             }
         }
         random(above)
+    }
+
+    /// Says once a day why its name is random, if the user's folder below `above` is taken.
+    pub fn tell_if_taken(&self, above: &Path) {
+        if !self.is_named() {
+            tell_taken(&above.join(user_folder()), "folder", "temporary directories have random names", &places());
+        }
     }
 
     pub fn path(&self) -> &Path {
@@ -168,7 +241,7 @@ impl CallFolder {
         match &self.place {
             None => {
                 remove_elsewhere(self.path());
-                drop(fs::remove_dir_all(self.path()));
+                drop(remove_all(self.path()));
             }
             Some(place) => {
                 place.user.remove_call(&place.name);
@@ -205,15 +278,22 @@ fn opened(parent: BorrowedFd<'_>, above: &Path, name: &str) -> io::Result<Folder
     Ok(Folder { file: file.into(), path })
 }
 
+/// Opens a folder that was just made below another, unless another user has put something in its place meanwhile: then it's as if the name
+/// had been there before.
+fn opened_own(parent: BorrowedFd<'_>, above: &Path, name: &str) -> io::Result<Folder> {
+    let folder = opened(parent, above, name)?;
+    if is_private(&folder.file.metadata()?) { Ok(folder) } else { Err(io::ErrorKind::AlreadyExists.into()) }
+}
+
 /// A directory of a name that nobody else has.
 fn random(above: &Path) -> io::Result<CallFolder> {
-    let parent = File::open(above)?;
+    let parent = system::open(above, Access::Read)?;
     let mut seed = nanoseconds() ^ u64::from(std::process::id()) << 40;
     for _ in 0..100 {
         seed = seed.wrapping_mul(6_364_136_223_846_793_005).wrapping_add(1_442_695_040_888_963_407);
         let name = format!("zigrunk.{:06x}", seed >> 40);
-        match system::make_folder(parent.as_fd(), &name) {
-            Ok(()) => return Ok(CallFolder { folder: opened(parent.as_fd(), above, &name)?, place: None }),
+        match system::make_folder(parent.as_fd(), &name).and_then(|()| opened_own(parent.as_fd(), above, &name)) {
+            Ok(folder) => return Ok(CallFolder { folder, place: None }),
             Err(error) if error.kind() == io::ErrorKind::AlreadyExists => {}
             Err(error) => return Err(error),
         }
@@ -368,6 +448,58 @@ mod tests {
         File::create(user.join("left.lock")).unwrap().set_modified(std::time::SystemTime::now() - Duration::from_secs(20)).unwrap();
         taken.remove();
         assert!(user.join("k").is_dir() && user.join("left").is_dir());
+    }
+
+    #[test]
+    fn what_has_the_name_of_a_private_folder_is_said() {
+        let scratch = TestFolder::new();
+        let path = scratch.join("it");
+        assert_eq!(taken_by(&path), None, "nothing has it");
+        fs::create_dir(&path).unwrap();
+        for (mode, wanted) in [(0o700, None), (0o755, Some("its mode is 755, not 700")), (0o1700, Some("its mode is 1700, not 700"))] {
+            fs::set_permissions(&path, PermissionsExt::from_mode(mode)).unwrap();
+            assert_eq!(taken_by(&path).as_deref(), wanted);
+        }
+        fs::remove_dir(&path).unwrap();
+        symlink(&*scratch, &path).unwrap();
+        assert_eq!(taken_by(&path).as_deref(), Some("it is no folder"));
+        if system::user() == 0 {
+            std::os::unix::fs::lchown(&path, Some(1234), None).unwrap();
+            assert_eq!(taken_by(&path).as_deref(), Some("it belongs to user 1234"));
+        }
+    }
+
+    #[test]
+    fn something_is_said_once_a_day() {
+        let [first, second] = [TestFolder::new(), TestFolder::new()];
+        let places = [PathBuf::from("/missing"), first.to_owned(), second.to_owned()];
+        assert_eq!([is_due("a", &places), is_due("a", &places), is_due("b", &places)], [true, false, true]);
+        let stamp = File::options().write(true).open(first.join(user_name()).join("said-a")).unwrap();
+        for (hours, wanted) in [(23, false), (25, true)] {
+            stamp.set_modified(SystemTime::now() - Duration::from_secs(hours * 3600)).unwrap();
+            assert_eq!(is_due("a", &places), wanted, "after {hours} hours");
+        }
+        assert!(!is_due("a", &places), "it was said just now");
+        stamp.set_modified(SystemTime::now() - A_DAY).unwrap();
+        assert!(system::try_lock(stamp.as_fd()).unwrap());
+        assert!(!is_due("a", &places), "another call is saying it");
+        assert!(is_due("a", &places[..1]) && is_due("a", &places[..1]), "nothing can say when it was said");
+    }
+
+    #[test]
+    fn a_folder_that_another_user_put_there_is_not_opened() {
+        let scratch = TestFolder::new();
+        let parent = File::open(&*scratch).unwrap();
+        let open = |name: &str| opened_own(parent.as_fd(), &scratch, name).map_err(|error| error.kind());
+        system::make_folder(parent.as_fd(), "own").unwrap();
+        assert!(open("own").is_ok());
+        fs::set_permissions(scratch.join("own"), PermissionsExt::from_mode(0o777)).unwrap();
+        assert_eq!(open("own").err(), Some(io::ErrorKind::AlreadyExists));
+        if system::user() == 0 {
+            system::make_folder(parent.as_fd(), "other").unwrap();
+            std::os::unix::fs::chown(scratch.join("other"), Some(1234), None).unwrap();
+            assert_eq!(open("other").err(), Some(io::ErrorKind::AlreadyExists));
+        }
     }
 
     #[test]

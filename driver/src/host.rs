@@ -1,20 +1,22 @@
 //! The machine on which the driver runs.
-use crate::environments::Environment;
 use crate::folder::CallFolder;
 use crate::guard::{Guard, MOST_GROUPS, Shared};
 use crate::jobserver::{Make, Token, Tokens};
 use crate::machine::{Ended, Event, Job, Machine};
-use crate::programs;
+use crate::piped::Piped;
 use crate::settings::Settings;
 use crate::slots::{BEAT, Slot, Slots};
 use crate::streams::{complain, content};
-use crate::system::{self, CHLD, CONT, Image, KILL, STOP, Signals, Status, TSTP};
+use crate::system::{self, Access, CHLD, CONT, Image, KILL, STOP, Signals, Status, TSTP};
+use call::environments::Environment;
+use call::programs;
 use std::borrow::Cow;
 use std::collections::VecDeque;
 use std::env;
 use std::ffi::{CStr, CString, OsStr};
 use std::fs::File;
 use std::io::{self, Read};
+use std::mem;
 use std::os::fd::{AsRawFd, OwnedFd, RawFd};
 use std::os::unix::ffi::OsStrExt;
 use std::path::{Path, PathBuf};
@@ -80,6 +82,8 @@ pub struct Host {
     running: Vec<Running>,
     /// The job that is listened to.
     listened: Option<usize>,
+    /// The pipes that jobs have yet to read to their ends, and the jobs whose pipe couldn't be filled.
+    pipes: Vec<(usize, Option<Piped>)>,
     events: VecDeque<Event>,
     beaten: Instant,
 }
@@ -172,7 +176,7 @@ impl Host {
             unguarded: None,
             slots,
             tokens,
-            null: File::options().read(true).write(true).open("/dev/null")?,
+            null: system::open(Path::new("/dev/null"), Access::Both)?,
             shows_colours: io::IsTerminal::is_terminal(&io::stderr()),
             gives_way: false,
             hidden: Vec::new(),
@@ -181,6 +185,7 @@ impl Host {
             permit: None,
             running: Vec::new(),
             listened: None,
+            pipes: Vec::new(),
             events: VecDeque::new(),
             beaten: Instant::now(),
         })
@@ -399,12 +404,34 @@ impl Host {
         } else {
             -1
         };
-        system::wait_for(&files, longest);
+        let pipes = self.pipes.iter().filter_map(|(_, piped)| Some((piped.as_ref()?.writer(), true)));
+        let files: Vec<(RawFd, bool)> = files.into_iter().map(|file| (file, false)).chain(pipes).collect();
+        system::wait_for_streams(&files, longest);
+        self.fill_pipes();
         if let Some(slots) = &self.slots {
             slots.awake();
         }
         self.running.iter_mut().for_each(|running| running.errors.drain());
         self.beat();
+    }
+
+    /// Writes what jobs can read by now, whatever has ended the wait: the kernel may not have been able to say it.
+    fn fill_pipes(&mut self) {
+        for (number, piped) in mem::take(&mut self.pipes) {
+            let Some(mut piped) = piped else {
+                self.pipes.push((number, None));
+                continue;
+            };
+            match piped.go_on() {
+                Ok(true) => {}
+                Ok(false) => self.pipes.push((number, Some(piped))),
+                Err(_) => {
+                    // (before the pipe goes, by which the job would hear of an end)
+                    self.signal(number, KILL);
+                    self.pipes.push((number, None));
+                }
+            }
+        }
     }
 
     /// Notes what the job that is listened to has printed, if that is more than before.
@@ -468,7 +495,7 @@ impl Host {
         };
         let complaint = CString::new(format!("zigrunk-nvcc: cannot run {}\n", job.words.first().map(String::as_str).unwrap_or_default()))?;
         let streams = [input, out.as_raw_fd(), errors.target()];
-        let process = image.start(streams, &self.signals, self.shared.group(place), &complaint)?;
+        let process = image.start(streams, job.inherits, &self.signals, self.shared.group(place), &complaint)?;
         let permit = if job.shares_slot { None } else { self.permit.take() };
         self.running.push(Running { number, process, place, permit, out, errors, heard: 0, begun });
         Ok(())
@@ -517,6 +544,16 @@ impl Machine for Host {
         self.listened = job;
     }
 
+    fn fill(&mut self, number: usize, piped: Piped) {
+        self.pipes.push((number, Some(piped)));
+        self.fill_pipes();
+    }
+
+    fn has_left(&mut self, number: usize) -> bool {
+        let left = self.pipes.iter().position(|(job, _)| *job == number);
+        left.map(|at| self.pipes.swap_remove(at)).is_some()
+    }
+
     fn next(&mut self) -> Event {
         loop {
             self.take_signals();
@@ -557,6 +594,7 @@ impl Machine for Host {
             }
         }
         self.running.clear();
+        self.pipes.clear();
         let permit = self.permit.take();
         self.give_back(permit);
     }
@@ -668,6 +706,35 @@ mod tests {
             host.end(3);
             fs::write(&go, "").unwrap();
             assert_eq!(next_end(&mut host), (4, 0, "other\n".into()));
+        });
+    }
+
+    /// Starts a job that reads a file by its name, which gets this text through a pipe. Says how it ended, and whether it has read all.
+    fn fed(host: &mut Host, path: &Path, script: &str, text: &[u8]) -> ((usize, i32, String), bool) {
+        let _ = fs::remove_file(path);
+        let piped = Piped::new(path).unwrap();
+        let job = Job { inherits: Some(piped.reader()), ..shell(&format!("file={}; {script}", path.display())) };
+        start(host, 3, &job);
+        let mut piped = piped;
+        piped.fill(text.to_vec());
+        host.fill(3, piped);
+        let end = next_end(host);
+        (end, !host.has_left(3))
+    }
+
+    #[test]
+    fn a_job_reads_what_comes_through_its_pipe() {
+        let room = Room(TestFolder::new());
+        in_own_process(|| {
+            let (mut host, path) = (plain_host(), room.path("file"));
+            let text = "0123456789abcde\n".repeat(20_000);
+            let mut read = |script: &str, text: &str| fed(&mut host, &path, script, text.as_bytes());
+            assert_eq!(read("sleep 0.1; cat $file", &text), ((3, 0, text.clone()), true));
+            assert_eq!(read("cat $file > /dev/null; cat $file", &text), ((3, 0, text.clone()), true), "it reads a plain file then");
+            assert_eq!(read("head -c 5 $file; exit 7", &text), ((3, 7, "01234".into()), false), "it has read a part");
+            assert_eq!(read(":", "x"), ((3, 0, String::new()), false));
+            assert_eq!(read("cat $file", ""), ((3, 137, String::new()), false), "it ends before it hears that there is nothing");
+            assert!(host.pipes.is_empty());
         });
     }
 

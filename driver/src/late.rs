@@ -1,14 +1,16 @@
 //! Begins a call's last host compile before its fatbin is there: gcc makes assembler text beside device commands, and the assembler waits.
-use crate::cache::tool::is_gcc;
-use crate::planner::{self, PlannedCommand};
-use crate::run::Done;
+use crate::machine::Machine;
+use crate::planned::{self, PlannedCommand};
+use crate::run::{self, Done, NoRule, Stopped, Task};
 use crate::settings::Settings;
 use crate::streams::{content_of, write_file};
-use crate::tasks::{OWN, program_of};
+use crate::tasks::OWN;
 use early_starts::{Places, assembler_text, compiler_needs, placeholder, split_compile};
 use rattle_std::alloc::Global;
 use std::env;
+use std::fs;
 use std::path::PathBuf;
+use std::slice;
 use texts::text::Text;
 
 /// The file that an assembler's command includes, to be written from fatbinary's right before it starts.
@@ -42,13 +44,12 @@ const ODD_VARIABLE: &str = "GCC_COMPARE_DEBUG";
 
 /// Whether a call's commands may be begun so. A launcher, a runner and workers get the plan's own.
 pub fn is_on(settings: &Settings) -> bool {
-    let is_off = env::var_os("ZIGRUNK_LATE").is_some_and(|value| value == "0");
-    !is_off && env::var_os(ODD_VARIABLE).is_none() && settings.launcher.is_empty() && settings.runs_here()
+    !settings.waits.for_fatbin && env::var_os(ODD_VARIABLE).is_none() && settings.launcher.is_empty() && settings.runs_here()
 }
 
 /// Where the files go that begin a call's last host compile early.
 fn places_in(tmp: &str) -> Option<Places> {
-    let place = |path: String| Some(Text::new(planner::text(&path).ok()?));
+    let place = |path: String| Some(Text::new(planned::text(&path).ok()?));
     Some(Places {
         text_file: place(format!("{tmp}/{OWN}/late.s"))?,
         fatbin_file: place(format!("{tmp}/{OWN}/fatbin.c"))?,
@@ -56,38 +57,76 @@ fn places_in(tmp: &str) -> Option<Places> {
     })
 }
 
-/// Puts two commands in place of the last, a host compile. The first makes assembler text without the fatbin. Says what the second
-/// includes. `None` if the commands stay as they are: then the fatbin may show in the product, or in what a command says.
-pub fn begin_early(commands: &mut Vec<PlannedCommand>, tmp: &str) -> Option<Include> {
+/// A call's last host compile in two halves.
+#[derive(Clone, PartialEq, Eq, Debug, Default)]
+pub struct Halves {
+    /// What the assembler's half includes.
+    pub include: Include,
+    /// The compile as nvcc makes it.
+    pub whole: PlannedCommand,
+    /// The file that the whole compile reads, in which the compiler's half finds a placeholder.
+    fatbin: PathBuf,
+}
+
+impl Halves {
+    /// Puts the files in place that the whole compile reads, after this task has made the compiler's half.
+    /// Errors: why nvcc makes the call.
+    fn put_files(&self, compile: &Task) -> Result<(), String> {
+        fs::rename(&self.include.from, &self.fatbin).map_err(|_| "fatbinary's file is missing")?;
+        let Some(start) = compile.head_start.as_ref() else { return Ok(()) };
+        let _ = fs::remove_file(&start.withheld);
+        start.write()
+    }
+
+    /// Makes the whole compile, a task, if the assembler's half of these tasks failed or said something: it names files that nvcc's doesn't, and
+    /// gcc says more of a whole compile that fails. Says whether it did. Then the compile has ended in place of its halves.
+    /// Errors: a signal, or why nvcc makes the call.
+    pub fn make_whole<M: Machine>(&self, machine: &mut M, whole: &Task, tasks: &[Task], done: &mut [Done]) -> Result<bool, Stopped> {
+        let ([.., compile, _], true) = (tasks, went_wrong(done)) else { return Ok(false) };
+        self.put_files(compile).map_err(Stopped::NoProcess)?;
+        let made = run::run(machine, &mut NoRule, slice::from_ref(whole), 1)?.pop();
+        if let [.., compile, assemble] = done {
+            // (what the compiler's half said the whole compile says too)
+            compile.ended.iter_mut().for_each(|ended| [&mut ended.out, &mut ended.errors].into_iter().for_each(Vec::clear));
+            assemble.ended = made.and_then(|made| made.ended);
+        }
+        Ok(true)
+    }
+}
+
+/// Puts two commands in place of the last, a host compile by gcc. The first makes assembler text without the fatbin. `None` if the commands
+/// stay as they are: then the fatbin may show in the product, or in what a command says.
+pub fn begin_early(commands: &mut Vec<PlannedCommand>, tmp: &str) -> Option<Halves> {
     let (last, before) = commands.split_last()?;
     // The fatbinary of nvcc 13 writes files of a known form.
     let is_known = before.iter().any(|command| command.words.iter().any(|word| word == "-D__CUDACC_VER_MAJOR__=13"));
-    if !is_gcc(program_of(last)) || !is_known {
+    if !is_known {
         return None;
     }
     let places = places_in(tmp)?;
-    let mut listed: Vec<_> = before.iter().map(planner::listed).collect::<Result<_, _>>().ok()?;
-    let split = split_compile(Global, &places, listed.last()?, &planner::listed(last).ok()?).ok()??;
+    let mut listed: Vec<_> = before.iter().map(planned::listed).collect::<Result<_, _>>().ok()?;
+    let split = split_compile(Global, &places, listed.last()?, &planned::listed(last).ok()?).ok()??;
     *listed.last_mut()? = split.fatbinary.try_clone(Global).ok()?;
     let needs = compiler_needs(Global, &split, &listed).ok()??;
     let [text_file, file, to] = [&places.text_file, &places.fatbin_file, &places.included].map(|path| path.as_str().to_owned());
     let [fatbinary, compiler, assembler] =
-        [&split.fatbinary, &split.compiler, &split.assembler].map(|command| planner::strings(command.args.as_slice()));
+        [&split.fatbinary, &split.compiler, &split.assembler].map(|command| planned::strings(command.args.as_slice()));
     let mut assemble = PlannedCommand { words: assembler, reads: vec![text_file.clone(), file.clone()], cacheable: false, ..last.clone() };
     let compile = PlannedCommand { words: compiler, needs: needs.as_slice().to_vec(), writes: vec![text_file], cacheable: false, ..last.clone() };
     assemble.needs.push(before.len());
     let text = placeholder(Global, split.is_linked, &to).ok()??;
     write_file(split.read.as_str(), text.as_bytes()).ok()?;
-    commands.pop();
+    let whole = commands.pop()?;
     commands.last_mut()?.words = fatbinary;
     commands.extend([compile, assemble]);
-    Some(Include { from: file.into(), to: to.into(), is_linked: split.is_linked })
+    let include = Include { from: file.into(), to: to.into(), is_linked: split.is_linked };
+    Some(Halves { include, whole, fatbin: split.read.as_str().into() })
 }
 
-/// Whether the last of a call's commands, an assembler's, failed or said something: then it names files that nvcc's doesn't.
-pub fn went_wrong(done: &[Done]) -> bool {
+/// Whether the last of a call's commands, an assembler's, failed or said something.
+fn went_wrong(done: &[Done]) -> bool {
     let ended = done.last().and_then(|done| done.ended.as_ref());
-    ended.is_some_and(|ended| !ended.status.succeeded() || !ended.out.is_empty() || !ended.errors.is_empty())
+    ended.is_some_and(|ended| !ended.is_silent_success())
 }
 
 #[cfg(test)]
@@ -103,14 +142,6 @@ mod tests {
         let words = words.split(' ').map(String::from).collect();
         let writes = writes.iter().map(|file| (*file).to_owned()).collect();
         PlannedCommand { program: program.into(), words, folder: "/w".into(), writes, ..PlannedCommand::default() }
-    }
-
-    #[test]
-    fn gcc_is_known_by_its_name() {
-        for (program, wanted) in [("/b/gcc", true), ("g++-12", true), ("g++-4.8", true), ("/b/clang++", false), ("gcc-ar", false), ("/gcc/x", false)]
-        {
-            assert_eq!(is_gcc(program_of(&command(&format!("{program} x"), &[]))), wanted, "{program}");
-        }
     }
 
     #[test]
@@ -143,7 +174,9 @@ mod tests {
         let place = folder.to_str().unwrap();
         for (words, section) in [("", ".nv_fatbin"), ("--device-c ", "__nv_relfatbin")] {
             let (before, mut after) = (commands(place, words, ""), commands(place, words, ""));
-            let include = begin_early(&mut after, place).unwrap();
+            let halves = begin_early(&mut after, place).unwrap();
+            assert_eq!((&halves.whole, halves.fatbin.to_str()), (&before[5], Some(format!("{place}/k.fatbin.c").as_str())));
+            let include = halves.include;
             let own = |name: &str| format!("{place}/{OWN}/{name}");
             assert_eq!((include.from.to_str(), include.to.to_str()), (Some(own("fatbin.c").as_str()), Some(own("fatbin.s").as_str())));
             assert_eq!((after.len(), &after[..4]), (7, &before[..4]));

@@ -1,11 +1,12 @@
 //! The log of calls, which zigrunk report reads.
 use crate::caches::{self, Counts};
-use crate::entries::{hint, json};
 use crate::host;
 use crate::run::{Done, Task};
 use crate::streams::{complain, content_of, write_all};
+use crate::system::{self, Access};
+use call::Reason;
+use call::json::json;
 use std::ffi::OsStr;
-use std::fs::OpenOptions;
 use std::os::unix::ffi::OsStrExt;
 use std::path::Path;
 
@@ -14,9 +15,9 @@ pub struct LoggedCall<'a> {
     pub begun: f64,
     pub status: i32,
     /// Why nvcc made it, if it did.
-    pub reason: Option<&'a str>,
-    /// For what a hint may be due.
-    pub hint_on: Option<&'a str>,
+    pub reason: Option<&'a Reason>,
+    /// What a user can do about it.
+    pub hint: Option<&'static str>,
     /// Its commands in JSON.
     pub commands: &'a [String],
     /// What the cache had counted when the call began and when it ended, if it counts for all its callers.
@@ -43,19 +44,19 @@ pub fn commands(tasks: &[Task], done: &[Done]) -> Vec<String> {
 
 /// Adds a call to a log, and the hint if the log hasn't it yet, in one write. Says so if it can't.
 pub fn append(file: &Path, call: &LoggedCall<'_>) {
-    let reason = call.reason.map(|reason| [b"\"reason\":", json(reason.as_bytes()).as_slice(), b","].concat()).unwrap_or_default();
+    let reason = call.reason.map(|reason| [b"\"reason\":", json(reason.to_string().as_bytes()).as_slice(), b","].concat()).unwrap_or_default();
     let words: Vec<Vec<u8>> = call.words.iter().map(|word| json(word.as_bytes())).collect();
     let head = format!("{{\"begin\":{:.4},\"end\":{:.4},\"status\":{},", call.begun, host::now(), call.status);
     let counted = call.counted.map(|[from, to]| format!("\"counted\":[{},{},{},{}],", from.hits, from.misses, to.hits, to.misses));
     let tail = format!("{}\"commands\":[{}],\"words\":[", counted.unwrap_or_default(), call.commands.join(","));
     let mut text = [head.as_bytes(), &reason, tail.as_bytes(), &words.join(&b','), b"]}\n"].concat();
-    if let Some(hint) = call.hint_on.and_then(hint) {
+    if let Some(hint) = call.hint {
         let line = [b"{\"hint\":", json(hint.as_bytes()).as_slice(), b"}\n"].concat();
         if !content_of(file).is_ok_and(|log| log.windows(line.len()).any(|part| part == line)) {
             text.extend(line);
         }
     }
-    let written = OpenOptions::new().append(true).create(true).open(file).and_then(|log| write_all(&log, &text));
+    let written = system::open(file, Access::Append).and_then(|log| write_all(&log, &text));
     if let Err(error) = written {
         complain(&format!("zigrunk-nvcc: cannot write {}: {error}", file.display()));
     }
@@ -104,10 +105,11 @@ mod tests {
         let folder = TestFolder::new();
         let file = folder.join("log");
         let words = ["nvcc", "a b"].map(OsStr::new);
+        let reason = Reason::Machine("it \"links\"".into());
         let counted = Some([Counts { hits: 1.0, misses: 2.0 }, Counts { hits: 3.0, misses: 4.0 }]);
         let commands = ["{1}".to_owned(), "{2}".to_owned()];
-        let split = LoggedCall { begun: 5.0, status: 3, reason: None, hint_on: None, commands: &commands, counted, words: &words };
-        let whole = LoggedCall { reason: Some("it \"links\""), hint_on: Some("no temporary directory"), commands: &[], counted: None, ..split };
+        let split = LoggedCall { begun: 5.0, status: 3, reason: None, hint: None, commands: &commands, counted, words: &words };
+        let whole = LoggedCall { reason: Some(&reason), hint: Reason::NoTemporaryDirectory.hint(), commands: &[], counted: None, ..split };
         append(&file, &split);
         append(&file, &whole);
         append(&file, &whole);
@@ -120,7 +122,7 @@ mod tests {
         assert_eq!(end_of(lines[1]), r#":3,"reason":"it \u0022links\u0022","commands":[],"words":["nvcc","a b"]}"#);
         assert_eq!(lines[2], r#"{"hint":"make room for temporary files, or set TMPDIR"}"#);
         assert_eq!(end_of(lines[3]), end_of(lines[1]));
-        append(&file, &LoggedCall { hint_on: Some("a random name"), ..split });
+        append(&file, &LoggedCall { hint: Some("name it"), ..split });
         assert_eq!(fs::read_to_string(&file).unwrap().matches("{\"hint\"").count(), 2, "another hint");
     }
 }

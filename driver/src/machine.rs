@@ -1,6 +1,8 @@
 //! What the driver asks of the machine. Tests have a machine of their own.
+use crate::piped::Piped;
 use crate::system::Status;
 use std::io;
+use std::os::fd::RawFd;
 
 /// The files that a job touches, by their paths.
 #[derive(Clone, PartialEq, Eq, Debug, Default)]
@@ -21,6 +23,8 @@ pub struct Job {
     pub variables: Vec<(String, Option<String>)>,
     /// Whether it runs beside another process in the same slot.
     pub shares_slot: bool,
+    /// An open file of this process that it has too, by the same number.
+    pub inherits: Option<RawFd>,
     /// All files that it touches, if its words name them.
     pub record: Option<Record>,
 }
@@ -33,6 +37,13 @@ pub struct Ended {
     pub errors: Vec<u8>,
     /// When it began and ended, in seconds.
     pub times: (f64, f64),
+}
+
+impl Ended {
+    /// Whether it succeeded and said nothing.
+    pub fn is_silent_success(&self) -> bool {
+        self.status.succeeded() && self.out.is_empty() && self.errors.is_empty()
+    }
 }
 
 /// What comes next.
@@ -69,6 +80,14 @@ pub trait Machine {
 
     /// Says which job is listened to while it runs, if one is.
     fn listen(&mut self, _: Option<usize>) {}
+
+    /// Fills the pipe that a job reads, while it waits for what comes next. A job whose pipe can't be filled ends before it could read less.
+    fn fill(&mut self, _: usize, _: Piped) {}
+
+    /// Whether a job that has ended hasn't read such a pipe to its end.
+    fn has_left(&mut self, _: usize) -> bool {
+        true
+    }
 
     /// Waits for what comes next. Without a job that runs or is wanted, that is a signal.
     fn next(&mut self) -> Event;

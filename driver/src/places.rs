@@ -36,6 +36,22 @@ pub fn absolute(path: &Path, cwd: &Path) -> PathBuf {
 #[cfg(test)]
 mod tests {
     use super::*;
+    use crate::test_folder::TestFolder;
+    use std::os::unix::fs::symlink;
+
+    #[test]
+    fn a_link_leads_where_the_disk_says() {
+        let folder = TestFolder::new();
+        for name in ["a/t", "other/below", "other/t"] {
+            fs::create_dir_all(folder.join(name)).unwrap();
+        }
+        symlink(folder.join("other/below"), folder.join("a/link")).unwrap();
+        let root = fs::canonicalize(folder.join(".")).unwrap();
+        let cases = [("a/link/../t", "other/t"), ("a/./t", "a/t"), ("a/link", "a/link"), ("a/../other", "other"), ("a/link/../../a/t", "a/t")];
+        for (path, wanted) in cases {
+            assert_eq!(absolute(&root.join(path), Path::new("/")), root.join(wanted), "{path}");
+        }
+    }
 
     #[test]
     fn a_directory_has_one_form() {

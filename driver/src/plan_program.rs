@@ -1,20 +1,18 @@
 //! `zigrunk plan`: prints the plan of an nvcc line, or that of two dry runs in files. It makes the dry runs as `zigrunk nvcc` does, and runs
 //! nothing else.
-use crate::dry_runs::{Failed, make_planned};
-use crate::environments::Environment;
 use crate::excerpts::excerpt;
 use crate::folder::Folder;
-use crate::formats::Format;
 use crate::guard::Shared;
 use crate::host::Host;
-use crate::machine::Ended;
 use crate::nearest::question;
+use crate::nvcc_jobs::{Jobs, Stopped};
 use crate::places::{absolute, working_directory};
-use crate::planner::{self, Line, ToPlan};
 use crate::settings::Settings;
 use crate::stored_plan::Stored;
 use crate::streams::{complain, say};
 use crate::system::{self, Signals};
+use call::environments::Environment;
+use call::{Disk, ErrorKind, Format, MOST_BYTES as MOST_OF_NVCC, NvccLine, Planning};
 use std::env;
 use std::ffi::{OsStr, OsString};
 use std::os::unix::ffi::OsStrExt;
@@ -175,21 +173,22 @@ fn asked(words: &[OsString]) -> Result<Asked<'_>, Refusal> {
 }
 
 /// The line of a call, with all variables that count.
-fn line_of(call: &Call<'_>) -> Result<Line, Refusal> {
+fn line_of(call: &Call<'_>) -> Result<NvccLine, Refusal> {
     let text = |word: &OsStr| word.to_str().map(String::from).ok_or_else(|| refusal(2, "zigrunk plan: a word isn't UTF-8"));
     let cwd = working_directory().ok_or_else(|| refusal(1, "zigrunk plan: there is no working directory"))?;
     let names = ["NVCC_PREPEND_FLAGS", "NVCC_APPEND_FLAGS", "ZIGRUNK_JOBS", "MAKEFLAGS"];
     let set = names.iter().filter_map(|name| Some((name, env::var_os(name)?)));
     let variables = set.map(|(name, value)| Ok(((*name).to_owned(), text(&value)?))).collect::<Result<_, _>>()?;
     let words = call.words.iter().map(|word| text(word)).collect::<Result<_, _>>()?;
-    Ok(Line { cwd: text(cwd.as_os_str())?, nvcc: text(call.nvcc)?, words, variables })
+    Ok(NvccLine { cwd: text(cwd.as_os_str())?, nvcc: text(call.nvcc)?, words, variables })
 }
 
 /// The path of the directory that the call itself would have. The user's folder above it is made, as private as a call needs it: what runs
 /// the plan makes directories that all can read.
-fn directory_of(line: &Line) -> Result<String, Refusal> {
-    let above = absolute(Settings::of_environment().plans(), line.cwd.as_ref());
-    let name = planner::directory_of(line).map_err(|reason| refusal(1, format!("zigrunk plan: {reason}")))?;
+fn directory_of(line: &NvccLine) -> Result<String, Refusal> {
+    let settings = Settings::of_environment().map_err(|complaint| refusal(2, format!("zigrunk plan: {complaint}")))?;
+    let above = absolute(settings.plans(), line.cwd.as_ref());
+    let name = line.directory_name().map_err(|error| refused(&error))?;
     let user = format!("zigrunk-{}", system::user());
     let _ = Folder::private(&above, &user);
     let path = above.join(user).join(name);
@@ -201,32 +200,27 @@ fn machine() -> std::io::Result<Host> {
     Host::new(Signals::open()?, Shared::new()?, None, None, Environment::own().with("ZIGRUNK_INSIDE", OsStr::new("")))
 }
 
-/// Why one of these dry runs has failed, if one has, and what it said.
-fn failure(ended: &[Ended]) -> Option<Refusal> {
-    let failed = ended.iter().find(|run| !run.status.succeeded())?;
-    let lines = failed.errors.split_inclusive(|&byte| byte == b'\n').filter(|line| !line.starts_with(b"#$ "));
-    let said: Vec<u8> = lines.flatten().copied().collect();
-    Some(refusal(1, format!("{}zigrunk plan: a dry run fails", String::from_utf8_lossy(&said))))
+/// Why there is no plan of a call.
+fn refused(error: &call::Error) -> Refusal {
+    match error.kind() {
+        ErrorKind::ToNvcc => refusal(3, format!("zigrunk plan: {error}")),
+        ErrorKind::Nvcc => refusal(1, format!("{error}\nzigrunk plan: a dry run fails")),
+        _ => refusal(1, format!("zigrunk plan: {error}")),
+    }
 }
 
 /// The plan of a call, in a format.
 fn plan_of(format: Format, call: &Call<'_>) -> Result<String, Refusal> {
     let line = line_of(call)?;
     let tmp = directory_of(&line)?;
-    let to_nvcc = |reason: String| refusal(3, format!("zigrunk plan: goes to nvcc: {reason}"));
-    let outline = planner::outline_of(&line, &tmp).map_err(to_nvcc)?;
-    let no_machine = |error: std::io::Error| refusal(1, format!("zigrunk plan: {error}"));
-    let ended = make_planned(&mut machine().map_err(no_machine)?, &outline).map_err(|failed| match failed {
-        Failed::ByNvcc(reason) => refusal(1, format!("zigrunk plan: {reason}")),
-        Failed::Signal(number) => refusal(128 + number, ""),
+    let call = call::Call::read(line, tmp).map_err(|error| refused(&error))?;
+    let mut machine = machine().map_err(|error| refusal(1, format!("zigrunk plan: {error}")))?;
+    let dry_runs = call.make_dry_runs(&mut Jobs::new(&mut machine, || Ok(()))).map_err(|stopped| match stopped {
+        Stopped::Refused(error) => refused(&error),
+        Stopped::Signal(number) => refusal(128 + number, ""),
     })?;
-    if let Some(refusal) = failure(&ended) {
-        return Err(refusal);
-    }
-    let [first, second] = ended.as_slice() else { return Err(refusal(1, "zigrunk plan: a dry run is missing")) };
-    let dry_runs = [first.errors.as_slice(), second.errors.as_slice()];
-    let of = ToPlan { dry_runs, cwd: &line.cwd, tmp: &tmp, flag: &outline.flag, keeps_names: outline.keep_dir.is_some() };
-    planner::plan_text(format, &of).map_err(|reason| refusal(1, format!("zigrunk plan: {reason}")))
+    let planning = Planning { variables: &[], keeps_names: call.keep_dir().is_some(), programs: &Disk::default(), limit: Some(MOST_OF_NVCC) };
+    call.plan_made(&dry_runs, &planning).and_then(|plan| plan.text(format)).map_err(|error| refused(&error))
 }
 
 fn help() -> String {
@@ -317,6 +311,13 @@ mod tests {
     }
 
     #[test]
+    fn a_dry_run_that_fails_is_told() {
+        let refusal = refused(&call::Error::by_nvcc(b"#$ gcc a\nbad\n#$x\n".to_vec()));
+        assert_eq!((refusal.status, refusal.text.as_str()), (1, "bad\n#$x\nzigrunk plan: a dry run fails"));
+        assert_eq!(refused(&call::Error::to_nvcc(call::Reason::ReadOtherwise)).status, 3);
+    }
+
+    #[test]
     fn a_call_has_nvcc_and_its_words() {
         for line in ["json -- nvcc -c k.cu", "json nvcc -c k.cu"] {
             let words = words(line);
@@ -348,6 +349,18 @@ mod tests {
             assert_eq!(asked(&words(line)), Ok(Asked::Stored(Format::Ninja, wanted.clone())), "{line}");
         }
         let Ok(Asked::Stored(_, stored)) = asked(&words("--dry-runs a b --cwd /w json")) else { panic!("no dry runs") };
-        assert_eq!(stored, Stored { files: ["a", "b"].map(String::from), cwd: "/w".into(), tmp: "/w".into(), flag: "-c".into(), keeps: false, whole: false, limit: MOST_BYTES, suffixes: vec![] });
+        assert_eq!(
+            stored,
+            Stored {
+                files: ["a", "b"].map(String::from),
+                cwd: "/w".into(),
+                tmp: "/w".into(),
+                flag: "-c".into(),
+                keeps: false,
+                whole: false,
+                limit: MOST_BYTES,
+                suffixes: vec![]
+            }
+        );
     }
 }

@@ -1,5 +1,5 @@
 //! The files of a call that stay.
-use crate::streams::{write_all, write_file};
+use crate::streams::{content_of, write_file};
 use crate::tasks::OWN;
 use std::fs;
 use std::path::Path;
@@ -24,7 +24,7 @@ pub fn keep(tmp: &Path, keep_dir: &Path, begun: SystemTime) {
         if entry.file_name() == OWN || is_newer {
             continue;
         }
-        if let Some(text) = fs::read_to_string(&from).ok().and_then(|text| with_kept_name(&text, &from)) {
+        if let Some(text) = content_of(&from).ok().and_then(|text| String::from_utf8(text).ok()).and_then(|text| with_kept_name(&text, &from)) {
             let _ = write_file(&from, text);
         }
         if fs::rename(&from, &to).is_ok() {
@@ -39,7 +39,7 @@ pub fn keep(tmp: &Path, keep_dir: &Path, begun: SystemTime) {
 /// What to say of a command that failed without a message: on a full disk its message is lost.
 pub fn lack_of_room(temporary: &Path) -> String {
     let path = temporary.join(format!(".zigrunk-room.{}", std::process::id()));
-    let has_room = fs::File::create(&path).and_then(|file| write_all(&file, &vec![0; 65536])).is_ok();
+    let has_room = write_file(&path, vec![0; 65536]).is_ok();
     let _ = fs::remove_file(&path);
     if has_room { String::new() } else { format!(": there is no room in {}", temporary.display()) }
 }

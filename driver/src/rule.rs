@@ -2,15 +2,15 @@
 use crate::cache::Session;
 use crate::cache::calls::Product;
 use crate::machine::Ended;
-use crate::planner::{PlannedCommand, Words, list_of};
+use crate::planned::{PlannedCommand, list_of};
 use crate::run::{Done, Step, Watch};
-use crate::streams::{complain, content_of, write_all};
+use crate::streams::{complain, content_of, write_file};
 use crate::voice::Voice;
+use call::Run;
 use dependency_rules::{order_of, rule_asked, rule_text};
 use rattle_std::alloc::{AllocError, Global};
 use rattle_std::vec::Collect;
 use std::collections::BTreeSet;
-use std::fs::File;
 use std::path::Path;
 use std::sync::Mutex;
 use texts::bytes::Bytes;
@@ -23,7 +23,7 @@ pub type Refusals = Mutex<BTreeSet<String>>;
 pub struct RuleMaker<'a, 'b> {
     pub commands: &'a [PlannedCommand],
     /// The command that makes it by nvcc, if the line asks for one.
-    pub asked: Option<&'a Words>,
+    pub asked: Option<&'a Run>,
     /// The cache's name.
     pub launcher: &'a str,
     pub refusals: &'a Refusals,
@@ -47,11 +47,11 @@ impl RuleMaker<'_, '_> {
 
     fn try_make(&self) -> Option<Product> {
         let command = self.asked?;
-        let words = list_of(&command.words).ok()?;
+        let words = list_of(command.words()).ok()?;
         let rule = rule_asked(&words)?;
         let text = rule_text(Global, &rule, &self.written()?).ok()??;
-        let path = Path::new(&command.folder).join(rule.file);
-        write_all(&File::create(&path).ok()?, text.as_slice()).ok()?;
+        let path = Path::new(command.cwd()).join(rule.file);
+        write_file(&path, text.as_slice()).ok()?;
         Some(Product { path, is_new: false, text: text.as_slice().to_vec() })
     }
 }
@@ -137,10 +137,10 @@ mod tests {
         /// What the dependency file gets, if the driver makes it.
         fn made(&self, asked: &str, commands: &[PlannedCommand]) -> Option<String> {
             let _ = fs::remove_file(self.0.join("k.d"));
-            let words = Words { folder: self.0.to_str().unwrap().into(), words: asked.split(' ').map(String::from).collect() };
+            let run = Run::new(asked.split(' ').map(String::from).collect(), self.0.to_str().unwrap().into());
             let mut nobody = |_: bool, _: &[u8]| ();
             let voice = Voice::new(&[], Habits::default(), &mut nobody);
-            let mut maker = RuleMaker { commands, asked: Some(&words), launcher: "", refusals: &Refusals::default(), voice, cache: None, made: None };
+            let mut maker = RuleMaker { commands, asked: Some(&run), launcher: "", refusals: &Refusals::default(), voice, cache: None, made: None };
             maker.make_rule().then(|| fs::read_to_string(self.0.join("k.d")).unwrap())
         }
     }

@@ -1,8 +1,9 @@
 //! Runs the commands of a plan on a machine.
 use crate::cache::contains;
-use crate::early::HeadStart;
+use crate::early::{HeadStart, Wait};
 use crate::late::Include;
 use crate::machine::{Ended, Event, Job, Machine};
+use crate::piped::Piped;
 use crate::withheld::Withheld;
 use rattle_std::alloc::{AllocError, Global};
 use rattle_std::vec::Vec as List;
@@ -10,6 +11,7 @@ use schedules::{AfterFailure, BadGraph, Outcome, Refused, Schedule, chain_weight
 use std::collections::BTreeMap;
 use std::io;
 use std::mem;
+use std::os::fd::RawFd;
 
 /// A command of a plan, or what writes the dependency file.
 #[derive(Clone, Debug, Default)]
@@ -159,10 +161,33 @@ impl Watch for NoRule {
 /// The words with which a cache says that it doesn't know a compiler.
 const REFUSAL: &[u8] = b"Compiler not supported";
 
+/// What a task reads late.
+enum Late {
+    Withheld(Withheld),
+    Piped(Piped),
+}
+
+impl Late {
+    /// The file of a task that begins early.
+    fn of(start: &HeadStart) -> io::Result<Late> {
+        match start.wait {
+            Wait::Opening => Withheld::new(&start.withheld).map(Late::Withheld),
+            Wait::Reading => Piped::new(&start.withheld).map(Late::Piped),
+        }
+    }
+
+    /// What the task's process has to have open.
+    fn inherited(&self) -> Option<RawFd> {
+        match self {
+            Late::Withheld(_) => None,
+            Late::Piped(piped) => Some(piped.reader()),
+        }
+    }
+}
+
 /// A task that runs before what it needs has ended.
 struct Early {
-    /// What it reads late.
-    withheld: Withheld,
+    late: Late,
     ended: Option<Ended>,
 }
 
@@ -179,6 +204,8 @@ struct Run<'a, M, W> {
     /// Whether each task was started.
     started: Vec<bool>,
     early: BTreeMap<usize, Early>,
+    /// Whether each task's process reads a file through a pipe.
+    is_piped: Vec<bool>,
     /// Whether each task may not begin early.
     is_held: Vec<bool>,
     /// Whether each task has to run once more after it has begun early.
@@ -207,11 +234,12 @@ fn schedule_of(tasks: &[Task], at_once: usize) -> Result<Schedule, BadGraph> {
 pub fn run<M: Machine, W: Watch>(machine: &mut M, watch: &mut W, tasks: &[Task], at_once: usize) -> Result<Vec<Done>, Stopped> {
     let at_once = at_once.max(1);
     let schedule = schedule_of(tasks, at_once).map_err(|_| Stopped::NoProcess("the commands have no schedule".into()))?;
-    let [started, is_held, is_void, launched, asked_for] = [(); 5].map(|()| vec![false; tasks.len()]);
+    let [started, is_piped, is_held, is_void, launched, asked_for] = [(); 6].map(|()| vec![false; tasks.len()]);
     let instead = vec![None; tasks.len()];
     let done = vec![Done::default(); tasks.len()];
     let (again, early) = (Vec::new(), BTreeMap::new());
-    let mut run = Run { machine, watch, tasks, schedule, at_once, done, again, started, early, is_held, is_void, launched, asked_for, instead };
+    let mut run =
+        Run { machine, watch, tasks, schedule, at_once, done, again, started, early, is_piped, is_held, is_void, launched, asked_for, instead };
     let ended = run.run_all();
     if let Err(stopped) = &ended {
         run.machine.end_all(if let Stopped::Signal(number) = stopped { *number } else { crate::system::TERM });
@@ -234,8 +262,7 @@ impl<'a, M: Machine, W: Watch> Run<'a, M, W> {
             while next.is_none() && self.begin_early() {}
             self.note_asked(next);
             self.machine.want(next.is_some() && !is_held_back);
-            let is_own = |front: &usize| !self.early.contains_key(front) && !self.is_void[*front] && self.instead[*front].is_none();
-            let front = self.watch.front().filter(is_own);
+            let front = self.watch.front().filter(|&front| self.is_own(front));
             self.machine.listen(front);
             if next.is_none() && self.watch.has_work(&self.done) {
                 self.machine.release();
@@ -252,6 +279,11 @@ impl<'a, M: Machine, W: Watch> Run<'a, M, W> {
                 Event::Lost(reason) => return Err(Stopped::NoProcess(reason)),
             }
         }
+    }
+
+    /// Whether what a task's process says is the task's, as far as that is known while it runs.
+    fn is_own(&self, number: usize) -> bool {
+        !self.early.contains_key(&number) && !self.is_piped[number] && !self.is_void[number] && self.instead[number].is_none()
     }
 
     /// Does what needs no process, if that is next. Says whether it was.
@@ -308,11 +340,15 @@ impl<'a, M: Machine, W: Watch> Run<'a, M, W> {
             return true;
         }
         self.note_asked(Some(number));
-        let Ok(withheld) = Withheld::new(&start.withheld) else { return false };
-        let runs = self.machine.start(number, &start.job).is_ok();
+        let Ok(late) = Late::of(start) else {
+            // What can't be had now can't be had later either, and others may not need it.
+            self.is_held[number] = true;
+            return true;
+        };
+        let runs = self.machine.start(number, &Job { inherits: late.inherited(), ..start.job.clone() }).is_ok();
         if runs {
             self.started[number] = true;
-            self.early.insert(number, Early { withheld, ended: None });
+            self.early.insert(number, Early { late, ended: None });
         }
         runs
     }
@@ -323,18 +359,33 @@ impl<'a, M: Machine, W: Watch> Run<'a, M, W> {
         let may_start = |number: &usize| self.tasks[*number].needs.iter().all(|&need| self.done[need].has_ended());
         let ready: Vec<usize> = self.early.keys().copied().filter(may_start).collect();
         let taken = ready.into_iter().find(|&number| self.schedule.started(number).is_ok());
-        let Some((number, mut early)) = taken.and_then(|number| Some((number, self.early.remove(&number)?))) else { return Ok(false) };
+        let Some((number, early)) = taken.and_then(|number| Some((number, self.early.remove(&number)?))) else { return Ok(false) };
         let content = self.tasks[number].head_start.as_ref().and_then(|start| start.content().ok());
-        let is_written = content.is_some_and(|content| early.withheld.write(&content));
-        if !is_written {
-            self.machine.end(number);
+        match early.late {
+            Late::Withheld(withheld) => self.give(number, withheld, content),
+            Late::Piped(piped) => self.fill(number, piped, content),
         }
-        self.is_void[number] = !early.withheld.give() || !is_written;
         if self.watch.caught_up(number) && !self.is_void[number] {
             self.instead[number] = Some(self.tasks[number].job.clone());
         }
         early.ended.map_or(Ok(()), |ended| self.ended(number, ended))?;
         Ok(true)
+    }
+
+    /// Lets the process of a task go on that waits for a file with this content, if there is any.
+    fn give(&mut self, number: usize, mut withheld: Withheld, content: Option<Vec<u8>>) {
+        let is_written = content.is_some_and(|content| withheld.write(&content));
+        if !is_written {
+            self.machine.end(number);
+        }
+        self.is_void[number] = !withheld.give() || !is_written;
+    }
+
+    /// Has the process of a task read this content, if there is any.
+    fn fill(&mut self, number: usize, mut piped: Piped, content: Option<Vec<u8>>) {
+        piped.fill(content.unwrap_or_default());
+        self.machine.fill(number, piped);
+        self.is_piped[number] = true;
     }
 
     /// Ends what has begun early and isn't to run, since an earlier command failed.
@@ -377,7 +428,8 @@ impl<'a, M: Machine, W: Watch> Run<'a, M, W> {
             early.ended = Some(ended);
             return Ok(());
         }
-        if mem::take(&mut self.is_void[number]) {
+        let has_left = mem::take(&mut self.is_piped[number]) && self.machine.has_left(number);
+        if mem::take(&mut self.is_void[number]) || has_left {
             self.again.push(number);
             return Ok(());
         }
@@ -426,6 +478,8 @@ mod tests {
     use crate::system::{INT, Status, TERM, UNBLOCKED};
     use crate::test_folder::TestFolder;
     use std::collections::VecDeque;
+    use std::fs::{self, File};
+    use std::io::Read;
     use std::os::unix::fs::OpenOptionsExt;
 
     /// A machine whose jobs end in the order in which they start, or in the other. A job's words are its name, its status and what it says.
@@ -452,6 +506,24 @@ mod tests {
         ended: Vec<usize>,
         /// How many jobs ran when slots were given back.
         released: Vec<usize>,
+        /// The pipes that jobs have, and whether one is read to its end before its job ends.
+        pipes: Vec<(usize, Piped)>,
+        reads_all: bool,
+        read: Vec<u8>,
+    }
+
+    impl Fake {
+        /// Reads what comes through the pipe of a job.
+        fn read_pipe(&mut self, number: usize) {
+            let Some(at) = self.pipes.iter().position(|(job, _)| *job == number).filter(|_| self.reads_all) else { return };
+            let (_, mut piped) = self.pipes.remove(at);
+            let mut reader = File::open(format!("/proc/self/fd/{}", piped.reader())).unwrap();
+            while !piped.go_on().unwrap() {
+                let mut part = [0; 4096];
+                let size = reader.read(&mut part).unwrap();
+                self.read.extend(&part[..size]);
+            }
+        }
     }
 
     impl Machine for Fake {
@@ -461,6 +533,16 @@ mod tests {
 
         fn want(&mut self, wants: bool) {
             self.wants = wants;
+        }
+
+        fn fill(&mut self, number: usize, piped: Piped) {
+            self.pipes.push((number, piped));
+        }
+
+        fn has_left(&mut self, number: usize) -> bool {
+            let left = self.pipes.len();
+            self.pipes.retain(|(job, _)| *job != number);
+            self.pipes.len() < left
         }
 
         fn release(&mut self) {
@@ -477,8 +559,9 @@ mod tests {
             }
             let ended = if self.backwards { self.running.pop_back() } else { self.running.pop_front() };
             let (number, job) = ended.expect("something runs");
+            self.read_pipe(number);
             let file = self.read_late.as_ref().filter(|_| job.words[0] == "early");
-            assert!(file.is_none_or(|file| std::fs::metadata(file).unwrap().len() > 0), "it waits for ever");
+            assert!(file.is_none_or(|file| fs::metadata(file).unwrap().len() > 0), "it waits for ever");
             let code = job.words[1].parse().unwrap();
             let errors = job.words.get(2).map(|text| text.clone().into_bytes()).unwrap_or_default();
             Event::Ended(number, Ended { status: Status { code, signal: None, dumped: false }, out: Vec::new(), errors, times: (1.0, 2.0) })
@@ -495,7 +578,7 @@ mod tests {
         }
 
         fn end(&mut self, number: usize) {
-            let open = self.read_late.take().map(|file| std::fs::File::options().read(true).custom_flags(UNBLOCKED).open(file));
+            let open = self.read_late.take().map(|file| File::options().read(true).custom_flags(UNBLOCKED).open(file));
             assert_eq!(open.unwrap().unwrap_err().kind(), io::ErrorKind::WouldBlock, "it can be read already");
             self.ended.push(number);
         }
@@ -699,16 +782,16 @@ mod tests {
     /// Two tasks, of which the second may begin beside the first, in a folder of a test. The status of the first and whether it writes its
     /// file are the test's.
     fn with_head_start(folder: &TestFolder, status: i32, writes: bool) -> [Task; 2] {
-        let start = HeadStart { beside: 0, file: folder.join("id"), withheld: folder.join("withheld"), job: job("early 0"), has_one_name: false };
+        let start = HeadStart { beside: 0, file: folder.join("id"), withheld: folder.join("withheld"), job: job("early 0"), wait: Wait::Opening };
         if writes {
-            std::fs::write(&start.file, "id").unwrap();
+            fs::write(&start.file, "id").unwrap();
         }
         [task(&format!("first {status}"), &[]), Task { head_start: Some(start), ..task("second 0", &[0]) }]
     }
 
     /// What is in the file that the second of these tasks reads late.
     fn read_late_in(folder: &TestFolder) -> Option<String> {
-        std::fs::read_to_string(folder.join("withheld")).ok()
+        fs::read_to_string(folder.join("withheld")).ok()
     }
 
     #[test]
@@ -739,6 +822,48 @@ mod tests {
         let mut machine = Fake { is_idle: true, read_late, ..Fake::default() };
         assert_eq!(run_all(&mut machine, &tasks, 2), ("firstearlysecond".into(), vec![Some(0); 2]));
         assert_eq!(machine.ended, [1], "it ends before it reads what isn't there");
+    }
+
+    /// What a machine starts of two tasks of which the second gets its file through a pipe, and what it read by the pipe.
+    fn with_pipe(folder: &TestFolder, machine: Fake) -> (String, String) {
+        let mut tasks = with_head_start(folder, 0, true);
+        tasks[1].head_start.as_mut().unwrap().wait = Wait::Reading;
+        let mut machine = Fake { is_idle: true, ..machine };
+        let (started, ends) = run_all(&mut machine, &[tasks[0].clone(), tasks[1].clone(), task("other 0", &[])], 3);
+        assert_eq!(ends, vec![Some(0); 3]);
+        (started, String::from_utf8(machine.read).unwrap())
+    }
+
+    #[test]
+    fn a_task_reads_a_pipe_to_its_end_or_runs_once_more() {
+        for (reads_all, backwards, wanted) in [
+            (true, false, ("firstotherearly", "id")),
+            (false, false, ("firstotherearlysecond", "")),
+            // It ends before there is something to read.
+            (true, true, ("firstotherearlysecond", "")),
+        ] {
+            let folder = TestFolder::new();
+            let (started, read) = with_pipe(&folder, Fake { reads_all, backwards, ..Fake::default() });
+            assert_eq!((started.as_str(), read.as_str()), wanted, "{reads_all} {backwards}");
+            assert_eq!(read_late_in(&folder).unwrap(), "id", "a plain file has its name");
+            assert!(!folder.join("withheld").is_symlink());
+        }
+    }
+
+    #[test]
+    fn a_task_that_cannot_have_its_file_bars_no_other() {
+        for wait in [Wait::Opening, Wait::Reading] {
+            let folder = TestFolder::new();
+            let [first, mut second] = with_head_start(&folder, 0, true);
+            second.head_start.as_mut().unwrap().wait = wait;
+            let mut third = Task { job: job("third 0"), ..second.clone() };
+            third.head_start.as_mut().unwrap().withheld = folder.join("another");
+            fs::create_dir(folder.join("withheld")).unwrap();
+            let mut machine = Fake { is_idle: true, reads_all: true, ..Fake::default() };
+            let done = run(&mut machine, &mut Heard::default(), &[first, second, third], 2);
+            assert_eq!(machine.started[..2], ["first", "early"], "{wait:?}");
+            assert_eq!(done.is_ok(), wait == Wait::Opening, "a folder has the name of a file that is read by it");
+        }
     }
 
     #[test]

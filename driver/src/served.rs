@@ -4,18 +4,18 @@ use crate::cache::{self, calls};
 use crate::host;
 use crate::log;
 use crate::machine::Ended;
-use crate::planner::Line;
-use crate::programs;
 use crate::run::{Done, Task};
 use crate::settings::Settings;
 use crate::split::{Outcome, Said};
 use crate::system::Status;
+use call::NvccLine;
+use call::programs;
 use std::env;
 use std::path::Path;
 
 /// Makes what the cache has of a whole call, which has begun at a time, in seconds. Gives what it said and what has come of it, or `None` if the
 /// call has to be made.
-pub fn serve(settings: &Settings, line: &Line, begun: f64) -> Option<(Said, Outcome)> {
+pub fn serve(settings: &Settings, line: &NvccLine, begun: f64) -> Option<(Said, Outcome)> {
     if !calls::is_on() || !settings.launcher.is_empty() || !settings.runs_here() {
         return None;
     }

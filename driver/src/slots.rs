@@ -5,7 +5,7 @@
 //! among either: a call takes a slot only if none of a lower rank waits for it. So calls end one after the other, and the last ones side
 //! by side. Who gives a slot back wakes the first call that waits for it, by a byte in its ticket. Holders and waiters touch their files each second. What
 //! wasn't touched for some seconds belongs to a call that is stopped or frozen, and doesn't count.
-use crate::folder::Folder;
+use crate::folder::{self, Folder};
 use crate::system::{self, Opening};
 use std::cell::{Cell, RefCell};
 use std::fs::{self, File};
@@ -90,6 +90,11 @@ pub struct Slots {
     known: RefCell<Option<(SystemTime, Vec<Waiter>)>>,
 }
 
+/// The name of the folder of a user's slots.
+fn folder_name() -> String {
+    format!("zigrunk-slots-{}", system::user())
+}
+
 /// Whether a file was touched within the last seconds.
 fn is_fresh(file: &File) -> bool {
     let age = file.metadata().and_then(|it| it.modified()).ok().and_then(|time| SystemTime::now().duration_since(time).ok());
@@ -97,14 +102,21 @@ fn is_fresh(file: &File) -> bool {
 }
 
 impl Slots {
-    /// So many slots, for a call of this age, in the first of these folders that takes locks. `None` if none does.
+    /// So many slots, for a call of this age, in the first of these folders that takes locks. `None` if none does: if that is since somebody
+    /// else has taken the names there, the user is told.
     pub fn open(count: usize, age: u64, places: &[PathBuf]) -> Option<Slots> {
         let own = Waiter { rank: age % FURTHER, process: system::process(), count };
-        places.iter().find_map(|place| Slots::open_in(place, own).ok())
+        let slots = places.iter().find_map(|place| Slots::open_in(place, own).ok());
+        if slots.is_none() {
+            for place in places {
+                folder::tell_taken(&place.join(folder_name()), "slots", "nothing limits how many commands run at once", places);
+            }
+        }
+        slots
     }
 
     fn open_in(place: &Path, own: Waiter) -> io::Result<Slots> {
-        let folder = Folder::private(place, &format!("zigrunk-slots-{}", system::user()))?;
+        let folder = Folder::private(place, &folder_name())?;
         let first = system::open_below(folder.as_fd(), "1", Opening::Kept)?;
         system::try_lock(first.as_fd())?;
         Ok(Slots { folder, own, ticket: None, is_without_locks: Cell::new(false), known: RefCell::new(None) })
@@ -419,6 +431,18 @@ mod tests {
         let slots = Slots::open(1, 1, &["/missing".into(), place.clone(), std::env::temp_dir()]).unwrap();
         assert_eq!(slots.folder.path, place.join(format!("zigrunk-slots-{}", system::user())));
         assert!(Slots::open(1, 1, &["/missing".into()]).is_none() && Slots::open(1, 1, &[]).is_none());
+    }
+
+    #[test]
+    fn a_folder_that_is_taken_has_no_slots_and_that_is_said() {
+        use std::os::unix::fs::PermissionsExt;
+        let [taken, free] = [TestFolder::new(), TestFolder::new()];
+        let said = |place: &TestFolder| place.join(format!("zigrunk-{}", system::user())).join("said-slots").exists();
+        let folder = taken.join(folder_name());
+        fs::create_dir(&folder).unwrap();
+        fs::set_permissions(&folder, fs::Permissions::from_mode(0o777)).unwrap();
+        assert!(Slots::open(1, 1, &[taken.to_owned(), free.to_owned()]).is_some() && !said(&taken), "another place has them");
+        assert!(Slots::open(1, 1, &[taken.to_owned()]).is_none() && said(&taken));
     }
 
     #[test]

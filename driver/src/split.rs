@@ -2,22 +2,24 @@
 use crate::cache::whole::Finished;
 use crate::cache::{self, Session};
 use crate::caches::{self, Counts};
-use crate::dry_runs::{self, DryRuns, Failed};
 use crate::early;
 use crate::folder::CallFolder;
-use crate::late;
+use crate::host_compilers::HostCompiler;
+use crate::late::{self, Halves};
 use crate::log;
 use crate::machine::Machine;
+use crate::nvcc_jobs::{self, Jobs};
 use crate::places::absolute;
-use crate::planner::{self, Line, Outline, PlannedCommand, ToPlan, Words};
+use crate::planned::{PlannedCommand, commands_of};
 use crate::products;
 use crate::rule::{Refusals, RuleMaker};
 use crate::run::{self, Done, Stopped, Task};
 use crate::settings::Settings;
 use crate::streams::write_file;
 use crate::tasks::{self, Surroundings};
+use crate::threads;
 use crate::voice::{End, Habits, Say, Voice};
-use dry_run_pairs::runs_devices_first;
+use call::{Disk, DryRuns, Error, LineReason, MOST_BYTES, NvccLine, Outline, Planning, Reason};
 use std::env;
 use std::fs;
 use std::iter;
@@ -26,25 +28,31 @@ use std::path::{Path, PathBuf};
 use std::time::SystemTime;
 
 /// Why a call doesn't come to its end here.
-#[derive(Clone, PartialEq, Eq, Debug)]
+#[derive(Clone, PartialEq, Debug)]
 pub enum Stop {
     /// Why nvcc makes it.
-    ByNvcc(String),
+    ByNvcc(Reason),
     /// The signal that ends it.
     Signal(i32),
 }
 
-impl From<String> for Stop {
-    fn from(reason: String) -> Stop {
+impl From<Reason> for Stop {
+    fn from(reason: Reason) -> Stop {
         Stop::ByNvcc(reason)
     }
 }
 
-impl From<Failed> for Stop {
-    fn from(failed: Failed) -> Stop {
-        match failed {
-            Failed::ByNvcc(reason) => Stop::ByNvcc(reason),
-            Failed::Signal(number) => Stop::Signal(number),
+impl From<Error> for Stop {
+    fn from(error: Error) -> Stop {
+        Stop::ByNvcc(error.into())
+    }
+}
+
+impl From<nvcc_jobs::Stopped> for Stop {
+    fn from(stopped: nvcc_jobs::Stopped) -> Stop {
+        match stopped {
+            nvcc_jobs::Stopped::Refused(error) => error.into(),
+            nvcc_jobs::Stopped::Signal(number) => Stop::Signal(number),
         }
     }
 }
@@ -52,14 +60,14 @@ impl From<Failed> for Stop {
 impl From<Stopped> for Stop {
     fn from(stopped: Stopped) -> Stop {
         match stopped {
-            Stopped::NoProcess(reason) => Stop::ByNvcc(reason),
+            Stopped::NoProcess(reason) => Stop::ByNvcc(Reason::Machine(reason)),
             Stopped::Signal(number) => Stop::Signal(number),
         }
     }
 }
 
-pub fn by_nvcc<T>(reason: &str) -> Result<T, Stop> {
-    Err(Stop::ByNvcc(reason.to_owned()))
+pub fn by_nvcc<T>(reason: Reason) -> Result<T, Stop> {
+    Err(Stop::ByNvcc(reason))
 }
 
 /// Variables by which each command of gcc adds to one file, so that their order shows there.
@@ -67,16 +75,6 @@ const DEPENDENCY_VARIABLES: [&str; 2] = ["DEPENDENCIES_OUTPUT", "SUNPRO_DEPENDEN
 
 /// How many links Linux follows, and the file behind the last.
 const MOST_LINKS: usize = 41;
-
-/// The words of nvcc's variable, as it cuts its value. A call is split only if they have no quotes.
-fn flags(name: &str) -> Vec<String> {
-    env::var(name).unwrap_or_default().split_whitespace().map(String::from).collect()
-}
-
-/// The words of a call with those that nvcc's variables add.
-pub fn with_flags(words: &[String]) -> Vec<String> {
-    [&flags("NVCC_PREPEND_FLAGS"), words, &flags("NVCC_APPEND_FLAGS")].concat()
-}
 
 /// Texts for the two standard streams, each with whether it is for standard error.
 pub type Said = Vec<(bool, Vec<u8>)>;
@@ -94,7 +92,7 @@ pub struct Outcome {
 /// A call to split, whose files go to a directory.
 pub struct Call<'a> {
     pub settings: &'a Settings,
-    pub line: &'a Line,
+    pub line: &'a NvccLine,
     pub folder: &'a CallFolder,
     /// How many commands run at once, if the line doesn't say it.
     pub at_once: usize,
@@ -106,15 +104,15 @@ pub struct Call<'a> {
 struct Planned {
     commands: Vec<PlannedCommand>,
     tasks: Vec<Task>,
-    /// Whether its last host compile begins before the fatbin is there.
-    is_late: bool,
+    /// The halves of its last host compile, if that begins before the fatbin is there, and the task that makes it whole.
+    halves: Option<(Halves, Task)>,
     /// How its voice speaks.
     habits: Habits,
 }
 
 impl Call<'_> {
     fn tmp(&self) -> Result<&str, Stop> {
-        self.folder.path().to_str().ok_or_else(|| "the temporary directory isn't UTF-8".to_owned().into())
+        self.folder.path().to_str().ok_or(Stop::ByNvcc(Reason::TemporaryNotUtf8))
     }
 
     /// Whether nvcc's tools run in the call's own directory, and generated files have nvcc's names, which tools show. A cache may look an
@@ -123,73 +121,85 @@ impl Call<'_> {
         self.settings.launcher.is_empty()
     }
 
-    /// What the line says of the call.
+    /// Reads the line of the call.
     /// Errors: why nvcc makes the call.
-    pub fn outline(&self) -> Result<Outline, Stop> {
+    pub fn read(&self) -> Result<call::Call, Stop> {
         let mut line = self.line.clone();
         line.variables.extend(self.runs_in_place().then(|| ("ZIGRUNK_IN_PLACE".to_owned(), "1".to_owned())));
-        let outline = planner::outline_of(&line, self.tmp()?)?;
-        check(&outline)?;
+        let call = call::Call::read(line, self.tmp()?.to_owned())?;
+        check(call.outline())?;
         if DEPENDENCY_VARIABLES.iter().any(|name| env::var_os(name).is_some()) {
-            return by_nvcc("a variable has gcc write dependencies");
+            return by_nvcc(Reason::DependencyVariable);
         }
-        Ok(outline)
+        Ok(call)
     }
 
     /// Plans the call.
-    fn planned(&self, outline: &Outline, dry_runs: &DryRuns, has_cache: bool) -> Result<Planned, Stop> {
-        let (tmp, keeps) = (self.tmp()?, outline.keep_dir.is_some());
-        let mut commands = self.commands(dry_runs, outline, tmp)?;
+    fn planned(&self, call: &call::Call, dry_runs: &DryRuns, has_cache: bool) -> Result<Planned, Stop> {
+        let (tmp, outline) = (call.tmp(), call.outline());
+        let keeps = outline.keep_dir.is_some();
+        let mut commands = self.commands(call, dry_runs)?;
         if commands.iter().any(PlannedCommand::writes_long_name) {
-            return by_nvcc("a generated file's name is too long");
+            return by_nvcc(Reason::LongName);
+        }
+        if commands.iter().filter(|command| writes_own_rule(command)).count() > 1 {
+            return by_nvcc(LineReason::HostFile.into());
         }
         if !commands.last().is_some_and(PlannedCommand::can_write) {
-            return by_nvcc("its output can't be written");
+            return by_nvcc(Reason::NoProduct);
         }
-        let late = if late::is_on(self.settings) && !keeps { late::begin_early(&mut commands, tmp) } else { None };
-        let is_early = early::is_on(self.settings) && !keeps;
+        let [may_halve, may_begin_early] = [late::is_on(self.settings), early::is_on(self.settings)].map(|is_on| is_on && !keeps);
+        let host = if may_halve || may_begin_early { HostCompiler::of_plan(&commands) } else { HostCompiler::Script };
+        let halves = if may_halve && host == HostCompiler::Gcc { late::begin_early(&mut commands, tmp) } else { None };
         // The cache looks a host compile up by its text, for which the stub file has to be there.
-        let compile = commands.len().checked_sub(2).filter(|_| is_early && late.is_some() && !has_cache);
+        let compile = commands.len().checked_sub(2).filter(|_| may_begin_early && halves.is_some() && !has_cache);
         let moved = compile.and_then(|compile| early::move_stub(&mut commands, compile, tmp));
         let scratch = self.settings.scratch().map(|path| absolute(path, Path::new(&self.line.cwd)).to_string_lossy().into_owned());
-        let surroundings = Surroundings { settings: self.settings, tmp, scratch };
-        let mut tasks = tasks::tasks_of(&commands, outline.dependencies.as_ref(), &surroundings);
-        if is_early || dry_runs.has_threads || outline.dependencies.is_some() {
+        let around = Surroundings { settings: self.settings, tmp, scratch };
+        let mut tasks = tasks::tasks_of(&commands, outline.dependencies.as_ref(), &around);
+        // A script's calls come in nvcc's order, unless nvcc itself has preprocessors not wait.
+        if (may_begin_early && host != HostCompiler::Script) || dry_runs.has_threads() || outline.dependencies.is_some() {
             early::free_preprocessors(&mut tasks, &commands);
         }
-        if is_early {
+        if may_begin_early {
             early::allow(&mut tasks, &commands, tmp);
         }
         if let Some(stub) = moved {
             stub.allow(&mut tasks);
         }
-        let is_late = late.is_some();
-        tasks.last_mut().into_iter().for_each(|last| last.include.clone_from(&late));
-        let tasks = tasks::in_nvccs_order(tasks);
-        let habits = habits_of(&tasks, is_late || has_cache, dry_runs, outline)?;
-        Ok(Planned { commands, tasks, is_late, habits })
+        if let (Some(halves), Some(last)) = (&halves, tasks.last_mut()) {
+            last.include = Some(halves.include.clone());
+        }
+        let whole = halves.as_ref().map(|halves| tasks::lone_task_of(&halves.whole, &around));
+        let tasks = tasks::in_nvccs_order(&tasks, &commands, dry_runs.has_threads());
+        let first_wave = threads::first_wave(&tasks, self.at_once(outline));
+        let habits = habits_of(&tasks, halves.is_some() || has_cache, dry_runs, outline)?;
+        Ok(Planned { commands, tasks, halves: halves.zip(whole), habits: Habits { first_wave, ..habits } })
+    }
+
+    /// How many of the call's commands run at once.
+    fn at_once(&self, outline: &Outline) -> usize {
+        outline.jobs.unwrap_or(self.at_once)
     }
 
     /// The commands of the call's plan.
-    fn commands(&self, dry_runs: &DryRuns, outline: &Outline, tmp: &str) -> Result<Vec<PlannedCommand>, Stop> {
+    fn commands(&self, call: &call::Call, dry_runs: &DryRuns) -> Result<Vec<PlannedCommand>, Stop> {
         let in_place = self.runs_in_place();
-        let runs = [dry_runs.first.as_slice(), &dry_runs.second];
-        let keeps_names = outline.keep_dir.is_some() || in_place;
-        let to_plan = ToPlan { dry_runs: runs, cwd: &self.line.cwd, tmp, flag: &outline.flag, keeps_names };
-        Ok(if in_place { planner::plan_in_place(&to_plan)? } else { planner::plan(&to_plan)? })
+        let keeps_names = call.keep_dir().is_some() || in_place;
+        let planning = Planning { variables: &[], keeps_names, programs: &Disk::default(), limit: Some(MOST_BYTES) };
+        Ok(commands_of(&call.plan_made(dry_runs, &planning)?, in_place)?)
     }
 
     /// Makes the dry runs, plans the call and runs its commands. `say` is told what nvcc and the commands say, in nvcc's order.
     /// Errors: why nvcc makes the call, or the signal that ends it.
-    pub fn run<M: Machine>(&self, machine: &mut M, outline: &Outline, say: &mut Say<'_>) -> Result<Outcome, Stop> {
-        let (line, tmp, begun) = (self.line, self.tmp()?, SystemTime::now());
+    pub fn run<M: Machine>(&self, machine: &mut M, call: &call::Call, say: &mut Say<'_>) -> Result<Outcome, Stop> {
+        let (line, tmp, outline, begun) = (self.line, call.tmp(), call.outline(), SystemTime::now());
         machine.plans(true);
-        let asked = dry_runs::Line { nvcc: &line.nvcc, words: &with_flags(&line.words), outline, tmp, cwd: &line.cwd };
-        let make_own = || fs::create_dir(Path::new(tmp).join(tasks::OWN)).map_err(|_| "no room for temporary files".into());
-        let dry_runs = dry_runs::make(machine, &asked, make_own)?;
+        let make_own = || fs::create_dir(Path::new(tmp).join(tasks::OWN)).map_err(|_| Reason::NoTemporaryRoom);
+        let dry_runs = call.make_dry_runs(&mut Jobs::new(machine, make_own))?;
         machine.plans(false);
         let store = if outline.keep_dir.is_some() { None } else { cache::store_of(self.settings, &line.cwd) };
-        let Planned { commands, tasks, is_late, habits } = self.planned(outline, &dry_runs, store.is_some())?;
+        let Planned { commands, tasks, halves, habits } = self.planned(call, &dry_runs, store.is_some())?;
         let launcher = self.settings.launcher.first().map(String::as_str).unwrap_or_default();
         let before = caches::counts(machine, self.settings)?;
         let mut said = Said::new();
@@ -198,23 +208,27 @@ impl Call<'_> {
             say(is_error, text);
         };
         let mut voice = Voice::new(&tasks, habits, &mut say).in_order(told_order(&commands, &tasks, &dry_runs));
-        voice.remark(&dry_runs.messages);
+        voice.remark(&dry_runs.messages()?);
         let cache = store.as_ref().map(|store| Session::new(store, tmp, &commands, &tasks));
         let mut maker =
             RuleMaker { commands: &commands, asked: outline.dependencies.as_ref(), launcher, refusals: self.refusals, voice, cache, made: None };
-        let mut done = run::run(machine, &mut maker, &tasks, outline.jobs.unwrap_or(self.at_once))?;
+        let mut done = run::run(machine, &mut maker, &tasks, self.at_once(outline))?;
         if let Some(cache) = &maker.cache {
             done.iter_mut().enumerate().for_each(|(task, done)| done.hit = cache.had(task));
             cache.end();
         }
         if maker.cache.as_ref().is_some_and(|cache| cache.misnames_lines(&tasks, &done)) {
-            return by_nvcc("a message may name lines of an earlier text");
+            return by_nvcc(Reason::OtherLines);
         }
-        if is_late && late::went_wrong(&done) {
-            return by_nvcc("its assembler fails, or says something");
+        let is_made_whole = match &halves {
+            Some((halves, whole)) => halves.make_whole(machine, whole, &tasks, &mut done)?,
+            None => false,
+        };
+        if habits.has_threads {
+            threads::finish_wave(machine, &tasks[..habits.first_wave], &mut done)?;
         }
         check_end(self.folder.is_there(), &done, &tasks, &dry_runs)?;
-        if let Some(folder) = dry_runs.stub_folder.as_ref().filter(|_| outline.keep_dir.is_some()) {
+        if let Some(folder) = dry_runs.stub_folder().filter(|_| outline.keep_dir.is_some()) {
             name_stubs(tmp, folder);
         }
         let counted = before.zip(caches::counts(machine, self.settings)?).map(<[Counts; 2]>::from);
@@ -224,7 +238,7 @@ impl Call<'_> {
         if status != 0 && is_silent {
             say(true, self.words_of_silence(status).as_bytes());
         }
-        if let Some(cache) = cache.as_mut().filter(|_| status == 0) {
+        if let Some(cache) = cache.as_mut().filter(|_| status == 0 && !is_made_whole) {
             cache.keep_call(&Finished { line, commands: &commands, tasks: &tasks, rule: made, said, begun });
         }
         Ok(Outcome { status, commands: logged, counted })
@@ -237,19 +251,34 @@ impl Call<'_> {
     }
 }
 
-/// How the voice of a call speaks that has these tasks, and that may still go to nvcc once all have run.
+/// Options by which a host compiler writes a dependency file, or prints its text.
+const RULE_OPTIONS: [&str; 9] =
+    ["-M", "-MM", "-MD", "-MMD", "-MJ", "--dependencies", "--user-dependencies", "--write-dependencies", "--write-user-dependencies"];
+
+/// Whether a command has its host compiler write a dependency file, which no record has, so nothing keeps two of them in order. nvcc's own option for
+/// such a file isn't among the words of its commands.
+fn writes_own_rule(command: &PlannedCommand) -> bool {
+    let is_rule = |word: &str| {
+        let option = word.split_once('=').map_or(word, |(option, _)| option);
+        RULE_OPTIONS.contains(&option) || word.strip_prefix("-Wp,").is_some_and(|words| words.split(',').any(|word| RULE_OPTIONS.contains(&word)))
+    };
+    command.words.iter().any(|word| is_rule(word))
+}
+
+/// How the voice of a call speaks that has these tasks, and that may still go to nvcc once all have run, or make a command again.
 fn habits_of(tasks: &[Task], may_go_to_nvcc: bool, dry_runs: &DryRuns, outline: &Outline) -> Result<Habits, Stop> {
     let rule_speaks = outline.dependencies.is_some() && !tasks.iter().any(tasks::preprocesses_for_host);
     if rule_speaks && outline.keep_dir.is_some() {
-        return by_nvcc("it keeps a file that only its dependencies need");
+        return by_nvcc(Reason::KeepsForDependencies);
     }
-    Ok(Habits { holds_back: may_go_to_nvcc || runs_devices_first(&dry_runs.first), has_threads: dry_runs.has_threads, rule_speaks })
+    let holds_back = may_go_to_nvcc || dry_runs.runs_devices_first();
+    Ok(Habits { holds_back, has_threads: dry_runs.has_threads(), first_wave: 0, rule_speaks })
 }
 
 /// The order in which tasks are told. An older nvcc runs device commands first, though the plan has cudafe++ before cicc.
 fn told_order(commands: &[PlannedCommand], tasks: &[Task], dry_runs: &DryRuns) -> Vec<usize> {
     let mut order: Vec<usize> = (0..tasks.len()).collect();
-    if runs_devices_first(&dry_runs.first) && !tasks.iter().any(|task| task.is_rule) {
+    if dry_runs.runs_devices_first() && !tasks.iter().any(|task| task.is_rule) {
         order.sort_by_key(|&number| tasks[number].command.map(|command| commands[command].line));
     }
     order
@@ -258,23 +287,23 @@ fn told_order(commands: &[PlannedCommand], tasks: &[Task], dry_runs: &DryRuns) -
 /// What of a line's outline nvcc has to make.
 fn check(outline: &Outline) -> Result<(), Stop> {
     if outline.keep_dir.as_ref().is_some_and(|dir| !Path::new(dir).is_dir()) {
-        return by_nvcc("the keep directory is missing");
+        return by_nvcc(Reason::NoKeepDirectory);
     }
-    let mut words = outline.dependencies.iter().flat_map(|command| command.words.windows(2));
+    let mut words = outline.dependencies.iter().flat_map(|command| command.words().windows(2));
     let is_error = |file: &str| matches!(file, "/dev/stderr" | "/dev/fd/2" | "/proc/self/fd/2");
     if words.any(|pair| pair[0] == "-MF" && is_error(&pair[1])) {
-        return by_nvcc("its dependency file is standard error");
+        return by_nvcc(Reason::DependenciesToErrors);
     }
-    let Words { folder, words } = &outline.first_dry_run;
+    let (folder, words) = (outline.first_dry_run.cwd(), outline.first_dry_run.words());
     let is_output = |place: usize| place > 0 && words[place - 1] == "-o";
     let is_input = |&(place, word): &(usize, &String)| !is_output(place) && !word.starts_with('-');
     for (_, word) in words.iter().enumerate().filter(is_input) {
         let file = Path::new(folder).join(word);
         if leads_to_open_file(&file) {
-            return by_nvcc("it uses an open file");
+            return by_nvcc(Reason::OpenFile);
         }
         if is_pipe(&file) {
-            return by_nvcc("it reads a pipe");
+            return by_nvcc(Reason::ReadsPipe);
         }
     }
     Ok(())
@@ -296,20 +325,20 @@ fn leads_to_open_file(path: &Path) -> bool {
 /// Whether the end of the commands is the call's, whose directory is there or not, or nvcc has to make it.
 fn check_end(is_there: bool, done: &[Done], tasks: &[Task], dry_runs: &DryRuns) -> Result<(), Stop> {
     if !is_there {
-        return by_nvcc("its temporary directory is gone");
+        return by_nvcc(Reason::TemporaryGone);
     }
     if !done.iter().any(Done::failed) {
-        return if done.iter().all(Done::has_ended) { Ok(()) } else { by_nvcc("a command didn't run") };
+        return if done.iter().all(Done::has_ended) { Ok(()) } else { by_nvcc(Reason::NotRun) };
     }
     if done.iter().zip(tasks).any(|(done, task)| task.is_rule && done.failed()) {
-        return by_nvcc("its dependency file fails");
+        return by_nvcc(Reason::DependenciesFail);
     }
     let writes_rule = tasks.iter().any(|task| task.is_rule);
-    if writes_rule && dry_runs.has_threads && done.iter().zip(tasks).any(|(done, task)| task.preprocesses && done.failed()) {
-        return by_nvcc("a preprocessor fails, and nvcc goes on");
+    if writes_rule && dry_runs.has_threads() && done.iter().zip(tasks).any(|(done, task)| task.preprocesses && done.failed()) {
+        return by_nvcc(Reason::PreprocessorFails);
     }
-    if runs_devices_first(&dry_runs.first) {
-        return by_nvcc("a command fails, and nvcc has them in another order");
+    if dry_runs.runs_devices_first() {
+        return by_nvcc(Reason::OtherOrder);
     }
     Ok(())
 }
@@ -319,7 +348,7 @@ fn name_stubs(tmp: &str, folder: &str) {
     for entry in fs::read_dir(tmp).into_iter().flatten().flatten() {
         let is_stub = entry.file_name().to_str().is_some_and(|name| name.ends_with(".cudafe1.stub.c"));
         if let Some(text) = is_stub.then(|| fs::read_to_string(entry.path()).ok()).flatten() {
-            let _ = write_file(entry.path(), text.replacen(&format!("\n# 1 \"{tmp}/"), &format!("\n# 1 \"{folder}"), 1));
+            let _ = write_file(entry.path(), text.replace(&format!("\n# 1 \"{tmp}/"), &format!("\n# 1 \"{folder}")));
         }
     }
 }
@@ -330,9 +359,10 @@ mod tests {
     use crate::machine::Ended;
     use crate::system::Status;
     use crate::test_folder::TestFolder;
+    use call::Run;
 
-    fn words(line: &str) -> Words {
-        Words { folder: "/w".into(), words: line.split(' ').map(String::from).collect() }
+    fn run(line: &str) -> Run {
+        Run::new(line.split(' ').map(String::from).collect(), "/w".into())
     }
 
     fn ended(code: i32, out: &str, errors: &str) -> Done {
@@ -344,15 +374,16 @@ mod tests {
         rules.iter().map(|&is_rule| Task { is_rule, ..Task::default() }).collect()
     }
 
-    fn to_nvcc(reason: &str) -> Result<(), Stop> {
+    fn to_nvcc(reason: Reason) -> Result<(), Stop> {
         by_nvcc(reason)
     }
 
     fn outline(dependencies: Option<&str>, keep_dir: Option<&str>) -> Outline {
         Outline {
-            dependencies: dependencies.map(words),
-            first_dry_run: words("nvcc"),
-            second_dry_run: words("nvcc"),
+            dependencies: dependencies.map(run),
+            own_dry_run: run("nvcc"),
+            first_dry_run: run("nvcc"),
+            second_dry_run: run("nvcc"),
             flag: "-c".into(),
             jobs: None,
             keep_dir: keep_dir.map(String::from),
@@ -365,7 +396,7 @@ mod tests {
         let mut tasks: Vec<Task> = (0..4).map(|command| Task { command: Some(command), ..Task::default() }).collect();
         let host = "#$ gcc -E -x c++ \"k.cu\"\n#$ cudafe++ \"k.cpp4.ii\"\n";
         let device = "#$ gcc -D__CUDA_ARCH__=520 -E -x c++ \"k.cu\"\n#$ cicc \"k.cpp1.ii\" -o \"k.ptx\"\n";
-        let order = |tasks: &[Task], run: String| told_order(&commands, tasks, &DryRuns { first: run.into_bytes(), ..DryRuns::default() });
+        let order = |tasks: &[Task], run: String| told_order(&commands, tasks, &DryRuns::new(Vec::new(), run.into_bytes(), Vec::new()));
         assert_eq!(order(&tasks, format!("{device}{host}")), [2, 3, 0, 1]);
         assert_eq!(order(&tasks, format!("{host}{device}")), [0, 1, 2, 3]);
         tasks.push(Task { is_rule: true, ..Task::default() });
@@ -374,20 +405,35 @@ mod tests {
 
     #[test]
     fn some_outlines_go_to_nvcc() {
-        let error = "its dependency file is standard error";
+        let error = || to_nvcc(Reason::DependenciesToErrors);
         let cases = [
             (outline(None, None), Ok(())),
             (outline(Some("nvcc -M -MF k.d"), Some("/")), Ok(())),
             (outline(Some("nvcc -M /dev/stderr -MF k.d"), None), Ok(())),
-            (outline(None, Some("/missing")), to_nvcc("the keep directory is missing")),
-            (outline(None, Some("/dev/null")), to_nvcc("the keep directory is missing")),
-            (outline(Some("nvcc -M -MF /dev/stderr -MT k.o"), None), to_nvcc(error)),
-            (outline(Some("nvcc -M -MF /dev/fd/2"), None), to_nvcc(error)),
-            (outline(Some("nvcc -MF /proc/self/fd/2"), None), to_nvcc(error)),
+            (outline(None, Some("/missing")), to_nvcc(Reason::NoKeepDirectory)),
+            (outline(None, Some("/dev/null")), to_nvcc(Reason::NoKeepDirectory)),
+            (outline(Some("nvcc -M -MF /dev/stderr -MT k.o"), None), error()),
+            (outline(Some("nvcc -M -MF /dev/fd/2"), None), error()),
+            (outline(Some("nvcc -MF /proc/self/fd/2"), None), error()),
         ];
         for (outline, wanted) in cases {
             assert_eq!(check(&outline), wanted, "{outline:?}");
         }
+    }
+
+    #[test]
+    fn host_compilers_may_write_rules_of_their_own() {
+        let writes = |line: &str| writes_own_rule(&PlannedCommand { words: run(line).words().to_vec(), ..PlannedCommand::default() });
+        for option in RULE_OPTIONS {
+            assert!(writes(&format!("-E {option} -MF x.d k.cu")), "{option}");
+        }
+        assert!(
+            ["-c --write-dependencies=x.d k.cpp", "-E -Wp,-MD,x.d k.cu", "-E -Wp,-DA,-MMD,x.d k.cu", "-Xpreprocessor -MD k.cu"]
+                .into_iter()
+                .all(writes)
+        );
+        let others = ["-E -x c++ k.cu -o k.ii", "-m64 -MF x.d", "-MT a -MP", "-Wp,-DMD,-MP k.cu", "-I-MD/x -DM=-M", "a-MD", "-MDx", "-W,-MD"];
+        assert!(!others.into_iter().any(writes));
     }
 
     #[test]
@@ -398,10 +444,10 @@ mod tests {
         assert!(["pipe", "./pipe"].iter().all(|name| is_pipe(&folder.join(name))));
         assert!(!["file", "missing", "/dev/null"].iter().any(|name| is_pipe(&folder.join(name))));
         let call = |line: &str| {
-            let first_dry_run = Words { folder: folder.to_string_lossy().into_owned(), ..words(line) };
+            let first_dry_run = Run::new(run(line).words().to_vec(), folder.to_string_lossy().into_owned());
             check(&Outline { first_dry_run, ..outline(None, None) })
         };
-        assert_eq!(call("nvcc -c pipe -o k.o"), to_nvcc("it reads a pipe"));
+        assert_eq!(call("nvcc -c pipe -o k.o"), to_nvcc(Reason::ReadsPipe));
         assert_eq!(call("nvcc -c file -o pipe"), Ok(()));
     }
 
@@ -413,49 +459,48 @@ mod tests {
             std::os::unix::fs::symlink(target, folder.join(name)).unwrap();
         }
         let call = |folder: &Path, line: &str| {
-            let first_dry_run = Words { folder: folder.to_string_lossy().into_owned(), ..words(line) };
+            let first_dry_run = Run::new(run(line).words().to_vec(), folder.to_string_lossy().into_owned());
             check(&Outline { first_dry_run, ..outline(None, None) })
         };
         for name in ["open", "second", "./second", "folder/0", "folder/1"] {
-            assert_eq!(call(&folder, &format!("nvcc -c {name}")), to_nvcc("it uses an open file"), "{name}");
+            assert_eq!(call(&folder, &format!("nvcc -c {name}")), to_nvcc(Reason::OpenFile), "{name}");
         }
         for words in ["usual", "file", "loop", "missing", "missing/k.cu", "/dev/null", "k.cu -o open"] {
             assert_eq!(call(&folder, &format!("nvcc -c {words}")), Ok(()), "{words}");
         }
-        assert_eq!(call(Path::new("/dev"), "nvcc -c stdin"), to_nvcc("it uses an open file"));
+        assert_eq!(call(Path::new("/dev"), "nvcc -c stdin"), to_nvcc(Reason::OpenFile));
     }
 
     #[test]
     fn some_ends_are_not_the_calls() {
-        let dry = |commands: &str| DryRuns { first: commands.into(), ..DryRuns::default() };
+        let dry = |commands: &str| DryRuns::new(Vec::new(), commands.into(), Vec::new());
         let usual = dry("#$ cudafe++ k.cu\n#$ cicc k.ii\n#$ gcc -c k.cpp\n");
         let (by_driver, left) = (Done { by_driver: true, ..Done::default() }, Done::default());
         let cases = [
             (true, vec![ended(0, "", ""), by_driver.clone()], vec![false, true], Ok(())),
             (true, vec![ended(0, "", ""), ended(0, "", "")], vec![false, true], Ok(())),
-            (true, vec![ended(0, "", ""), left.clone()], vec![false, false], to_nvcc("a command didn't run")),
+            (true, vec![ended(0, "", ""), left.clone()], vec![false, false], to_nvcc(Reason::NotRun)),
             (true, vec![ended(2, "", ""), left.clone()], vec![false, false], Ok(())),
             (true, vec![ended(2, "", ""), by_driver], vec![false, true], Ok(())),
-            (true, vec![ended(0, "", ""), ended(2, "", "")], vec![false, true], to_nvcc("its dependency file fails")),
-            (false, vec![ended(0, "", "")], vec![false], to_nvcc("its temporary directory is gone")),
-            (false, vec![ended(2, "", "")], vec![false], to_nvcc("its temporary directory is gone")),
+            (true, vec![ended(0, "", ""), ended(2, "", "")], vec![false, true], to_nvcc(Reason::DependenciesFail)),
+            (false, vec![ended(0, "", "")], vec![false], to_nvcc(Reason::TemporaryGone)),
+            (false, vec![ended(2, "", "")], vec![false], to_nvcc(Reason::TemporaryGone)),
         ];
         for (is_there, done, rules, wanted) in cases {
             assert_eq!(check_end(is_there, &done, &tasks(&rules), &usual), wanted, "{is_there} {done:?} {rules:?}");
         }
         let older = dry("#$ cicc k.ii\n#$ cudafe++ k.cu\n#$ gcc -c k.cpp\n");
         let ends = [0, 2].map(|code| check_end(true, &[ended(code, "", "")], &tasks(&[false]), &older));
-        assert_eq!(ends, [Ok(()), to_nvcc("a command fails, and nvcc has them in another order")]);
+        assert_eq!(ends, [Ok(()), to_nvcc(Reason::OtherOrder)]);
     }
 
     #[test]
     fn ends_keep_their_meaning() {
-        assert_eq!(Stop::from(Failed::Signal(2)), Stop::Signal(2));
+        assert_eq!(Stop::from(nvcc_jobs::Stopped::Signal(2)), Stop::Signal(2));
         assert_eq!(Stop::from(Stopped::Signal(15)), Stop::Signal(15));
-        assert_eq!(
-            [Stop::from(Failed::ByNvcc("a".into())), Stopped::NoProcess("b".into()).into()],
-            [Stop::ByNvcc("a".into()), Stop::ByNvcc("b".into())]
-        );
+        assert_eq!(Stop::from(nvcc_jobs::Stopped::from(Reason::NoTemporaryRoom)), Stop::ByNvcc(Reason::NoTemporaryRoom));
+        assert_eq!(Stop::from(Error::by_nvcc(Vec::new())), Stop::ByNvcc(Reason::DryRunFails));
+        assert_eq!(Stop::from(Stopped::NoProcess("b".into())), Stop::ByNvcc(Reason::Machine("b".into())));
     }
 
     #[test]

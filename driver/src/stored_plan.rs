@@ -1,16 +1,9 @@
 //! Plans of two dry runs that are in files.
 use crate::excerpts::excerpt;
-use crate::formats::{Described, Format};
-use crate::planner::{Disk, list_of};
-use canonical_names::{Suffixes, all_suffixes, is_plain};
-use command_groups::{CallToPlan, plan_of_parsed};
-use compilers::compiler::NvccHostCompiler;
-use compilers::plans::PlanWithOrigins;
-use dry_runs::{LimitedFault, is_dry_run, parse_dry_run, parse_within};
-use rattle_std::alloc::Global;
+use call::{Disk, Error, ErrorKind, Format, Input, Plan, PlanCall, plan};
 use std::fs;
 use std::io::{self, Read};
-use texts::fault::Fault;
+use std::num::NonZeroUsize;
 
 /// What to plan.
 #[derive(Clone, PartialEq, Eq, Debug)]
@@ -54,98 +47,60 @@ fn read(file: &str) -> Result<Vec<u8>, String> {
 }
 
 impl Stored {
-    /// Why these can't be two dry runs of a call, if they can't: planning would make a plan without commands.
-    fn unfit(&self, runs: [&[u8]; 2]) -> Option<String> {
-        let [one, other] = &self.files;
-        let odd = runs.iter().position(|run| !is_dry_run(run)).map(|number| &self.files[number]);
-        if one == other {
-            Some(format!("{}: both dry runs are the same file", shown(one)))
-        } else if let Some(file) = odd {
-            Some(format!("{}: no dry run: no line begins with \"#$ \"", shown(file)))
-        } else {
-            let odd = [("--cwd", &self.cwd), ("--tmp", &self.tmp)].into_iter().find(|(_, folder)| !is_plain(folder));
-            odd.map(|(option, folder)| format!("{option} {}: the path has to be absolute, without an empty part, . or ..", shown(folder)))
-        }
+    /// The file of an input, and the text of one of its lines.
+    fn input<'a>(&'a self, input: Input, runs: [&'a [u8]; 2], line: usize) -> (&'a str, &'a [u8]) {
+        let number = usize::from(input == Input::Second);
+        let text = runs[number].split(|&byte| byte == b'\n').nth(line.saturating_sub(1)).unwrap_or_default();
+        (&self.files[number], text.strip_suffix(b"\r").unwrap_or(text))
     }
 
-    /// What is wrong with a line of a run, by its number from 0: where it is, the reason, and the line itself.
-    fn at_line(&self, runs: [&[u8]; 2], (run, line): (usize, usize), reason: &str) -> String {
-        let number = run.saturating_sub(1).min(1);
-        let text = runs[number].split(|&byte| byte == b'\n').nth(line).unwrap_or_default();
-        let text = text.strip_suffix(b"\r").unwrap_or(text);
+    /// What is wrong with a line of a run: where it is, the reason, and the line itself.
+    fn at_line(&self, runs: [&[u8]; 2], (input, line): (Input, usize), error: &Error) -> String {
+        let (file, text) = self.input(input, runs, line);
         let advice = "this line filters dependencies: make the dry runs without dependency options, such as -MD";
-        let reason = if text.starts_with(FILTER) { advice } else { reason };
-        format!("{}:{}: {reason}\n    {}", shown(&self.files[number]), line + 1, excerpt(text, MOST_LINE))
+        let more = if error.kind() == ErrorKind::OverLimit { ": --limit allows more" } else { "" };
+        let reason = if text.starts_with(FILTER) { advice.into() } else { format!("{}{more}", shown(&error.what().to_string())) };
+        format!("{}:{line}: {reason}\n    {}", shown(file), excerpt(text, MOST_LINE))
     }
 
-    /// Why a program isn't found: where the first such line is, and where it was searched for.
-    fn not_found(&self, runs: [&[u8]; 2], program: &str) -> String {
-        let bad_line = |number: usize| {
-            let parsed = parse_dry_run(Global, runs[number], number + 1).ok()?;
-            let line = parsed.bad_line(Global, &self.cwd, &Disk::default()).ok()??;
-            Some(((number + 1, line), parsed.path().to_owned()))
-        };
-        let found = bad_line(0).or_else(|| bad_line(1));
-        let Some((place, path)) = found else { return format!("cannot find {}", shown(program)) };
-        let searched = if program.contains('/') { ": no such program".into() } else { format!(" in PATH ({})", shown(&path)) };
-        self.at_line(runs, place, &format!("cannot find {}{searched}", shown(program)))
-    }
-
-    /// The message of a fault.
-    fn message(&self, runs: [&[u8]; 2], fault: &LimitedFault) -> String {
-        let at = |run: usize, line: usize, reason: &str| self.at_line(runs, (run, line), reason);
-        match fault {
-            LimitedFault::TooLong { run, line } => {
-                at(*run, *line, &format!("with this line, the dry run makes over {} bytes: --limit allows more", self.limit))
+    /// The message of an error.
+    fn message(&self, runs: [&[u8]; 2], error: &Error) -> String {
+        let Some(place) = error.place() else { return shown(&error.to_string()) };
+        let folder = |option: &str, folder: &str| format!("{option} {}: the path has to be absolute, without an empty part, . or ..", shown(folder));
+        match (place.input, place.line) {
+            (input, Some(line)) => self.at_line(runs, (input, line), error),
+            (Input::First | Input::Second, None) => {
+                format!("{}: no dry run: no line begins with \"#$ \"", shown(self.input(place.input, runs, 0).0))
             }
-            LimitedFault::Fault(Fault::NotUtf8 { run, line }) => at(*run, *line, "the line isn't UTF-8"),
-            LimitedFault::Fault(Fault::BadShell { run, line }) => at(*run, *line, "the command has an open quote or ends in a backslash"),
-            LimitedFault::Fault(Fault::EmptyCommand { run, line }) => at(*run, *line, "the command has no words"),
-            LimitedFault::Fault(Fault::NoPath { run, line }) => at(*run, *line, "no line before this one sets PATH"),
-            LimitedFault::Fault(Fault::NotFound { program }) => self.not_found(runs, program.as_str()),
-            LimitedFault::Fault(fault) => shown(&fault.to_string()),
+            (Input::Cwd, None) => folder("--cwd", &self.cwd),
+            (Input::Tmp, None) => folder("--tmp", &self.tmp),
+            (Input::Suffixes, None) => {
+                let rule = "a suffix begins with ., ends in a letter or digit and has no /, and none is the end of another";
+                format!("--suffix {}: {rule}", shown(&self.suffixes.join(" ")))
+            }
+            _ => shown(&error.to_string()),
         }
-    }
-
-    fn all_suffixes(&self) -> Result<Suffixes, String> {
-        let further = list_of(&self.suffixes).map_err(|_| "out of memory")?;
-        all_suffixes(Global, &further).map_err(|_| {
-            let rule = "a suffix begins with ., ends in a letter or digit and has no /, and none is the end of another";
-            format!("--suffix {}: {rule}", shown(&self.suffixes.join(" ")))
-        })
     }
 
     /// The plan of two dry runs.
-    fn planned(&self, runs: [&[u8]; 2]) -> Result<PlanWithOrigins, String> {
-        let suffixes = self.all_suffixes()?;
-        let call = CallToPlan {
-            cwd: &self.cwd,
-            tmp: &self.tmp,
-            compilation_flag: &self.flag,
-            keep_dir: self.keeps.then_some(self.tmp.as_str()),
-            env_vars: &[],
-            host_compiler: NvccHostCompiler::Gcc,
-            suffixes: &suffixes,
-        };
-        let parsed = parse_within(Global, runs[0], runs[1], &self.cwd, self.limit).map_err(|fault| self.message(runs, &fault))?;
-        plan_of_parsed(Global, parsed, &call, &Disk::default()).map_err(|fault| self.message(runs, &LimitedFault::Fault(fault)))
+    fn planned(&self, runs: [&[u8]; 2]) -> Result<Plan, Error> {
+        let (suffixes, disk): (Vec<&str>, Disk) = (self.suffixes.iter().map(String::as_str).collect(), Disk::default());
+        let call = PlanCall::new(runs[0], runs[1], &disk).at(&self.cwd, &self.tmp);
+        plan(&PlanCall { flag: &self.flag, keeps_names: self.keeps, suffixes: &suffixes, limit: NonZeroUsize::new(self.limit), ..call })
     }
 
     /// The plan in a format.
     /// Errors: why there is none.
     pub fn text(&self, format: Format) -> Result<String, String> {
         let [one, other] = [read(&self.files[0])?, read(&self.files[1])?];
+        if self.files[0] == self.files[1] {
+            return Err(format!("{}: both dry runs are the same file", shown(&self.files[0])));
+        }
         let runs = [one.as_slice(), other.as_slice()];
-        if let Some(reason) = self.unfit(runs) {
-            return Err(reason);
-        }
-        let planned = self.planned(runs)?;
-        if planned.plan.groups.as_slice().iter().all(|group| group.as_slice().is_empty()) {
-            return Err("the plan has no command".into());
-        }
-        if self.whole && !planned.plan.dropped.as_slice().is_empty() {
+        let plan = self.planned(runs).map_err(|error| self.message(runs, &error))?;
+        if self.whole && plan.dropped().len() > 0 {
             return Err("the plan dropped a command".into());
         }
-        format.text(&Described { cwd: &self.cwd, tmp: &self.tmp, flag: &self.flag, planned: &planned })
+        plan.text(format).map_err(|error| error.to_string())
     }
 }

@@ -1,14 +1,12 @@
 //! Reading and writing whole files and streams. A call that a signal interrupts again and again ends with an error, and not never.
-use crate::system;
-use std::fs::File;
-use std::io::{self, ErrorKind, Write};
+use crate::system::{self, Access, MOST_TRIES};
+use std::fs::{self, File};
+use std::io::{self, ErrorKind, Read, Write};
 use std::mem::ManuallyDrop;
 use std::os::fd::{AsRawFd, FromRawFd};
 use std::os::unix::fs::FileExt;
 use std::path::Path;
 
-/// How often a call that is interrupted is made again.
-const MOST_TRIES: usize = 1000;
 /// How much memory is taken at once because a file says that it has so many bytes.
 const MOST_EXPECTED: usize = 1 << 26;
 /// How many milliseconds to wait for the reader of a stream that takes no more just now.
@@ -35,10 +33,22 @@ pub fn content(file: &File) -> io::Result<Vec<u8>> {
     Ok(text)
 }
 
+/// Reads on into a buffer, and gives how many bytes came.
+/// Errors: those of reading.
+pub fn read_on(file: &mut impl Read, buffer: &mut [u8]) -> io::Result<usize> {
+    let mut tries = 0;
+    loop {
+        match file.read(buffer) {
+            Err(error) if error.kind() == ErrorKind::Interrupted && tries < MOST_TRIES => tries += 1,
+            read => return read,
+        }
+    }
+}
+
 /// All that the file of a path holds.
 /// Errors: those of opening and reading.
 pub fn content_of(path: &Path) -> io::Result<Vec<u8>> {
-    content(&File::open(path)?)
+    content(&system::open(path, Access::Read)?)
 }
 
 /// Writes a whole text.
@@ -64,7 +74,14 @@ pub fn write_all(mut file: &File, text: &[u8]) -> io::Result<()> {
 /// Writes a whole text to the file of a path, in place of what is there.
 /// Errors: those of opening and writing.
 pub fn write_file(path: impl AsRef<Path>, text: impl AsRef<[u8]>) -> io::Result<()> {
-    write_all(&File::create(path)?, text.as_ref())
+    write_all(&system::open(path.as_ref(), Access::Write)?, text.as_ref())
+}
+
+/// Puts a file with this text in the place of whatever has its path, a link too, which isn't followed.
+/// Errors: those of writing and renaming.
+pub fn replace_file(path: &Path, text: &[u8]) -> io::Result<()> {
+    let beside = path.with_extension("new");
+    write_file(&beside, text).and_then(|()| fs::rename(&beside, path)).inspect_err(|_| drop(fs::remove_file(&beside)))
 }
 
 /// Writes a text to a standard stream: 1 for output, 2 for messages.
@@ -96,6 +113,26 @@ mod tests {
         assert!(content_of(Path::new("/")).is_err(), "a folder");
     }
 
+    /// What gives its text once it was interrupted so often.
+    struct Interrupted(usize);
+
+    impl Read for Interrupted {
+        fn read(&mut self, buffer: &mut [u8]) -> io::Result<usize> {
+            if self.0 == 0 {
+                return (&b"text"[..]).read(buffer);
+            }
+            self.0 -= 1;
+            Err(ErrorKind::Interrupted.into())
+        }
+    }
+
+    #[test]
+    fn an_interrupted_read_is_tried_again_but_not_for_ever() {
+        let read = |times| read_on(&mut Interrupted(times), &mut [0; 9]).map_err(|error| error.kind());
+        assert_eq!([read(0), read(1), read(MOST_TRIES)], [Ok(4); 3]);
+        assert_eq!([read(MOST_TRIES + 1), read(usize::MAX)], [Err(ErrorKind::Interrupted); 2]);
+    }
+
     #[test]
     fn a_slow_reader_gets_all() {
         let (read, write) = system::pipe().unwrap();
@@ -104,7 +141,7 @@ mod tests {
         let writer = thread::spawn(move || write_all(&write, &vec![7; 300_000]));
         let mut text = Vec::new();
         let mut read = File::from(read);
-        io::Read::read_to_end(&mut read, &mut text).unwrap();
+        read.read_to_end(&mut text).unwrap();
         assert!(writer.join().unwrap().is_ok());
         assert_eq!(text.len(), 300_000);
     }

@@ -5,13 +5,15 @@ use std::borrow::Cow;
 use std::ffi::{CStr, CString, c_char, c_int, c_long, c_uint, c_ulong, c_void};
 use std::fs::File;
 use std::io;
+use std::num::NonZero;
 use std::ops::Deref;
 use std::os::fd::{AsRawFd, BorrowedFd, FromRawFd, OwnedFd, RawFd};
 use std::os::unix::ffi::OsStrExt;
 use std::path::Path;
 use std::ptr;
+use std::sync::OnceLock;
 use std::sync::atomic::{AtomicBool, Ordering};
-use std::thread::sleep;
+use std::thread::{available_parallelism, sleep};
 use std::time::Duration;
 
 type Handler = usize;
@@ -31,8 +33,11 @@ pub const STOP: i32 = 19;
 pub const TSTP: i32 = 20;
 const URG: i32 = 23;
 
+const SET_FLAGS: c_int = 2;
 const SET_SIGNAL: c_int = 10;
 const SET_LEASE: c_int = 1024;
+const SET_PIPE_SIZE: c_int = 1031;
+const COUNT_UNREAD: c_ulong = 0x541b;
 
 /// The error of a file that is no program.
 const NO_FORMAT: i32 = 8;
@@ -44,8 +49,15 @@ const CHILD_STACK: usize = 4096;
 
 /// How often a pipe that can't be read is tried again.
 const MOST_FAILURES: usize = 1000;
+/// How often a call is made again that a signal interrupts.
+pub const MOST_TRIES: usize = 1000;
+/// How many bytes a small pipe takes at once.
+pub const SMALL_PIPE: usize = 4096;
 
 const CREATE: c_int = 0o100;
+const EXCLUSIVE: c_int = 0o200;
+const TRUNCATE: c_int = 0o1000;
+const APPEND: c_int = 0o2000;
 pub const UNBLOCKED: c_int = 0o4000;
 const CLOSE_ON_EXEC: c_int = 0o2_000_000;
 #[cfg(target_arch = "aarch64")]
@@ -84,6 +96,7 @@ unsafe extern "C" {
     fn getppid() -> c_int;
     fn getrlimit(what: c_int, limit: *mut [c_ulong; 2]) -> c_int;
     fn grantpt(fd: c_int) -> c_int;
+    fn ioctl(fd: c_int, what: c_ulong, ...) -> c_int;
     fn kill(pid: c_int, signal: c_int) -> c_int;
     fn memfd_create(name: *const c_char, flags: c_uint) -> c_int;
     fn mkdirat(folder: c_int, name: *const c_char, mode: c_uint) -> c_int;
@@ -97,11 +110,11 @@ unsafe extern "C" {
     fn ptsname_r(fd: c_int, name: *mut c_char, size: usize) -> c_int;
     fn raise(signal: c_int) -> c_int;
     fn read(fd: c_int, to: *mut c_void, size: usize) -> isize;
-    fn sched_getaffinity(pid: c_int, size: usize, mask: *mut c_void) -> c_int;
     fn setpgid(pid: c_int, group: c_int) -> c_int;
     fn signal(number: c_int, handler: Handler) -> Handler;
     fn signalfd(fd: c_int, set: *const SignalSet, flags: c_int) -> c_int;
     fn sigprocmask(how: c_int, set: *const SignalSet, old: *mut SignalSet) -> c_int;
+    fn statfs(path: *const c_char, to: *mut [c_ulong; 32]) -> c_int;
     fn tcsetattr(fd: c_int, when: c_int, modes: *const [u32; 16]) -> c_int;
     fn umask(mask: c_uint) -> c_uint;
     fn unlinkat(folder: c_int, name: *const c_char, flags: c_int) -> c_int;
@@ -141,11 +154,10 @@ pub fn process() -> i32 {
     unsafe { getpid() }
 }
 
-/// How many processors this process may use.
+/// How many processors this process may use, by its affinity and by the quota of its control groups.
 pub fn processors() -> usize {
-    let mut mask = [0_u8; 1024];
-    let size = unsafe { sched_getaffinity(0, mask.len(), mask.as_mut_ptr().cast()) };
-    if size < 0 { 1 } else { mask.iter().map(|byte| byte.count_ones() as usize).sum() }
+    static COUNT: OnceLock<usize> = OnceLock::new();
+    *COUNT.get_or_init(|| available_parallelism().map_or(1, NonZero::get))
 }
 
 /// How many more files this process may open. Its caller may have left some open.
@@ -171,6 +183,63 @@ pub fn pipe() -> io::Result<(OwnedFd, OwnedFd)> {
     Ok(unsafe { (OwnedFd::from_raw_fd(ends[0]), OwnedFd::from_raw_fd(ends[1])) })
 }
 
+/// Both ends of a pipe that takes a part only if it's empty, and at most `SMALL_PIPE` bytes. No end waits for the other.
+pub fn small_pipe() -> io::Result<(OwnedFd, OwnedFd)> {
+    let (read, write) = pipe()?;
+    // (a kernel's page may be larger, but a part always takes a whole one)
+    checked(unsafe { fcntl(write.as_raw_fd(), SET_PIPE_SIZE, SMALL_PIPE) })?;
+    set_unblocked(write.as_raw_fd())?;
+    Ok((read, write))
+}
+
+/// How many bytes of a pipe nobody has read yet.
+pub fn unread(pipe: BorrowedFd<'_>) -> io::Result<usize> {
+    let mut count: c_int = 0;
+    checked(unsafe { ioctl(pipe.as_raw_fd(), COUNT_UNREAD, &raw mut count) })?;
+    usize::try_from(count).map_err(|_| io::ErrorKind::InvalidData.into())
+}
+
+/// How a file is opened by its path.
+#[derive(Clone, Copy)]
+pub enum Access {
+    Read,
+    /// For writing what takes the place of all that is there.
+    Write,
+    /// For reading and writing, if there's no such file yet.
+    New,
+    /// For reading and writing what is there.
+    Both,
+    /// For writing behind what is there.
+    Append,
+    /// As a folder, and no link to one.
+    Folder,
+}
+
+/// Opens a file by its path. In contrast to std's, a call that is interrupted again and again ends, with that error.
+pub fn open(path: &Path, access: Access) -> io::Result<File> {
+    let flags = match access {
+        Access::Read => 0,
+        Access::Write => 1 | CREATE | TRUNCATE,
+        Access::New => 2 | CREATE | EXCLUSIVE,
+        Access::Both => 2,
+        Access::Append => 1 | CREATE | APPEND,
+        Access::Folder => FOLDER | NO_LINK,
+    };
+    let name = CString::new(path.as_os_str().as_bytes())?;
+    tried(|| unsafe { openat(-100, name.as_ptr(), flags | CLOSE_ON_EXEC, 0o666) }).map(File::from)
+}
+
+/// What opens a file, tried again if a signal interrupts it, so often and no more.
+fn tried(open: impl Fn() -> c_int) -> io::Result<OwnedFd> {
+    let mut tries = 0;
+    loop {
+        match owned(open()) {
+            Err(error) if error.kind() == io::ErrorKind::Interrupted && tries < MOST_TRIES => tries += 1,
+            opened => return opened,
+        }
+    }
+}
+
 /// How a file below a folder is opened.
 #[derive(Clone, Copy)]
 pub enum Opening {
@@ -194,12 +263,20 @@ pub fn open_below(folder: BorrowedFd<'_>, name: &str, how: Opening) -> io::Resul
         Opening::PipeToWrite => 1 | UNBLOCKED,
     };
     let name = CString::new(name)?;
-    owned(unsafe { openat(folder.as_raw_fd(), name.as_ptr(), flags | NO_LINK | CLOSE_ON_EXEC, 0o600) })
+    tried(|| unsafe { openat(folder.as_raw_fd(), name.as_ptr(), flags | NO_LINK | CLOSE_ON_EXEC, 0o600) })
 }
 
 /// Whether this process may write a file, or the names in a folder.
 pub fn may_write(path: &Path) -> bool {
     CString::new(path.as_os_str().as_bytes()).is_ok_and(|path| unsafe { access(path.as_ptr(), 2) } == 0)
+}
+
+/// The number of a file system's kind, as the kernel has it. `None` if it isn't known.
+pub fn kind_of_file_system(path: &Path) -> Option<u64> {
+    let path = CString::new(path.as_os_str().as_bytes()).ok()?;
+    // SAFETY: the kernel fills 120 bytes of these 256, and the first number is the kind.
+    let mut said = [0; 32];
+    (unsafe { statfs(path.as_ptr(), &raw mut said) } == 0).then_some(said[0])
 }
 
 /// Opens a path for reading or for writing, without waiting.
@@ -375,13 +452,15 @@ pub fn signal_group(group: i32, number: i32) -> bool {
     unsafe { kill(-group, number) == 0 || kill(group, number) == 0 }
 }
 
-/// Ends this process by a signal, whatever it does with that signal otherwise.
-pub fn end_by(number: i32) {
+/// Ends this process by a signal, whatever it does with that signal otherwise: a caller such as a shell's loop then knows that the user ended
+/// it. Comes back only for the first process of a container, which no default action of a signal ends: with the status that says the same.
+pub fn end_by(number: i32) -> i32 {
     unsafe {
         signal(number, DEFAULT);
         sigprocmask(2, &[0; 16], ptr::null_mut());
         raise(number);
     }
+    128 + number
 }
 
 /// Whether CONT has come.
@@ -517,15 +596,15 @@ impl<'a> Image<'a> {
     }
 
     /// Starts the program with these standard streams, in a process group of its own whose number goes to `group`, a place that other
-    /// processes may see. It gets TERM if this process ends. Says its number.
+    /// processes may see. It gets TERM if this process ends, and has the file `inherited` open too, by its number. Says its number.
     ///
     /// Until it runs the program, the child has this process's memory, and this process waits: to copy the memory would take longer than
     /// many a command.
     /// Errors: those of `clone`. If the program can't be run, the child says so on its standard error and ends with 127.
-    pub fn start(&self, streams: [RawFd; 3], signals: &Signals, group: *mut i32, complaint: &CStr) -> io::Result<i32> {
+    pub fn start(&self, streams: [RawFd; 3], inherited: Option<RawFd>, signals: &Signals, group: *mut i32, complaint: &CStr) -> io::Result<i32> {
         let (argv, envp) = (pointers(&self.argv), pointers(&self.envp));
         let script: Vec<*const c_char> = [c"sh".as_ptr(), self.program.as_ptr()].into_iter().chain(argv.iter().copied().skip(1)).collect();
-        let mut child = Child { image: self, argv, script, envp, streams, signals, group, complaint, parent: process() };
+        let mut child = Child { image: self, argv, script, envp, streams, inherited, signals, group, complaint, parent: process() };
         let mut stack: Vec<u128> = Vec::with_capacity(CHILD_STACK);
         // SAFETY: the stack and what the child uses stay until it has become the program, since this process waits for that.
         let number = checked(unsafe {
@@ -544,6 +623,7 @@ struct Child<'a> {
     script: Vec<*const c_char>,
     envp: Vec<*const c_char>,
     streams: [RawFd; 3],
+    inherited: Option<RawFd>,
     signals: &'a Signals,
     group: *mut i32,
     complaint: &'a CStr,
@@ -563,6 +643,9 @@ extern "C" fn become_child(child: *mut c_void) -> c_int {
         }
         for (number, &stream) in (0..3).zip(&child.streams) {
             dup2(stream, number);
+        }
+        if let Some(file) = child.inherited {
+            fcntl(file, SET_FLAGS, 0);
         }
         child.signals.give_back();
         let entered = child.image.folder.as_ref().is_none_or(|folder| chdir(folder.as_ptr()) == 0);
@@ -869,7 +952,7 @@ mod tests {
             // A page begins at a multiple of its size.
             #[allow(clippy::cast_ptr_alignment)]
             let page = shared_page().unwrap().cast::<i32>();
-            let child = image.start([null.as_raw_fd(), out.as_raw_fd(), errors.as_raw_fd()], &signals, page, c"it cannot run\n").unwrap();
+            let child = image.start([null.as_raw_fd(), out.as_raw_fd(), errors.as_raw_fd()], None, &signals, page, c"it cannot run\n").unwrap();
             // SAFETY: the page is there.
             assert_eq!(unsafe { page.read_volatile() }, child);
             loop {
@@ -954,7 +1037,8 @@ mod tests {
 
     #[test]
     fn the_machine_is_as_the_kernel_says() {
-        assert_eq!(processors(), number_in("/proc/self/status", "Cpus_allowed:", 16).count_ones() as usize);
+        let allowed = number_in("/proc/self/status", "Cpus_allowed:", 16).count_ones() as usize;
+        assert!((1..=allowed).contains(&processors()), "a control group may allow fewer");
         assert_eq!((process().unsigned_abs(), user()), (std::process::id(), fs::metadata("/proc/self").unwrap().uid()));
         let most = usize::try_from(number_in("/proc/self/limits", "Max open files", 10)).unwrap();
         // Other tests open some files meanwhile.
@@ -971,8 +1055,42 @@ mod tests {
         let files =
             [read, write, open_fifo(&path).unwrap(), open_unblocked(&path, false).unwrap(), program, memory_file().unwrap().into(), owner.into()];
         assert_eq!(files.each_ref().map(is_inherited), [false; 7]);
+        let (read, write) = small_pipe().unwrap();
+        let file = open(&scratch.0.join("new"), Access::New).unwrap();
+        assert_eq!([is_inherited(&read), is_inherited(&write), is_inherited(&file)], [false; 3]);
         let kinds = [Opening::Kept, Opening::Pipe, Opening::PipeToWrite].map(|how| is_inherited(&scratch.open("pipe", how).unwrap()));
         assert_eq!((kinds, is_inherited(&scratch.open(".", Opening::Folder).unwrap())), ([false; 3], false));
+    }
+
+    #[test]
+    fn a_file_is_opened_by_its_path() {
+        let scratch = Scratch::new();
+        let path = scratch.0.join("file");
+        let text = || fs::read_to_string(&path).unwrap();
+        assert!([Access::Read, Access::Both].iter().all(|&how| open(&path, how).unwrap_err().kind() == io::ErrorKind::NotFound));
+        open(&path, Access::New).unwrap().write_all(b"first").unwrap();
+        assert_eq!(open(&path, Access::New).unwrap_err().kind(), io::ErrorKind::AlreadyExists);
+        open(&path, Access::Both).unwrap().write_all(b"F").unwrap();
+        open(&path, Access::Append).unwrap().write_all(b"!").unwrap();
+        assert_eq!(text(), "First!");
+        assert!(open(&path, Access::Read).unwrap().write(b"x").is_err());
+        open(&path, Access::Write).unwrap().write_all(b"new").unwrap();
+        assert_eq!(text(), "new");
+        assert!(open(Path::new("a\0b"), Access::Write).is_err());
+    }
+
+    #[test]
+    fn a_small_pipe_takes_a_part_once_it_is_empty() {
+        let (read, write) = small_pipe().unwrap();
+        let [mut reader, mut writer] = [read, write].map(File::from);
+        let left = |writer: &File| unread(writer.as_fd()).unwrap();
+        for size in [1, 100, SMALL_PIPE] {
+            assert_eq!((left(&writer), wait_for_streams(&[(writer.as_raw_fd(), true)], 0)), (0, vec![[false, true]]));
+            assert_eq!(writer.write(&vec![7; size]).unwrap(), size);
+            assert_eq!((left(&writer), wait_for_streams(&[(writer.as_raw_fd(), true)], 0)), (size, vec![[false, false]]));
+            reader.read_exact(&mut vec![0; size]).unwrap();
+        }
+        assert!(unread(File::open("/dev/null").unwrap().as_fd()).is_err());
     }
 
     #[test]

@@ -2,10 +2,12 @@
 use crate::caches;
 use crate::early::HeadStart;
 use crate::machine::{Job, Record};
-use crate::planner::{PlannedCommand, Words};
+use crate::nvcc_jobs;
+use crate::planned::PlannedCommand;
 use crate::run::Task;
 use crate::settings::Settings;
 use crate::system::Status;
+use call::Run;
 use schedules::{CommandKind, usual_weight};
 
 /// The folder in a call's directory for files that aren't the plan's.
@@ -107,15 +109,19 @@ fn task_of(number: usize, command: &PlannedCommand, around: &Surroundings<'_>) -
 }
 
 /// The tasks of a plan. What makes the dependency file comes before the last command, which writes the product and waits for it.
-pub fn tasks_of(commands: &[PlannedCommand], dependencies: Option<&Words>, around: &Surroundings<'_>) -> Vec<Task> {
+pub fn tasks_of(commands: &[PlannedCommand], dependencies: Option<&Run>, around: &Surroundings<'_>) -> Vec<Task> {
     let mut tasks: Vec<Task> = commands.iter().enumerate().map(|(number, command)| task_of(number, command, around)).collect();
-    let (Some(words), Some(last)) = (dependencies, tasks.len().checked_sub(1)) else { return tasks };
-    let variables = ["NVCC_PREPEND_FLAGS", "NVCC_APPEND_FLAGS"].map(|name| (name.to_owned(), None));
-    let job = Job { words: words.words.clone(), folder: words.folder.clone(), variables: variables.into(), ..Job::default() };
+    let (Some(run), Some(last)) = (dependencies, tasks.len().checked_sub(1)) else { return tasks };
+    let job = nvcc_jobs::job(run);
     let needs = (0..last).filter(|&number| commands[number].preprocesses).collect();
     tasks[last].needs.push(last);
     tasks.insert(last, Task { job, needs, is_rule: true, kind: "nvcc -M".into(), ..Task::default() });
     tasks
+}
+
+/// A command as a task that needs no other.
+pub fn lone_task_of(command: &PlannedCommand, around: &Surroundings<'_>) -> Task {
+    Task { needs: Vec::new(), ..task_of(0, command, around) }
 }
 
 /// Whether a task preprocesses for the host.
@@ -123,27 +129,30 @@ pub fn preprocesses_for_host(task: &Task) -> bool {
     task.preprocesses && !task.kind.contains("__CUDA_ARCH__=")
 }
 
-/// Tasks in the order in which nvcc runs them.
-pub fn in_nvccs_order(tasks: Vec<Task>) -> Vec<Task> {
-    if tasks.iter().any(|task| task.is_rule) { reordered(&tasks, &order_with_rule(&tasks)) } else { tasks }
-}
-
-/// The order in which nvcc runs tasks of which one makes the dependency file: those that preprocess for devices, those that do so for the
-/// host, the dependency file's, the others. A task stays behind those that it needs.
-fn order_with_rule(tasks: &[Task]) -> Vec<usize> {
+/// Tasks of these commands in the order in which nvcc runs them: that of their lines, but if nvcc makes the dependency file, or has threads, those
+/// come first that preprocess. A task stays behind those that it needs.
+pub fn in_nvccs_order(tasks: &[Task], commands: &[PlannedCommand], has_threads: bool) -> Vec<Task> {
+    let has_rule = tasks.iter().any(|task| task.is_rule);
     let turn = |task: &Task| match task {
-        task if preprocesses_for_host(task) => 1,
+        _ if !has_rule && !has_threads => 0,
+        task if has_rule && preprocesses_for_host(task) => 1,
         task if task.preprocesses => 0,
         task if task.is_rule => 2,
         _ => 3,
     };
+    let line = |task: &Task| task.command.map(|number| commands[number].line);
+    reordered(tasks, &order_by(tasks, |task| (turn(task), line(task))))
+}
+
+/// The order of tasks by what a function says of them, but that each is behind those that it needs.
+fn order_by<Key: Ord>(tasks: &[Task], key: impl Fn(&Task) -> Key) -> Vec<usize> {
     let mut order: Vec<usize> = Vec::with_capacity(tasks.len());
     let mut left: Vec<usize> = (0..tasks.len()).collect();
     while !left.is_empty() {
         let is_ready = |number: usize| tasks[number].needs.iter().all(|need| order.contains(need));
         let ready = (0..left.len()).filter(|&place| is_ready(left[place]));
         // The first of those left needs only earlier ones, which are placed.
-        let next = ready.min_by_key(|&place| turn(&tasks[left[place]])).unwrap_or(0);
+        let next = ready.min_by_key(|&place| key(&tasks[left[place]])).unwrap_or(0);
         order.push(left.remove(next));
     }
     order
@@ -179,6 +188,7 @@ pub fn words_of_death(status: Status) -> String {
 #[cfg(test)]
 mod tests {
     use super::*;
+    use std::cmp::Reverse;
 
     fn command(line: &str) -> PlannedCommand {
         let mut words = line.split(' ').map(String::from);
@@ -283,19 +293,19 @@ mod tests {
         let settings = Settings::default();
         let last = PlannedCommand { needs: vec![1], ..preprocessor("gcc -c k.cpp") };
         let commands = [preprocessor("gcc -E a"), command("cicc b"), preprocessor("gcc -E c"), last];
-        let words = Words { folder: "/f".into(), words: vec!["nvcc".into(), "-M".into()] };
-        let tasks = tasks_of(&commands, Some(&words), &around(&settings));
+        let run = Run::new(vec!["nvcc".into(), "-M".into()], "/f".into());
+        let tasks = tasks_of(&commands, Some(&run), &around(&settings));
         assert_eq!(
             tasks.iter().map(|task| (task.is_rule, task.needs.clone())).collect::<Vec<_>>(),
             [(false, vec![]), (false, vec![]), (false, vec![]), (true, vec![0, 2]), (false, vec![1, 3]),]
         );
         let rule = &tasks[3];
-        assert_eq!((rule.job.words.as_slice(), rule.job.folder.as_str(), rule.kind.as_str()), (&words.words[..], "/f", "nvcc -M"));
+        assert_eq!((rule.job.words.as_slice(), rule.job.folder.as_str(), rule.kind.as_str()), (run.words(), "/f", "nvcc -M"));
         assert_eq!(["NVCC_PREPEND_FLAGS", "NVCC_APPEND_FLAGS"].map(|name| value(&rule.job, name)), [[None], [None]]);
         assert!(!rule.job.shares_slot && rule.without_launcher.is_none());
 
         assert_eq!(tasks_of(&commands, None, &around(&settings)).len(), 4);
-        assert!(tasks_of(&[], Some(&words), &around(&settings)).is_empty());
+        assert!(tasks_of(&[], Some(&run), &around(&settings)).is_empty());
     }
 
     #[test]
@@ -323,7 +333,26 @@ mod tests {
 
     /// Tasks in nvcc's order, each with what it needs.
     fn in_order(tasks: &[Task]) -> Vec<(String, Vec<usize>)> {
-        in_nvccs_order(tasks.to_vec()).into_iter().map(|task| (task.kind, task.needs)).collect()
+        in_nvccs_order(tasks, &[], false).into_iter().map(|task| (task.kind, task.needs)).collect()
+    }
+
+    #[test]
+    fn tasks_come_in_the_order_of_their_lines() {
+        let commands = [0, 1, 8, 2, 3, 4, 9].map(|line| PlannedCommand { line, ..PlannedCommand::default() });
+        let kinds = ["gcc -E 90", "cicc 90", "ptxas 90", "gcc -E 75", "cicc 75", "ptxas 75", "fatbinary"];
+        let needs: [&[usize]; 7] = [&[], &[0], &[1], &[], &[3], &[4], &[2, 5]];
+        let numbered = |number: usize| Task { command: Some(number), ..task(kinds[number], false, needs[number]) };
+        let tasks: Vec<Task> = (0..7).map(numbered).collect();
+        let ordered = in_nvccs_order(&tasks, &commands, false);
+        let places: Vec<_> = ordered.iter().map(|task| (task.command.unwrap(), task.needs.clone())).collect();
+        let wanted: [(usize, &[usize]); 7] = [(0, &[]), (1, &[0]), (3, &[]), (4, &[2]), (5, &[3]), (2, &[1]), (6, &[5, 4])];
+        assert_eq!(places, wanted.map(|(number, needs)| (number, needs.to_vec())));
+        let late = [4, 1, 2, 3, 0, 5, 6].map(|line| PlannedCommand { line, ..PlannedCommand::default() });
+        let order: Vec<_> = in_nvccs_order(&tasks, &late, false).iter().map(|task| task.command.unwrap()).collect();
+        assert_eq!(order, [3, 4, 0, 1, 2, 5, 6], "each stays behind what it needs");
+        let tasks: Vec<Task> = tasks.into_iter().map(|task| Task { preprocesses: task.kind.starts_with("gcc"), ..task }).collect();
+        let order: Vec<_> = in_nvccs_order(&tasks, &commands, true).iter().map(|task| task.command.unwrap()).collect();
+        assert_eq!(order, [0, 3, 1, 4, 5, 2, 6], "with threads");
     }
 
     #[test]
@@ -348,11 +377,11 @@ mod tests {
         let mut cicc = task("cicc", false, &[0, 1]);
         cicc.head_start = Some(HeadStart { beside: 0, ..HeadStart::default() });
         let tasks = vec![task("cudafe++", false, &[]), task("gcc -E __CUDA_ARCH__=800", true, &[]), task("nvcc -M", false, &[1]), cicc];
-        let ordered = in_nvccs_order(tasks.clone());
+        let ordered = in_nvccs_order(&tasks, &[], false);
         assert_eq!(ordered.iter().map(|task| task.head_start.as_ref().map(|start| start.beside)).collect::<Vec<_>>(), [None, None, None, Some(2)]);
         let without = [&tasks[..2], &tasks[3..]].concat();
         assert_eq!(
-            in_nvccs_order(without.clone()).iter().map(|task| &task.kind).collect::<Vec<_>>(),
+            in_nvccs_order(&without, &[], false).iter().map(|task| &task.kind).collect::<Vec<_>>(),
             without.iter().map(|task| &task.kind).collect::<Vec<_>>()
         );
     }
@@ -360,6 +389,6 @@ mod tests {
     #[test]
     fn a_task_stays_behind_those_that_it_needs() {
         let tasks = [task("gcc -E", true, &[]), task("cudafe++", false, &[0]), task("gcc -E __CUDA_ARCH__=800", true, &[1])];
-        assert_eq!(order_with_rule(&tasks), [0, 1, 2]);
+        assert_eq!(order_by(&tasks, |task| Reverse(task.kind.len())), [0, 1, 2]);
     }
 }

@@ -16,6 +16,8 @@ pub struct Habits {
     pub holds_back: bool,
     /// Whether nvcc itself runs the call's commands side by side. Then it tells what each says, though one has failed, and ends with 255.
     pub has_threads: bool,
+    /// How many commands nvcc then starts before one has ended. If one of these fails, it starts no more.
+    pub first_wave: usize,
     /// Whether what makes the dependency file says what the preprocessors say too: nvcc then also preprocesses for the host.
     pub rule_speaks: bool,
 }
@@ -54,6 +56,8 @@ pub struct Voice<'a> {
     told: [usize; 2],
     is_silent: bool,
     failed: Option<i32>,
+    /// The place of the first task that isn't told, whatever comes of it.
+    end: usize,
 }
 
 impl<'a> Voice<'a> {
@@ -62,7 +66,7 @@ impl<'a> Voice<'a> {
         let is_open = tasks.iter().map(|task| !task.is_rule && task.without_launcher.is_none()).collect();
         let rule = tasks.iter().position(|task| task.is_rule);
         let (remarks, order) = (Vec::new(), (0..tasks.len()).collect());
-        Voice { say, habits, is_open, rule, remarks, order, next: 0, told: [0; 2], is_silent: true, failed: None }
+        Voice { say, habits, is_open, rule, remarks, order, next: 0, told: [0; 2], is_silent: true, failed: None, end: tasks.len() }
     }
 
     /// The same voice, which tells the tasks in another order. Nothing may be told before the call's end.
@@ -94,7 +98,17 @@ impl<'a> Voice<'a> {
 
     /// Whether nothing more is told: all is, or a command has failed.
     fn is_over(&self) -> bool {
-        self.next == self.is_open.len() || (self.failed.is_some() && !self.habits.has_threads)
+        self.next >= self.end
+    }
+
+    /// Notes that the next task has failed.
+    fn fail(&mut self, status: i32) {
+        self.failed = self.failed.or(Some(status));
+        if !self.habits.has_threads {
+            self.end = self.next + 1;
+        } else if self.next < self.habits.first_wave {
+            self.end = self.habits.first_wave;
+        }
     }
 
     /// Tells what the task in front has said up to now: its output and its messages.
@@ -149,7 +163,7 @@ impl<'a> Voice<'a> {
         let errors = [said.as_slice(), tasks::words_of_death(ended.status).as_bytes()].concat();
         self.tell_more([&ended.out, &errors]);
         if !ended.status.succeeded() {
-            self.failed = self.failed.or(Some(ended.status.code));
+            self.fail(ended.status.code);
         }
     }
 
@@ -247,6 +261,17 @@ mod tests {
         let threads = Habits { has_threads: true, ..Habits::default() };
         assert_eq!(told(&tasks(3), threads, &steps), (vec![String::new(), "!b !c ".into()], End { status: 255, is_silent: false }));
         assert_eq!(told(&tasks(1), Habits::default(), &[&[done(3, "", "")]]).1, End { status: 3, is_silent: true });
+    }
+
+    #[test]
+    fn after_a_failure_of_the_first_that_nvcc_starts_no_other_is_told() {
+        let told_of =
+            |first_wave, steps: &[Done]| told(&tasks(4), Habits { has_threads: true, first_wave, ..Habits::default() }, &[steps]).0.concat();
+        let all = [ok("a"), done(1, "", "b"), done(1, "", "c"), ok("d")];
+        assert_eq!(
+            [0, 1, 2, 3, 4].map(|first_wave| told_of(first_wave, &all)),
+            ["!a !b !c !d ", "!a !b !c !d ", "!a !b ", "!a !b !c ", "!a !b !c !d "]
+        );
     }
 
     #[test]

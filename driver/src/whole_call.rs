@@ -1,12 +1,13 @@
 //! Tests of whole calls on a machine that starts no process.
-use crate::dry_runs::{self, DryRuns, Failed};
 use crate::machine::{Ended, Event, Job, Machine};
-use crate::planner::{self, Line, Outline, PlannedCommand, ToPlan};
+use crate::nvcc_jobs::{Jobs, Stopped as NoDryRuns};
+use crate::planned::{PlannedCommand, commands_of};
 use crate::run::{self, Done, NoRule, Stopped};
 use crate::settings::Settings;
 use crate::system::{Status, TERM};
 use crate::tasks::{self, Surroundings};
 use crate::test_folder::TestFolder;
+use call::{Call, Disk, DryRuns, NvccLine, Planning, Reason};
 use std::collections::VecDeque;
 use std::fs;
 use std::io;
@@ -108,29 +109,24 @@ impl Room {
         Fake { cuda: self.path(), ..Fake::default() }
     }
 
-    fn line(&self) -> Line {
+    fn read(&self) -> Call {
         let words = ["-c", "k.cu", "-o", "k.o", "-arch=sm_75"].map(String::from).to_vec();
-        Line { cwd: self.path(), nvcc: format!("{}/bin/nvcc", self.path()), words, variables: Vec::new() }
-    }
-
-    fn outline(&self) -> Outline {
-        planner::outline_of(&self.line(), &self.tmp()).unwrap()
+        fs::write(self.0.join("k.cu"), "").unwrap();
+        let line = NvccLine { cwd: self.path(), nvcc: format!("{}/bin/nvcc", self.path()), words, variables: Vec::new() };
+        Call::read(line, self.tmp()).unwrap()
     }
 
     fn tmp(&self) -> String {
         format!("{}/tmp", self.path())
     }
 
-    fn dry_runs(&self, machine: &mut Fake) -> Result<DryRuns, Failed> {
-        let (line, outline, tmp) = (self.line(), self.outline(), self.tmp());
-        let asked = dry_runs::Line { nvcc: &line.nvcc, words: &line.words, outline: &outline, tmp: &tmp, cwd: &line.cwd };
-        dry_runs::make(machine, &asked, || Ok(()))
+    fn dry_runs(&self, machine: &mut Fake) -> Result<DryRuns, NoDryRuns> {
+        self.read().make_dry_runs(&mut Jobs::new(machine, || Ok(())))
     }
 
     fn plan(&self, dry_runs: &DryRuns) -> Vec<PlannedCommand> {
-        let (line, outline, tmp) = (self.line(), self.outline(), self.tmp());
-        planner::plan(&ToPlan { dry_runs: [&dry_runs.first, &dry_runs.second], cwd: &line.cwd, tmp: &tmp, flag: &outline.flag, keeps_names: false })
-            .unwrap()
+        let planning = Planning { variables: &[], keeps_names: false, programs: &Disk::default(), limit: None };
+        commands_of(&self.read().plan_made(dry_runs, &planning).unwrap(), false).unwrap()
     }
 
     /// Makes the whole call.
@@ -168,17 +164,7 @@ fn two_dry_runs_are_made_in_one_slot() {
     let mut machine = room.machine();
     let dry_runs = room.dry_runs(&mut machine).unwrap();
     assert_eq!(machine.started.iter().map(|job| job.shares_slot).collect::<Vec<_>>(), [false, true]);
-    assert!(dry_runs.messages.is_empty() && dry_runs.first != dry_runs.second);
-}
-
-#[test]
-fn what_fails_beside_the_dry_runs_ends_them() {
-    let room = Room::new();
-    let mut machine = room.machine();
-    let (line, outline, tmp) = (room.line(), room.outline(), room.tmp());
-    let asked = dry_runs::Line { nvcc: &line.nvcc, words: &line.words, outline: &outline, tmp: &tmp, cwd: &line.cwd };
-    assert_eq!(dry_runs::make(&mut machine, &asked, || Err("no room".into())), Err(Failed::ByNvcc("no room".into())));
-    assert_eq!((machine.started.len(), machine.ended_by), (2, Some(TERM)));
+    assert!(dry_runs.messages().unwrap().is_empty() && dry_runs.first() != dry_runs.second());
 }
 
 #[test]
@@ -194,7 +180,7 @@ fn the_first_command_that_fails_ends_the_call() {
 fn without_processes_nvcc_has_to_make_the_call() {
     let room = Room::new();
     let mut machine = Fake { most: Some(1), ..room.machine() };
-    assert_eq!(room.dry_runs(&mut machine), Err(Failed::ByNvcc("no process for a dry run".into())));
+    assert_eq!(room.dry_runs(&mut machine), Err(Reason::NoDryRunProcess.into()));
     assert_eq!(machine.ended_by, Some(TERM));
 }
 
@@ -202,7 +188,7 @@ fn without_processes_nvcc_has_to_make_the_call() {
 fn a_signal_ends_dry_runs_and_commands() {
     let room = Room::new();
     let mut machine = Fake { signal_after: Some(2), ..room.machine() };
-    assert_eq!(room.dry_runs(&mut machine), Err(Failed::Signal(TERM)));
+    assert_eq!(room.dry_runs(&mut machine), Err(NoDryRuns::Signal(TERM)));
     let mut machine = room.machine();
     let dry_runs = room.dry_runs(&mut machine).unwrap();
     machine.signal_after = Some(4);

@@ -1,9 +1,12 @@
-/* A stand-in for a tool that is a program, as the cache wants it: a shell runs the script $STAND_IN with its name and words. As gcc it says
+/* A stand-in for a tool that is a program, as the cache wants it, and gcc has to be: a shell runs the script $STAND_IN with its name and words. As gcc it says
    which parts it has: those beside it, or what PATH has. */
 #include <stdio.h>
 #include <stdlib.h>
 #include <string.h>
 #include <unistd.h>
+
+/* By these the driver knows gcc's own program. */
+__attribute__((used)) static const char of_gcc[] = "Reading specs from %s\n\0%{!E:%{!M:%{!MM:";
 
 static void say_part(const char *own, const char *part) {
     const char *slash = strrchr(own, '/');

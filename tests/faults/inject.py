@@ -11,7 +11,8 @@ A trial starts a call for two targets with stand-ins for nvcc and its tools, and
     vanish   removes a folder that the call uses
     refuse   has the kernel refuse system calls of the driver (by strace)
 
-Half of the calls have a jobserver of make. What has to hold: the call ends within twenty seconds and leaves no process, slot or job of make.
+Half of the calls have a jobserver of make, and half of them make their last host compile in two halves. What has to hold: the call ends within
+twenty seconds and leaves no process, slot or job of make.
 A job may be lost only if the driver and its guard are killed at once.
 With status 0 its product and dependency file are those that a call without faults makes, or nvcc's. With another there is no part of one,
 unless the host compiler itself was killed. No command reads what another wrote in part, but for one that dies with a killed driver, which lets
@@ -45,7 +46,7 @@ REFUSALS = {
     "mkdirat": "ENOSPC EACCES", "flock": "ENOSYS ENOLCK EINTR", "pipe2": "EMFILE", "signalfd4": "EMFILE", "poll": "EINTR ENOMEM",
     "read": "EIO EINTR", "write": "EIO ENOSPC EINTR", "unlinkat": "EACCES ENOENT", "getdents64": "EIO", "statx": "ENOENT EACCES",
     "mknodat": "ENOSPC EACCES", "fcntl": "EMFILE EINTR", "setpgid": "EACCES", "wait4": "EINTR ECHILD", "utimensat": "EACCES",
-    "mmap": "ENOMEM", "lseek": "EINVAL",
+    "mmap": "ENOMEM", "lseek": "EINVAL", "symlink": "EACCES ENOSPC", "rename": "EACCES ENOSPC", "ioctl": "EINTR EIO",
 }
 KINDS = ("signal", "kill", "stop", "vanish", "refuse")
 
@@ -56,6 +57,15 @@ class Process(NamedTuple):
     number: int
     state: str
     role: str
+
+
+class Setup(NamedTuple):
+    """Whether a call has a jobserver of make, whether its last host compile is in two halves, and how many slots there are. With three, commands
+    rarely begin before what they need has ended."""
+
+    has_make: bool
+    is_late: bool
+    slots: int
 
 
 class Room:
@@ -86,18 +96,20 @@ class Room:
     def path(self, name: str) -> Path:
         return self.folder / "trial" / name
 
-    def environment(self, mark: str, has_make: bool) -> dict[str, str]:
+    def environment(self, mark: str, setup: Setup) -> dict[str, str]:
         kept = {name: value for name, value in os.environ.items() if not name.startswith(("ZIGRUNK", "NVCC", "MAKE"))}
         kept.update(LOG=str(self.log), TMPDIR=str(self.path("tmp")), XDG_RUNTIME_DIR=str(self.path("run")), CUDA=str(self.cuda), DATA=str(DRY_RUNS),
-                    PATH=f"{self.cuda}/bin:{kept['PATH']}", TRIAL=mark, ZIGRUNK_SLOTS="3", ZIGRUNK_LATE="0", PAUSE="15")
-        if has_make:
+                    PATH=f"{self.cuda}/bin:{kept['PATH']}", TRIAL=mark, PAUSE="15",
+                    ZIGRUNK_SLOTS=str(setup.slots), ZIGRUNK_LATE=str(int(setup.is_late)))
+        if setup.has_make:
             kept["MAKEFLAGS"] = f" -j4 --jobserver-auth=fifo:{self.path('jobs')}"
         return kept
 
-    def start(self, mark: str, has_make: bool, before: list[str]) -> "subprocess.Popen[bytes]":
+    def start(self, mark: str, setup: Setup, before: list[str]) -> "subprocess.Popen[bytes]":
         said = self.path(f"said.{mark}").open("wb")
-        return subprocess.Popen([*before, self.bin / "zigrunk-nvcc", *WORDS], cwd=self.path("work"), env=self.environment(mark, has_make),
-                                stdin=subprocess.DEVNULL, stdout=said, stderr=said, process_group=0)
+        words = [*before, str(self.bin / "zigrunk-nvcc"), *WORDS]
+        return subprocess.Popen(words, cwd=self.path("work"), env=self.environment(mark, setup), stdin=subprocess.DEVNULL, stdout=said, stderr=said,
+                                process_group=0)
 
     def made(self) -> tuple[bytes | None, bytes | None]:
         """The product and the dependency file."""
@@ -154,7 +166,7 @@ class Trial:
     def __init__(self, room: Room, number: int, seed: int, kinds: list[str], length: float) -> None:
         self.room, self.number, self.draw = room, number, random.Random(f"{seed}.{number}")
         self.kind = self.draw.choice(kinds)
-        self.has_make = self.draw.random() < 0.5
+        self.setup = Setup(self.draw.random() < 0.5, self.draw.random() < 0.5, self.draw.choice([3, 8]))
         self.wait = self.draw.uniform(0, length * 1.1)
         self.what = ""
         self.may_leave_part = self.may_read_part = False
@@ -235,21 +247,22 @@ class Trial:
     def problem(self, text: str) -> None:
         self.problems.append(text)
 
-    def run(self, wanted: tuple[bytes | None, bytes | None]) -> str:
-        """Makes the call and checks what is left. Says how it ended."""
+    def run(self, wanted: tuple[bytes | None, bytes | None], whole: bytes | None) -> str:
+        """Makes the call and checks what is left. Says how it ended. `whole` is the product of a whole host compile, which may take the place of
+        two halves."""
         room = self.room
         room.renew()
         jobs = self.jobs()
         mark = f"{os.getpid()}.{self.number}"
-        call = room.start(mark, self.has_make, self.before())
+        call = room.start(mark, self.setup, self.before())
         self.fault(call, mark)
         status = self.end(call, mark)
         product, rule = room.made()
         by_nvcc = product == b"made by nvcc\n"
-        is_right = product == wanted[0] and rule in (wanted[1], b"by nvcc\n")
+        is_right = product in (wanted[0], whole) and rule in (wanted[1], b"by nvcc\n")
         if status == 0 and not by_nvcc and not is_right:
             self.problem(f"status 0 with another product or dependency file: {product!r} {rule!r}")
-        if status != 0 and not by_nvcc and product not in (None, wanted[0]) and not self.may_leave_part:
+        if status != 0 and not by_nvcc and product not in (None, wanted[0], whole) and not self.may_leave_part:
             self.problem(f"status {status} with a part of a product: {product!r}")
         if Path(f"{room.log}.PARTIAL").exists() and not self.may_read_part:
             self.problem("a command read what another wrote in part")
@@ -261,7 +274,7 @@ class Trial:
 
     def jobs(self) -> int | None:
         """The jobserver of the trial, with jobs for the call."""
-        if not self.has_make:
+        if not self.setup.has_make:
             return None
         os.mkfifo(self.room.path("jobs"))
         pipe = os.open(self.room.path("jobs"), os.O_RDWR | os.O_NONBLOCK)
@@ -305,7 +318,6 @@ class Trial:
             self.problem(f"jobs of make: {held!r}")
         os.close(jobs)
         self.room.path("jobs").unlink(missing_ok=True)
-        self.has_make = False
 
     def check_next(self, wanted: tuple[bytes | None, bytes | None]) -> None:
         """Makes the equal call once more, without a fault."""
@@ -315,7 +327,7 @@ class Trial:
         for name in ("tmp", "run"):
             room.path(name).mkdir(mode=0o700, exist_ok=True)
         mark = f"{os.getpid()}.{self.number}.next"
-        call = room.start(mark, False, [])
+        call = room.start(mark, self.setup._replace(has_make=False), [])
         try:
             status = wait_for(call)
         except subprocess.TimeoutExpired:
@@ -332,13 +344,13 @@ class Trial:
             self.problem(f"files left: {left[:4]}")
 
 
-def reference(room: Room) -> tuple[tuple[bytes | None, bytes | None], float]:
-    """What a call without faults makes, and how long it takes."""
+def reference(room: Room, is_late: bool) -> tuple[tuple[bytes | None, bytes | None], float]:
+    """What a call without faults makes, and how long it takes. With late compiles, its last host compile is in two halves."""
     made, lengths = set(), []
     for number in range(3):
         room.renew()
         began = time.monotonic()
-        status = room.start(f"reference.{number}", False, []).wait()
+        status = room.start(f"reference.{number}", Setup(False, is_late, 3), []).wait()
         lengths.append(time.monotonic() - began)
         if status != 0 or None in room.made():
             sys.exit(f"a call without faults: status {status}: " + room.path(f"said.reference.{number}").read_text())
@@ -365,14 +377,16 @@ def main() -> int:
     failed = 0
     with tempfile.TemporaryDirectory(prefix="faults.") as folder:
         room = Room(args.driver.resolve(), Path(folder))
-        wanted, length = reference(room)
+        references = {is_late: reference(room, is_late) for is_late in (False, True)}
+        if references[False][0][0] == references[True][0][0]:
+            sys.exit("no host compile is in two halves")
         for number in range(args.first, args.first + args.trials):
-            trial = Trial(room, number, args.seed, kinds, length)
-            ends[trial.run(wanted)] += 1
+            trial = Trial(room, number, args.seed, kinds, references[False][1])
+            ends[trial.run(references[trial.setup.is_late][0], references[False][0][0])] += 1
             failed += bool(trial.problems)
             for text in trial.problems:
-                make = ", with make" if trial.has_make else ""
-                print(f"trial {number}, {trial.kind}, after {trial.wait:.3f} s{make}: {trial.what}: {text}", flush=True)
+                more = (", with make" if trial.setup.has_make else "") + (", late" if trial.setup.is_late else "")
+                print(f"trial {number}, {trial.kind}, {trial.setup.slots} slots{more}, after {trial.wait:.3f} s: {trial.what}: {text}", flush=True)
     for how, count in sorted(ends.items()) if args.tally else []:
         print(f"{count:5} {how}")
     print(f"{args.trials - failed} passed, {failed} failed")

@@ -195,13 +195,13 @@ fn words_that_look_like_needs() {
 #[test]
 fn needs_of_calls_without_a_plan() {
     let without = PlanCall { dry2: RUN2, ..call(RUN, &NONE) };
-    assert_eq!(said(needs(&without)), (ErrorKind::NotFound, "dry run 1, line 2: cannot find gcc".to_string()));
+    assert_eq!(said(needs(&without)), (ErrorKind::NotFound, "dry run 1, line 2: cannot find gcc in PATH (/b)".to_string()));
 }
 
 #[test]
 fn errors_of_records() {
     let call = |programs| PlanCall { dry2: RUN2, ..call(RUN, programs) };
-    assert_eq!(said(plan(&call(&NONE))), (ErrorKind::NotFound, "dry run 1, line 2: cannot find gcc".to_string()));
+    assert_eq!(said(plan(&call(&NONE))), (ErrorKind::NotFound, "dry run 1, line 2: cannot find gcc in PATH (/b)".to_string()));
     assert_eq!(place(plan(&call(&NONE))), Some((Input::First, Some(2))));
     let programs = first_candidates(RUN, RUN2);
     let found: Vec<FoundProgram> = programs.iter().filter(|it| it.lookup.program != "rm").cloned().collect();
@@ -291,14 +291,14 @@ fn host_compilers() {
 fn programs_that_are_not_there() {
     assert_eq!(
         said(plan_text(&call(RUN, &NONE), Format::Json)),
-        (ErrorKind::NotFound, "dry run 1, line 2: cannot find gcc".to_string())
+        (ErrorKind::NotFound, "dry run 1, line 2: cannot find gcc in PATH (/b)".to_string())
     );
     let none = find_programs(RUN, RUN, "/w".as_ref(), None).unwrap();
     assert_eq!(none.len(), 2);
     assert!(none.iter().all(|program| program.found.is_none()));
     assert_eq!(
         said(plan_text(&call(RUN, &none), Format::Json)),
-        (ErrorKind::NotFound, "dry run 1, line 2: cannot find gcc".to_string())
+        (ErrorKind::NotFound, "dry run 1, line 2: cannot find gcc in PATH (/b)".to_string())
     );
     let real = b"#$ PATH=/nowhere:/bin\n#$ sh -D__NVCC__ k.cpp1.ii\n";
     let found = find_programs(real, real, "/w".as_ref(), None).unwrap();

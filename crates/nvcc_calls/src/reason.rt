@@ -6,7 +6,7 @@ ghost use Rattle.nvcc_calls.specs.Reasons.{text_of};
 use std::fmt;
 
 /// Why a call goes to nvcc unchanged. Its text says so in a few words.
-#[derive(Clone, Copy, Debug)]
+#[derive(Clone, Copy, Debug, PartialEq)]
 pub enum Reason {
     /// The call links, makes a library or runs a program; so does a call that names no phase.
     Links,

@@ -2,20 +2,20 @@
 use super::products::{Product, outputs};
 use super::records::{Described, Reads, Records};
 use super::turns::Turns;
-use crate::call::{NO_DIRECTORY, TOO_FEW_FILES};
+use crate::call::NAME_HINT;
 use crate::folder::CallFolder;
 use crate::host;
 use crate::log::{self, LoggedCall};
 use crate::machine::{Ended, Job, Machine};
-use crate::planner::{self, Line};
 use crate::products::keep;
-use crate::programs::{self, Compiler};
 use crate::rule::Refusals;
 use crate::run::{self, NoRule, Task};
 use crate::served;
 use crate::settings::Settings;
-use crate::split::{self, Outcome, Said, Stop, by_nvcc, with_flags};
+use crate::split::{self, Outcome, Said, Stop, by_nvcc};
 use crate::tasks;
+use call::compiler::{self, Compiler};
+use call::{NvccLine, Reason};
 use std::env;
 use std::ffi::{OsStr, OsString};
 use std::path::{Path, PathBuf};
@@ -75,10 +75,17 @@ pub struct Context {
     pub has_few_files: bool,
 }
 
+/// An nvcc line, with all variables that count.
+fn line_of(cwd: String, nvcc: String, words: Vec<String>) -> NvccLine {
+    let variable = |name: &str| Some((name.to_owned(), env::var(name).ok()?));
+    let variables = ["NVCC_PREPEND_FLAGS", "NVCC_APPEND_FLAGS", "ZIGRUNK_JOBS"].into_iter().filter_map(variable).collect();
+    NvccLine { cwd, nvcc, words, variables }
+}
+
 /// The words that count for the products of a call: nvcc's variables have some too.
 pub fn words_of(asked: &Asked) -> Option<Vec<String>> {
     match asked {
-        Asked::Nvcc(words) => Some(with_flags(words)),
+        Asked::Nvcc(words) => line_of(String::new(), String::new(), words.clone()).all_words().ok(),
         Asked::Compiler(words) => Some(words.clone()),
         Asked::Program(_) | Asked::Shell(_) => None,
     }
@@ -160,13 +167,13 @@ impl Making<'_> {
 
     fn job(&mut self, job: Job) -> Result<Ended, Stop> {
         let done = run::run(self.turns, &mut NoRule, &[Task { job, ..Task::default() }], 1)?;
-        done.into_iter().next().and_then(|done| done.ended).ok_or_else(|| Stop::ByNvcc("a command didn't run".into()))
+        done.into_iter().next().and_then(|done| done.ended).ok_or(Stop::ByNvcc(Reason::NotRun))
     }
 
     /// Makes a call of nvcc: split, or whole.
     fn nvcc(&mut self, words: &[OsString]) -> Result<(), Signalled> {
         let begun = host::now();
-        let (compiler, words) = match programs::compiler(&self.context.settings, OsStr::new("zigrunk-nvcc"), words) {
+        let (compiler, words) = match compiler::compiler(&self.context.settings.caller("zigrunk-nvcc".as_ref()), words) {
             Ok(found) => found,
             Err(complaint) => {
                 self.made.complain(&format!("zigrunk-nvcc: {complaint}"));
@@ -178,13 +185,12 @@ impl Making<'_> {
         let texts: Vec<String> = words.iter().map(|word| word.to_string_lossy().into_owned()).collect();
         let named = [vec![compiler.name.to_string_lossy().into_owned()], texts.clone()].concat();
         let is_inside = !self.context.settings.inside.is_empty();
-        let split = if is_inside { by_nvcc("it is called by an nvcc") } else { self.split(&compiler, texts, begun) };
+        let split = if is_inside { by_nvcc(Reason::Inside) } else { self.split(&compiler, texts, begun) };
         self.turns.plans(false);
         let (reason, outcome) = match split {
             Ok(outcome) => (None, outcome),
             Err(Stop::Signal(_)) => return Err(Signalled),
             Err(Stop::ByNvcc(reason)) => {
-                let reason = reason.lines().next().unwrap_or_default().to_owned();
                 if self.context.settings.explains && !is_inside {
                     self.made.complain(&format!("zigrunk-nvcc: nvcc itself: {reason}"));
                 }
@@ -194,10 +200,10 @@ impl Making<'_> {
         };
         if let Some(file) = &self.context.settings.log {
             let words: Vec<&OsStr> = named.iter().map(OsStr::new).collect();
-            let reason = reason.as_deref();
-            let hint_on = reason.or(self.is_random.then_some("a random name"));
+            let reason = reason.as_ref();
+            let hint = reason.map_or(self.is_random.then_some(NAME_HINT), Reason::hint);
             let Outcome { commands, counted, .. } = &outcome;
-            log::append(file, &LoggedCall { begun, status: self.made.status, reason, hint_on, commands, counted: *counted, words: &words });
+            log::append(file, &LoggedCall { begun, status: self.made.status, reason, hint, commands, counted: *counted, words: &words });
         }
         Ok(())
     }
@@ -205,17 +211,15 @@ impl Making<'_> {
     /// Makes a call, which has begun at a time, by its plan, unless the cache has it as a whole.
     fn split(&mut self, compiler: &Compiler, words: Vec<String>, begun: f64) -> Result<Outcome, Stop> {
         if self.context.has_few_files {
-            return by_nvcc(TOO_FEW_FILES);
+            return by_nvcc(Reason::TooFewFiles);
         }
-        let variable = |name: &str| Some((name.to_owned(), env::var(name).ok()?));
-        let variables = ["NVCC_PREPEND_FLAGS", "NVCC_APPEND_FLAGS", "ZIGRUNK_JOBS"].into_iter().filter_map(variable).collect();
-        let line = Line { cwd: self.call.folder.clone(), nvcc: compiler.name.to_string_lossy().into_owned(), words, variables };
+        let line = line_of(self.call.folder.clone(), compiler.name.to_string_lossy().into_owned(), words);
         if let Some((mut said, outcome)) = served::serve(&self.context.settings, &line, begun) {
             self.made.said.append(&mut said);
             return Ok(outcome);
         }
-        let taken = CallFolder::take(&self.context.temporary, &planner::directory_of(&line)?);
-        let folder = taken.map_err(|_| NO_DIRECTORY.to_owned())?;
+        let taken = CallFolder::take(&self.context.temporary, &line.directory_name()?);
+        let folder = taken.map_err(|_| Reason::NoTemporaryDirectory)?;
         self.is_random = !folder.is_named();
         let split = self.split_in(&folder, &line);
         folder.remove();
@@ -223,18 +227,18 @@ impl Making<'_> {
     }
 
     /// The same in the call's directory.
-    fn split_in(&mut self, folder: &CallFolder, line: &Line) -> Result<Outcome, Stop> {
+    fn split_in(&mut self, folder: &CallFolder, line: &NvccLine) -> Result<Outcome, Stop> {
         let Context { settings, at_once, refusals, .. } = self.context;
         let split = split::Call { settings, line, folder, at_once: *at_once, refusals };
-        let outline = split.outline()?;
+        let call = split.read()?;
         let mut said = Said::new();
-        let outcome = split.run(self.turns, &outline, &mut |is_error, text| said.push((is_error, text.to_vec())))?;
+        let outcome = split.run(self.turns, &call, &mut |is_error, text| said.push((is_error, text.to_vec())))?;
         self.made.status = outcome.status;
         self.made.said.append(&mut said);
         if self.context.records.is_some() {
             self.reads = Reads::of_folder(folder.path());
         }
-        if let Some(keep_dir) = &outline.keep_dir {
+        if let Some(keep_dir) = call.keep_dir() {
             keep(folder.path(), Path::new(keep_dir), self.begun);
         }
         Ok(outcome)
@@ -450,7 +454,7 @@ mod tests {
         };
         let mut few = room.context();
         (few.has_few_files, few.settings.explains) = (true, true);
-        let reason = format!("!zigrunk-nvcc: nvcc itself: {TOO_FEW_FILES}\n");
+        let reason = format!("!zigrunk-nvcc: nvcc itself: {}\n", Reason::TooFewFiles);
         assert_eq!(lines(few), (reason, vec!["nvcc-13.0 -c k.cu -o k.o".into()]));
         let mut inside = room.context();
         (inside.settings.inside, inside.settings.explains) = (":/other:".into(), true);
@@ -458,7 +462,7 @@ mod tests {
         let mut lacking = room.context();
         lacking.temporary = "/missing".into();
         lacking.settings.explains = true;
-        assert_eq!(lines(lacking).0, format!("!zigrunk-nvcc: nvcc itself: {NO_DIRECTORY}\n"));
+        assert_eq!(lines(lacking).0, format!("!zigrunk-nvcc: nvcc itself: {}\n", Reason::NoTemporaryDirectory));
     }
 
     #[test]

@@ -10,18 +10,18 @@ mod records;
 mod turns;
 
 use crate::call::FEWEST_FILES;
-use crate::environments::Environment;
 use crate::farm::Farm;
 use crate::folder::CallFolder;
 use crate::host::Host;
 use crate::jobserver::Make;
 use crate::machine::Machine;
 use crate::places::{absolute, working_directory};
-use crate::programs;
 use crate::rule::Refusals;
 use crate::settings::Settings;
 use crate::streams::{complain, say};
 use crate::system;
+use call::compiler::is_nvcc;
+use call::environments::Environment;
 use calls::{Asked, BatchCall, Context, Made};
 use graph::{Calls, Graph, Limits, Outcomes};
 use lists::Listed;
@@ -57,7 +57,9 @@ fn asked(words: Vec<String>, settings: &Settings) -> Asked {
     let stem = name.rsplit_once('-').filter(|(_, version)| version.starts_with(|digit: char| digit.is_ascii_digit())).map_or(name, |(stem, _)| stem);
     if name == "zigrunk-nvcc" {
         Asked::Nvcc(words[1..].to_vec())
-    } else if first.starts_with('-') || programs::is_nvcc(first.as_bytes()) || settings.nvcc == *first {
+    } else if name == "zigrunk" && words.get(1).is_some_and(|word| word == "nvcc") {
+        Asked::Nvcc(words[2..].to_vec())
+    } else if first.starts_with('-') || is_nvcc(first.as_bytes()) || settings.nvcc == *first {
         Asked::Nvcc(words)
     } else if ["gcc", "++", "clang"].iter().any(|end| stem.ends_with(end)) || name == "cc" {
         Asked::Compiler(words)
@@ -177,23 +179,22 @@ fn machine(settings: &Settings, folder: &Rc<CallFolder>) -> Result<Host, String>
 
 /// How many commands run at once, and how many calls are planned, on this machine.
 fn limits(options: &Options, settings: &Settings) -> Limits {
-    let of_variable = env::var("ZIGRUNK_JOBS").ok().as_deref().and_then(options::positive);
     // Workers say themselves how many commands they run.
     let usual = || if settings.has_workers { MOST_AT_ONCE } else { system::processors() };
-    let at_once = options.jobs.or(of_variable).unwrap_or_else(usual);
+    let at_once = options.jobs.or(settings.jobs).unwrap_or_else(usual);
     let planned_at_once = if settings.runner.is_empty() { at_once } else { system::processors() };
     Limits { at_once, planned_at_once, failures: options.failures }
 }
 
-/// Makes the calls of a list. Says the status.
+/// Makes the calls of a list. Says the status, which a signal may have ended.
 /// Errors: what keeps it from making them.
-fn make(options: &Options) -> Result<i32, String> {
+fn make(options: &Options, settings: Settings) -> Result<Ended, String> {
     let has_few_files = system::spare_files() < FEWEST_FILES;
-    let settings = Settings { has_workers: options.workers.is_some(), ..Settings::of_environment() };
+    let settings = Settings { has_workers: options.workers.is_some(), ..settings };
     check(&settings, options.workers.as_ref().is_some_and(|workers| workers.sends_files))?;
     let list = list(options.list.as_ref(), &settings)?;
     if list.calls.is_empty() {
-        return Ok(0);
+        return Ok(Ended::Status(0));
     }
     if let Some(twice) = made_twice(&list) {
         return Err(twice);
@@ -203,6 +204,7 @@ fn make(options: &Options) -> Result<i32, String> {
     let records = opened.map_err(|_| format!("cannot make {}", folder_of_records.display()))?;
     let temporary = absolute(settings.plans(), &working_directory().unwrap_or_default());
     let folder = Rc::new(CallFolder::take(&temporary, "batch").map_err(|error| format!("no temporary directory: {error}"))?);
+    folder.tell_if_taken(&temporary);
     let scratch = settings.shared.is_none().then(|| folder.path().join("tmp"));
     let made = scratch.as_ref().map_or(Ok(()), fs::create_dir).map_err(|error| error.to_string());
     let limits = limits(options, &settings);
@@ -229,7 +231,7 @@ fn make(options: &Options) -> Result<i32, String> {
         outcomes
     });
     folder.remove();
-    outcomes.map(status_of)
+    outcomes.map(end_of)
 }
 
 fn form(options: &Options) -> Form {
@@ -262,25 +264,33 @@ fn run<M: Machine>(host: &mut M, mut list: List, context: Context, limits: Limit
     Ok(graph.run())
 }
 
-/// The status of a batch. Says how many calls were left.
-fn status_of(outcomes: Outcomes) -> i32 {
+/// How a batch ends.
+#[derive(Clone, Copy, PartialEq, Eq, Debug)]
+enum Ended {
+    Status(i32),
+    /// By a signal.
+    Signal(i32),
+}
+
+/// The end of a batch. Says how many calls were left.
+fn end_of(outcomes: Outcomes) -> Ended {
     if outcomes.lost {
-        return 1;
+        return Ended::Status(1);
     }
     if let Some(signal) = outcomes.signal {
-        return 128 + signal;
+        return Ended::Signal(signal);
     }
     if outcomes.left > 0 {
         complain(&format!("zigrunk batch: stopped, {} of the calls not made", outcomes.left));
     }
-    outcomes.status
+    Ended::Status(outcomes.status)
 }
 
 /// Has the compiler make a call, unless a batch with `--incremental` made it in this directory and all its files are as they were. Then
 /// this writes the dependency file alone, which a build asks for beyond the words of its `compile_commands.json`.
-fn unless_made(words: &[OsString]) -> i32 {
+fn unless_made(words: &[OsString], settings: &Settings) -> i32 {
     let texts: Option<Vec<String>> = words.iter().map(|word| word.to_str().map(String::from)).collect();
-    if texts.and_then(|texts| made_before(&texts)).is_some() {
+    if texts.and_then(|texts| made_before(&texts, settings)).is_some() {
         return 0;
     }
     let words: Vec<&OsStr> = words.iter().map(OsString::as_os_str).collect();
@@ -291,33 +301,52 @@ fn unless_made(words: &[OsString]) -> i32 {
 }
 
 /// Writes the dependency file of a call that a batch has made, if it asks for one.
-fn made_before(words: &[String]) -> Option<()> {
-    let settings = Settings::of_environment();
+fn made_before(words: &[String], settings: &Settings) -> Option<()> {
     let cwd = working_directory()?;
     let records = Records::at(cwd.join(records::FOLDER));
     let call =
-        |words: Vec<String>| BatchCall { number: 1, name: String::new(), folder: cwd.to_string_lossy().into_owned(), asked: asked(words, &settings) };
+        |words: Vec<String>| BatchCall { number: 1, name: String::new(), folder: cwd.to_string_lossy().into_owned(), asked: asked(words, settings) };
     let with_rule = call(words.to_vec());
     let products = calls::products_of(&with_rule);
     let target = products::outputs(&calls::words_of(&with_rule.asked)?).into_iter().next()?;
-    let rule = records.describe(&with_rule, &products, &settings)?.rule;
+    let rule = records.describe(&with_rule, &products, settings)?.rule;
     [call(records::without_rule(words)), with_rule]
         .iter()
-        .find_map(|call| records.describe(call, &products, &settings)?.write_rule(rule.as_deref(), &target))
+        .find_map(|call| records.describe(call, &products, settings)?.write_rule(rule.as_deref(), &target))
+}
+
+/// Makes a batch. Says its status. If a signal ends the batch, it ends this process too.
+fn run_batch(options: &Options, settings: Settings) -> i32 {
+    match make(options, settings) {
+        Ok(Ended::Status(status)) => status,
+        Ok(Ended::Signal(number)) => system::end_by(number),
+        Err(complaint) => {
+            complain(&format!("zigrunk batch: {complaint}"));
+            1
+        }
+    }
+}
+
+/// Runs with the settings of the environment. Says the status: 2 if one of them is bad.
+fn with_settings(run: impl FnOnce(Settings) -> i32) -> i32 {
+    Settings::of_environment().map_or_else(
+        |complaint| {
+            complain(&format!("zigrunk batch: {complaint}"));
+            2
+        },
+        run,
+    )
 }
 
 /// Makes the calls of the list that these words name. Says the exit status: that of the first call in the list that failed, 1 if the list
-/// can't be made, 2 for wrong usage, and after a signal 128 and its number.
+/// can't be made, 2 for wrong usage or a bad setting.
 pub fn main(words: &[OsString]) -> i32 {
     let print = |text: String| i32::from(say(1, text.as_bytes()).is_err());
     match options::parse(words) {
         Ok(Wanted::Help) => print(format!("{USAGE}\n{HELP}\n")),
         Ok(Wanted::Version) => print(format!("zigrunk batch {}\n", env!("CARGO_PKG_VERSION"))),
-        Ok(Wanted::UnlessMade(words)) => unless_made(&words),
-        Ok(Wanted::Batch(options)) => make(&options).unwrap_or_else(|complaint| {
-            complain(&format!("zigrunk batch: {complaint}"));
-            1
-        }),
+        Ok(Wanted::UnlessMade(words)) => with_settings(|settings| unless_made(&words, &settings)),
+        Ok(Wanted::Batch(options)) => with_settings(|settings| run_batch(&options, settings)),
         Err(complaint) => {
             complain(&format!("zigrunk batch: {complaint}\n{USAGE}"));
             2
@@ -343,6 +372,8 @@ mod tests {
             ("/opt/nvcc -c", "nvcc 2"),
             ("zigrunk-nvcc -c", "nvcc 1"),
             ("/a/zigrunk-nvcc /opt/nvcc -c", "nvcc 2"),
+            ("/a/zigrunk nvcc -c k.cu", "nvcc 2"),
+            ("zigrunk plan", "program 2"),
             ("-c a.cu", "nvcc 2"),
             ("my-compiler -c", "nvcc 2"),
             ("gcc -c", "compiler 2"),
@@ -388,7 +419,10 @@ mod tests {
     fn a_signal_counts_more_than_a_call_that_failed() {
         let failed = Outcomes { status: 7, ..Outcomes::default() };
         let ended = Outcomes { signal: Some(system::TERM), ..failed };
-        assert_eq!([failed, ended, Outcomes { lost: true, ..ended }, Outcomes::default()].map(status_of), [7, 143, 1, 0]);
+        assert_eq!(
+            [failed, ended, Outcomes { lost: true, ..ended }, Outcomes::default()].map(end_of),
+            [Ended::Status(7), Ended::Signal(system::TERM), Ended::Status(1), Ended::Status(0)]
+        );
     }
 
     #[test]

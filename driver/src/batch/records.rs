@@ -1,10 +1,10 @@
 //! Records of `--incremental`: what a call was, what it read and what it made. A call is up to date if all of that is as it was.
 use super::calls::{BatchCall, words_of};
 use super::products::Product;
-use crate::entries::json_text;
 use crate::json_values;
-use crate::programs;
 use crate::settings::Settings;
+use call::json::json_text;
+use call::programs;
 use std::collections::BTreeSet;
 use std::env;
 use std::ffi::OsStr;

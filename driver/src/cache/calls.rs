@@ -9,11 +9,13 @@ use crate::cache::processor::instructions;
 use crate::cache::source::words_of;
 use crate::cache::store::Store;
 use crate::cache::{put, terminal};
-use crate::planner::Line;
+use crate::settings;
 use crate::split::Said;
 use crate::system::may_write;
+use call::NvccLine;
 use std::env;
 use std::ffi::{OsStr, OsString};
+use std::fs;
 use std::io;
 use std::os::unix::ffi::OsStrExt;
 use std::path::{Path, PathBuf};
@@ -133,16 +135,18 @@ impl Answer {
 }
 
 /// The keys under which a call may be: with no folder, and with its own.
-fn keys(line: &Line, nvcc: &Path) -> [Digest; 2] {
-    [None, Some(line.cwd.as_str())].map(|folder| key(line, nvcc, folder, env::vars_os()))
+fn keys(line: &NvccLine, nvcc: &Path) -> [Digest; 2] {
+    let places = fs::canonicalize(&line.cwd).map(|real| [line.cwd.as_bytes(), b"\0", real.as_os_str().as_bytes()].concat());
+    let places = places.unwrap_or_else(|_| line.cwd.clone().into_bytes());
+    [&b""[..], &places].map(|folder| key(line, nvcc, folder, env::vars_os()))
 }
 
-/// The key of a call: the processor, its nvcc, its words and its variables, and its folder if that counts.
-fn key(line: &Line, nvcc: &Path, folder: Option<&str>, variables: impl Iterator<Item = (OsString, OsString)>) -> Digest {
+/// The key of a call: the processor, its nvcc, its words and its variables, and its folder, with where that really is, if that counts.
+fn key(line: &NvccLine, nvcc: &Path, folder: &[u8], variables: impl Iterator<Item = (OsString, OsString)>) -> Digest {
     let mut hasher = Hasher::default();
-    hasher.add(b"zigrunk call 6");
+    hasher.add(b"zigrunk call 7");
     hasher.add(instructions().as_bytes());
-    hasher.add(folder.unwrap_or_default().as_bytes());
+    hasher.add(folder);
     hasher.add(nvcc.as_os_str().as_bytes());
     hasher.update(&(line.words.len() as u64).to_le_bytes());
     line.words.iter().for_each(|word| hasher.add(word.as_bytes()));
@@ -155,13 +159,13 @@ fn key(line: &Line, nvcc: &Path, folder: Option<&str>, variables: impl Iterator<
     hasher.finish()
 }
 
-/// Whether calls are kept whole: unless `ZIGRUNK_CALLS` is 0.
+/// Whether calls are kept whole: unless `ZIGRUNK_CALLS` is no.
 pub fn is_on() -> bool {
-    env::var_os("ZIGRUNK_CALLS").is_none_or(|value| value != "0")
+    settings::keeps_calls()
 }
 
 /// Makes what the store has of a whole call, and gives what it said. `None` if the call has to be made.
-pub fn serve(store: &Store, line: &Line, nvcc: &Path) -> Option<Said> {
+pub fn serve(store: &Store, line: &NvccLine, nvcc: &Path) -> Option<Said> {
     let cwd = Path::new(&line.cwd);
     // Without a folder for temporary files nvcc fails.
     let folder = env::var_os("TMPDIR").filter(|folder| !folder.is_empty()).map(|folder| cwd.join(folder));
@@ -203,7 +207,7 @@ fn write(store: &Store, key: &Digest, manifest: &Manifest, answer: &Answer) -> i
 }
 
 /// Keeps what a call has made, if the store can be written.
-pub fn keep(store: &Store, line: &Line, nvcc: &Path, folder_counts: bool, manifest: &Manifest, answer: &Answer) {
+pub fn keep(store: &Store, line: &NvccLine, nvcc: &Path, folder_counts: bool, manifest: &Manifest, answer: &Answer) {
     let key = keys(line, nvcc)[usize::from(folder_counts)];
     let _ = write(store, &key, manifest, answer);
 }
@@ -215,13 +219,13 @@ mod tests {
     use crate::test_folder::TestFolder;
     use std::fs;
 
-    fn line(words: &str, cwd: &str) -> Line {
-        Line { cwd: cwd.into(), nvcc: "nvcc".into(), words: words.split(' ').map(String::from).collect(), variables: Vec::new() }
+    fn line(words: &str, cwd: &str) -> NvccLine {
+        NvccLine { cwd: cwd.into(), nvcc: "nvcc".into(), words: words.split(' ').map(String::from).collect(), variables: Vec::new() }
     }
 
     fn key_of(words: &str, folder: Option<&str>, nvcc: &str, variables: &[(&str, &str)]) -> Digest {
         let variables = variables.iter().map(|(name, value)| (name.into(), value.into()));
-        key(&line(words, "/w"), Path::new(nvcc), folder, variables)
+        key(&line(words, "/w"), Path::new(nvcc), folder.unwrap_or_default().as_bytes(), variables)
     }
 
     #[test]

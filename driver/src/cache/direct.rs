@@ -7,7 +7,6 @@ use crate::cache::manifest::{Manifest, Seen};
 use crate::cache::marked::contains;
 use crate::cache::recipe::Recipe;
 use crate::cache::source::{begins_raw_string, join_of};
-use crate::cache::tool::Run;
 use crate::cache::{Session, Taken};
 use crate::streams::content_of;
 use std::collections::BTreeSet;
@@ -103,13 +102,12 @@ impl Session<'_> {
     fn direct_key(&mut self, task: usize) -> Option<Digest> {
         let recipe = &self.candidates.get(&task)?.recipe;
         let (question, file) = recipe.question.as_ref()?;
-        let environment = recipe.environment();
-        let (program, folder) = (Path::new(recipe.job.words.first()?), Path::new(&recipe.job.folder));
-        let tool = self.tools.identity(&Run { kind: recipe.kind, program, folder, environment: &environment })?;
         let text = |file: &PathBuf| Some(Text { role: Role::Source, content: without_device_code(content_of(file).ok()?) });
         let texts: Vec<Text> = generated(recipe)?.iter().map(text).collect::<Option<_>>()?;
         let words = question.words.iter().filter(|word| Path::new(word) != file);
-        key::direct(key::start_of(recipe, &tool, &environment)?, recipe, &texts, words)
+        let words: Vec<String> = words.cloned().collect();
+        let start = self.start(task)?;
+        key::direct(start, &self.candidates.get(&task)?.recipe, &texts, words.iter())
     }
 
     /// Makes what a compile makes, if the store knows that for its texts and for headers as they are.

@@ -6,40 +6,13 @@ use std::collections::BTreeSet;
 const DIRECTIVES: [&[u8]; 2] = [b"incbin", b".include"];
 /// What may hide a directive: the assembler's macros, its comments, and a mode in which directives have no dot.
 const HIDING: [&[u8]; 4] = [b".macro", b".irp", b".mri", b"/*"];
-/// Where strings that reach the assembler stand: statements, and names of sections and of symbols.
-const ASSEMBLED: [&[u8]; 6] = [b"asm", b"section", b"symver", b"weakref", b"alias", b"ifunc"];
+/// What a compiler's line begins with that is a string alone.
+const STRINGS: [&[u8]; 2] = [b"\t.string\t\"", b"\t.ascii\t\""];
+/// What a preprocessor writes behind the `#` of a line, beside line markers.
+const PASSED: [&[u8]; 2] = [b"pragma ", b"ident "];
 
 /// The words by which a text sees its lines.
 const LINE_WORDS: [&[u8]; 5] = [b"__LINE__", b"__builtin_LINE", b"__builtin_FILE", b"__builtin_COLUMN", b"source_location"];
-
-/// Where the statement ends that a text begins with: at a semicolon that isn't in a string.
-fn end_of_statement(text: &[u8]) -> usize {
-    let (mut is_inside, mut place) = (false, 0);
-    while let Some(&byte) = text.get(place) {
-        match byte {
-            b';' if !is_inside => return place,
-            b'"' => is_inside = !is_inside,
-            b'\\' if is_inside => place += 1,
-            _ => {}
-        }
-        place += 1;
-    }
-    text.len()
-}
-
-/// The rest of each statement from a word on.
-fn statements<'a>(text: &'a [u8], word: &'a [u8]) -> impl Iterator<Item = &'a [u8]> {
-    let mut rest = text;
-    let next = move || {
-        let begin = find(rest, word)?;
-        rest = &rest[begin + word.len()..];
-        Some(rest)
-    };
-    // (a bracket may follow behind words as `volatile`, and line markers)
-    let is_between = |byte: &u8| byte.is_ascii_whitespace() || byte.is_ascii_lowercase() || *byte == b'_';
-    let first = move |rest: &[u8]| rest.iter().find(|byte| !is_between(byte)).copied();
-    std::iter::from_fn(next).filter(move |rest| matches!(first(rest), Some(b'(' | b'#'))).map(|rest| &rest[..end_of_statement(rest)])
-}
 
 /// A text in small letters without what may stand between the parts of a directive.
 fn joined(text: &[u8]) -> Vec<u8> {
@@ -47,30 +20,43 @@ fn joined(text: &[u8]) -> Vec<u8> {
     parts.map(u8::to_ascii_lowercase).collect()
 }
 
-fn has_any(text: &[u8], words: &[&[u8]]) -> bool {
-    words.iter().any(|word| contains(text, word))
+/// Whether a line of assembler text is a string alone, with each quote in it behind a backslash.
+fn is_string(line: &[u8]) -> bool {
+    let inside = STRINGS.iter().find_map(|begin| line.strip_prefix(*begin)?.strip_suffix(b"\""));
+    let is_quoted = |inside: &[u8]| inside.iter().rev().take_while(|&&byte| byte == b'\\').count() % 2 == 1;
+    inside.is_some_and(|inside| !is_quoted(inside) && pairs(inside, b'"', b'"', 0).all(|quote| is_quoted(&inside[..quote])))
 }
 
-/// Whether a statement may have the assembler read a file, though no directive for that is seen.
-fn may_hide(statement: &[u8]) -> bool {
-    let is_number = |byte: u8| byte.is_ascii_digit() || matches!(byte, b'x' | b'u' | b'U' | b'N');
-    let has_numbers = || statement.windows(2).any(|pair| pair[0] == b'\\' && is_number(pair[1]));
-    has_numbers() || contains(statement, b"R\"") || has_any(&joined(statement), &HIDING)
+/// Whether an assembler that reads this text may read a file beside one that it's known to include once.
+pub fn assembler_reads_more(text: &[u8], included: Option<&str>) -> bool {
+    let own = included.map(|file| format!(".include \"{file}\""));
+    let begin = own.as_ref().map(|own| find(text, own.as_bytes()));
+    let parts = match (own, begin) {
+        (Some(own), Some(Some(begin))) => [&text[..begin], &text[begin + own.len()..]],
+        (Some(_), _) => return true,
+        (None, _) => [text, b""],
+    };
+    let others = parts.map(|part| part.split(|&byte| byte == b'\n').filter(|line| !is_string(line)).map(joined).collect::<Vec<_>>().concat());
+    others.iter().any(|text| DIRECTIVES.iter().chain(&HIDING).any(|word| contains(text, word)))
 }
 
-/// Whether a compiler that reads this text, or the assembler that it runs, may read a file that isn't in it: by a directive, also one that
-/// is cut into several strings, or by a precompiled header.
-pub fn reads_more(text: &[u8]) -> bool {
-    let hides = || ASSEMBLED.iter().any(|word| statements(text, word).any(may_hide));
-    contains(text, b"pch_preprocess") || has_any(&joined(text), &DIRECTIVES) || hides()
+/// Whether nothing but blanks, or a comment's end, stands between a place and the begin of its line.
+fn begins_line(text: &[u8], place: usize) -> bool {
+    let is_blank = |byte: &u8| matches!(byte, b' ' | b'\t' | b'\r' | 0x0b | 0x0c | 0);
+    let before = text[..place].iter().rposition(|byte| !is_blank(byte)).map_or(&b""[..], |last| &text[..=last]);
+    before.is_empty() || before.ends_with(b"\n") || before.ends_with(b"*/")
 }
 
-/// Whether an assembler that reads this text may read a file beside the one that it's known to include once.
-pub fn assembler_reads_more(text: &[u8], included: &str) -> bool {
-    let own = format!(".include \"{included}\"");
-    let Some(begin) = find(text, own.as_bytes()) else { return true };
-    let others = [&text[..begin], &text[begin + own.len()..]].map(joined);
-    others.iter().any(|text| has_any(text, &DIRECTIVES) || has_any(text, &HIDING))
+/// Whether a line of a preprocessed text may be a directive to the front end that reads it, which then may include a file. A preprocessor leaves
+/// line markers and pragmas, and puts a blank before a `#` that a macro stood for.
+pub fn has_directive(text: &[u8]) -> bool {
+    let is_passed = |place: usize| {
+        let rest = &text[place + 1..];
+        let is_marker = rest.first() == Some(&b' ') && rest.get(1).is_some_and(u8::is_ascii_digit);
+        (place == 0 || text[place - 1] == b'\n') && (is_marker || PASSED.iter().any(|word| rest.starts_with(word)))
+    };
+    let signs = pairs(text, b'#', b'#', 0).filter(|&place| !is_passed(place));
+    signs.chain(pairs(text, b'%', b':', 1)).chain(pairs(text, b'?', b'=', 2)).any(|place| begins_line(text, place))
 }
 
 /// The line markers of a text, each with its place.
@@ -174,33 +160,46 @@ mod tests {
     use super::*;
 
     #[test]
-    fn directives_are_found() {
+    fn directives_of_an_assembler_are_found() {
         let cases = [
-            ("int f();", false),
-            ("asm(\".incbin \\\"data\\\"\");", true),
-            ("asm(\".inc\" \"bin \\\"data\\\"\");", true),
-            ("asm(\".inc\"\n  \"lude \\\"x\\\"\");", true),
-            ("__asm__ (\"\\x2eincbi\\x6e x\");", true),
-            ("int x __attribute__((section(\"a\\n.inc\\154ude x\")));", true),
-            ("asm(\".INCBIN \\\"data\\\"\");", true),
-            ("asm(\"nop; .inc\\142in \\\"data\\\"\");", true),
-            ("asm(\"nop; .inc/**/bin \\\"data\\\"\");", true),
-            ("asm(\".macro m x\\n.inc\\\\x \\\"data\\\"\\n.endm\\nm bin\");", true),
-            ("asm(\".ir\" \"p x,bin\\n.inc\\\\x \\\"data\\\"\\n.endr\");", true),
-            ("asm(\".mri 1\\ninclude data\");", true),
-            ("asm(R\"(.inc\\142in)\");", true),
-            ("asm volatile\n  (\"\\x2eincbi\\x6e x\");", true),
-            ("__asm__ __volatile__ goto(\"\\56incbi\\156 x\");", true),
-            ("asm(\"nop # \\\" ; \"); const char* s = \"\\0/*\";", false),
-            ("extern int f() __asm__ (\"\" \"__isoc99_f\");", false),
-            ("asm(\".section a\\n.quad 1\\n\"); const char* s = \"\\0\";", false),
-            ("#pragma GCC pch_preprocess \"a.h.gch\"", true),
-            ("int f() __attribute__((symver(\"f@V\\n.inc\\142in \\\"data\\\"\")));", true),
-            ("int f() __attribute__((__weakref__ (\"g\\n.inc\\142in \\\"data\\\"\")));", true),
-            ("int f() __attribute__((alias(\"g\")));", false),
+            ("\t.text\n#APP\n\tnop\n#NO_APP\n", false),
+            ("\t.incbin \"data\"\n", true),
+            ("\tnop; .INCBIN \"data\"\n", true),
+            ("\t.inc/**/bin \"data\"\n", true),
+            ("\t.include \"x\"\n", true),
+            ("\t.macro m x\n\t.inc\\x \"data\"\n\t.endm\n\tm bin\n", true),
+            ("\t.irp x,bin\n\t.inc\\x \"data\"\n\t.endr\n", true),
+            ("\t.mri 1\n include data\n", true),
+            ("\t.ident\t\"a\"\n\t.data\n\t.incbin \"data.bin\"\n", true),
+            ("\t.string\t\".include \\\"x\\\" /* \"\n\t.ascii\t\"a\\\\\"\n", false),
+            ("\t.string\t\"a\"; .incbin \"data\"\n", true),
+            ("\t.string\t\"a\\\\\"; .incbin \\\"data\"\n", true),
+            ("\t.string\t\".incbin\\\"\n", true),
+            ("\t.string \".incbin\"\n", true),
         ];
         for (text, wanted) in cases {
-            assert_eq!(reads_more(text.as_bytes()), wanted, "{text}");
+            assert_eq!(assembler_reads_more(text.as_bytes(), None), wanted, "{text}");
+        }
+    }
+
+    #[test]
+    fn what_a_macro_has_become_may_be_a_directive() {
+        let cases = [
+            ("# 1 \"k.cu\"\n# 1 \"a.h\" 1\n#pragma once\n#ident \"x\"\nint a;\n", false),
+            ("# 1 \"k.cu\"\n # include \"/x.h\"\n", true),
+            (" # 1 \"k.cu\"\n", true),
+            ("#include \"/x.h\"\n", true),
+            ("#  1 \"k.cu\"\n", true),
+            ("int a;\n\t\x0b #if x\n", true),
+            ("/* x */ # include \"/x.h\"\n", true),
+            ("%:include \"/x.h\"\n", true),
+            ("\n  ??=include \"/x.h\"\n", true),
+            ("int a = 5 % b; int c<:2:>; char* s = \"#\"; f(#); g(%:);\n", false),
+            ("int a = x ? ?= 1 : 2;\n", false),
+            ("", false),
+        ];
+        for (text, wanted) in cases {
+            assert_eq!(has_directive(text.as_bytes()), wanted, "{text}");
         }
     }
 
@@ -217,7 +216,7 @@ mod tests {
             ("\t.include \"/t/f.s\"\n\t.string \"include\"\n", false),
         ];
         for (text, wanted) in cases {
-            assert_eq!(assembler_reads_more(text.as_bytes(), "/t/f.s"), wanted, "{text}");
+            assert_eq!(assembler_reads_more(text.as_bytes(), Some("/t/f.s")), wanted, "{text}");
         }
     }
 

@@ -14,11 +14,11 @@ use std::ffi::{OsStr, OsString};
 use std::fs;
 use std::os::unix::ffi::OsStrExt;
 use std::os::unix::fs::MetadataExt;
-use std::path::Path;
+use std::path::{Path, PathBuf};
 use token_texts::token_text;
 
 /// What every key begins with. It changes with what is in an entry, or in a key.
-const FORM: &[u8] = b"zigrunk command 4";
+const FORM: &[u8] = b"zigrunk command 5";
 
 /// A part of a text that has so many bytes is found in the store, with what its tokens are.
 const LARGE: usize = 1 << 16;
@@ -130,7 +130,18 @@ fn add_named(hasher: &mut Hasher, ptx: &[u8], folder: &Path) -> Option<()> {
     Some(())
 }
 
-/// What counts of a command beside the texts that it reads: the processor, the identity of its tool, its words and its environment.
+/// Where a path leads from a command's folder.
+fn place_of(recipe: &Recipe, path: &str) -> PathBuf {
+    fs::canonicalize(Path::new(&recipe.job.folder).join(path)).unwrap_or_default()
+}
+
+/// The places that a command may write beside their names: that of a source, of which a module id has a sum, and the working directory.
+fn places(recipe: &Recipe) -> Vec<PathBuf> {
+    let sources = recipe.job.words.windows(2).filter(|pair| pair[0] == "--orig_src_path_name").map(|pair| place_of(recipe, &pair[1]));
+    sources.chain(recipe.directory.is_empty().then(|| place_of(recipe, ""))).collect()
+}
+
+/// What counts of a command beside the texts that it reads: the processor, the identity of its tool, its words, its environment and its places.
 pub fn start_of(recipe: &Recipe, tool: &Digest, environment: &[(OsString, OsString)]) -> Option<Hasher> {
     let mut start = Hasher::default();
     start.add(FORM);
@@ -138,12 +149,15 @@ pub fn start_of(recipe: &Recipe, tool: &Digest, environment: &[(OsString, OsStri
     start.add(instructions().as_bytes());
     start.update(&tool.0);
     start.add(&words_key(recipe, environment)?);
+    for place in places(recipe) {
+        start.add(place.as_os_str().as_bytes());
+    }
     Some(start)
 }
 
 /// The key of a compile by the texts that it reads and by its words, those for the preprocessor too. `None` if it may not have one.
 pub fn direct<'a>(mut start: Hasher, recipe: &Recipe, texts: &[Text], words: impl Iterator<Item = &'a String>) -> Option<Digest> {
-    start.add(b"direct 3");
+    start.add(b"direct 4");
     start.add(recipe.job.folder.as_bytes());
     for word in words {
         marked::add_to(&mut start, &recipe.unnamed(word.as_bytes())?, recipe.directory.as_bytes());
@@ -228,6 +242,7 @@ mod tests {
             lines_count: directory.is_empty(),
             question: None,
             assembles: false,
+            steps: None,
             included: None,
             stem: None,
             has_own_source: false,

@@ -1,13 +1,14 @@
 //! What a whole call depends on: the files that were read for it, and the places where some were sought in vain.
 //!
 //! A file counts by its contents. It isn't read again if its stamp is the one it had, and if it had been as it is for a while when it was
-//! read: the time of a file's last change of any kind can't be set. A folder's stamp says in the same way that nothing has appeared in it.
+//! read. A folder's stamp says in the same way that nothing has appeared in it.
 //!
 //! A source whose layout is as it was may stand for what it was, if the call can't see the difference.
 use crate::cache::digest::{Digest, Hasher};
 use crate::cache::entry::{Rest, put_number, put_text};
 use crate::cache::lines::{Macros, definitions_in, without_definitions};
 use crate::cache::source::{layout_of, words_of};
+use crate::cache::stamps::Stamp;
 use crate::cache::store::digest_of;
 use crate::streams::{content, content_of};
 use std::ffi::OsStr;
@@ -16,34 +17,6 @@ use std::io::ErrorKind;
 use std::os::unix::ffi::OsStrExt;
 use std::os::unix::fs::MetadataExt;
 use std::path::{Path, PathBuf};
-use std::time::{Duration, SystemTime};
-
-/// A file that changed within this time may change again without another time.
-const FRESH: Duration = Duration::from_secs(2);
-
-/// What tells a file from what it was, or what had its name.
-#[derive(Clone, Copy, PartialEq, Eq, Debug)]
-pub struct Stamp([[u8; 8]; 7]);
-
-impl Stamp {
-    pub fn of(status: &Metadata) -> Stamp {
-        let times = [status.mtime(), status.mtime_nsec(), status.ctime(), status.ctime_nsec()].map(i64::to_le_bytes);
-        let [device, number, size] = [status.dev(), status.ino(), status.size()].map(u64::to_le_bytes);
-        Stamp([device, number, size, times[0], times[1], times[2], times[3]])
-    }
-
-    /// That of a file which has been as it is for a while.
-    pub fn settled(status: &Metadata) -> Option<Stamp> {
-        is_older(status, SystemTime::now(), FRESH).then(|| Stamp::of(status))
-    }
-}
-
-/// Whether a file was last changed, in any way, some time before a moment.
-pub fn is_older(status: &Metadata, moment: SystemTime, by: Duration) -> bool {
-    let changed = |seconds: i64, part: i64| Some(SystemTime::UNIX_EPOCH + Duration::new(seconds.try_into().ok()?, part.try_into().ok()?));
-    let times = [changed(status.mtime(), status.mtime_nsec()), changed(status.ctime(), status.ctime_nsec())];
-    times.iter().all(|time| time.is_some_and(|time| moment.duration_since(time).is_ok_and(|age| age > by)))
-}
 
 /// The layouts of a source.
 #[derive(Clone, PartialEq, Eq, Debug)]
@@ -95,7 +68,7 @@ impl Seen {
         let mut file = File::open(cwd.join(path)).ok()?;
         let status = file.metadata().ok().filter(Metadata::is_file)?;
         let digest = digest_of(&mut file).ok()?;
-        Some(Seen { path: path.to_owned(), digest, stamp: Stamp::settled(&status), form: Form::Other })
+        Some(Seen { path: path.to_owned(), digest, stamp: Stamp::settled(&cwd.join(path), &status), form: Form::Other })
     }
 
     /// The same, if the time of its last change counts, too.
@@ -115,7 +88,7 @@ impl Seen {
         let file = File::open(cwd.join(path)).ok()?;
         let status = file.metadata().ok().filter(Metadata::is_file)?;
         let text = content(&file).ok()?;
-        Some((Seen { path: path.to_owned(), digest: Digest::of(&text), stamp: Stamp::settled(&status), form: Form::Text }, text))
+        Some((Seen { path: path.to_owned(), digest: Digest::of(&text), stamp: Stamp::settled(&cwd.join(path), &status), form: Form::Text }, text))
     }
 
     /// The same file as it is now.
@@ -181,7 +154,7 @@ impl Vain {
             Err(error) => matches!(error.kind(), ErrorKind::NotFound | ErrorKind::NotADirectory),
         };
         let is_link = |lacking: &Lacking| fs::symlink_metadata(path(lacking)).is_ok_and(|found| found.is_symlink());
-        let stamp = Stamp::settled(&status).filter(|_| !lacks.iter().any(is_link));
+        let stamp = Stamp::settled(&cwd.join(folder), &status).filter(|_| !lacks.iter().any(is_link));
         lacks.iter().all(is_free).then(|| Vain { folder: folder.to_owned(), lacks, stamp })
     }
 
@@ -395,7 +368,9 @@ fn lacking(rest: &mut Rest<'_>) -> Option<Lacking> {
 #[cfg(test)]
 mod tests {
     use super::*;
+    use crate::cache::stamps::is_older;
     use crate::test_folder::TestFolder;
+    use std::time::{Duration, SystemTime};
 
     /// A folder for a test, which goes with it.
     struct Scratch(TestFolder);

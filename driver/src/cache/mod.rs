@@ -1,4 +1,5 @@
 //! The cache of commands: what a command of the same tool, words and inputs has made and said before is made and said again.
+mod again;
 mod ahead;
 pub mod calls;
 pub mod counts;
@@ -8,6 +9,7 @@ mod entry;
 mod host_text;
 mod includes;
 mod key;
+mod libraries;
 mod lines;
 mod manifest;
 mod marked;
@@ -17,6 +19,7 @@ pub mod program;
 mod recipe;
 mod searches;
 mod source;
+mod stamps;
 mod store;
 pub mod tool;
 pub mod whole;
@@ -24,7 +27,7 @@ mod words;
 
 use crate::host;
 use crate::machine::{Ended, Job};
-use crate::planner::PlannedCommand;
+use crate::planned::PlannedCommand;
 use crate::run::{Done, Step, Task};
 use crate::settings::Settings;
 use crate::streams::{complain, content_of, write_all};
@@ -34,10 +37,12 @@ use calls::Product;
 use digest::{Digest, Hasher};
 use direct::Direct;
 use entry::{Entry, Made};
+use host_text::assembler_reads_more;
 use key::{Part, Role, Text};
 pub use marked::contains;
 use marked::{Marked, has_symbol};
 use recipe::{Output, Recipe};
+use stamps::Moment;
 use std::collections::BTreeMap;
 use std::env;
 use std::ffi::OsStr;
@@ -52,7 +57,7 @@ use tool::{Kind, Run, Tools};
 
 /// The store that a call uses, if it uses one. A launcher or a runner takes commands elsewhere.
 pub fn store_of(settings: &Settings, cwd: &str) -> Option<Store> {
-    let store = place::asked(Path::new(cwd))?;
+    let store = place::asked(settings, Path::new(cwd))?;
     let is_own = settings.launcher.is_empty() && settings.runner.is_empty();
     if !is_own && settings.explains {
         complain("zigrunk-nvcc: ZIGRUNK_CACHE doesn't count beside ZIGRUNK_LAUNCHER or ZIGRUNK_RUNNER");
@@ -67,18 +72,20 @@ struct Keys {
     tokens: Option<Digest>,
     /// What says in the store that it has an entry of such texts, whatever the command reads late.
     marks: Vec<Digest>,
+    /// What counts beside the texts.
+    start: Digest,
 }
 
-/// Its keys but for what it reads late: by texts, and by tokens.
+/// Its keys but for what it reads late: by texts, and by tokens. With what counts beside the texts.
 #[derive(Clone, Debug)]
-struct Parts(Part, Option<Part>);
+struct Parts(Part, Option<Part>, Digest);
 
 impl Parts {
     /// The keys of a command that reads these texts.
     fn keys(&self, recipe: &Recipe, texts: &[Text]) -> Keys {
         let has_late = texts.iter().any(|text| text.role == Role::Late);
         let marks = if has_late { self.marks().collect() } else { Vec::new() };
-        Keys { texts: self.0.key(recipe, texts), tokens: self.1.as_ref().map(|part| part.key(recipe, texts)), marks }
+        Keys { texts: self.0.key(recipe, texts), tokens: self.1.as_ref().map(|part| part.key(recipe, texts)), marks, start: self.2 }
     }
 
     fn marks(&self) -> impl Iterator<Item = Digest> {
@@ -97,8 +104,10 @@ enum State {
     Asked,
     /// The cache has nothing for it, and it has begun before all is there that it reads. With its text.
     Begun(Box<Parts>, Vec<u8>),
-    /// Nothing was found under its keys, and it runs.
+    /// Nothing was found under its keys, and it runs, or its first step.
     Missed(Keys, Vec<u8>),
+    /// Its first step has ended so, and the second runs. It's kept if there are keys.
+    Compiled(Option<(Keys, Vec<u8>)>, Ended),
     /// It has run, and the cache has what it made.
     Kept,
     Hit,
@@ -120,8 +129,9 @@ pub struct Session<'a> {
     tmp: &'a str,
     candidates: BTreeMap<usize, Candidate>,
     terminal: Vec<u8>,
-    /// When it began, in seconds.
+    /// When it began, in seconds, and by the clock.
     begun: f64,
+    started: Moment,
     /// Whether the user knows that nothing can be written.
     has_complained: bool,
     /// What the call's commands have put in places outside its directory.
@@ -202,6 +212,7 @@ impl<'a> Session<'a> {
             candidates,
             terminal: terminal(),
             begun: host::now(),
+            started: Moment::now(),
             has_complained: false,
             products: Vec::new(),
             has_other_lines: false,
@@ -237,10 +248,26 @@ impl<'a> Session<'a> {
     pub fn next(&mut self, task: usize, ended: Ended) -> Step {
         let Some(candidate) = self.candidates.get_mut(&task) else { return Step::Ended(ended) };
         match mem::replace(&mut candidate.state, State::Own) {
-            State::Asked if ended.status.succeeded() && ended.out.is_empty() && ended.errors.is_empty() => self.look_up(task, ended.times),
-            State::Missed(keys, text) => self.ran(task, &keys, &text, ended),
+            State::Asked if ended.is_silent_success() => self.look_up(task, ended.times),
+            State::Missed(keys, text) if candidate.recipe.steps.is_some() => self.compiled(task, keys, text, ended),
+            State::Missed(keys, text) => self.ran(task, Some((&keys, &text)), ended),
+            // If an assembler alone says something, it names another file than the command would.
+            State::Compiled(kept, compiled) if ended.is_silent_success() => {
+                let kept = kept.as_ref().map(|(keys, text)| (keys, text.as_slice()));
+                self.ran(task, kept, Ended { times: (compiled.times.0, ended.times.1), ..compiled })
+            }
             _ => self.runs_alone(task),
         }
+    }
+
+    /// What to do with a task whose first step has ended: it's kept only if the assembler reads no other file.
+    fn compiled(&mut self, task: usize, keys: Keys, text: Vec<u8>, ended: Ended) -> Step {
+        let steps = self.candidates.get(&task).and_then(|candidate| candidate.recipe.steps.as_ref()).filter(|_| ended.status.succeeded());
+        let Some((steps, assembled)) = steps.and_then(|steps| Some((steps, content_of(&steps.text).ok()?))) else { return self.runs_alone(task) };
+        let job = steps.assemble.clone();
+        let kept = (!assembler_reads_more(&assembled, None)).then_some((keys, text));
+        self.set(task, State::Compiled(kept, ended), None);
+        Step::Instead(job)
     }
 
     /// Whether a task, which reads a file late, may begin before that is there: if the cache has nothing for it, whatever will be in the file.
@@ -298,10 +325,9 @@ impl<'a> Session<'a> {
 
     /// Whether a command that read other lines than those of the sources may have said something of them, given what has become of the tasks.
     pub fn misnames_lines(&self, tasks: &[Task], done: &[Done]) -> bool {
-        let is_silent = |ended: &Ended| ended.status.succeeded() && ended.out.is_empty() && ended.errors.is_empty();
         let compiles =
             |task: &Task| !task.preprocesses && task.job.words.first().is_none_or(|program| Kind::of(program).is_none_or(|kind| kind == Kind::Host));
-        let speaks = |(task, done): (&Task, &Done)| compiles(task) && !done.ended.as_ref().is_none_or(is_silent);
+        let speaks = |(task, done): (&Task, &Done)| compiles(task) && !done.ended.as_ref().is_none_or(Ended::is_silent_success);
         self.has_other_lines && tasks.iter().zip(done).any(speaks)
     }
 
@@ -326,17 +352,23 @@ impl<'a> Session<'a> {
     fn parts(&mut self, task: usize) -> Option<(Parts, Vec<u8>)> {
         let (start, texts) = self.asked(task, false)?;
         let recipe = &self.candidates.get(&task)?.recipe;
-        let parts = Parts(Part::by_texts(start.clone(), recipe, &texts)?, Part::by_tokens(start, recipe, &texts, self.store));
+        let beside = start.clone().finish();
+        let parts = Parts(Part::by_texts(start.clone(), recipe, &texts)?, Part::by_tokens(start, recipe, &texts, self.store), beside);
         Some((parts, texts.into_iter().next()?.content))
     }
 
-    /// What counts of a task beside the texts that it reads, and these.
-    fn asked(&mut self, task: usize, has_late: bool) -> Option<(Hasher, Vec<Text>)> {
+    /// What counts of a task beside the texts that it reads.
+    fn start(&mut self, task: usize) -> Option<Hasher> {
         let recipe = &self.candidates.get(&task)?.recipe;
         let environment = recipe.environment();
-        let (program, folder) = (Path::new(recipe.job.words.first()?), Path::new(&recipe.job.folder));
-        let tool = self.tools.identity(&Run { kind: recipe.kind, program, folder, environment: &environment })?;
-        Some((key::start_of(recipe, &tool, &environment)?, Session::texts(recipe, has_late)?))
+        let tool = self.tools.identity(&Run::of(recipe.kind, &recipe.job, &environment)?)?;
+        key::start_of(recipe, &tool, &environment)
+    }
+
+    /// The same, and these texts.
+    fn asked(&mut self, task: usize, has_late: bool) -> Option<(Hasher, Vec<Text>)> {
+        let start = self.start(task)?;
+        Some((start, Session::texts(&self.candidates.get(&task)?.recipe, has_late)?))
     }
 
     fn look_up(&mut self, task: usize, times: (f64, f64)) -> Step {
@@ -349,12 +381,13 @@ impl<'a> Session<'a> {
             self.found(task, key);
             return self.hit(task, taken);
         }
-        let keys = Parts(by_texts, Part::by_tokens(start, recipe, &texts, self.store)).keys(recipe, &texts);
+        let beside = start.clone().finish();
+        let keys = Parts(by_texts, Part::by_tokens(start, recipe, &texts, self.store), beside).keys(recipe, &texts);
         if let Some(taken) = keys.tokens.and_then(|key| self.take_other(recipe, &key, times)) {
             self.has_other_lines = true;
             return self.hit(task, taken);
         }
-        let job = recipe.job.clone();
+        let job = recipe.steps.as_ref().map_or(&recipe.job, |steps| &steps.compile).clone();
         let text = texts.into_iter().next().map(|text| text.content).unwrap_or_default();
         self.set(task, State::Missed(keys, text), Some(false));
         Step::Instead(job)
@@ -397,8 +430,8 @@ impl<'a> Session<'a> {
         Some(Taken { ended, products })
     }
 
-    /// What to do with a task that has run.
-    fn ran(&mut self, task: usize, keys: &Keys, text: &[u8], ended: Ended) -> Step {
+    /// What to do with a task that has run, with the keys under which it's kept and its first text.
+    fn ran(&mut self, task: usize, kept: Option<(&Keys, &[u8])>, ended: Ended) -> Step {
         let Some(candidate) = self.candidates.get(&task) else { return Step::Ended(ended) };
         let recipe = &candidate.recipe;
         let moved = || recipe.outputs.iter().filter(|output| output.path != output.written_to);
@@ -407,11 +440,13 @@ impl<'a> Session<'a> {
         let may_move = !recipe.has_products() || (ended.status.succeeded() && !shows_where);
         let put = |output: &Output| recipe.put(output, content_of(&output.written_to).ok()?).ok()?;
         let Some(products) = may_move.then(|| moved().map(put).collect::<Option<Vec<_>>>()).flatten() else { return self.runs_alone(task) };
-        let entry = if ended.status.succeeded() { self.entry_of(recipe, text, &ended) } else { None };
-        if let Some(entry) = entry {
-            self.keep(keys, &entry);
-            self.set(task, State::Kept, None);
-            self.found(task, keys.texts);
+        let entry = |(keys, text): (&Keys, &[u8])| Some((keys.clone(), self.entry_of(recipe, text, &ended)?));
+        if let Some((keys, entry)) = kept.filter(|_| ended.status.succeeded()).and_then(entry) {
+            if self.is_as_it_was(task, &keys, kept.map_or(&[][..], |(_, text)| text)) {
+                self.keep(&keys, &entry);
+                self.set(task, State::Kept, None);
+                self.found(task, keys.texts);
+            }
         }
         self.products.extend(products);
         Step::Ended(ended)
@@ -536,6 +571,7 @@ mod tests {
             lines_count: false,
             question: None,
             assembles: false,
+            steps: None,
             included: None,
             stem: None,
             has_own_source: false,
@@ -549,7 +585,7 @@ mod tests {
         let parts = |has_late: bool| {
             let texts = Session::texts(&recipe, has_late).unwrap();
             let by_texts = Part::by_texts(Hasher::default(), &recipe, &texts).unwrap();
-            (Parts(by_texts, Part::by_tokens(Hasher::default(), &recipe, &texts, &store())), texts)
+            (Parts(by_texts, Part::by_tokens(Hasher::default(), &recipe, &texts, &store()), Digest::of(b"")), texts)
         };
         fs::write(&recipe.reads[0], "int one;\n").unwrap();
         let (early, texts) = parts(false);

@@ -1,26 +1,12 @@
 //! Where the cache is, and how large it may be.
 use crate::cache::store::Store;
+use crate::settings::{AskedCache, Settings};
 use std::env;
-use std::ffi::{OsStr, OsString};
+use std::ffi::OsString;
 use std::path::{Path, PathBuf};
 
 /// The limit unless `ZIGRUNK_CACHE_SIZE` says another: 5 GiB.
 const USUAL_LIMIT: u64 = 5 << 30;
-
-/// How many bytes a text such as `500M` means: digits, and a letter K, M, G or T for powers of 1024. Bytes without one.
-pub fn bytes_of(text: &str) -> Option<u64> {
-    let digits = text.trim_end_matches(|letter: char| letter.is_ascii_alphabetic());
-    let shift = match text[digits.len()..].to_ascii_uppercase().as_str() {
-        "" => 0,
-        "K" => 10,
-        "M" => 20,
-        "G" => 30,
-        "T" => 40,
-        _ => return None,
-    };
-    let is_number = !digits.is_empty() && digits.bytes().all(|byte| byte.is_ascii_digit());
-    digits.parse::<u64>().ok().filter(|_| is_number)?.checked_mul(1 << shift)
-}
 
 /// A number of bytes, as people read it.
 pub fn shown(bytes: u64) -> String {
@@ -41,12 +27,12 @@ fn users(xdg: Option<OsString>, home: Option<OsString>) -> Option<PathBuf> {
     folder.map(|folder| folder.join("zigrunk"))
 }
 
-/// The folder that a value of `ZIGRUNK_CACHE` means: its own path, seen from a directory, or the user's for `yes`.
-fn folder(value: &OsStr, cwd: &Path) -> Option<PathBuf> {
-    match value.to_str() {
-        Some("" | "no") => None,
-        Some("yes") => users(env::var_os("XDG_CACHE_HOME"), env::var_os("HOME")),
-        _ => Some(cwd.join(value)),
+/// The folder of the cache that is asked for, seen from a directory.
+fn folder(cache: &AskedCache, cwd: &Path) -> Option<PathBuf> {
+    match cache {
+        AskedCache::None => None,
+        AskedCache::Users => users(env::var_os("XDG_CACHE_HOME"), env::var_os("HOME")),
+        AskedCache::Folder(path) => Some(cwd.join(path)),
     }
 }
 
@@ -59,19 +45,19 @@ pub fn programs() -> Option<Store> {
     Some(Store::new(folder.join("programs"), LIMIT_OF_PROGRAMS))
 }
 
-/// The limit that the environment says.
-pub fn limit() -> u64 {
-    env::var("ZIGRUNK_CACHE_SIZE").ok().and_then(|text| bytes_of(&text)).unwrap_or(USUAL_LIMIT)
+/// How many bytes the cache may have.
+pub fn limit(settings: &Settings) -> u64 {
+    settings.cache_size.unwrap_or(USUAL_LIMIT)
 }
 
-/// The store that the environment asks for, seen from a directory.
-pub fn asked(cwd: &Path) -> Option<Store> {
-    folder(&env::var_os("ZIGRUNK_CACHE")?, cwd).map(|folder| Store::new(folder, limit()))
+/// The store that is asked for, seen from a directory.
+pub fn asked(settings: &Settings, cwd: &Path) -> Option<Store> {
+    folder(&settings.cache, cwd).map(|folder| Store::new(folder, limit(settings)))
 }
 
 /// The same, or else the user's.
-pub fn asked_or_users(cwd: &Path) -> Option<Store> {
-    asked(cwd).or_else(|| folder("yes".as_ref(), cwd).map(|folder| Store::new(folder, limit())))
+pub fn asked_or_users(settings: &Settings, cwd: &Path) -> Option<Store> {
+    asked(settings, cwd).or_else(|| folder(&AskedCache::Users, cwd).map(|folder| Store::new(folder, limit(settings))))
 }
 
 #[cfg(test)]
@@ -79,38 +65,18 @@ mod tests {
     use super::*;
 
     #[test]
-    fn sizes_have_letters() {
-        let cases = [
-            ("0", Some(0)),
-            ("500", Some(500)),
-            ("2k", Some(2048)),
-            ("3M", Some(3 << 20)),
-            ("5G", Some(5 << 30)),
-            ("1T", Some(1 << 40)),
-            ("", None),
-            ("G", None),
-            ("5X", None),
-            ("-1", None),
-            ("+1", None),
-            ("1.5G", None),
-            ("5GB", None),
-            ("99999999999999999999", None),
-            ("99999999T", None),
-        ];
-        for (text, wanted) in cases {
-            assert_eq!(bytes_of(text), wanted, "{text}");
-        }
+    fn sizes_have_units() {
         for (bytes, wanted) in [(0, "0 bytes"), (9999, "9999 bytes"), (10_240, "10 KiB"), (5 << 30, "5120 MiB"), (u64::MAX, "16777215 TiB")] {
             assert_eq!(shown(bytes), wanted);
         }
     }
 
     #[test]
-    fn a_value_means_a_folder() {
+    fn a_folder_is_seen_from_the_working_directory() {
         let cwd = Path::new("/w");
-        assert_eq!(folder("/c".as_ref(), cwd), Some("/c".into()));
-        assert_eq!(folder("c".as_ref(), cwd), Some("/w/c".into()));
-        assert_eq!([folder("".as_ref(), cwd), folder("no".as_ref(), cwd)], [None, None]);
+        assert_eq!(folder(&AskedCache::Folder("/c".into()), cwd), Some("/c".into()));
+        assert_eq!(folder(&AskedCache::Folder("./c".into()), cwd), Some("/w/c".into()));
+        assert_eq!(folder(&AskedCache::None, cwd), None);
     }
 
     #[test]

@@ -1,8 +1,9 @@
 //! `zigrunk cache`: shows and clears the cache.
 use crate::cache::counts;
-use crate::cache::place::{self, bytes_of, shown};
+use crate::cache::place::{self, shown};
 use crate::cache::store::Store;
 use crate::places::working_directory;
+use crate::settings::{Settings, bytes_of};
 use crate::streams::{complain, say};
 use std::ffi::OsString;
 
@@ -17,7 +18,7 @@ fn wrong(complaint: &str) -> i32 {
     1
 }
 
-fn stats(store: &Store) -> i32 {
+fn stats(store: &Store, limit: u64) -> i32 {
     let (content, counts) = (store.content(), counts::of(store.folder()));
     let share = (counts.hits * 100).checked_div(counts.hits + counts.misses);
     let share = share.map(|share| format!(" ({share} %)")).unwrap_or_default();
@@ -26,7 +27,7 @@ fn stats(store: &Store) -> i32 {
         store.folder().display(),
         content.entries,
         shown(content.bytes),
-        shown(place::limit()),
+        shown(limit),
         counts.hits,
         counts.misses,
         counts.calls,
@@ -38,9 +39,9 @@ fn clear(store: &Store) -> i32 {
     store.clear().map_or_else(|error| wrong(&format!("cannot clear {}: {error}", store.folder().display())), |()| 0)
 }
 
-/// Keeps a limit now: that of the environment, or another.
-fn limit(store: &Store, size: Option<&str>) -> i32 {
-    let Some(limit) = size.map_or_else(|| Some(place::limit()), bytes_of) else { return wrong("a size has digits, and K, M, G or T") };
+/// Keeps a limit now: the usual one, or another.
+fn limit(store: &Store, usual: u64, size: Option<&str>) -> i32 {
+    let Some(limit) = size.map_or(Some(usual), bytes_of) else { return wrong("a size has digits, and K, M, G or T") };
     Store::new(store.folder().to_owned(), limit).tidy_all();
     0
 }
@@ -48,15 +49,25 @@ fn limit(store: &Store, size: Option<&str>) -> i32 {
 /// Acts by the words behind the program's name. Says its status.
 pub fn run(words: &[OsString]) -> i32 {
     let words: Vec<&str> = words.iter().map(|word| word.to_str().unwrap_or_default()).collect();
-    let Some(store) = place::asked_or_users(&working_directory().unwrap_or_default()) else {
+    if let ["-h" | "--help"] = words[..] {
+        return tell(&format!("{USAGE}\n"));
+    }
+    let settings = match Settings::of_environment() {
+        Ok(settings) => settings,
+        Err(complaint) => {
+            wrong(&complaint);
+            return 2;
+        }
+    };
+    let usual = place::limit(&settings);
+    let Some(store) = place::asked_or_users(&settings, &working_directory().unwrap_or_default()) else {
         return wrong("there is no folder: set ZIGRUNK_CACHE");
     };
     match words[..] {
-        ["stats"] => stats(&store),
+        ["stats"] => stats(&store, usual),
         ["clear"] => clear(&store),
-        ["limit"] => limit(&store, None),
-        ["limit", size] => limit(&store, Some(size)),
-        ["-h" | "--help"] => tell(&format!("{USAGE}\n")),
+        ["limit"] => limit(&store, usual, None),
+        ["limit", size] => limit(&store, usual, Some(size)),
         _ => {
             complain(USAGE);
             2
@@ -80,7 +91,7 @@ mod tests {
             // The next file gets the number of standard error.
             system::close(2);
             let _errors = File::create(&path).unwrap();
-            assert_eq!(limit(&Store::new("/missing".into(), 1), Some("9x")), 1);
+            assert_eq!(limit(&Store::new("/missing".into(), 1), 1, Some("9x")), 1);
             assert_eq!(fs::read_to_string(&path).unwrap(), "zigrunk cache: a size has digits, and K, M, G or T\n");
         });
     }

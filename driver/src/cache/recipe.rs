@@ -1,12 +1,12 @@
 //! What the cache has to know of a command.
-use crate::cache::host_text::{assembler_reads_more, reads_more};
+use crate::cache::host_text::{assembler_reads_more, has_directive};
 use crate::cache::key::Role;
-use crate::cache::marked;
+use crate::cache::marked::{self, contains};
 use crate::cache::tool::Kind;
 use crate::cache::words::{self, Role as WordRole};
 use crate::late;
 use crate::machine::Job;
-use crate::planner::PlannedCommand;
+use crate::planned::PlannedCommand;
 use crate::tasks::OWN;
 use std::borrow::Cow;
 use std::collections::{BTreeMap, BTreeSet};
@@ -28,6 +28,15 @@ pub struct Output {
     pub written_to: PathBuf,
 }
 
+/// A compile to an object in two steps. Between them the text is read that the assembler gets: it may have it read further files.
+#[derive(Clone, PartialEq, Eq, Debug)]
+pub struct Steps {
+    pub compile: Job,
+    /// The assembler's text.
+    pub text: PathBuf,
+    pub assemble: Job,
+}
+
 /// A command that the cache may serve.
 #[derive(Clone, PartialEq, Eq, Debug)]
 pub struct Recipe {
@@ -46,6 +55,8 @@ pub struct Recipe {
     pub question: Option<(Job, PathBuf)>,
     /// Whether it runs the assembler.
     pub assembles: bool,
+    /// If it runs the compiler before: how it runs both.
+    pub steps: Option<Steps>,
     /// For an assembler alone: the file that it includes, which is made of another that it reads.
     pub included: Option<String>,
     /// What cudafe++'s files begin with, as `k.compute_90.cudafe1`, if that doesn't count: it depends on the list of targets.
@@ -99,6 +110,21 @@ fn stem_of(kind: Kind, words: &[String]) -> Option<&str> {
     Path::new(file?).file_name()?.to_str()?.strip_suffix(".cpp").filter(|stem| stem.ends_with(".cudafe1"))
 }
 
+/// A compile of some sources to an object in two steps, the first of which writes to a file.
+fn steps(job: &Job, sources: &[PathBuf], text: String) -> Steps {
+    let (mut compile, mut assemble) = (job.clone(), job.clone());
+    for place in 0..job.words.len() {
+        match job.words[place].as_str() {
+            "-c" => "-S".clone_into(&mut compile.words[place]),
+            "-o" => compile.words[place + 1].clone_from(&text),
+            "-x" => "assembler".clone_into(&mut assemble.words[place + 1]),
+            word if sources.contains(&Path::new(&job.folder).join(word)) => assemble.words[place].clone_from(&text),
+            _ => {}
+        }
+    }
+    Steps { compile, text: text.into(), assemble }
+}
+
 /// The process that preprocesses what a compile reads, and says nothing else. With precompiled headers, if the compile may take one.
 fn question(job: &Job, file: &str, has_own_source: bool) -> Job {
     let mut words = job.words.clone();
@@ -141,10 +167,11 @@ impl Recipe {
         let has_own_source = is_host && !is_assembly && !reads.iter().any(|file| file.starts_with(tmp));
         let question = (is_host && !is_assembly).then(|| (question(&job, &file, has_own_source), file.into()));
         let assembles = run.iter().any(|word| word == "-c");
+        let steps = (assembles && question.is_some()).then(|| steps(&job, &reads, format!("{tmp}/{OWN}/cache.{number}.s")));
         let directory = if names_count { String::new() } else { tmp.to_owned() };
         let included = is_assembly.then(|| late::included(tmp));
         let lines_count = names_count || has_own_source;
-        Some(Recipe { kind, counted, job, reads, outputs, directory, lines_count, question, assembles, included, stem, has_own_source })
+        Some(Recipe { kind, counted, job, reads, outputs, directory, lines_count, question, assembles, steps, included, stem, has_own_source })
     }
 
     /// The directory whose path doesn't count in texts that the command reads. fatbinary packs them, so nobody sees whether its product has it.
@@ -162,10 +189,15 @@ impl Recipe {
         }
     }
 
-    /// Whether its assembler may read another file than those that the command is known to read, given the first text that it reads.
+    /// Whether it may read another file than those that it's known to read, given the first text that it reads: by a directive, or because that
+    /// asks for a precompiled header.
     pub fn reads_more(&self, text: &[u8]) -> bool {
-        let assembler_reads = || self.included.as_ref().map_or_else(|| reads_more(text), |own| assembler_reads_more(text, own));
-        self.assembles && self.kind == Kind::Host && assembler_reads()
+        match self.kind {
+            Kind::CudaFe | Kind::Cicc => has_directive(text),
+            Kind::Host if self.question.is_some() => contains(text, b"pch_preprocess"),
+            Kind::Host => assembler_reads_more(text, self.included.as_deref()),
+            Kind::Ptxas | Kind::Fatbinary => false,
+        }
     }
 
     /// A text with a mark in place of the name that doesn't count. `None` if it has such marks itself.
@@ -187,11 +219,16 @@ impl Recipe {
 
     /// The environment in which the command runs.
     pub fn environment(&self) -> Vec<(OsString, OsString)> {
-        let given = |name: &OsString| self.job.variables.iter().any(|(other, _)| name == other.as_str());
-        let own = env::vars_os().filter(|(name, _)| !given(name));
-        let further = self.job.variables.iter().filter_map(|(name, value)| Some((name.into(), value.as_ref()?.into())));
-        own.chain(further).collect()
+        environment_of(&self.job)
     }
+}
+
+/// The environment in which a job runs.
+pub fn environment_of(job: &Job) -> Vec<(OsString, OsString)> {
+    let given = |name: &OsString| job.variables.iter().any(|(other, _)| name == other.as_str());
+    let own = env::vars_os().filter(|(name, _)| !given(name));
+    let further = job.variables.iter().filter_map(|(name, value)| Some((name.into(), value.as_ref()?.into())));
+    own.chain(further).collect()
 }
 
 /// The recipes of a call's commands. cudafe++ and cicc write lines for the host compiler. So lines count for them if they do there, or if
@@ -228,6 +265,16 @@ mod tests {
     fn recipe(words: &str, reads: &[&str], writes: &[&str]) -> Option<Recipe> {
         let (command, job) = command(words, reads, writes);
         Recipe::of(&command, &job, 3, "/t")
+    }
+
+    #[test]
+    fn a_compile_to_an_object_has_two_steps() {
+        let made = |words: &str, reads: &[&str], writes: &[&str]| recipe(words, reads, writes).unwrap().steps;
+        let steps = made("gcc -c -x c++ -m64 -O2 m.cpp -o /t/m.o", &["/w/m.cpp"], &["/t/m.o"]).unwrap();
+        assert_eq!(steps.compile.words.join(" "), "gcc -S -x c++ -m64 -O2 m.cpp -o /t/zigrunk.tmp/cache.3.s");
+        assert_eq!(steps.assemble.words.join(" "), "gcc -c -x assembler -m64 -O2 /t/zigrunk.tmp/cache.3.s -o /t/m.o");
+        assert_eq!(made("gcc -S -x c++ m.cpp -o /t/m.s", &["/w/m.cpp"], &["/t/m.s"]), None);
+        assert_eq!(made("gcc -c -x assembler /t/late.s -o /t/m.o", &["/t/late.s"], &["/t/m.o"]), None);
     }
 
     #[test]

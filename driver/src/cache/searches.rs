@@ -1,10 +1,11 @@
 //! Where a preprocessor has looked in vain before it found a file.
 use crate::cache::includes::{Folders, Names};
-use crate::cache::manifest::{Lacking, Vain, is_older};
+use crate::cache::manifest::{Lacking, Vain};
+use crate::cache::stamps::{is_older, is_unchanged};
 use std::collections::{BTreeMap, BTreeSet, HashMap, HashSet};
 use std::env;
 use std::ffi::{OsStr, OsString};
-use std::fs::{self, Metadata};
+use std::fs;
 use std::io::ErrorKind;
 use std::os::unix::ffi::OsStrExt;
 use std::os::unix::fs::MetadataExt;
@@ -22,11 +23,42 @@ enum Place {
     Folder,
 }
 
-/// Whether the last change of any kind is some time before a moment.
-fn is_unchanged(status: &Metadata, moment: SystemTime) -> bool {
-    let changed = u64::try_from(status.ctime()).ok().zip(u32::try_from(status.ctime_nsec()).ok());
-    let changed = changed.map(|(seconds, part)| SystemTime::UNIX_EPOCH + Duration::new(seconds, part));
-    changed.is_some_and(|changed| moment.duration_since(changed).is_ok_and(|age| age > MARGIN))
+/// The folders and links on the ways to places, seen from a working directory.
+pub struct Ways<'a> {
+    cwd: &'a Path,
+    begun: SystemTime,
+    /// Whether a folder was what it is at that moment.
+    known: HashMap<OsString, bool>,
+}
+
+impl<'a> Ways<'a> {
+    pub fn new(cwd: &'a Path, begun: SystemTime) -> Ways<'a> {
+        Ways { cwd, begun, known: HashMap::new() }
+    }
+
+    /// Whether all folders and links on the way to a place were what they are at that moment. Of a folder that has got another name since
+    /// then only the time of its last change of any kind tells; what is made or removed in it changes two.
+    pub fn are_old(&mut self, folder: &Path) -> bool {
+        if let Some(known) = self.known.get(folder.as_os_str()) {
+            return *known;
+        }
+        // (this also ends a circle)
+        self.known.insert(folder.as_os_str().to_owned(), true);
+        let is_old = match fs::symlink_metadata(self.cwd.join(folder)) {
+            Ok(status) if status.is_symlink() => is_unchanged(&status, self.begun, MARGIN) && self.is_target_old(folder),
+            Ok(status) => (status.mtime(), status.mtime_nsec()) == (status.ctime(), status.ctime_nsec()) || is_unchanged(&status, self.begun, MARGIN),
+            Err(_) => true,
+        };
+        let above = if folder.as_os_str().is_empty() { Some(self.cwd) } else { folder.parent() };
+        let is_old = is_old && above.is_none_or(|above| self.are_old(above));
+        self.known.insert(folder.as_os_str().to_owned(), is_old);
+        is_old
+    }
+
+    fn is_target_old(&mut self, link: &Path) -> bool {
+        let target = fs::read_link(self.cwd.join(link));
+        target.is_ok_and(|target| self.are_old(&link.parent().unwrap_or(Path::new("")).join(target)))
+    }
 }
 
 /// The places of a call where something was sought.
@@ -36,6 +68,7 @@ pub struct Search<'a> {
     folders: &'a Folders,
     /// When the call began.
     begun: SystemTime,
+    pub ways: Ways<'a>,
     // (paths as they are spelled, since to compare them part by part takes far longer than to look twice at one with two spellings)
     known: HashMap<OsString, Place>,
     /// Where no file was, and whether a folder may be there.
@@ -44,8 +77,6 @@ pub struct Search<'a> {
     sought: HashSet<(Option<OsString>, Vec<u8>, Way)>,
     /// Files that count though nothing may have read them.
     present: BTreeSet<PathBuf>,
-    /// Whether a folder was what it is when the call began.
-    ways: HashMap<OsString, bool>,
 }
 
 /// How a name is sought.
@@ -60,31 +91,8 @@ pub struct Way {
 impl<'a> Search<'a> {
     pub fn new(cwd: &'a Path, folders: &'a Folders, begun: SystemTime) -> Search<'a> {
         let vain = folders.missing.iter().map(|folder| (folder.clone().into_os_string(), false)).collect();
-        Search { cwd, folders, begun, known: HashMap::new(), vain, sought: HashSet::new(), present: BTreeSet::new(), ways: HashMap::new() }
-    }
-
-    /// Whether all folders and links on the way to a place were what they are when the call began. Of a folder that has got another name since
-    /// then only the time of its last change of any kind tells; what is made or removed in it changes two.
-    pub fn is_way_old(&mut self, folder: &Path) -> bool {
-        if let Some(known) = self.ways.get(folder.as_os_str()) {
-            return *known;
-        }
-        // (this also ends a circle)
-        self.ways.insert(folder.as_os_str().to_owned(), true);
-        let is_old = match fs::symlink_metadata(self.cwd.join(folder)) {
-            Ok(status) if status.is_symlink() => is_unchanged(&status, self.begun) && self.is_target_old(folder),
-            Ok(status) => (status.mtime(), status.mtime_nsec()) == (status.ctime(), status.ctime_nsec()) || is_unchanged(&status, self.begun),
-            Err(_) => true,
-        };
-        let above = if folder.as_os_str().is_empty() { Some(self.cwd) } else { folder.parent() };
-        let is_old = is_old && above.is_none_or(|above| self.is_way_old(above));
-        self.ways.insert(folder.as_os_str().to_owned(), is_old);
-        is_old
-    }
-
-    fn is_target_old(&mut self, link: &Path) -> bool {
-        let target = fs::read_link(self.cwd.join(link));
-        target.is_ok_and(|target| self.is_way_old(&link.parent().unwrap_or(Path::new("")).join(target)))
+        let ways = Ways::new(cwd, begun);
+        Search { cwd, folders, begun, ways, known: HashMap::new(), vain, sought: HashSet::new(), present: BTreeSet::new() }
     }
 
     /// What is at a place. `None` if that isn't sure, or if a file there is so new that it may not have been there.
@@ -92,7 +100,7 @@ impl<'a> Search<'a> {
         if let Some(known) = self.known.get(path.as_os_str()) {
             return Some(*known);
         }
-        if !path.parent().is_none_or(|folder| self.is_way_old(folder)) {
+        if !path.parent().is_none_or(|folder| self.ways.are_old(folder)) {
             return None;
         }
         let place = match fs::metadata(self.cwd.join(path)) {
@@ -329,7 +337,7 @@ mod tests {
         std::os::unix::fs::symlink("link", own("links")).unwrap();
         thread::sleep(2 * MARGIN);
         let (begun, folders) = (SystemTime::now(), folders(&[], &[], &[], &[]));
-        let is_old = |name: &str| Search::new(&scratch.0, &folders, begun).is_way_old(Path::new(name));
+        let is_old = |name: &str| Search::new(&scratch.0, &folders, begun).ways.are_old(Path::new(name));
         let all = ["one", "two", "three/sub", "link", "links", "missing", ""];
         assert_eq!(all.map(is_old), [true; 7]);
         fs::write(own("two/b.h"), "").unwrap();

@@ -20,6 +20,8 @@ const UNFINISHED: &str = ".new-";
 const OLD: Duration = Duration::from_secs(60);
 /// How long a file that isn't whole may be another process's.
 const ABANDONED: Duration = Duration::from_secs(24 * 3600);
+/// The file that says when the size of the whole was looked at. Until it is OLD, that isn't looked at again.
+const LOOKED: &str = "looked";
 /// How many folders the entries are in.
 const FOLDERS: u64 = 256;
 /// No entry is larger.
@@ -119,20 +121,34 @@ impl Store {
         written
     }
 
-    /// Takes out of a folder what its writers have abandoned, and the entries that were used least recently if it has more than its share.
+    /// Takes out of a folder what its writers have abandoned. If it has more than its share, the whole is looked at, unless that was done just now:
+    /// another folder may have less, and one large entry may be more than a share.
     fn tidy(&self, folder: &Path) {
-        let (unfinished, mut entries): (Vec<_>, Vec<_>) = files(folder).partition(|(entry, _)| is_unfinished(entry));
+        let (unfinished, entries): (Vec<_>, Vec<_>) = files(folder).partition(|(entry, _)| is_unfinished(entry));
         for (entry, _) in unfinished.iter().filter(|(_, status)| age(status) > ABANDONED) {
             let _ = fs::remove_file(entry.path());
         }
-        let share = self.limit / FOLDERS;
+        let size: u64 = entries.iter().map(|(_, status)| status.len()).sum();
+        let looked = self.folder.join(LOOKED);
+        let is_due = || fs::metadata(&looked).map_or(true, |status| age(&status) > OLD);
+        if size > self.limit / FOLDERS && is_due() {
+            let _ = fs::write(&looked, "");
+            self.keep_limit();
+        }
+    }
+
+    /// Removes the entries that were used least recently, if all together are larger than the limit.
+    fn keep_limit(&self) {
+        let mut entries: Vec<_> = self.folders().flat_map(|folder| files(&folder).collect::<Vec<_>>()).collect();
         let mut size: u64 = entries.iter().map(|(_, status)| status.len()).sum();
-        if size <= share {
+        if size <= self.limit {
             return;
         }
         entries.sort_by_key(|(_, status)| age(status));
-        while let Some((entry, status)) = entries.pop().filter(|_| size > share / 5 * 4) {
-            let _ = fs::remove_file(entry.path());
+        while let Some((entry, status)) = entries.pop().filter(|_| size > self.limit / 5 * 4) {
+            if !is_unfinished(&entry) {
+                let _ = fs::remove_file(entry.path());
+            }
             size -= status.len();
         }
     }
@@ -145,6 +161,7 @@ impl Store {
     /// Looks through all folders, so that the store keeps its limit.
     pub fn tidy_all(&self) {
         self.folders().for_each(|folder| self.tidy(&folder));
+        self.keep_limit();
     }
 
     /// What the store has.
@@ -165,6 +182,7 @@ impl Store {
             }
             let _ = fs::remove_dir(folder);
         }
+        let _ = fs::remove_file(self.folder.join(LOOKED));
         Ok(())
     }
 }
@@ -250,7 +268,7 @@ mod tests {
     #[test]
     fn the_least_recently_used_goes_first() {
         let folder = TestFolder::new();
-        let store = &Store::new(folder.join("store"), 256 * 10_000);
+        let store = &Store::new(folder.join("store"), 10_000);
         for (number, seconds) in [(1, 500), (2, 4000), (3, 300), (4, 3000)] {
             store.write(&key(number, false), &[0; 2400]).unwrap();
             set_age(&store.path_of(&key(number, false)), seconds);
@@ -262,11 +280,27 @@ mod tests {
         store.write(&key(5, false), &[0; 2400]).unwrap();
         assert_eq!(left(5), [1, 2, 3, 4, 5], "not each entry has the folder looked through");
         store.write(&key(9, true), b"").unwrap();
+        assert_eq!(left(5), [1, 2, 3, 4, 5], "the whole was looked at just now");
+        set_age(&store.folder().join(LOOKED), 100);
+        store.write(&key(9, true), b"").unwrap();
         assert_eq!(left(5), [2, 3, 5]);
         store.tidy_all();
         assert_eq!(left(5), [2, 3, 5]);
         Store { limit: 0, ..store.clone() }.tidy_all();
         assert_eq!(store.content(), Content::default());
+    }
+
+    #[test]
+    fn a_large_entry_stays_while_the_whole_has_room() {
+        let folder = TestFolder::new();
+        let store = &Store::new(folder.join("store"), 1 << 20);
+        store.write(&key(1, true), &vec![1; 200_000]).unwrap();
+        store.write(&key(2, true), &vec![2; 100_000]).unwrap();
+        store.tidy_all();
+        assert_eq!(store.content().entries, 2);
+        set_age(&store.path_of(&key(1, true)), 100);
+        Store { limit: 250_000, ..store.clone() }.tidy_all();
+        assert_eq!((store.path_of(&key(1, true)).exists(), store.content().entries), (false, 1));
     }
 
     #[test]

@@ -1,21 +1,23 @@
 //! Which tool a command runs: the digest of the contents of all that a tool consists of.
 //!
-//! A file that the user's folder knows by its place, its size, its times and its number isn't read again. That trusts the file system: the
-//! time of a file's last change of any kind can't be set, so a file of the same size and time with other contents is another.
+//! A file that the user's folder knows by its place and its stamp isn't read again.
 use crate::cache::digest::{Digest, Hasher};
+use crate::cache::libraries::{LISTED, Libraries, Loader};
 use crate::cache::marked::contains;
 use crate::cache::place;
+use crate::cache::stamps::{GRAIN, Stamp, is_unchanged};
 use crate::cache::store::{Store, digest_of};
-use crate::programs;
+use crate::host_compilers::is_gccs_name;
+use crate::machine::Job;
 use crate::streams::content_of;
 use crate::system;
+use call::programs;
 use std::collections::{BTreeMap, BTreeSet};
 use std::ffi::{OsStr, OsString};
 use std::fs::{self, File, Metadata};
 use std::io::{Read, Seek};
 use std::os::fd::AsFd;
 use std::os::unix::ffi::OsStrExt;
-use std::os::unix::fs::MetadataExt;
 use std::path::{Path, PathBuf};
 use std::process::{Command, Stdio};
 use std::thread;
@@ -23,8 +25,6 @@ use std::time::{Duration, SystemTime};
 
 /// What programs begin with that the kernel runs itself. A script may run anything.
 const PROGRAM: &[u8] = b"\x7fELF";
-/// A file that changed within this time may change again without another time.
-const FRESH: Duration = Duration::from_secs(2);
 /// A file of so many bytes is digested by one call at a time: others that want to know it wait.
 const LARGE: u64 = 1 << 20;
 /// The file that has the lock of whoever digests large files.
@@ -33,12 +33,8 @@ const TURN: &str = "turn";
 const PATIENCE: Duration = Duration::from_secs(10);
 const PAUSE: Duration = Duration::from_millis(2);
 
-/// Where systems have the C library.
-const SYSTEM: [&str; 4] = ["/lib/x86_64-linux-gnu", "/lib/aarch64-linux-gnu", "/lib64", "/lib"];
 /// The list of libraries that the loader gives any program.
 const PRELOADED: &str = "/etc/ld.so.preload";
-/// Where the loader looks for libm in a folder, by what the processor can do.
-const LIBM: [&str; 4] = ["glibc-hwcaps/x86-64-v4/libm.so.6", "glibc-hwcaps/x86-64-v3/libm.so.6", "glibc-hwcaps/x86-64-v2/libm.so.6", "libm.so.6"];
 
 /// A kind of tools.
 #[derive(Clone, Copy, PartialEq, Eq, Debug)]
@@ -66,36 +62,17 @@ impl Kind {
     /// The kind of a program, if the cache knows it.
     pub fn of(program: &str) -> Option<Kind> {
         let name = Path::new(program).file_name()?.to_str()?;
-        Kind::of_nvccs(name).or_else(|| is_gcc(name).then_some(Kind::Host))
+        Kind::of_nvccs(name).or_else(|| is_gccs_name(name).then_some(Kind::Host))
     }
 }
 
-/// Whether a program's name is gcc's, as `g++-12`.
-pub fn is_gcc(name: &str) -> bool {
-    let version = name.strip_prefix("gcc").or_else(|| name.strip_prefix("g++"));
-    version.is_some_and(|version| version.trim_start_matches('-').bytes().all(|byte| byte.is_ascii_digit() || byte == b'.'))
-}
-
-/// What tells a file from what it was, or what had its name.
-fn stamp(path: &Path, status: &Metadata) -> Digest {
+/// The key under which the user's folder has the digest of a file with this stamp.
+fn key_of(path: &Path, stamp: &Stamp) -> Digest {
     let mut hasher = Hasher::default();
-    hasher.add(b"zigrunk tool 1");
+    hasher.add(b"zigrunk tool 2");
     hasher.add(path.as_os_str().as_bytes());
-    let times = [status.mtime(), status.mtime_nsec(), status.ctime(), status.ctime_nsec()];
-    for number in times {
-        hasher.update(&number.to_le_bytes());
-    }
-    for number in [status.dev(), status.ino(), status.size()] {
-        hasher.update(&number.to_le_bytes());
-    }
+    hasher.update(&stamp.0.concat());
     hasher.finish()
-}
-
-/// Whether a file has been as it is for a while.
-fn is_settled(status: &Metadata) -> bool {
-    let changed = u64::try_from(status.ctime()).map(|time| SystemTime::UNIX_EPOCH + Duration::from_secs(time));
-    let times = [status.modified().ok(), changed.ok()];
-    times.into_iter().all(|time| time.is_some_and(|time| time.elapsed().is_ok_and(|age| age > FRESH)))
 }
 
 /// What the file of a compiler has in its name.
@@ -134,8 +111,10 @@ pub struct Tools {
     stores: Vec<Store>,
     /// Those that were looked at.
     known: BTreeMap<PathBuf, Option<Digest>>,
-    /// What compilers consist of beside their own programs.
-    parts: Vec<(Compiler, Parts)>,
+    /// The digests of tools, by how they run.
+    identities: Vec<(Kind, Compiler, Option<Digest>)>,
+    /// The loader of this machine, once it was asked for.
+    loader: Option<Loader>,
     /// Where the loader would find a library of a tool.
     lacking: BTreeSet<PathBuf>,
 }
@@ -148,7 +127,12 @@ pub struct Run<'a> {
     pub environment: &'a [(OsString, OsString)],
 }
 
-impl Run<'_> {
+impl<'a> Run<'a> {
+    /// A tool as a job runs it in an environment.
+    pub fn of(kind: Kind, job: &'a Job, environment: &'a [(OsString, OsString)]) -> Option<Run<'a>> {
+        Some(Run { kind, program: Path::new(job.words.first()?), folder: Path::new(&job.folder), environment })
+    }
+
     fn variable(&self, name: &str) -> Option<&OsStr> {
         self.environment.iter().rev().find(|variable| variable.0 == name).map(|variable| variable.1.as_os_str())
     }
@@ -164,25 +148,26 @@ impl Run<'_> {
         Some((programs::find(OsStr::from_bytes(line), self.variable("PATH").unwrap_or_default(), self.folder)?, specs))
     }
 
-    /// The places of the libm that the loader may give a tool: cicc has it compute constants.
-    fn libms(&self) -> Vec<PathBuf> {
-        let value = self.variable("LD_LIBRARY_PATH").unwrap_or_default().as_bytes();
-        let named = value.split(|byte| matches!(byte, b':' | b';')).filter(|_| !value.is_empty());
-        let folders = named.map(OsStr::from_bytes).chain(SYSTEM.map(OsStr::new));
-        folders.flat_map(|folder| LIBM.map(|name| self.folder.join(folder).join(name))).collect()
-    }
-
-    /// The files of libraries that variables, or a list, have the loader give any tool.
-    fn preloaded(&self) -> Vec<PathBuf> {
+    /// The libraries that variables, or a list, have the loader give any tool. `None` if the loader puts something in place of a part of one.
+    fn preloaded(&self) -> Option<Vec<Vec<u8>>> {
         let listed = content_of(Path::new(PRELOADED)).unwrap_or_default();
         let values = [self.variable("LD_AUDIT"), self.variable("LD_PRELOAD"), Some(OsStr::from_bytes(&listed))];
         let words = values.iter().flatten().flat_map(|value| value.as_bytes().split(|byte| matches!(byte, b':' | b' ' | b'\t' | b'\n')));
-        let named = words.filter(|file| file.contains(&b'/')).map(|file| self.folder.join(OsStr::from_bytes(file)));
-        named.chain([PRELOADED.into()]).filter(|file| file.is_file()).collect()
+        let names: Vec<Vec<u8>> = words.filter(|name| !name.is_empty()).map(<[u8]>::to_vec).collect();
+        names.iter().all(|name| !name.contains(&b'$')).then_some(names)
     }
 
-    /// The files of libraries that cicc may read: those for device code, and libm.
-    fn libraries(&self) -> Option<Vec<PathBuf>> {
+    /// The compiler proper and the assembler that gcc runs, and its specs. `None` if these may use variables.
+    fn parts(&self) -> Option<Parts> {
+        let (own, specs) = self.part("cc1plus")?;
+        let (assembler, _) = self.part("as")?;
+        let uses_variables = |file: &PathBuf| content_of(file).map_or(true, |text| contains(&text, b"getenv"));
+        let parts = Parts { programs: vec![own, assembler], specs };
+        (!parts.specs.iter().any(uses_variables)).then_some(parts)
+    }
+
+    /// The files of libraries for device code that cicc may read.
+    fn device_libraries(&self) -> Option<Vec<PathBuf>> {
         let beside = self.program.parent()?.parent()?.join("libdevice");
         let named = self.variable("NVVMIR_LIBRARY_DIR").map(PathBuf::from);
         let mut files: Vec<PathBuf> = Vec::new();
@@ -192,7 +177,6 @@ impl Run<'_> {
             }
         }
         files.sort();
-        files.extend(self.libms().into_iter().filter(|file| file.is_file()));
         Some(files)
     }
 }
@@ -218,32 +202,31 @@ impl Tools {
     }
 
     fn in_stores(stores: Vec<Store>) -> Tools {
-        Tools { stores, known: BTreeMap::new(), parts: Vec::new(), lacking: BTreeSet::new() }
+        Tools { stores, known: BTreeMap::new(), identities: Vec::new(), loader: None, lacking: BTreeSet::new() }
     }
 
-    fn kept(&self, stamp: &Digest) -> Option<Digest> {
-        self.stores.iter().find_map(|store| Some(Digest(store.read(stamp)?.try_into().ok()?)))
+    fn kept(&self, key: Option<&Digest>) -> Option<Digest> {
+        self.stores.iter().find_map(|store| Some(Digest(store.read(key?)?.try_into().ok()?)))
     }
 
     /// The digest of a file's contents; `None` if it can't be read, or is to be a program and isn't.
     fn digest(&self, path: &Path, is_tool: bool) -> Option<Digest> {
         let mut file = File::open(path).ok()?;
         let status = file.metadata().ok().filter(Metadata::is_file)?;
-        let stamp = stamp(path, &status);
-        if let Some(kept) = self.kept(&stamp) {
+        let key = Stamp::settled(path, &status).map(|stamp| key_of(path, &stamp));
+        if let Some(kept) = self.kept(key.as_ref()) {
             return Some(kept);
         }
         if is_tool && !is_program(&mut file) {
             return None;
         }
-        let is_kept = is_settled(&status);
-        let turn = self.stores.first().filter(|_| is_kept && status.len() >= LARGE).and_then(turn);
-        if let Some(kept) = turn.as_ref().and_then(|_| self.kept(&stamp)) {
+        let turn = self.stores.first().filter(|_| key.is_some() && status.len() >= LARGE).and_then(turn);
+        if let Some(kept) = turn.as_ref().and_then(|_| self.kept(key.as_ref())) {
             return Some(kept);
         }
         let digest = digest_of(&mut file).ok()?;
-        if is_kept {
-            let _ = self.stores.iter().find(|store| store.write(&stamp, &digest.0).is_ok());
+        if let Some(key) = key {
+            let _ = self.stores.iter().find(|store| store.write(&key, &digest.0).is_ok());
         }
         Some(digest)
     }
@@ -258,21 +241,12 @@ impl Tools {
         digest
     }
 
-    /// The compiler proper and the assembler that gcc runs, and its specs. `None` if these may use variables.
-    fn parts(&mut self, run: &Run<'_>) -> Option<Parts> {
-        let compiler = (run.program.to_owned(), run.folder.to_owned(), run.environment.to_vec());
-        if let Some((_, parts)) = self.parts.iter().find(|(other, _)| *other == compiler) {
-            return Some(parts.clone());
-        }
-        let (own, specs) = run.part("cc1plus")?;
-        let (assembler, _) = run.part("as")?;
-        let uses_variables = |file: &PathBuf| content_of(file).map_or(true, |text| contains(&text, b"getenv"));
-        let parts = Parts { programs: vec![own, assembler], specs };
-        if parts.specs.iter().any(uses_variables) {
-            return None;
-        }
-        self.parts.push((compiler, parts.clone()));
-        Some(parts)
+    /// What the loader may give a program that a tool consists of.
+    fn libraries(&mut self, program: &Path, run: &Run<'_>) -> Option<Libraries> {
+        let list = self.loader.is_none().then(|| content_of(Path::new(LISTED)).unwrap_or_default());
+        let loader = self.loader.get_or_insert_with(|| Loader::new(&list.unwrap_or_default()));
+        let folders = run.variable("LD_LIBRARY_PATH").unwrap_or_default();
+        loader.libraries(program, folders.as_bytes(), &run.preloaded()?, run.folder)
     }
 
     /// The files that were looked at, and their digests.
@@ -286,29 +260,66 @@ impl Tools {
     }
 
     /// The digest of all that a tool consists of: the program; for gcc also cc1plus, the assembler that it runs and its specs, for cicc
-    /// the files of its libraries; and what is loaded before any program. `None` if that isn't known.
+    /// the files of its device libraries; and the libraries that the loader may give each. `None` if that isn't known.
     pub fn identity(&mut self, run: &Run<'_>) -> Option<Digest> {
+        let compiler = (run.program.to_owned(), run.folder.to_owned(), run.environment.to_vec());
+        if let Some((_, _, known)) = self.identities.iter().find(|(kind, other, _)| *kind == run.kind && *other == compiler) {
+            return *known;
+        }
+        let digest = self.new_identity(run);
+        self.identities.push((run.kind, compiler, digest));
+        digest
+    }
+
+    fn new_identity(&mut self, run: &Run<'_>) -> Option<Digest> {
         if run.kind == Kind::Host && is_disguised(run.program) {
             return None;
         }
         let mut hasher = Hasher::default();
-        hasher.update(&self.known(run.program, true)?.0);
-        let parts = if run.kind == Kind::Host { self.parts(run)? } else { Parts::default() };
-        for part in parts.programs {
-            hasher.update(&self.known(&part, true)?.0);
+        let parts = if run.kind == Kind::Host { run.parts()? } else { Parts::default() };
+        for program in [run.program].into_iter().chain(parts.programs.iter().map(PathBuf::as_path)) {
+            hasher.update(&self.known(program, true)?.0);
+            self.add_libraries(&mut hasher, program, run)?;
         }
-        for file in parts.specs {
-            hasher.update(&self.known(&file, false)?.0);
-        }
-        let mut libraries = if run.kind == Kind::Cicc { run.libraries()? } else { Vec::new() };
-        let libms = if run.kind == Kind::Cicc { run.libms() } else { Vec::new() };
-        self.lacking.extend(libms.into_iter().chain([PRELOADED.into()]).filter(|file| !file.is_file()));
-        libraries.extend(run.preloaded());
-        for library in libraries {
-            hasher.add(library.file_name()?.as_bytes());
-            hasher.update(&self.known(&library, false)?.0);
+        self.add_files(&mut hasher, &parts.specs)?;
+        if run.kind == Kind::Cicc {
+            self.add_files(&mut hasher, &run.device_libraries()?)?;
         }
         Some(hasher.finish())
+    }
+
+    /// Adds the libraries that the loader may give a program, and notes the lists that it reads.
+    fn add_libraries(&mut self, hasher: &mut Hasher, program: &Path, run: &Run<'_>) -> Option<()> {
+        let libraries = self.libraries(program, run)?;
+        self.lacking.extend(libraries.lacking);
+        self.add_files(hasher, &libraries.files)?;
+        for list in [PRELOADED, LISTED].map(Path::new) {
+            if list.is_file() {
+                self.known(list, false)?;
+            } else {
+                self.lacking.insert(list.to_owned());
+            }
+        }
+        Some(())
+    }
+
+    /// Looks at the libraries that the loader may give a program that the cache doesn't serve.
+    pub fn know_libraries(&mut self, run: &Run<'_>) -> Option<()> {
+        self.add_libraries(&mut Hasher::default(), run.program, run)
+    }
+
+    /// Adds files by their names and contents.
+    fn add_files(&mut self, hasher: &mut Hasher, files: &[PathBuf]) -> Option<()> {
+        files.iter().try_for_each(|file| {
+            hasher.add(file.file_name()?.as_bytes());
+            hasher.update(&self.known(file, false)?.0);
+            Some(())
+        })
+    }
+
+    /// Whether all files that were looked at are what they were at a moment.
+    pub fn are_unchanged(&self, moment: SystemTime) -> bool {
+        self.all().all(|(path, _)| fs::metadata(path).is_ok_and(|status| is_unchanged(&status, moment, GRAIN)))
     }
 }
 
@@ -373,6 +384,13 @@ mod tests {
             path
         }
 
+        /// A program that is like another but for a text at its end.
+        fn program(&self, name: &str, text: &str) -> PathBuf {
+            let path = self.put(name, "");
+            fs::write(&path, [&fs::read("/bin/true").unwrap()[..], text.as_bytes()].concat()).unwrap();
+            path
+        }
+
         /// The identity of cicc there, as a call sees it.
         fn identity(&self) -> Option<Digest> {
             let store = Store::new(self.0.join("store"), 1 << 20);
@@ -386,11 +404,11 @@ mod tests {
     #[test]
     fn the_contents_of_a_tool_count() {
         let scratch = Scratch::new();
-        let cicc = scratch.put("bin/cicc", "\x7fELF one");
+        let cicc = scratch.program("bin/cicc", "one");
         let first = scratch.identity().unwrap();
         assert_eq!(scratch.identity(), Some(first));
         let time = fs::metadata(&cicc).unwrap().modified().unwrap();
-        scratch.put("bin/cicc", "\x7fELF two");
+        scratch.program("bin/cicc", "two");
         File::options().write(true).open(&cicc).unwrap().set_modified(time).unwrap();
         let second = scratch.identity().unwrap();
         assert_ne!(first, second, "the same size and time");
@@ -398,9 +416,9 @@ mod tests {
         let third = scratch.identity().unwrap();
         scratch.put("named/10.bc", "b");
         let fourth = scratch.identity().unwrap();
-        scratch.put("loaded/libm.so.6", "c");
+        scratch.put("loaded/libc.so.6", "c");
         let fifth = scratch.identity().unwrap();
-        scratch.put("bin/cicc", "\x7fELF one");
+        scratch.program("bin/cicc", "one");
         assert!(third != second && fourth != third && fifth != fourth && scratch.identity().unwrap() != fifth, "its libraries");
     }
 
@@ -409,19 +427,43 @@ mod tests {
         let scratch = Scratch::new();
         let store = Store::new(scratch.0.join("store"), 1 << 20);
         let settled = Path::new("/bin/sh");
-        assert!(is_settled(&fs::metadata(settled).unwrap()));
         assert_eq!(store.content().entries, 0);
         let tools = Tools::in_stores(vec![store.clone()]);
         assert_eq!(tools.digest(settled, true), Some(digest_of(&mut File::open(settled).unwrap()).unwrap()));
         assert_eq!(store.content().entries, 1);
-        let status = fs::metadata(settled).unwrap();
-        store.write(&stamp(settled, &status), &[7; 32]).unwrap();
+        let stamp = Stamp::settled(settled, &fs::metadata(settled).unwrap()).unwrap();
+        store.write(&key_of(settled, &stamp), &[7; 32]).unwrap();
         assert_eq!(tools.digest(settled, true), Some(Digest([7; 32])));
         let new = scratch.put("bin/cicc", "\x7fELF one");
         let mut file = File::options().read(true).write(true).open(&new).unwrap();
-        file.set_modified(SystemTime::now() + 1000 * FRESH).unwrap();
+        file.set_modified(SystemTime::now() + Duration::from_secs(2000)).unwrap();
         assert_eq!(tools.digest(&new, true), Some(digest_of(&mut file).unwrap()));
         assert_eq!(store.content().entries, 1);
+    }
+
+    #[test]
+    fn libraries_count_that_the_loader_would_find_first() {
+        let scratch = Scratch::new();
+        let program = scratch.program("bin/cicc", "");
+        let of = |list: &str, preload: &str| {
+            let environment = [("LD_LIBRARY_PATH".into(), list.into()), ("LD_PRELOAD".into(), preload.into())];
+            let mut tools = Tools::in_stores(vec![Store::new(scratch.0.join("store"), 1 << 20)]);
+            let digest = tools.identity(&Run { kind: Kind::Cicc, program: &program, folder: &scratch.0, environment: &environment });
+            (digest, tools.lacking().map(Path::to_owned).collect::<BTreeSet<_>>())
+        };
+        let (usual, lacking) = of("mod:", "");
+        assert!(usual.is_some() && [of("", ""), of("other", "")].iter().all(|(other, _)| *other == usual));
+        for place in ["mod/libc.so.6", "libc.so.6", "mod/glibc-hwcaps", "x86_64"] {
+            assert!(lacking.contains(&scratch.0.join(place)), "{place}");
+        }
+        let mut known = vec![usual];
+        for place in ["libc.so.6", "mod/libc.so.6", "mod/tls/x86_64/libc.so.6", "mod/libown.so"] {
+            scratch.put(place, place);
+            let (now, _) = of("mod:", "libown.so");
+            assert!(now.is_some() && !known.contains(&now), "{place}");
+            known.push(now);
+        }
+        assert_eq!((of("$LIB", "").0, of("", "$LIB/x.so").0), (None, None));
     }
 
     #[test]

@@ -4,17 +4,20 @@ use crate::cache::calls::{self, Answer, Product};
 use crate::cache::direct::Found;
 use crate::cache::host_text::files_of_ptx;
 use crate::cache::includes::{self, Folders};
-use crate::cache::manifest::{Form, Manifest, Seen, Stamp, is_older, real_place};
+use crate::cache::manifest::{Form, Manifest, Seen, real_place};
+use crate::cache::recipe::environment_of;
 use crate::cache::searches::{MARGIN, Search};
-use crate::cache::tool::{Kind, is_called, is_disguised};
+use crate::cache::stamps::{Moment, Stamp, is_older};
+use crate::cache::tool::{Kind, Run, is_called, is_disguised};
 use crate::cache::words::{self, Role};
 use crate::cache::{Candidate, Session, State, names, terminal};
 use crate::machine::Job;
-use crate::planner::{Line, PlannedCommand};
-use crate::programs;
+use crate::planned::PlannedCommand;
 use crate::run::{Done, Task};
 use crate::split::Said;
 use crate::streams::content_of;
+use call::NvccLine;
+use call::programs;
 use std::collections::{BTreeMap, BTreeSet, HashMap};
 use std::env;
 use std::ffi::{OsStr, OsString};
@@ -36,7 +39,7 @@ fn read_by(job: &Job) -> Option<Vec<PathBuf>> {
 
 /// A call that has come to its end, and has succeeded.
 pub struct Finished<'a> {
-    pub line: &'a Line,
+    pub line: &'a NvccLine,
     pub commands: &'a [PlannedCommand],
     pub tasks: &'a [Task],
     /// Its dependency file, if it has one.
@@ -135,7 +138,7 @@ struct Gathered<'a> {
 }
 
 /// Whether a line has nvcc read further words from a file.
-fn has_lists(line: &Line) -> bool {
+fn has_lists(line: &NvccLine) -> bool {
     let more = line.variables.iter().flat_map(|(_, value)| value.split_ascii_whitespace());
     let names_list = |option: &str| option.starts_with("optf") || option.starts_with("options-file");
     let is_list = |word: &str| word.starts_with('@') || (word.starts_with('-') && names_list(word.trim_start_matches('-')));
@@ -143,7 +146,7 @@ fn has_lists(line: &Line) -> bool {
 }
 
 /// Whether a line asks for the targets of the machine's own GPUs, which nvcc looks for at each call.
-fn asks_for_native(line: &Line) -> bool {
+fn asks_for_native(line: &NvccLine) -> bool {
     let texts = line.words.iter().chain(line.variables.iter().map(|(_, value)| value));
     texts.flat_map(|text| text.split([' ', '\t', '=', ','])).any(|part| part == "native")
 }
@@ -153,7 +156,7 @@ impl Gathered<'_> {
     fn add(&mut self, seen: Seen, cwd: &Path) -> Option<()> {
         let status = fs::metadata(cwd.join(&seen.path)).ok()?;
         let is_same = seen.stamp.is_none_or(|stamp| stamp == Stamp::of(&status));
-        let is_way_old = seen.path.parent().is_none_or(|folder| self.search.is_way_old(folder));
+        let is_way_old = seen.path.parent().is_none_or(|folder| self.search.ways.are_old(folder));
         if !is_same || !is_way_old || !is_older(&status, self.begun, MARGIN) {
             return None;
         }
@@ -231,7 +234,7 @@ impl Session<'_> {
     /// Keeps a call as a whole, if all that it depends on is known.
     pub fn keep_call(&mut self, call: &Finished<'_>) -> Option<()> {
         let nvcc = programs::find(call.line.nvcc.as_ref(), &env::var_os("PATH").unwrap_or_default(), call.cwd())?;
-        if !calls::is_on() || !self.is_known(call) {
+        if !calls::is_on() || !self.is_known(call) || !self.started.is_before(&Moment::now()) {
             return None;
         }
         let folders = self.folders(call)?;
@@ -333,7 +336,11 @@ impl Session<'_> {
         for (job, _) in self.preprocessors(call).filter(|(_, text)| texts.contains(text)) {
             words::included(&job.words).into_iter().try_for_each(|name| gathered.search.seek_given(name))?;
         }
-        files.extend(call.commands.iter().filter(|command| command.preprocesses).flat_map(|command| &command.reads).map(PathBuf::from));
+        let sources: Vec<PathBuf> =
+            call.commands.iter().filter(|command| command.preprocesses).flat_map(|command| &command.reads).map(PathBuf::from).collect();
+        // (a module id has a sum of where a source really is)
+        sources.iter().filter(|file| !file.starts_with(self.tmp)).try_for_each(|source| gathered.add_place(source, call.cwd()))?;
+        files.extend(sources);
         files.retain(|file| !file.starts_with(self.tmp));
         self.asks_for_known(call, &files)?;
         let (mut once, mut has_import) = (BTreeSet::new(), false);
@@ -395,6 +402,8 @@ impl Session<'_> {
         for (place, part) in parts.iter().enumerate() {
             self.tools.known(part, place + 1 == parts.len())?;
         }
+        let environment: Vec<_> = env::vars_os().collect();
+        self.tools.know_libraries(&Run { kind: Kind::Fatbinary, program: parts.last()?, folder: call.cwd(), environment: &environment })?;
         for profile in profiles {
             // nvcc takes other folders of headers if there are targets.
             let targets = profile.parent()?.parent().map(|kit| kit.join("targets"));
@@ -407,12 +416,12 @@ impl Session<'_> {
             if command.preprocesses && is_disguised(Path::new(&command.program)) {
                 return None;
             }
-            self.tools.known(Path::new(&command.program), true)?;
+            self.tools.identity(&Run::of(Kind::of(&command.program)?, &task.job, &environment_of(&task.job))?)?;
             gathered.search.seek_program(Path::new(&command.program), &variable(&task.job, "PATH"))?;
         }
         self.gather_parts(call, folders, gathered)?;
         for (path, digest) in self.tools.all() {
-            let stamp = fs::metadata(path).ok().as_ref().and_then(Stamp::settled);
+            let stamp = fs::metadata(path).ok().and_then(|status| Stamp::settled(path, &status));
             let form = if finds_others(path) { Form::Placed(fs::canonicalize(path).ok()?) } else { Form::Other };
             gathered.add(Seen { path: path.to_owned(), digest, stamp, form }, call.cwd())?;
         }
@@ -450,7 +459,8 @@ impl Session<'_> {
         places.into_iter().try_for_each(|place| self.gather_if_there(place, gathered))?;
         let lacking: Vec<PathBuf> = self.tools.lacking().map(|path| path.strip_prefix(call.cwd()).unwrap_or(path).to_owned()).collect();
         for path in lacking {
-            gathered.search.lacks(path);
+            // (a folder there may have a library)
+            gathered.search.lacks_all(path);
         }
         // gcc also looks for specs in a folder that it names among those of programs alone.
         let specs = folders.libraries.iter().chain(&folders.programs).map(|folder| folder.join("specs"));
@@ -467,7 +477,10 @@ impl Session<'_> {
         let mut products = self.products.iter().chain(&call.rule).map(|product| product.path.to_string_lossy());
         let is_named = products.any(|product| texts().any(|text| text.contains(&*product)));
         let names_folder = texts().any(|text| ["odir", "output-directory"].iter().any(|option| text.contains(option)));
-        has_names || is_named || names_folder || words.any(|word| !word.starts_with('-') && !word.starts_with('/') && call.cwd().join(word).is_file())
+        // (a library that the loader finds in the working directory)
+        let has_tools = self.tools.all().any(|(path, _)| path.starts_with(call.cwd()));
+        let is_beside = |word: &String| !word.starts_with('-') && !word.starts_with('/') && call.cwd().join(word).is_file();
+        has_names || has_tools || is_named || names_folder || words.any(is_beside)
     }
 
     /// What the call has made and said. `None` if that has the name of its directory.
@@ -533,7 +546,7 @@ mod tests {
         let task = |(number, one): (usize, &PlannedCommand)| Task { command: Some(number), job: job(one), ..Task::default() };
         let tasks: Vec<Task> = commands.iter().enumerate().map(task).collect();
         let store = Store::new(cwd.join("no-entries"), 1 << 20);
-        let line = Line { cwd: cwd.to_string_lossy().into_owned(), nvcc: "nvcc".into(), words: Vec::new(), variables: Vec::new() };
+        let line = NvccLine { cwd: cwd.to_string_lossy().into_owned(), nvcc: "nvcc".into(), words: Vec::new(), variables: Vec::new() };
         let call = Finished { line: &line, commands, tasks: &tasks, rule: None, said, begun: SystemTime::now() };
         test(&mut Session::new(&store, "/t", commands, &tasks), &call)
     }
@@ -641,7 +654,7 @@ mod tests {
         let asks = |words: &[&str], flags: &str| {
             let words = words.iter().map(|word| (*word).into()).collect();
             let variables = vec![("NVCC_APPEND_FLAGS".into(), flags.into())];
-            asks_for_native(&Line { cwd: "/w".into(), nvcc: "nvcc".into(), words, variables })
+            asks_for_native(&NvccLine { cwd: "/w".into(), nvcc: "nvcc".into(), words, variables })
         };
         assert!(asks(&["-arch=native", "-c", "k.cu"], "") && asks(&["-arch", "native"], "") && asks(&["-c"], "-O2 -arch=native"));
         assert!(!asks(&["-c", "native/k.cu", "-o", "native.o"], "-DNATIVE"));
@@ -651,7 +664,7 @@ mod tests {
     fn words_or_variables_may_name_lists_of_words() {
         let has = |words: &[&str], flags: &str| {
             let words = words.iter().map(|word| (*word).into()).collect();
-            has_lists(&Line { cwd: "/w".into(), nvcc: "nvcc".into(), words, variables: vec![("NVCC_APPEND_FLAGS".into(), flags.into())] })
+            has_lists(&NvccLine { cwd: "/w".into(), nvcc: "nvcc".into(), words, variables: vec![("NVCC_APPEND_FLAGS".into(), flags.into())] })
         };
         for words in [["-optf", "words"], ["-c", "-optf=words"], ["--options-file", "words"], ["-c", "--options-file=words"], ["-c", "@words"]] {
             assert!(has(&words, "-O2") && has(&["-c", "k.cu"], &format!("-O2 {}", words.join(" "))), "{words:?}");

@@ -92,6 +92,19 @@ mod tests {
 
     const SECOND: u64 = 1_000_000_000;
 
+    #[test]
+    fn a_worker_looks_again_for_some_seconds() {
+        let looks = std::cell::Cell::new(0);
+        let look = |found: usize| {
+            looks.set(looks.get() + 1);
+            (looks.get() == found).then_some(found)
+        };
+        let begun = nanoseconds();
+        assert_eq!((once_there(|| look(2)), looks.replace(0)), (Some(2), 2));
+        assert_eq!((once_there(|| look(0)), looks.get()), (None, 6));
+        assert!(nanoseconds() - begun >= 3 * SECOND, "it waits between two looks");
+    }
+
     /// What makes evidence worse.
     type Change = fn(&mut Evidence);
 

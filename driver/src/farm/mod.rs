@@ -27,17 +27,18 @@ mod toolkits;
 mod transfers;
 pub mod worker;
 
-use crate::environments::Environment;
 use crate::folder::{CallFolder, DRAFTS, ELSEWHERE};
 use crate::host::{self, Host};
 use crate::jobserver::{Make, MakeFlags};
 use crate::machine::{Ended, Event, Job, Machine};
 use crate::places;
-use crate::programs;
 use crate::settings::Settings;
 use crate::streams::complain;
 use crate::system::{self, Status, TERM};
 use attempts::{Attempt, LATE, MOST_LOST, MOST_MACHINES, may_be_the_machines};
+use call::compiler::is_nvcc;
+use call::environments::Environment;
+use call::programs;
 use drafts::{Drafts, Seen, redirect, tool_of};
 use evidence::Wanted;
 use fields::Bytes;
@@ -194,7 +195,7 @@ fn own_machine(settings: &Settings, environment: Environment, folder: &Rc<CallFo
 fn program_of(job: &Job) -> Option<PathBuf> {
     let at = match tool_of(&job.words) {
         Some((_, at)) => at,
-        None if programs::is_nvcc(job.words.first()?.as_bytes()) => 0,
+        None if is_nvcc(job.words.first()?.as_bytes()) => 0,
         None => return None,
     };
     let given = job.variables.iter().find(|(name, _)| name == "PATH").and_then(|(_, value)| value.clone());

@@ -1,7 +1,7 @@
 //! The tools that a batch runs, and the digests of their contents. A worker's machine has to have the same.
 use crate::cache::digest::Hasher;
-use crate::programs;
 use crate::settings::Settings;
+use call::programs;
 use std::env;
 use std::ffi::{OsStr, OsString};
 use std::fs::{self, File};

@@ -1,27 +1,59 @@
 //! What can't be faster with more slots: the longest chain of a call's commands. And what zigrunk itself took of a call.
 use super::log_lines::{Call, Command};
+use super::sum;
 
-/// The commands of a call's longest chain, by their numbers in order, if the log says what each command needs.
-pub fn longest_chain(call: &Call) -> Option<Vec<usize>> {
-    let mut ends: Vec<(f64, Option<usize>)> = Vec::with_capacity(call.commands.len());
-    for command in &call.commands {
-        let earlier = command.needs.as_ref()?.iter().filter_map(|&need| ends.get(need).map(|end| (end.0, need)));
-        let last = earlier.max_by(|one, other| one.0.total_cmp(&other.0));
-        ends.push((last.map_or(0.0, |(end, _)| end) + command.seconds(), last.map(|(_, need)| need)));
+/// A command of a chain.
+#[derive(Clone, Copy, PartialEq, Debug)]
+pub struct Link {
+    /// Its number in the call.
+    pub command: usize,
+    /// The seconds that count: of a command that began before the one in front of it had ended, only the rest.
+    pub seconds: f64,
+}
+
+/// The best chain that ends with a command.
+struct Best {
+    /// How long it takes.
+    length: f64,
+    /// When the last of its commands ended. One that began early may have ended before the one that it needs.
+    end: f64,
+    link: Link,
+    before: Option<usize>,
+}
+
+/// The best chain that ends with the command of a number, given those of earlier ones. `None` if the log doesn't say what it needs.
+fn best(command: &Command, number: usize, earlier: &[Best]) -> Option<Best> {
+    let behind = |&need: &usize| {
+        let before = earlier.get(need)?;
+        let (seconds, end) = (command.seconds_after(before.end), before.end.max(command.end));
+        Some(Best { length: before.length + seconds, end, link: Link { command: number, seconds }, before: Some(need) })
+    };
+    let seconds = command.seconds();
+    let alone = Best { length: seconds, end: command.end, link: Link { command: number, seconds }, before: None };
+    let chains = command.needs.as_ref()?.iter().filter_map(behind);
+    Some(chains.fold(alone, |best, chain| if chain.length >= best.length { chain } else { best }))
+}
+
+/// A call's longest chain of commands that wait for each other, in order, if the log says what each command needs. It takes no longer than
+/// the call.
+pub fn longest_chain(call: &Call) -> Option<Vec<Link>> {
+    let mut chains: Vec<Best> = Vec::with_capacity(call.commands.len());
+    for (number, command) in call.commands.iter().enumerate() {
+        chains.push(best(command, number, &chains)?);
     }
-    let mut at = (0..ends.len()).max_by(|&one, &other| ends[one].0.total_cmp(&ends[other].0));
+    let mut at = (0..chains.len()).max_by(|&one, &other| chains[one].length.total_cmp(&chains[other].length));
     let mut chain = Vec::new();
     while let Some(number) = at {
-        chain.push(number);
-        at = ends[number].1;
+        chain.push(chains[number].link);
+        at = chains[number].before;
     }
     chain.reverse();
     Some(chain)
 }
 
 /// The seconds of a chain.
-pub fn seconds_of(call: &Call, chain: &[usize]) -> f64 {
-    chain.iter().map(|&number| call.commands[number].seconds()).sum()
+pub fn seconds_of(chain: &[Link]) -> f64 {
+    sum(chain.iter().map(|link| link.seconds))
 }
 
 /// The seconds of a call in which no command of it ran or waited for a slot: nvcc's dry runs, the plan, and the end. `None` if nvcc made it.
@@ -43,8 +75,11 @@ pub fn own_seconds(call: &Call) -> Option<f64> {
 mod tests {
     use super::*;
 
-    fn call(commands: &[(f64, f64, f64, &[usize])]) -> Call {
-        let command = |&(asked, begin, end, needs): &(f64, f64, f64, &[usize])| Command {
+    /// When a command asked for a slot, began and ended, and what it needed.
+    type Row<'a> = (f64, f64, f64, &'a [usize]);
+
+    fn call(commands: &[Row<'_>]) -> Call {
+        let command = |&(asked, begin, end, needs): &Row<'_>| Command {
             kind: "x".into(),
             asked,
             begin,
@@ -60,16 +95,36 @@ mod tests {
     fn the_longest_chain_follows_needs() {
         let made = call(&[(1.0, 1.0, 2.0, &[]), (1.0, 1.0, 4.0, &[]), (2.0, 2.0, 6.0, &[0]), (6.0, 6.0, 7.0, &[1, 2])]);
         let chain = longest_chain(&made).unwrap();
-        assert_eq!((chain.as_slice(), seconds_of(&made, &chain)), (&[0, 2, 3][..], 6.0));
+        assert_eq!((numbers(&chain), seconds_of(&chain)), (vec![0, 2, 3], 6.0));
         assert_eq!(longest_chain(&call(&[])), Some(vec![]));
         let mut unknown = made;
         unknown.commands[1].needs = None;
         assert_eq!(longest_chain(&unknown), None);
     }
 
+    fn numbers(chain: &[Link]) -> Vec<usize> {
+        chain.iter().map(|link| link.command).collect()
+    }
+
+    #[test]
+    fn only_the_rest_of_a_command_that_began_early_counts() {
+        let cases: [(&[Row<'_>], &[usize], f64); 5] = [
+            (&[(1.0, 1.0, 4.0, &[]), (1.0, 1.0, 2.0, &[]), (2.0, 2.0, 6.0, &[0, 1])], &[1, 2], 5.0),
+            (&[(1.0, 1.0, 4.0, &[]), (2.0, 2.0, 7.0, &[0])], &[0, 1], 6.0),
+            (&[(1.0, 1.0, 5.0, &[]), (2.0, 2.0, 4.0, &[0]), (5.0, 5.0, 6.0, &[1])], &[0, 1, 2], 5.0),
+            (&[(1.0, 1.0, 5.0, &[]), (2.0, 2.0, 4.0, &[0]), (4.0, 4.0, 6.0, &[1])], &[0, 1, 2], 5.0),
+            (&[(1.0, 1.0, 1.5, &[]), (1.0, 1.0, 9.0, &[0])], &[0, 1], 8.0),
+        ];
+        for (commands, wanted, seconds) in cases {
+            let chain = longest_chain(&call(commands)).unwrap();
+            assert_eq!((numbers(&chain), seconds_of(&chain)), (wanted.to_vec(), seconds), "{commands:?}");
+        }
+    }
+
     #[test]
     fn needs_of_a_bad_log_do_no_harm() {
-        assert_eq!(longest_chain(&call(&[(0.0, 0.0, 1.0, &[0, 1, 99]), (0.0, 0.0, 2.0, &[1])])), Some(vec![1]));
+        let chain = longest_chain(&call(&[(0.0, 0.0, 1.0, &[0, 1, 99]), (0.0, 0.0, 2.0, &[1])])).unwrap();
+        assert_eq!(chain, [Link { command: 1, seconds: 2.0 }]);
     }
 
     #[test]

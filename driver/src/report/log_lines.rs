@@ -53,6 +53,11 @@ impl Command {
         (self.end - self.begin).max(0.0)
     }
 
+    /// How long it ran after a moment: all of its time, unless it began early.
+    pub fn seconds_after(&self, moment: f64) -> f64 {
+        (self.end - self.begin.max(moment)).max(0.0)
+    }
+
     /// How long it waited for a slot.
     pub fn waited(&self) -> f64 {
         (self.begin - self.asked).max(0.0)

@@ -31,9 +31,11 @@ struct Log {
 }
 
 impl Log {
-    /// Adds the lines of a file.
-    fn add(&mut self, text: &[u8]) {
+    /// Adds the lines of a file. Says whether it is a log: it is empty, or has an entry.
+    fn add(&mut self, text: &[u8]) -> bool {
+        let (mut lines, bad) = (0, self.bad);
         for line in text.split(|&byte| byte == b'\n').filter(|line| !line.is_empty()) {
+            lines += 1;
             match entry(line) {
                 Some(Entry::Call(call)) => self.calls.push(call),
                 Some(Entry::Hint(hint)) if self.hints.contains(&hint) => {}
@@ -41,6 +43,12 @@ impl Log {
                 None => self.bad += 1,
             }
         }
+        lines == 0 || self.bad - bad < lines
+    }
+
+    /// The calls that failed.
+    fn failed(&self) -> impl Iterator<Item = &Call> {
+        self.calls.iter().filter(|call| call.status != 0)
     }
 
     /// The commands of all calls, with their calls.
@@ -94,6 +102,11 @@ fn share(part: usize, whole: usize) -> String {
     if whole == 0 { format!("{part} of 0") } else { format!("{part} of {whole} ({:.0} %)", 100.0 * number(part) / number(whole)) }
 }
 
+/// A sum of seconds; of none, std's own is -0.
+fn sum(seconds: impl Iterator<Item = f64>) -> f64 {
+    seconds.fold(0.0, |sum, seconds| sum + seconds)
+}
+
 /// A count as a number with fractions.
 #[allow(clippy::cast_precision_loss)]
 pub(crate) fn number(count: usize) -> f64 {
@@ -136,11 +149,14 @@ fn plain(error: &io::Error) -> String {
 }
 
 /// Makes what is asked for.
-/// Errors: which file can't be read or written, and why.
+/// Errors: which file can't be read or written or is no log, and why.
 fn report(asked: &Asked) -> Result<(), String> {
     let mut log = Log::default();
     for path in &asked.logs {
-        log.add(&fs::read(path).map_err(|error| format!("cannot read {}: {}", path.display(), plain(&error)))?);
+        let text = fs::read(path).map_err(|error| format!("cannot read {}: {}", path.display(), plain(&error)))?;
+        if !log.add(&text) {
+            return Err(format!("{} is no log of ZIGRUNK_LOG: none of its lines is an entry", path.display()));
+        }
     }
     let made = [(&asked.trace, trace::trace as fn(&Log) -> String), (&asked.html, page::page)];
     for (path, text) in made.iter().filter_map(|(path, make)| Some((path.as_ref()?, make(&log)))) {
@@ -149,7 +165,7 @@ fn report(asked: &Asked) -> Result<(), String> {
     say(1, summary::summary(&log).as_bytes()).map_err(|error| format!("cannot write: {}", plain(&error)))
 }
 
-/// Reports on the logs that these words name. Says the exit status: 1 if a file can't be read or written, 2 for wrong usage.
+/// Reports on the logs that these words name. Says the exit status: 1 if a file can't be read or written or is no log, 2 for wrong usage.
 pub fn run(words: &[OsString]) -> i32 {
     let asked = match asked(words) {
         Ok(Some(asked)) => asked,

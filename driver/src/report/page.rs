@@ -1,9 +1,9 @@
 //! A log as a page for a browser. The page is one file: it takes nothing from elsewhere, and needs no scripts.
-use super::chains::{longest_chain, own_seconds, seconds_of};
+use super::chains::{Link, longest_chain, own_seconds, seconds_of};
 use super::log_lines::Call;
 use super::summary::{slowest, words_of};
 use super::timeline::{Phase, drawing, target};
-use super::{Log, number};
+use super::{Log, number, sum};
 use std::collections::BTreeMap;
 use std::fmt::Write;
 
@@ -26,7 +26,7 @@ fn source(call: &Call) -> &str {
 
 /// The page of a log.
 pub fn page(log: &Log) -> String {
-    let parts = [tiles(log), timeline(log), reasons(log), phases(log), sources(log), commands(log), own(log), chain(log), bad(log)];
+    let parts = [tiles(log), timeline(log), failures(log), reasons(log), phases(log), sources(log), commands(log), own(log), chain(log), bad(log)];
     format!("{HEAD}{}</main>\n</body>\n</html>\n", parts.concat())
 }
 
@@ -65,8 +65,8 @@ fn percent(part: usize, whole: usize) -> String {
 
 fn tiles(log: &Log) -> String {
     let (begin, end) = log.span();
-    let work: f64 = log.commands().map(|(command, _)| command.seconds()).sum();
-    let failed = log.calls.iter().filter(|call| call.status != 0).count();
+    let work = sum(log.commands().map(|(command, _)| command.seconds()));
+    let failed = log.failed().count();
     let cache = log.hits().map_or_else(|| "not in the log".into(), |(hits, misses)| format!("{hits} / {misses}"));
     let at_once = if end > begin { work / (end - begin) } else { 0.0 };
     let tiles = [
@@ -92,6 +92,13 @@ fn timeline(log: &Log) -> String {
     section("Slots in time", &format!("<p class=\"legend\">{legend}<span><i class=\"bad\"></i>failed</span></p>\n{}", drawing(log, escaped)))
 }
 
+/// The calls that failed, first ones first.
+fn failures(log: &Log) -> String {
+    let row = |call: &Call| vec![format!("<code>{}</code>", escaped(&words_of(call, 400))), call.status.to_string(), seconds(call.seconds())];
+    let rows: Vec<Vec<String>> = log.failed().take(ROWS).map(row).collect();
+    if rows.is_empty() { String::new() } else { section("Failed calls", &table(&["Call", "Status", "Took"], 1, &rows)) }
+}
+
 fn reasons(log: &Log) -> String {
     let whole = log.calls.len() - log.split();
     let row = |(reason, count): &(&str, usize)| vec![escaped(reason), bar(number(*count), number(whole)), count.to_string()];
@@ -103,15 +110,21 @@ fn reasons(log: &Log) -> String {
     section("Why nvcc made calls itself", &(table(&["Reason", "", "Calls"], 2, &rows) + &hints))
 }
 
-/// The seconds of each phase, for host code and for each target.
-fn phases(log: &Log) -> String {
+/// The seconds of each phase, for host code and for each target: its number, by which they are in order, and its name.
+fn phase_sums(log: &Log) -> BTreeMap<(u32, String), BTreeMap<Phase, f64>> {
     let mut sums: BTreeMap<(u32, String), BTreeMap<Phase, f64>> = BTreeMap::new();
     for (command, _) in log.commands() {
         let name = target(&command.kind).unwrap_or_default();
         let number = name.trim_end_matches(char::is_alphabetic).parse().unwrap_or_default();
         *sums.entry((number, name)).or_default().entry(Phase::of(&command.kind)).or_default() += command.seconds();
     }
-    let all: f64 = sums.values().flat_map(BTreeMap::values).sum();
+    sums
+}
+
+/// What each phase took, a row for host code and for each target.
+fn phases(log: &Log) -> String {
+    let sums = phase_sums(log);
+    let all = sum(sums.values().flat_map(BTreeMap::values).copied());
     let most = sums.values().flat_map(BTreeMap::values).copied().fold(0.0, f64::max);
     let used: Vec<Phase> = Phase::ALL.into_iter().filter(|phase| sums.values().any(|row| row.contains_key(phase))).collect();
     let cell = |took: Option<&f64>| {
@@ -119,12 +132,12 @@ fn phases(log: &Log) -> String {
     };
     let row = |((_, name), row): (&(u32, String), &BTreeMap<Phase, f64>)| {
         let name = if name.is_empty() { "host and all targets".into() } else { format!("target {}", escaped(name)) };
-        let sum: f64 = row.values().sum();
+        let own = sum(row.values().copied());
         let cells = used.iter().map(|phase| cell(row.get(phase)));
         [name]
             .into_iter()
             .chain(cells)
-            .chain([format!("<b>{}</b>", seconds(sum)), format!("{:.0}&nbsp;%", 100.0 * sum / all.max(1e-9))])
+            .chain([format!("<b>{}</b>", seconds(own)), format!("{:.0}&nbsp;%", 100.0 * own / all.max(1e-9))])
             .collect::<Vec<String>>()
     };
     let rows: Vec<Vec<String>> = sums.iter().map(row).collect();
@@ -136,9 +149,9 @@ fn phases(log: &Log) -> String {
 fn sources(log: &Log) -> String {
     let mut sums: BTreeMap<&str, (usize, f64, f64)> = BTreeMap::new();
     for call in &log.calls {
-        let work: f64 = if call.commands.is_empty() { call.seconds() } else { call.commands.iter().map(super::Command::seconds).sum() };
-        let sum = sums.entry(source(call)).or_default();
-        *sum = (sum.0 + 1, sum.1 + work, sum.2.max(call.seconds()));
+        let work = if call.commands.is_empty() { call.seconds() } else { sum(call.commands.iter().map(super::Command::seconds)) };
+        let row = sums.entry(source(call)).or_default();
+        *row = (row.0 + 1, row.1 + work, row.2.max(call.seconds()));
     }
     let mut sums: Vec<_> = sums.into_iter().collect();
     sums.sort_by(|one, other| other.1.1.total_cmp(&one.1.1));
@@ -174,15 +187,15 @@ fn own(log: &Log) -> String {
     let mut times: Vec<f64> = log.calls.iter().filter_map(own_seconds).collect();
     times.sort_by(f64::total_cmp);
     let Some(&most) = times.last() else { return String::new() };
-    let split: f64 = log.calls.iter().filter(|call| call.reason.is_none()).map(Call::seconds).sum();
-    let (sum, waited): (f64, f64) = (times.iter().sum(), log.commands().map(|(command, _)| command.waited()).sum());
+    let split = sum(log.calls.iter().filter(|call| call.reason.is_none()).map(Call::seconds));
+    let (all, waited) = (sum(times.iter().copied()), sum(log.commands().map(|(command, _)| command.waited())));
     let rows = [
         vec![
             "no command of the call ran or waited: dry runs and their wait for a slot, planning, the end".into(),
-            seconds(sum),
+            seconds(all),
             seconds(times[times.len() / 2]),
             seconds(most),
-            format!("{:.1}&nbsp;%", 100.0 * sum / split.max(1e-9)),
+            format!("{:.1}&nbsp;%", 100.0 * all / split.max(1e-9)),
         ],
         vec!["commands waited for a slot, some at the same time".into(), seconds(waited), String::new(), String::new(), String::new()],
     ];
@@ -192,7 +205,7 @@ fn own(log: &Log) -> String {
 /// The call that would take longest with a slot for each command.
 fn chain(log: &Log) -> String {
     let split = log.calls.iter().filter(|call| !call.commands.is_empty());
-    let chains = split.filter_map(|call| longest_chain(call).map(|chain| (call, seconds_of(call, &chain), chain)));
+    let chains = split.filter_map(|call| longest_chain(call).map(|chain| (call, seconds_of(&chain), chain)));
     let Some((call, length, chain)) = chains.max_by(|one, other| one.1.total_cmp(&other.1)) else {
         return if log.commands().next().is_some() {
             section("Longest chain", &note("The log doesn't say what commands need."))
@@ -200,9 +213,9 @@ fn chain(log: &Log) -> String {
             String::new()
         };
     };
-    let row = |&number: &usize| {
-        let command = &call.commands[number];
-        vec![escaped(&command.kind), bar(command.seconds(), length), seconds(command.seconds()), seconds(command.waited())]
+    let row = |link: &Link| {
+        let command = &call.commands[link.command];
+        vec![escaped(&command.kind), bar(link.seconds, length), seconds(link.seconds), seconds(command.seconds()), seconds(command.waited())]
     };
     let rows: Vec<Vec<String>> = chain.iter().map(row).collect();
     let text = format!(
@@ -210,7 +223,7 @@ fn chain(log: &Log) -> String {
         source(call),
         call.seconds()
     );
-    section("Longest chain", &(note(&text) + &table(&["Command", "", "Ran", "Waited for a slot"], 2, &rows)))
+    section("Longest chain", &(note(&text) + &table(&["Command", "", "After the one above", "Ran", "Waited for a slot"], 2, &rows)))
 }
 
 fn bad(log: &Log) -> String {
@@ -229,6 +242,8 @@ mod tests {
             "<b>4</b><span>calls, 1 failed",
             "<b>50 %</b><span>of the calls were split: 2 of 4",
             "<b>0 / 1</b><span>cache hits / misses",
+            "<h2>Failed calls</h2>",
+            "nvcc -c b.cu -DNAME",
             "a dry run fails",
             "Hint: do this",
             "target 80",
@@ -254,7 +269,7 @@ mod tests {
         }
         let tables: Vec<usize> =
             page(&log).split("<table>").skip(1).map(|table| table.split("</table>").next().unwrap().matches("<tr>").count()).collect();
-        assert_eq!(tables, [2, 2, 21, 3], "heads count too");
+        assert_eq!(tables, [21, 2, 2, 21, 3], "heads count too");
         let width = |part, whole| bar(part, whole).split("width:").nth(1).unwrap().split('%').next().unwrap().to_owned();
         assert_eq!([width(1.0, 0.0), width(1.0, 4.0), width(0.0, 4.0)], ["0.0", "25.0", "0.0"]);
         assert_eq!([percent(1, 0), percent(1, 4), percent(0, 4)], ["none", "25 %", "0 %"]);
@@ -287,6 +302,15 @@ mod tests {
     }
 
     #[test]
+    fn a_long_call_is_cut() {
+        let mut log = small();
+        log.calls.truncate(1);
+        log.calls[0].words = vec!["nvcc".into(), "-c".into(), format!("{}END", "é".repeat(391))];
+        let title = commands(&log).split("title=\"").nth(1).unwrap().split('"').next().unwrap().to_owned();
+        assert_eq!((title.chars().count(), title.ends_with("éE")), (400, true), "{title}");
+    }
+
+    #[test]
     fn texts_of_a_log_are_no_code_of_the_page() {
         let mut log = Log::default();
         log.add(SMALL.replace("a.cu", "<b>&amp;\\u0022.cu").replace("it links", "<script>").as_bytes());
@@ -311,6 +335,69 @@ mod tests {
         }
         for suffix in ["cu", "c", "cc", "cpp", "cxx", "ptx", "ii", "gpu"] {
             assert_eq!(source(&call(&format!("nvcc a.{suffix}"))), format!("a.{suffix}"));
+        }
+    }
+
+    /// Numbers by a seed.
+    struct Draw(u64);
+
+    impl Draw {
+        fn below(&mut self, most: u64) -> u64 {
+            self.0 = self.0.wrapping_mul(6_364_136_223_846_793_005).wrapping_add(1_442_695_040_888_963_407);
+            (self.0 >> 33) % most
+        }
+    }
+
+    const KINDS: [(&str, Phase); 10] = [
+        ("gcc -E", Phase::Preprocess),
+        ("g++-12 -E __CUDA_ARCH__=800", Phase::Preprocess),
+        ("cudafe++", Phase::HostFront),
+        ("cicc compute_80", Phase::DeviceFront),
+        ("cicc compute_100f", Phase::DeviceFront),
+        ("ptxas sm_90a", Phase::Assemble),
+        ("fatbinary", Phase::Join),
+        ("gcc -S __CUDA_ARCH__=900", Phase::HostCompile),
+        ("gcc -c __CUDA_ARCH__=900", Phase::HostCompile),
+        ("nvcc", Phase::Whole),
+    ];
+
+    /// A drawn call's line, whose times are in tenths of milliseconds, and what it adds to each phase. Commands may begin before those end that
+    /// they need, and even end before them.
+    fn drawn_call(draw: &mut Draw, sums: &mut [u64; Phase::ALL.len()]) -> String {
+        let begin = 10_000 + draw.below(50_000);
+        let length = 1 + draw.below(90_000);
+        let shown = |tick: u64| format!("{}.{:04}", tick / 10_000, tick % 10_000);
+        let mut commands = Vec::new();
+        for number in 0..draw.below(9) {
+            let (kind, phase) = KINDS[usize::try_from(draw.below(10)).unwrap()];
+            let from = begin + draw.below(length);
+            let to = from + draw.below(begin + length - from + 1);
+            let needs: Vec<String> = (0..number).filter(|_| draw.below(2) == 0).map(|need| need.to_string()).collect();
+            sums[phase as usize] += to - from;
+            let (asked, from, to, needs) = (shown(begin), shown(from), shown(to), needs.join(","));
+            commands.push(format!(r#"{{"kind":"{kind}","asked":{asked},"begin":{from},"end":{to},"status":0,"needs":[{needs}]}}"#));
+        }
+        let (begin, end, commands) = (shown(begin), shown(begin + length), commands.join(","));
+        format!("{{\"begin\":{begin},\"end\":{end},\"status\":0,\"commands\":[{commands}],\"words\":[\"nvcc\",\"k.cu\"]}}\n")
+    }
+
+    #[test]
+    fn drawn_logs_have_chains_within_their_calls_and_columns_that_sum_up() {
+        for seed in 0..1000 {
+            let (mut draw, mut sums, mut log) = (Draw(seed), [0; Phase::ALL.len()], Log::default());
+            for _ in 0..=draw.below(4) {
+                assert!(log.add(drawn_call(&mut draw, &mut sums).as_bytes()));
+            }
+            for call in &log.calls {
+                let chain = longest_chain(call).unwrap();
+                let longest = call.commands.iter().map(super::super::Command::seconds).fold(0.0, f64::max);
+                assert!((longest - 1e-6..=call.seconds() + 1e-6).contains(&seconds_of(&chain)), "seed {seed}: {chain:?} of {call:?}");
+            }
+            let rows = phase_sums(&log);
+            for (phase, ticks) in Phase::ALL.into_iter().zip(sums) {
+                let column = sum(rows.values().filter_map(|row| row.get(&phase)).copied());
+                assert!((column * 10_000.0 - number(usize::try_from(ticks).unwrap())).abs() < 1.0, "seed {seed}: {} has {column}", phase.name());
+            }
         }
     }
 }

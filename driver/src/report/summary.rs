@@ -1,10 +1,12 @@
 //! A log in a few lines of text.
 use super::log_lines::{Call, Command};
-use super::{Log, number, share};
+use super::{Log, number, share, sum};
 use std::fmt::Write;
 
 /// How many of the slowest commands are shown.
 const SLOWEST: usize = 5;
+/// How many of the calls that failed are shown.
+const FAILED: usize = 10;
 /// How many characters of a call's words are shown.
 const WIDTH: usize = 100;
 
@@ -22,8 +24,14 @@ pub fn summary(log: &Log) -> String {
 }
 
 fn write_all(text: &mut String, log: &Log) -> std::fmt::Result {
-    let failed = log.calls.iter().filter(|call| call.status != 0).count();
+    let failed = log.failed().count();
     writeln!(text, "calls: {}, failed: {failed}", log.calls.len())?;
+    for call in log.failed().take(FAILED) {
+        writeln!(text, "  status {}: {}", call.status, words_of(call, WIDTH))?;
+    }
+    if failed > FAILED {
+        writeln!(text, "  and {} more", failed - FAILED)?;
+    }
     writeln!(text, "split: {}", share(log.split(), log.calls.len()))?;
     for (reason, count) in log.reasons() {
         writeln!(text, "  {count:6}  to nvcc: {reason}")?;
@@ -83,9 +91,9 @@ fn write_commands(text: &mut String, log: &Log) -> std::fmt::Result {
 /// What the commands took one after the other, and how long it took with them side by side.
 fn write_times(text: &mut String, log: &Log) -> std::fmt::Result {
     let (begin, end) = log.span();
-    let work: f64 = log.commands().map(|(command, _)| command.seconds()).sum();
-    let waited: f64 = log.commands().map(|(command, _)| command.waited()).sum();
-    let split: f64 = log.calls.iter().filter(|call| !call.commands.is_empty()).map(Call::seconds).sum();
+    let work = sum(log.commands().map(|(command, _)| command.seconds()));
+    let waited = sum(log.commands().map(|(command, _)| command.waited()));
+    let split = sum(log.calls.iter().filter(|call| !call.commands.is_empty()).map(Call::seconds));
     writeln!(text, "\nfrom the first call's begin to the last one's end: {:.2} s", end - begin)?;
     write!(text, "commands of split calls, one after the other: {work:.2} s; those calls: {split:.2} s, ")?;
     writeln!(text, "of which commands waited {waited:.2} s for a slot, some at the same time")?;
@@ -103,6 +111,7 @@ mod tests {
     #[test]
     fn a_small_log_has_a_small_summary() {
         let wanted = "calls: 4, failed: 1
+  status 2: nvcc -c b.cu -DNAME=a_value_that_goes_on_and_on_until_the_line_is_longer_than_what_the_report_prints
 split: 2 of 4 (50 %)
        1  to nvcc: a dry run fails
        1  to nvcc: it links
@@ -125,6 +134,26 @@ commands that ran at once, on average: 1.0
 1 lines are no entries of such a log
 ";
         assert_eq!(summary(&small()), wanted);
+    }
+
+    #[test]
+    fn calls_that_failed_are_named_up_to_ten() {
+        let mut log = Log::default();
+        for status in 0..13 {
+            log.add(format!(r#"{{"begin":1,"end":2,"status":{status},"reason":"x","commands":[],"words":["nvcc","{status}.cu"]}}"#).as_bytes());
+        }
+        let text = summary(&log);
+        let lines: Vec<&str> = text.lines().take(13).collect();
+        assert_eq!((lines[0], lines[1], lines[10]), ("calls: 13, failed: 12", "  status 1: nvcc 1.cu", "  status 10: nvcc 10.cu"));
+        assert_eq!(lines[11..], ["  and 2 more", "split: 0 of 13 (0 %)"]);
+    }
+
+    #[test]
+    fn a_log_without_a_split_call_has_times() {
+        let mut log = Log::default();
+        log.add(br#"{"begin":1,"end":2,"status":0,"reason":"x","commands":[],"words":[]}"#);
+        let wanted = "commands of split calls, one after the other: 0.00 s; those calls: 0.00 s, of which commands waited 0.00 s for a slot";
+        assert!(summary(&log).contains(wanted), "{}", summary(&log));
     }
 
     #[test]

@@ -37,7 +37,7 @@ impl Phase {
             ("ptxas", _) => Phase::Assemble,
             ("fatbinary" | "nvlink", _) => Phase::Join,
             (_, Some("-E")) => Phase::Preprocess,
-            (_, Some("-c")) => Phase::HostCompile,
+            (_, Some("-c" | "-S")) => Phase::HostCompile,
             _ => Phase::Whole,
         }
     }
@@ -233,6 +233,7 @@ mod tests {
             ("ptxas sm_90a", Phase::Assemble, Some("90a")),
             ("fatbinary", Phase::Join, None),
             ("gcc -c __CUDA_ARCH__=900", Phase::HostCompile, None),
+            ("g++-12 -S __CUDA_ARCH__=900", Phase::HostCompile, None),
             ("nvcc -M", Phase::Whole, None),
             ("", Phase::Whole, None),
         ];
@@ -286,6 +287,16 @@ mod tests {
             drawn[0].phase()
         };
         assert_eq!([3.5, 4.0, 4.5].map(phase), [Phase::DeviceFront, Phase::DeviceFront, Phase::Assemble].map(|phase| phase as usize));
+    }
+
+    #[test]
+    fn a_bar_names_so_much_of_its_call() {
+        let mut log = small();
+        log.calls.truncate(1);
+        log.calls[0].words = vec!["x".repeat(159), "yz".into()];
+        let bars = bars(&log);
+        let title = Drawn::new(&bars[0], 0.0, 1.0).title;
+        assert!(title.ends_with(&format!("  of  {} ", "x".repeat(159))), "{title}");
     }
 
     #[test]

@@ -1,7 +1,7 @@
 //! A log as a trace for Chrome's viewer and Perfetto.
 use super::Log;
 use super::timeline::{Bar, bars};
-use crate::entries::json_text;
+use call::json::json_text;
 
 fn event(bar: &Bar<'_>) -> String {
     let (name, call) = (json_text(bar.kind), json_text(&bar.call.words.join(" ")));

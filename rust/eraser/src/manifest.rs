@@ -6,10 +6,6 @@ use crate::error::Error;
 use std::collections::BTreeSet;
 use std::path::{Path, PathBuf};
 
-/// The package of the program whose crate has the name of the library for Rust.
-const PROGRAM: &str = "zigrunk";
-const PROGRAM_PACKAGE: &str = "zigrunk-cli";
-
 /// What erased crates can depend on.
 pub struct Known {
     /// The proved crates.
@@ -20,10 +16,7 @@ pub struct Known {
 
 /// The manifest of a crate.
 pub fn manifest(of: &Crate, erased: &ErasedCrate, known: &Known) -> Result<String, Error> {
-    let package = match of.name.as_str() {
-        PROGRAM => PROGRAM_PACKAGE,
-        name => name,
-    };
+    let package = &of.name;
     let mut text = format!(
         "[package]\nname = \"{package}\"\ndescription = \"{}\"\nversion.workspace = true\nedition.workspace = true\n\
          rust-version.workspace = true\nlicense.workspace = true\npublish = false\n\n",
@@ -67,14 +60,8 @@ fn target(of: &Crate, erased: &ErasedCrate) -> String {
     if !erased.files.contains_key(Path::new("src/main.rs")) {
         return String::new();
     }
-    // the crate for Rust has this name, and the page
-    let doc = if of.name == PROGRAM {
-        "doc = false\n"
-    } else {
-        ""
-    };
     format!(
-        "[[bin]]\nname = \"{}\"\npath = \"src/main.rs\"\ntest = false\n{doc}\n",
+        "[[bin]]\nname = \"{}\"\npath = \"src/main.rs\"\ntest = false\n\n",
         of.name
     )
 }

@@ -189,7 +189,7 @@ def fixed(folder: str) -> list[str]:
     lines += [f"sha256 : {length} {length % 7}" for length in list(range(0, 200)) + [511, 512, 513, 1 << 14]]
     lines += [f"file : {escaped(path)}" for path in paths(folder)]
     lines += [f"var : {name}" for name in
-              ["HOME", "HOM", "HOMEX", "UNSET", "EMPTY", "LATIN", "EQUALS", "LONG", "%e", "=", "A=B", "EMPTY=", "a\x00b"]]
+              ["HOME", "HOM", "HOMEX", "UNSET", "EMPTY", "LATIN", "EQUALS", "EQUALS=a", "LONG", "%e", "=", "A=B", "EMPTY=", "a\x00b"]]
     return lines + ["args"]
 
 
