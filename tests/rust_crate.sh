@@ -7,7 +7,10 @@
 set -u
 cd "$(dirname "$0")/.." || exit 1
 . tests/lib.sh
+. tests/callers/room.sh
 top=$PWD
+room=$scratch/room
+make_room "$room"
 require 'the crate for Rust' cargo rustc cc
 
 export CARGO_TARGET_DIR=${TARGET:-$scratch/target} CARGO_NET_OFFLINE=true
