@@ -283,6 +283,7 @@ impl Error {
     }
 
     /// The message without the place.
+    #[must_use]
     pub fn what(&self) -> impl fmt::Display + '_ {
         What(&self.cause)
     }
@@ -338,7 +339,7 @@ impl Error {
 
 impl fmt::Debug for Error {
     fn fmt(&self, f: &mut fmt::Formatter<'_>) -> fmt::Result {
-        f.debug_struct("Error").field("kind", &self.kind()).field("message", &self.to_string()).field("place", &self.place).finish()
+        f.debug_struct("Error").field("kind", &self.kind()).field("message", &self.to_string()).field("place", &self.place).finish_non_exhaustive()
     }
 }
 
