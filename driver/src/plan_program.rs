@@ -348,6 +348,18 @@ mod tests {
             assert_eq!(asked(&words(line)), Ok(Asked::Stored(Format::Ninja, wanted.clone())), "{line}");
         }
         let Ok(Asked::Stored(_, stored)) = asked(&words("--dry-runs a b --cwd /w json")) else { panic!("no dry runs") };
-        assert_eq!(stored, Stored { files: ["a", "b"].map(String::from), cwd: "/w".into(), tmp: "/w".into(), flag: "-c".into(), keeps: false, whole: false, limit: MOST_BYTES, suffixes: vec![] });
+        assert_eq!(
+            stored,
+            Stored {
+                files: ["a", "b"].map(String::from),
+                cwd: "/w".into(),
+                tmp: "/w".into(),
+                flag: "-c".into(),
+                keeps: false,
+                whole: false,
+                limit: MOST_BYTES,
+                suffixes: vec![]
+            }
+        );
     }
 }
