@@ -8,7 +8,7 @@ use crate::{Error, FoundProgram, Variable, backend};
 #[derive(Debug, Clone, Copy, PartialEq, Eq, Hash)]
 #[non_exhaustive]
 pub enum Form {
-    /// All there is to know, for programs: zigrunk(1) describes it.
+    /// All there is to know, for programs: zigrunk-plan(1) describes it.
     Json,
     /// A Ninja file.
     Ninja,
