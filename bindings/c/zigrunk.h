@@ -58,7 +58,7 @@ extern "C" {
 #define ZIGRUNK_ODD_DIRECTORY 13 /* a directory of a plan isn't absolute and plain: the text says which */
 
 /* Forms of a plan. */
-#define ZIGRUNK_JSON 0u  /* all there is to know, for programs: zigrunk(1) describes it */
+#define ZIGRUNK_JSON 0u  /* all there is to know, for programs: zigrunk-plan(1) describes it */
 #define ZIGRUNK_NINJA 1u /* a Ninja file */
 #define ZIGRUNK_SHELL 2u /* a script for a POSIX shell */
 #define ZIGRUNK_TEXT 3u  /* a few lines for people, without quotes */
