@@ -113,7 +113,7 @@ needs_libc_alone() {
 debianize() {
     local root=$1 page program
     mkdir -p "$root/usr/share/zsh/vendor-completions" "$root/usr/share/lintian/overrides"
-    for program in cudaplan zigrunk zigrunk-nvcc; do
+    for program in cudaplan zigrunk; do
         echo "zigrunk: statically-linked-binary [usr/bin/$program]"
     done > "$root/usr/share/lintian/overrides/zigrunk"
     mv "$root/usr/share/zsh/site-functions/_zigrunk" "$root/usr/share/zsh/vendor-completions"

@@ -28,7 +28,7 @@ symbols() {
 
 few_functions() { [ "$(exports | wc -l)" -le 25 ]; }
 
-few_lines() { [ "$(cat "$workspace"/capi/src/*.rs | wc -l)" -le 1100 ]; }
+few_lines() { [ "$(cat "$workspace"/capi/src/*.rs | grep -vcE "^ *(//|$)")" -le 1150 ]; }
 
 # as_written: the header is what cbindgen writes of the sources.
 as_written() { (cd "$workspace/capi" && cbindgen -q --config cbindgen.toml --crate capi .) | diff bindings/c/zigrunk.h -; }
@@ -54,7 +54,7 @@ answers() {
 check 'the library and its files' bindings/c/library.sh "$archive" "$installed"
 check 'its symbols' symbols
 check 'at most 25 functions' few_functions
-check 'at most 1,100 lines' few_lines
+check 'at most 1,150 lines of code' few_lines
 if command -v cbindgen > /dev/null; then
     check 'the header is what cbindgen writes' as_written
 else

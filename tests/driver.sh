@@ -1483,7 +1483,7 @@ plans() {
         prints 'the help of a word' "$("$zigrunk" plan --help)" help plan
         same 'lines and columns of the help' "$("$zigrunk" help | awk 'length > 80 || NR > 24' | wc -l)" 0
         same 'formats in the manual' "$(listed_in "$manual/zigrunk-plan.1")" "$("$zigrunk" plan --formats)"
-        same 'formats in the help' "$("$zigrunk" help plan | sed -n 's/^  \([a-z]\{1,\}\)  .*/\1/p')" "$("$zigrunk" plan --formats)"
+        same 'formats in the help' "$("$zigrunk" help plan | sed -n 's/^  \([a-z][a-z]*\)  .*/\1/p')" "$("$zigrunk" plan --formats)"
         end
     fi
 }

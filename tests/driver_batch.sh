@@ -369,7 +369,7 @@ HELP
         if command -v script > /dev/null; then
             printf '%s\n' '-c a.cu -o a.o' > list
             LOG=$room/log TMPDIR=$room/tmp XDG_RUNTIME_DIR=$room/run script -qec "$scratch/bin/zigrunk-batch list" /dev/null > "$room/out" < /dev/null
-            same 'lines of a terminal' "$(tr '\r' '\n' < "$room/out" | grep -c 'of 1 calls') $(grep -c . "$room/out")" "$(tr '\r' '\n' < "$room/out" | grep -c 'zigrunk-batch') 1"
+            same 'lines of a terminal' "$(tr '\r' '\n' < "$room/out" | grep -c 'of 1 calls') $(grep -c . "$room/out")" "$(tr '\r' '\n' < "$room/out" | grep -c 'zigrunk batch') 1"
         fi
         end
     fi

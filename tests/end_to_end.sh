@@ -1,7 +1,7 @@
 #!/usr/bin/env bash
 # Tests zigrunk-nvcc, and what examples/ has (tests/cluster_scripts.sh), by stand-ins, of which tests/driver.sh has more, by calls that nvcc makes
 # too (tests/compare_calls.py), by the commands that nvcc starts for them (tests/own_commands.py), by the installed nvcc's list of options
-# (tests/nvcc_options.sh), by commands that have only their own files (tests/isolated.py), where the machine refuses something
+# (tests/nvcc_options.sh), by commands that have only their own files (tests/isolated.py), by plans that run (tests/plans.sh), where the machine refuses something
 # (tests/conditions.sh), by what calls leave (tests/leftovers.sh), and by signals in the middle of a build. It tests too that such tests fail if they show nothing (tests/runners.sh).
 # Prints a line for each failure, then for each part how long it took and how many seconds of processor, and last
 # 'N passed, M failed'; the status is 1 if one failed. All parts start at once. The calls take what the others leave of the
@@ -123,6 +123,7 @@ else
         start cmake tests/cmake.sh
         start builds tests/builds.sh
     fi
+    start plans tests/plans.sh
     start needs tests/needs.sh
     start leftovers tests/leftovers.sh
     start late tests/late.sh

@@ -67,7 +67,7 @@ workspace() {
 }
 
 programs() {
-    script 'the programs' tests/program.sh "$built/cudaplan" "$built/zigrunk"
+    script 'the programs' tests/program.sh "$built/cudaplan" "$built/zigrunk-driver"
 }
 
 library() {

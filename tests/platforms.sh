@@ -186,8 +186,8 @@ platform() {
     is_wanted_target "$1" || return
     check "$1: programs and library" built "$1" "$2gcc"
     [ "$failed" -eq "$before" ] || return
-    check "$1: the version" prints "zigrunk $version" "$(runner "$bin/zigrunk" "$3")" --version
-    check "$1: tests/program.sh" cases env EMULATED="$3" tests/program.sh "$(runner "$bin/cudaplan" "$3")" "$(runner "$bin/zigrunk" "$3")"
+    check "$1: the version" prints "zigrunk $version" "$(runner "$bin/zigrunk-driver" "$3")" --version
+    check "$1: tests/program.sh" cases env EMULATED="$3" tests/program.sh "$(runner "$bin/cudaplan" "$3")" "$(runner "$bin/zigrunk-driver" "$3")"
     check "$1: test_lines" driven "$1" test_lines "$3"
     check "$1: test_plans" driven "$1" test_plans "$3"
     check "$1: the tests in C" in_c "$1" "$2" "${3:+${3##"$root"}}"

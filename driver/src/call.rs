@@ -5,6 +5,7 @@ use crate::jobserver::Make;
 use crate::log::{self, LoggedCall};
 use crate::places::{absolute, working_directory};
 use crate::products;
+use crate::quota;
 use crate::rule::Refusals;
 use crate::served;
 use crate::settings::Settings;
@@ -105,7 +106,7 @@ impl Call<'_> {
         folder.tell_if_taken(&temporary);
         self.folder = Some(Rc::clone(&folder));
         let refusals = Refusals::default();
-        let at_once = system::processors() + 2;
+        let at_once = quota::processors() + 2;
         let split = split::Call { settings: &self.settings, line: &line, folder: &folder, at_once, refusals: &refusals };
         let call = split.read()?;
         let environment = Environment::own().with("ZIGRUNK_INSIDE", &self.compiler.inside);

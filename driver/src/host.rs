@@ -4,6 +4,7 @@ use crate::guard::{Guard, MOST_GROUPS, Shared};
 use crate::jobserver::{Make, Token, Tokens};
 use crate::machine::{Ended, Event, Job, Machine};
 use crate::piped::Piped;
+use crate::quota;
 use crate::settings::Settings;
 use crate::slots::{BEAT, Slot, Slots};
 use crate::streams::{complain, content};
@@ -144,7 +145,7 @@ fn slots(settings: &Settings, most: Option<usize>) -> Option<Slots> {
     if !settings.runner.is_empty() {
         return None;
     }
-    let count = settings.slots.unwrap_or_else(|| system::processors().min(most.unwrap_or(usize::MAX)));
+    let count = settings.slots.unwrap_or_else(|| quota::processors().min(most.unwrap_or(usize::MAX)));
     let run = env::var_os("XDG_RUNTIME_DIR").filter(|it| !it.is_empty()).map(PathBuf::from);
     let places: Vec<PathBuf> = run.into_iter().chain(["/tmp".into(), "/dev/shm".into()]).collect();
     let slots = (count > 0).then(|| Slots::open(count, nanoseconds(), &places)).flatten();

@@ -98,7 +98,6 @@ mod tests {
     use std::env;
     use std::fs;
     use std::os::unix::fs::symlink;
-    use std::time::{Duration, Instant};
 
     /// gcc, by the path under which it's found.
     fn gcc() -> PathBuf {
@@ -133,16 +132,9 @@ mod tests {
     }
 
     #[test]
-    fn this_machines_compilers_are_known_at_once() {
+    fn this_machines_compilers_are_known() {
         assert_eq!(HostCompiler::of(&gcc()), HostCompiler::Gcc);
         assert_eq!(HostCompiler::of(Path::new("/bin/sh")), HostCompiler::Other);
-        let times = (0..20).map(|_| {
-            let begun = Instant::now();
-            HostCompiler::of(&gcc());
-            begun.elapsed()
-        });
-        // (a build with checks takes longer than one that is installed)
-        assert!(times.min().unwrap() < Duration::from_millis(if cfg!(debug_assertions) { 100 } else { 1 }));
     }
 
     #[test]

@@ -25,6 +25,7 @@ mod places;
 mod plan_program;
 mod planned;
 mod products;
+mod quota;
 mod report;
 mod rule;
 mod run;

@@ -5,15 +5,13 @@ use std::borrow::Cow;
 use std::ffi::{CStr, CString, c_char, c_int, c_long, c_uint, c_ulong, c_void};
 use std::fs::File;
 use std::io;
-use std::num::NonZero;
 use std::ops::Deref;
 use std::os::fd::{AsRawFd, BorrowedFd, FromRawFd, OwnedFd, RawFd};
 use std::os::unix::ffi::OsStrExt;
 use std::path::Path;
 use std::ptr;
-use std::sync::OnceLock;
 use std::sync::atomic::{AtomicBool, Ordering};
-use std::thread::{available_parallelism, sleep};
+use std::thread::sleep;
 use std::time::Duration;
 
 type Handler = usize;
@@ -110,6 +108,7 @@ unsafe extern "C" {
     fn ptsname_r(fd: c_int, name: *mut c_char, size: usize) -> c_int;
     fn raise(signal: c_int) -> c_int;
     fn read(fd: c_int, to: *mut c_void, size: usize) -> isize;
+    fn sched_getaffinity(pid: c_int, size: usize, mask: *mut c_void) -> c_int;
     fn setpgid(pid: c_int, group: c_int) -> c_int;
     fn signal(number: c_int, handler: Handler) -> Handler;
     fn signalfd(fd: c_int, set: *const SignalSet, flags: c_int) -> c_int;
@@ -154,10 +153,11 @@ pub fn process() -> i32 {
     unsafe { getpid() }
 }
 
-/// How many processors this process may use, by its affinity and by the quota of its control groups.
+/// How many processors this process may use by its affinity.
 pub fn processors() -> usize {
-    static COUNT: OnceLock<usize> = OnceLock::new();
-    *COUNT.get_or_init(|| available_parallelism().map_or(1, NonZero::get))
+    let mut mask = [0_u8; 1024];
+    let size = unsafe { sched_getaffinity(0, mask.len(), mask.as_mut_ptr().cast()) };
+    if size < 0 { 1 } else { mask.iter().map(|byte| byte.count_ones() as usize).sum() }
 }
 
 /// How many more files this process may open. Its caller may have left some open.
@@ -1037,8 +1037,7 @@ mod tests {
 
     #[test]
     fn the_machine_is_as_the_kernel_says() {
-        let allowed = number_in("/proc/self/status", "Cpus_allowed:", 16).count_ones() as usize;
-        assert!((1..=allowed).contains(&processors()), "a control group may allow fewer");
+        assert_eq!(processors(), number_in("/proc/self/status", "Cpus_allowed:", 16).count_ones() as usize);
         assert_eq!((process().unsigned_abs(), user()), (std::process::id(), fs::metadata("/proc/self").unwrap().uid()));
         let most = usize::try_from(number_in("/proc/self/limits", "Max open files", 10)).unwrap();
         // Other tests open some files meanwhile.

@@ -29,11 +29,11 @@ abbrev pub description : NvccGeneratedSubcommand → List ℕ
 description c = with_target (last_part c.exe) (target_of c.args)
 
 -- examples: a word decides by itself, or the one behind it; the first one counts
-pub target_of_cicc : target_of (spaced (codes "--device-c -arch compute_80 k.ii -arch=sm_90")) ≡ Some (codes "compute_80")
+pub target_of_cicc : target_of (spaced "--device-c -arch compute_80 k.ii -arch=sm_90") ≡ Some (codes "compute_80")
 target_of_cicc = refl
 
-pub target_of_nvlink : target_of (spaced (codes "-m64 --arch=sm_80 -arch")) ≡ Some (codes "sm_80")
+pub target_of_nvlink : target_of (spaced "-m64 --arch=sm_80 -arch") ≡ Some (codes "sm_80")
 target_of_nvlink = refl
 
-pub no_target : target_of (spaced (codes "-E -DARCH=1 -arch")) ≡ None
+pub no_target : target_of (spaced "-E -DARCH=1 -arch") ≡ None
 no_target = refl

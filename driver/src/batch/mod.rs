@@ -16,6 +16,7 @@ use crate::host::Host;
 use crate::jobserver::Make;
 use crate::machine::Machine;
 use crate::places::{absolute, working_directory};
+use crate::quota;
 use crate::rule::Refusals;
 use crate::settings::Settings;
 use crate::streams::{complain, say};
@@ -180,9 +181,9 @@ fn machine(settings: &Settings, folder: &Rc<CallFolder>) -> Result<Host, String>
 /// How many commands run at once, and how many calls are planned, on this machine.
 fn limits(options: &Options, settings: &Settings) -> Limits {
     // Workers say themselves how many commands they run.
-    let usual = || if settings.has_workers { MOST_AT_ONCE } else { system::processors() };
+    let usual = || if settings.has_workers { MOST_AT_ONCE } else { quota::processors() };
     let at_once = options.jobs.or(settings.jobs).unwrap_or_else(usual);
-    let planned_at_once = if settings.runner.is_empty() { at_once } else { system::processors() };
+    let planned_at_once = if settings.runner.is_empty() { at_once } else { quota::processors() };
     Limits { at_once, planned_at_once, failures: options.failures }
 }
 

@@ -6,6 +6,7 @@ use super::invitations::{Invitation, VARIABLE, own_name};
 use super::messages::{Introduction, Message, VERSION};
 use super::secrets::{self, Once, Side};
 use super::session::Session;
+use crate::quota;
 use crate::streams::{complain, say};
 use crate::system;
 use std::env;
@@ -170,7 +171,7 @@ fn parse(words: &[OsString]) -> Result<Wanted, String> {
 
 fn introduction(slots: Option<usize>, name: Option<String>) -> io::Result<Introduction> {
     let of_slurm = env::var("SLURMD_NODENAME").ok().filter(|name| !name.is_empty());
-    let slots = u32::try_from(slots.unwrap_or_else(system::processors)).unwrap_or(1);
+    let slots = u32::try_from(slots.unwrap_or_else(quota::processors)).unwrap_or(1);
     let process: Once = secrets::random()?;
     Ok(Introduction { name: name.or(of_slurm).unwrap_or_else(own_name), process, slots })
 }
