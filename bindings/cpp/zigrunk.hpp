@@ -14,6 +14,7 @@
 #include <stdexcept>
 #include <string>
 #include <string_view>
+#include <utility>
 #include <vector>
 
 extern "C" char **environ;
@@ -128,9 +129,11 @@ public:
         }
     }
     // The commands of its groups, in order.
-    const std::vector<Command> &commands() const { return commands_; }
+    const std::vector<Command> &commands() const & { return commands_; }
+    std::vector<Command> commands() && { return std::move(commands_); }
     // Those that it dropped, each with its reason.
-    const std::vector<Command> &dropped() const { return dropped_; }
+    const std::vector<Command> &dropped() const & { return dropped_; }
+    std::vector<Command> dropped() && { return std::move(dropped_); }
     // The plan as "json", "ninja", "shell" or "text".
     std::string text(std::string_view format) const { return own::answer(zigrunk_plan_text, plan_.get(), own::given(format)).at(0); }
     // The key of a command, by its number: zigrunk_plan_key says what it is for, and when it throws.

@@ -50,8 +50,7 @@ void append(Texts &to, const Texts &more) { to.insert(to.end(), more.begin(), mo
 
 Texts written(const Command &command) {
     Texts files = command.writes;
-    append(files, command.may_write);
-    return files;
+    return append(files, command.may_write), files;
 }
 
 // The files that a command reads: those of its words, and what commands before it wrote for it.
@@ -86,8 +85,7 @@ std::string script_on(const std::string &worker, const zigrunk::Plan &plan, cons
 // The status of a command that ended; 127 if its worker was lost.
 int status_of(const std::string &said) {
     int status = 127;
-    std::ifstream(said + ".status") >> status;
-    return status;
+    return std::ifstream(said + ".status") >> status, status;
 }
 
 void print(const std::string &path, std::ostream &to) {
