@@ -8,9 +8,13 @@
 
 mod environment;
 mod keys;
+mod known_words;
 pub mod laws;
 mod marks;
 
 pub use environment::tool_variables;
 pub use keys::{MOST_ROOTS, command_key};
+pub use known_words::{
+    Form, KnownWord, Meaning, known_word, names_reach, own_name_reaches, own_words, shared_words,
+};
 pub use marks::Part;
