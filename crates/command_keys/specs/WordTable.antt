@@ -1,6 +1,7 @@
 -- The table of the words that a cache knows, as `known_words` has it. What a tool does by each word is said there.
-use Rattle.std.specs.Prelude.{◌≡◌, ℕ, List, [], ◌∷◌, ◌++◌, Bool, true, false, Option, Some, None, codes, refl, map}
-use Rattle.std.specs.List.{find, list_all}
+use Rattle.std.specs.Prelude.{◌≡◌, ℕ, List, [], ◌∷◌, Bool, Option, Some, None, codes, refl, map}
+use Rattle.std.specs.List.{find}
+use Rattle.std.specs.Option.{option_or}
 use Rattle.texts.specs.Lists.{is_some_and}
 use Rattle.compilers.specs.declared.plans.program.Program.{Program}
 use Rattle.compilers.specs.declared.plans.program.Program.TheVariants.{Cicc, Ptxas, Cudafe, Fatbinary, Nvlink, Other}
@@ -216,9 +217,9 @@ shared_words Fatbinary = []
 shared_words Nvlink = []
 shared_words Other = []
 
--- the row that says what a word is: the first that fits it
+-- the row that says what a word is: the first of the tool's own words that fits it, or else the first of those that it shares
 abbrev pub known_word : Program → List ℕ → Option Row
-known_word tool word = find (fits word) (own_words tool ++ shared_words tool)
+known_word tool word = option_or (find (fits word) (own_words tool)) (find (fits word) (shared_words tool))
 
 -- whether names of files, or the product's own name, reach the product by a word
 abbrev pub shows_names : Program → List ℕ → Bool

@@ -13,7 +13,7 @@ use Rattle.plan_fitness.specs.declared.fitness.PlanToRun.{PlanToRun}
 use Rattle.plan_fitness.specs.Written.{Files, no_files, with_files}
 
 -- what is asked of a plan: its directories, the files of its commands in plan order, how many it dropped, and the call's files
-record pub Asked : Type 0 where
+pub record Asked : Type 0 where
   pub cwd : List ℕ
   pub tmp : List ℕ
   pub records : List CommandFiles

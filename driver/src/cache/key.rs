@@ -6,8 +6,8 @@ use crate::cache::processor::instructions;
 use crate::cache::recipe::Recipe;
 use crate::cache::store::Store;
 use crate::cache::tool::Kind;
+use crate::cache::words::program_of;
 use command_keys::{command_key, tool_variables};
-use compilers::plans::Program;
 use rattle_std::alloc::Global;
 use std::borrow::Cow;
 use std::ffi::{OsStr, OsString};
@@ -92,16 +92,6 @@ fn token_identity(text: &[u8], recipe: &Recipe, store: &Store) -> Option<Digest>
 fn counted<'a>(text: &'a Text, recipe: &Recipe) -> Option<Cow<'a, [u8]>> {
     let is_seen = |stem: &String| text.role == Role::Preprocessed && marked::shows(&text.content, stem.as_bytes());
     if recipe.stem.as_ref().is_some_and(is_seen) { None } else { recipe.unnamed(&text.content) }
-}
-
-fn program_of(kind: Kind) -> Program {
-    match kind {
-        Kind::CudaFe => Program::Cudafe,
-        Kind::Cicc => Program::Cicc,
-        Kind::Ptxas => Program::Ptxas,
-        Kind::Fatbinary => Program::Fatbinary,
-        Kind::Host => Program::Other,
-    }
 }
 
 /// The key of a command's words and variables, by what is proved of keys. `PWD` is where the command runs, which only debugging information has.

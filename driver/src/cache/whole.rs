@@ -9,7 +9,7 @@ use crate::cache::recipe::environment_of;
 use crate::cache::searches::{MARGIN, Search};
 use crate::cache::stamps::{Moment, Stamp, is_older};
 use crate::cache::tool::{Kind, Run, is_called, is_disguised};
-use crate::cache::words::{self, Role};
+use crate::cache::words;
 use crate::cache::{Candidate, Session, State, names, terminal};
 use crate::machine::Job;
 use crate::planned::PlannedCommand;
@@ -32,9 +32,8 @@ use std::time::SystemTime;
 /// The files that a command reads by its words as it runs. `None` if the cache doesn't know the command or one of its words.
 fn read_by(job: &Job) -> Option<Vec<PathBuf>> {
     let (program, words) = job.words.split_first()?;
-    let roles = words::roles(Kind::of(program)?, words)?;
-    let names = roles.iter().filter(|(_, role)| matches!(role, Role::File | Role::Image)).map(|&(word, role)| words::file_in(word, role));
-    Some(names.map(|name| Path::new(&job.folder).join(name)).collect())
+    let names = words::names_read(Kind::of(program)?, words)?;
+    Some(names.iter().map(|name| Path::new(&job.folder).join(name)).collect())
 }
 
 /// A call that has come to its end, and has succeeded.
