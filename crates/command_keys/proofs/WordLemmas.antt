@@ -91,7 +91,7 @@ by-of tool (Some row) word = paired-of word (next_meaning row) (row_read row wor
 
 word-of : (tool : Program) (option : Option Meaning) (word : List ℕ) → IsNextOf word (word_read tool option word)
 word-of tool (Some meaning) word next e = ap (λ n. n.0.word) (sym (same_Some (value_read meaning word, None) next e)) ∙ value-word meaning word
-word-of tool None word = by-of tool (known_word tool word) word
+word-of tool None word next e = by-of tool (known_word tool word) word next e
 
 -- all words are read, in order
 abbrev words_read : List Read → List (List ℕ)
