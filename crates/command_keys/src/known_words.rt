@@ -85,7 +85,7 @@ fn of_front_ends() -> &'static [KnownWord]
         Whole Counts "--parse_templates" "parses templates that nothing uses"
         Whole Counts "--promote_warnings" "fails by a warning"
         Whole Counts "--relaxed_constexpr" "lets device code call constexpr functions of the host"
-        Whole Counts "--simt-only" "has no tile code"
+        Whole Counts "--simt-only" "compiles no tile code; from nvcc 13.1 on"
         Whole Counts "--static-host-stub" "makes stubs of kernels static"
         Beginning Counts "--diag_error=" "makes a message an error"
         Beginning Counts "--diag_suppress=" "leaves a message out"

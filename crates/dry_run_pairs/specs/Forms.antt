@@ -116,6 +116,6 @@ product_stays = refl
 
 pub lines_that_count :
     forms_of (call_in (codes "/w") [] true)
-    (codes "warning\n#$ A=b \n#$ gcc -E \"/w/k.cu\" -o \"/t/tmpxft_1_2-3_k.cpp1.ii\" \n#$ gcc -E \"k.cu\" -o \"/t/tmpxft_1_2-4_k.cpp4.ii\" \n#$ -- Filter Dependencies -- > k.d\n#$ rm k.ii\n#$ cicc x") ≡
+    (codes "warning\n#$ A=b \r\n#$ gcc -E \"/w/k.cu\" -o \"/t/tmpxft_1_2-3_k.cpp1.ii\" \n#$ gcc -E \"k.cu\" -o \"/t/tmpxft_1_2-4_k.cpp4.ii\" \n#$ -- Filter Dependencies -- > k.d\n#$ rm k.ii\n#$ cicc x") ≡
     codes "A=b" ∷ codes "gcc -E \"k.cu\" -o \"k.cpp1.ii\"" ∷ codes "cicc x" ∷ []
 lines_that_count = refl

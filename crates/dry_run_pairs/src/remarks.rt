@@ -20,7 +20,7 @@ fn push_line(text: &mut Vec<u8>, line: &[u8]) -> Result<(), AllocError>
     Ok(())
 }
 
-/// nvcc's messages in a dry run: the lines that are no commands or variables, each with its newline.
+/// nvcc's messages in a dry run: the lines that are no commands or variables, each with its newline, without a carriage return before that.
 pub fn remarks_in(alloc: Global, run: &[u8]) -> Result<Vec<u8>, AllocError>
     ensures { IfOk result (λ text. text.items ≡ spec.remarks run.now) }
 {
