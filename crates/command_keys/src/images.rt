@@ -40,7 +40,14 @@ fn is_file(part: &[u8]) -> bool
 fn names_file(image: &[u8]) -> bool
     ensures { result ≡ list_any spec.is_file (spec.parts_of image.now) }
 {
-    image.split(|byte| *byte == b',').any(is_file)
+    let mut rest = image;
+    while let Some((part, others)) = first_part(rest) {
+        if is_file(part) {
+            return true;
+        }
+        rest = others;
+    }
+    is_file(rest)
 }
 
 /// The name of the file in an image: it's in one part, and in no other.
