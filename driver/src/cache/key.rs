@@ -18,7 +18,7 @@ use std::path::{Path, PathBuf};
 use token_texts::token_text;
 
 /// What every key begins with. It changes with what is in an entry, or in a key.
-const FORM: &[u8] = b"zigrunk command 5";
+const FORM: &[u8] = b"zigrunk command 6";
 
 /// A part of a text that has so many bytes is found in the store, with what its tokens are.
 const LARGE: usize = 1 << 16;
