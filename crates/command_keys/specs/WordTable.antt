@@ -47,7 +47,7 @@ of_front_ends =
     ∷ (codes "--module_id_file_name", Valued, File)
     ∷ (codes "--orig_src_file_name", Valued, Counts)
     ∷ (codes "--orig_src_path_name", Valued, Counts)
-    ∷ (codes "--stub_file_name", Valued, File) ∷ []
+    ∷ (codes "--stub_file_name", Valued, Counts) ∷ []
 
 -- cicc's own words
 abbrev pub of_cicc : List Row

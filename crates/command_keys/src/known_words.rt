@@ -99,7 +99,7 @@ fn of_front_ends() -> &'static [KnownWord]
         Valued File "--module_id_file_name" "cudafe++ writes the module id there, and cicc reads it"
         Valued Counts "--orig_src_file_name" "puts the source's name into the host code"
         Valued Counts "--orig_src_path_name" "makes the module id of the source's path"
-        Valued File "--stub_file_name" "cicc writes the stubs there, and cudafe++ includes them by this name"
+        Valued Counts "--stub_file_name" "cicc writes the stubs there, with this name in them, and cudafe++ includes them by it"
     ]
 }
 

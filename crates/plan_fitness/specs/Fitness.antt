@@ -5,11 +5,11 @@ use Rattle.texts.specs.Lists.{is_some_and}
 use Rattle.texts.specs.Path.{joined}
 use Rattle.canonical_names.specs.Directories.{is_plain}
 use Rattle.command_files.specs.declared.files.CommandFiles.{CommandFiles}
-use Rattle.plan_fitness.specs.declared.fitness.Directory.{Directory}
-use Rattle.plan_fitness.specs.declared.fitness.Directory.TheVariants.{Working, Temporary}
-use Rattle.plan_fitness.specs.declared.fitness.Fitness.{Fitness}
-use Rattle.plan_fitness.specs.declared.fitness.Fitness.TheVariants.{Fit, OddDirectory, NoCommand, Dropped, Unwritten, SourceUnread, ProductUnwritten}
-use Rattle.plan_fitness.specs.declared.fitness.PlanToRun.{PlanToRun}
+use Rattle.plan_fitness.specs.declared.reasons.Directory.{Directory}
+use Rattle.plan_fitness.specs.declared.reasons.Directory.TheVariants.{Working, Temporary}
+use Rattle.plan_fitness.specs.declared.reasons.Fitness.{Fitness}
+use Rattle.plan_fitness.specs.declared.reasons.Fitness.TheVariants.{Fit, OddDirectory, NoCommand, Dropped, Unwritten, SourceUnread, ProductUnwritten}
+use Rattle.plan_fitness.specs.declared.plan_to_run.PlanToRun.{PlanToRun}
 use Rattle.plan_fitness.specs.Written.{Files, no_files, with_files}
 
 -- what is asked of a plan: its directories, the files of its commands in plan order, how many it dropped, and the call's files

@@ -2,7 +2,9 @@
 #![tactic(auto)]
 
 mod files;
-mod fitness;
+mod plan_to_run;
+mod reasons;
 mod written;
 
-pub use fitness::{Directory, Fitness, PlanToRun, fitness};
+pub use plan_to_run::{PlanToRun, fitness};
+pub use reasons::{Directory, Fitness};
