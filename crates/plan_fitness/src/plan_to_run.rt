@@ -10,7 +10,7 @@ use command_files::CommandFiles;
 use std::alloc::{AllocError, Global};
 
 /// What is asked of a plan.
-#[derive(Debug, Drop)]
+#[derive(Drop)]
 pub struct PlanToRun<'a> {
     /// The path of the call's working directory.
     pub cwd: &'a str,

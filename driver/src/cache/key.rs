@@ -1,12 +1,13 @@
 //! The key of a command: what its outputs and messages depend on.
 use crate::cache::digest::{Digest, Hasher};
-use crate::cache::host_text::{files_of_ptx, parts_of, sees_lines};
+use crate::cache::host_text::{parts_of, sees_lines};
 use crate::cache::marked;
 use crate::cache::processor::instructions;
 use crate::cache::recipe::Recipe;
 use crate::cache::store::Store;
 use crate::cache::tool::Kind;
 use crate::cache::words::program_of;
+use call::ptx::files_of_ptx;
 use command_keys::{command_key, tool_variables};
 use rattle_std::alloc::Global;
 use std::borrow::Cow;
@@ -106,13 +107,9 @@ fn words_key(recipe: &Recipe, environment: &[(OsString, OsString)]) -> Option<Ve
     Some(key.as_slice().to_vec())
 }
 
-/// The files that PTX names for debuggers count by their sizes and times, which ptxas writes. `None` if it names one with a backslash, which may
-/// quote something.
+/// The files that PTX names for debuggers count by their sizes and times, which ptxas writes. `None` if it may name one in another way.
 fn add_named(hasher: &mut Hasher, ptx: &[u8], folder: &Path) -> Option<()> {
-    for name in files_of_ptx(ptx) {
-        if name.contains(&b'\\') {
-            return None;
-        }
+    for name in files_of_ptx(ptx)? {
         let status = fs::metadata(folder.join(OsStr::from_bytes(name))).ok();
         let stamp = status.map(|status| format!("{} {} {}", status.len(), status.mtime(), status.mtime_nsec()));
         hasher.add(stamp.unwrap_or_default().as_bytes());

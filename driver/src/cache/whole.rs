@@ -2,7 +2,6 @@
 use crate::cache::ahead::Asked;
 use crate::cache::calls::{self, Answer, Product};
 use crate::cache::direct::Found;
-use crate::cache::host_text::files_of_ptx;
 use crate::cache::includes::{self, Folders};
 use crate::cache::manifest::{Form, Manifest, Seen, real_place};
 use crate::cache::recipe::environment_of;
@@ -18,6 +17,7 @@ use crate::split::Said;
 use crate::streams::content_of;
 use call::NvccLine;
 use call::programs;
+use call::ptx::files_of_ptx;
 use std::collections::{BTreeMap, BTreeSet, HashMap};
 use std::env;
 use std::ffi::{OsStr, OsString};
@@ -384,7 +384,7 @@ impl Session<'_> {
     fn gather_named(&self, cwd: &Path, gathered: &mut Gathered<'_>) -> Option<()> {
         let of_ptxas = self.candidates.values().map(|candidate| &candidate.recipe).filter(|recipe| recipe.kind == Kind::Ptxas);
         for (recipe, ptx) in of_ptxas.flat_map(|recipe| recipe.reads.iter().map(move |ptx| (recipe, ptx))) {
-            for name in files_of_ptx(&content_of(ptx).ok()?) {
+            for name in files_of_ptx(&content_of(ptx).ok()?)? {
                 let path = Path::new(&recipe.job.folder).join(OsStr::from_bytes(name));
                 match fs::symlink_metadata(&path) {
                     Err(error) if error.kind() == ErrorKind::NotFound => gathered.search.lacks(path),
