@@ -166,7 +166,8 @@ impl Command<'_> {
     /// it needs have ended; `OutOfMemory`.
     pub fn cache_key(&self) -> Result<CacheKey, Error> {
         let refused = |why| Error::uncacheable(why, None);
-        let tool = self.tool().filter(|tool| TOOLS.contains(tool)).ok_or_else(|| refused("only cudafe++, cicc and ptxas name all that they touch"))?;
+        let others = || refused("only cudafe++, cicc and ptxas name all that they touch");
+        let tool = self.tool().filter(|tool| TOOLS.contains(tool)).ok_or_else(others)?;
         if !self.is_cacheable() || self.missing().is_some() {
             return Err(refused("its line can't be read"));
         }

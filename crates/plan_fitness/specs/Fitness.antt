@@ -36,7 +36,7 @@ is_missing folder source written path = starts_with nat_eq path folder && (not (
 
 -- the files that commands have written once one more has run
 abbrev pub written_after : Files → CommandFiles → Files
-written_after written record = with_files (with_files written record.writes) record.may_write
+written_after written step = with_files (with_files written step.writes) step.may_write
 
 -- the first command from a number on that reads such a file, and the file's place
 abbrev pub found_at : ℕ → Option ℕ → Option (ℕ × ℕ) → Option (ℕ × ℕ)
@@ -45,9 +45,9 @@ found_at number None later = later
 
 abbrev pub first_unwritten : List ℕ → Option (List ℕ) → Files → ℕ → List CommandFiles → Option (ℕ × ℕ)
 first_unwritten folder source written number [] = None
-first_unwritten folder source written number (record ∷ records) =
-    found_at number (position_from (is_missing folder source written) 0 record.reads)
-    (first_unwritten folder source (written_after written record) (number + 1) records)
+first_unwritten folder source written number (step ∷ records) =
+    found_at number (position_from (is_missing folder source written) 0 step.reads)
+    (first_unwritten folder source (written_after written step) (number + 1) records)
 
 -- the same of a plan, given the directory for temporary files
 abbrev pub first_unwritten_of : List ℕ → Option (List ℕ) → List CommandFiles → Option (ℕ × ℕ)
@@ -58,10 +58,10 @@ abbrev pub is_among : List ℕ → List (List ℕ) → Bool
 is_among path paths = list_any (bytes_eq path) paths
 
 abbrev pub reads_file : List ℕ → CommandFiles → Bool
-reads_file path record = is_among path record.reads
+reads_file path step = is_among path step.reads
 
 abbrev pub writes_file : List ℕ → CommandFiles → Bool
-writes_file path record = is_among path record.writes || is_among path record.may_write
+writes_file path step = is_among path step.writes || is_among path step.may_write
 
 -- whether the commands are those of the call: one reads its source, and one writes its product
 abbrev pub lacks_file : (List ℕ → CommandFiles → Bool) → List CommandFiles → Option (List ℕ) → Bool

@@ -28,7 +28,7 @@ pub struct PlanToRun<'a> {
 
 // The first directory that isn't absolute and plain.
 fn odd_directory(plan: &PlanToRun<'_>) -> Option<Directory>
-    ensures { result ≡ spec.odd_directory plan.cwd.now plan.tmp.now }
+    ensures { result ≡ spec.odd_directory plan.now.cwd.now plan.now.tmp.now }
 {
     if !is_plain(plan.cwd) {
         Some(Directory::Working)

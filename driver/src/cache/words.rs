@@ -234,7 +234,8 @@ mod tests {
 
     #[test]
     fn words_name_files() {
-        let names = |words: &str| with_read(Kind::Fatbinary, &list(words), |read| read.iter().map(|word| (text_of(word.name), word.role)).collect::<Vec<_>>());
+        let pairs = |read: &[ReadWord<'_>]| read.iter().map(|word| (text_of(word.name), word.role)).collect::<Vec<_>>();
+        let names = |words: &str| with_read(Kind::Fatbinary, &list(words), pairs);
         let wanted = [("/t/a.x", Role::Names), ("b.c", Role::Names), ("x,y", Role::Names), ("c", Role::Reads), ("d=e", Role::Reads)];
         let words = "--create=/t/a.x --embedded-fatbin=b.c --create=x,y --image3=file=c,kind=elf --image3=kind=ptx,file=d=e";
         assert_eq!(names(words), Some(wanted.map(|(name, role)| (name.to_owned(), role)).to_vec()));
