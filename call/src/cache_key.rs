@@ -154,16 +154,17 @@ fn libraries(command: Command<'_>) -> io::Result<Vec<PathBuf>> {
 
 impl Command<'_> {
     /// What a cache hashes of this command. Two commands with equal keys, whose tools' files and inputs have equal contents, make files of equal
-    /// contents, in whatever directories they run: if debugging information names directories, the key has them. Two exceptions: if a source defines no external name, cudafe++ makes up another
-    /// module id each time; and cicc has libm compute constants such as `cos(8.2)`, whose last bit can depend on the C library and on the
-    /// processor. So if machines that differ in these share a cache, hash what tells them apart, too.
+    /// contents, in whatever directories they run; if debugging information names directories, the key has them. Two exceptions: if a source
+    /// defines no external name, cudafe++ makes up another module id each time; and cicc has libm compute constants such as `cos(8.2)`, whose
+    /// last bit can depend on the C library and on the processor. So if machines that differ in these share a cache, hash what tells them apart,
+    /// too.
     ///
     /// # Errors
     ///
-    /// [`ErrorKind::BadLine`](crate::ErrorKind), with the reason, if a cache may not serve the command: it isn't one of cudafe++, cicc or ptxas, whose words
-    /// name all that it touches; a word of it isn't known or names a further file; its program is a script; `LD_PRELOAD` or `LD_AUDIT` is set; the
-    /// PTX that ptxas reads has a `.file` of an odd form. `Io` if the program, its library or its PTX can't be read, so ask when the commands that
-    /// it needs have ended; `OutOfMemory`.
+    /// [`ErrorKind::BadLine`](crate::ErrorKind), with the reason, if a cache may not serve the command: it isn't one of cudafe++, cicc or ptxas,
+    /// whose words name all that it touches; a word of it isn't known or names a further file; its program is a script; `LD_PRELOAD` or
+    /// `LD_AUDIT` is set; the PTX that ptxas reads has a `.file` of an odd form. `Io` if the program, its library or its PTX can't be read, so
+    /// ask when the commands that it needs have ended; `OutOfMemory`.
     pub fn cache_key(&self) -> Result<CacheKey, Error> {
         let refused = |why| Error::uncacheable(why, None);
         let others = || refused("only cudafe++, cicc and ptxas name all that they touch");
