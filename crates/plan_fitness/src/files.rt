@@ -12,7 +12,7 @@ use texts::text::join;
 
 // Whether a path is that of a file, if there is one.
 fn is_file(file: Option<&str>, path: &str) -> bool
-    ensures { result ≡ spec.is_file (option_copied file) path.now }
+    ensures { result ≡ spec.is_file (option_copied file.entry) path.now }
 {
     match file {
         Some(file) => path == file,
@@ -22,7 +22,7 @@ fn is_file(file: Option<&str>, path: &str) -> bool
 
 // Whether a command that reads a file finds none: it's in the folder for temporary files, isn't the source, and no command wrote it.
 fn is_missing(folder: &str, source: Option<&str>, written: &Written<'_>, path: &str) -> bool
-    ensures { result ≡ spec.is_missing folder.now (option_copied source) (seen written.now) path.now }
+    ensures { result ≡ spec.is_missing folder.now (option_copied source.entry) (seen written.now) path.now }
 {
     path.as_bytes().starts_with(folder.as_bytes()) && !is_file(source, path) && !written.has(path)
 }
@@ -34,7 +34,7 @@ fn first_missing(
     written: &Written<'_>,
     reads: &[String],
 ) -> Option<usize>
-    ensures { result ≡ position_from (spec.is_missing folder.now (option_copied source) (seen written.now)) 0 (map string_bytes reads.now) }
+    ensures { result ≡ position_from (spec.is_missing folder.now (option_copied source.entry) (seen written.now)) 0 (map string_bytes reads.now) }
 {
     for (place, path) in reads.iter().enumerate() {
         if is_missing(folder, source, written, path.as_str()) {
@@ -52,7 +52,7 @@ pub fn first_unwritten(
     source: Option<&str>,
     records: &[CommandFiles],
 ) -> Result<Option<(usize, usize)>, AllocError>
-    ensures { IfOk result (λ found. found ≡ spec.first_unwritten_of tmp.now (option_copied source) records.now) }
+    ensures { IfOk result (λ found. found ≡ spec.first_unwritten_of tmp.now (option_copied source.entry) records.now) }
 {
     let folder = join(alloc, tmp, "")?;
     let mut written = Written::new(alloc);
