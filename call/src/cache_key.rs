@@ -1,11 +1,10 @@
 //! Keys of a plan's commands that a cache can trust.
 
-use std::ffi::OsStr;
 use std::fs::{self, File};
 use std::io::{self, Read};
-use std::os::unix::ffi::{OsStrExt, OsStringExt};
-use std::os::unix::fs::MetadataExt;
 use std::path::{Path, PathBuf};
+use std::str;
+use std::time::UNIX_EPOCH;
 
 use command_keys::{CountedWord, NamedFiles, counted_key, counted_words, names_reach, tool_variables};
 use compilers::plans::Program;
@@ -84,14 +83,23 @@ fn is_binary(program: &Path) -> io::Result<bool> {
 /// What counts of a command beside its words and variables: facts with names that no variable of a tool has.
 type Facts = Vec<(Vec<u8>, Vec<u8>)>;
 
+/// The size of a file, and when it was changed. Nothing if it isn't there.
+fn stamp(path: &Path) -> io::Result<String> {
+    let Ok(status) = fs::metadata(path) else { return Ok(String::new()) };
+    Ok(match status.modified()?.duration_since(UNIX_EPOCH) {
+        Ok(since) => format!("{} {}", status.len(), since.as_nanos()),
+        Err(before) => format!("{} -{}", status.len(), before.duration().as_nanos()),
+    })
+}
+
 /// Adds the files that the PTX of a command names. Of each, ptxas writes the size, and when it was changed.
 fn add_named(facts: &mut Facts, command: Command<'_>) -> Result<(), Error> {
+    let odd = || Error::uncacheable("its PTX names files", None);
     for path in command.reads() {
         let ptx = fs::read(path).map_err(unread)?;
-        for name in files_of_ptx(&ptx).ok_or_else(|| Error::uncacheable("its PTX names files", None))? {
-            let status = fs::metadata(Path::new(command.cwd()).join(OsStr::from_bytes(name))).ok();
-            let stamp = status.map(|status| format!("{} {} {}", status.len(), status.mtime(), status.mtime_nsec()));
-            facts.push(([b".file ", name].concat(), stamp.unwrap_or_default().into_bytes()));
+        for name in files_of_ptx(&ptx).ok_or_else(odd)? {
+            let file = Path::new(command.cwd()).join(str::from_utf8(name).map_err(|_| odd())?);
+            facts.push(([b".file ", name].concat(), stamp(&file).map_err(unread)?.into_bytes()));
         }
     }
     Ok(())
@@ -100,8 +108,8 @@ fn add_named(facts: &mut Facts, command: Command<'_>) -> Result<(), Error> {
 /// The facts of a command. If names reach what it makes, its directory is one, and where that and the source really are.
 fn facts(command: Command<'_>, tool: CommandTool, names_reach: bool) -> Result<Facts, Error> {
     let name = Path::new(command.program()).file_name().unwrap_or_default();
-    let mut facts = vec![(b".tool".to_vec(), name.as_bytes().to_vec())];
-    let place = |path: &str| fs::canonicalize(Path::new(command.cwd()).join(path)).unwrap_or_default().into_os_string().into_vec();
+    let mut facts = vec![(b".tool".to_vec(), name.as_encoded_bytes().to_vec())];
+    let place = |path: &str| fs::canonicalize(Path::new(command.cwd()).join(path)).unwrap_or_default().into_os_string().into_encoded_bytes();
     // (a module id has a sum of where the source really is)
     let sources = command.arguments().zip(command.arguments().skip(1)).filter(|(option, _)| *option == "--orig_src_path_name");
     facts.extend(sources.map(|(_, source)| (b".source".to_vec(), place(source))));
