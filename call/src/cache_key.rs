@@ -3,84 +3,22 @@
 use std::fs::{self, File};
 use std::io::{self, Read};
 use std::path::{Path, PathBuf};
+use std::str;
+use std::time::UNIX_EPOCH;
+
+use command_keys::{CountedWord, NamedFiles, counted_key, counted_words, names_reach, tool_variables};
+use compilers::plans::Program;
+use rattle_std::alloc::{AllocError, Global};
+use rattle_std::vec::Vec as List;
 
 use crate::error::Error;
-use crate::keys::{KeyCall, command_key};
+use crate::memory::{OutOfMemory, copied_bytes, listed};
 use crate::plan::{Command, CommandTool};
-use crate::variable::Variable;
+use crate::ptx::files_of_ptx;
+use crate::words::TextsIter;
 
-/// Words of cudafe++ and of cicc. One that ends in `=` goes on, and one that ends in a blank has its value in the next word. A word that isn't
-/// here may read or write files that no record names. Words for debuggers aren't here: with them, products have names of files, times and
-/// directories.
-const FRONT_END: &[&str] = &[
-    "--allow_managed",
-    "--c++03",
-    "--c++11",
-    "--c++14",
-    "--c++17",
-    "--c++20",
-    "--device-c",
-    "--device-hidden-visibility",
-    "--diag_error ",
-    "--diag_error=",
-    "--diag_suppress ",
-    "--diag_suppress=",
-    "--diag_warn ",
-    "--diag_warn=",
-    "--display_error_number",
-    "--extended-lambda",
-    "--gen_c_file_name ",
-    "--gen_module_id_file",
-    "--gnu_version=",
-    "--keep-device-functions",
-    "--m64",
-    "--module_id_file_name ",
-    "--no-device-int128",
-    "--no_warnings",
-    "--orig_src_file_name ",
-    "--orig_src_path_name ",
-    "--parse_templates",
-    "--promote_warnings",
-    "--relaxed_constexpr",
-    "--simt-only",
-    "--static-host-stub",
-    "--stub_file_name ",
-    "--unicode_source_kind=",
-];
-/// Words of cicc beside those.
-const CICC: &[&str] = &[
-    "--gen_device_file_name ",
-    "--include_file_name ",
-    "--no-version-ident",
-    "-O0",
-    "-arch ",
-    "-extra-device-vectorization",
-    "-fmad=",
-    "-ftz=",
-    "-m64",
-    "-maxreg ",
-    "-o ",
-    "-prec_div=",
-    "-prec_sqrt=",
-    "-split-compile ",
-    "-tused",
-];
-const PTXAS: &[&str] = &[
-    "--compile-only",
-    "--maxrregcount=",
-    "--warning-as-error",
-    "-O0",
-    "-O1",
-    "-O2",
-    "-O3",
-    "-arch=sm_",
-    "-dlcm=",
-    "-m64",
-    "-maxrregcount=",
-    "-o ",
-    "-split-compile=",
-    "-v",
-];
+/// The tools whose words name all that they touch.
+const TOOLS: [CommandTool; 3] = [CommandTool::CudaFe, CommandTool::Cicc, CommandTool::Ptxas];
 
 /// Where the loader looks for libm in a folder, by what the processor can do.
 const LIBMS: [&str; 4] = ["glibc-hwcaps/x86-64-v4/libm.so.6", "glibc-hwcaps/x86-64-v3/libm.so.6", "glibc-hwcaps/x86-64-v2/libm.so.6", "libm.so.6"];
@@ -88,45 +26,41 @@ const LIBMS: [&str; 4] = ["glibc-hwcaps/x86-64-v4/libm.so.6", "glibc-hwcaps/x86-
 /// What a cache hashes of a command: this text, then the contents of the tool's files, and of what the command [reads](Command::reads).
 #[derive(Debug, Clone, PartialEq, Eq)]
 pub struct CacheKey {
-    /// The words and variables that may change what the command makes.
+    /// The words, variables, directories and files' times that may change what the command makes.
     pub text: Vec<u8>,
     /// The files that tell one version of the tool from another: the program, and what it reads beside its words.
     pub tool: Vec<PathBuf>,
 }
 
-/// The words of a tool that a cache knows.
-fn known(tool: CommandTool) -> &'static [&'static [&'static str]] {
-    match tool {
-        CommandTool::CudaFe => &[FRONT_END],
-        CommandTool::Cicc => &[FRONT_END, CICC],
-        CommandTool::Ptxas => &[PTXAS],
-        _ => &[],
-    }
+/// A command, as the table of words reads it.
+struct Asked<'a> {
+    tool: Program,
+    words: Vec<&'a [u8]>,
+    cwd: &'a str,
+    reads: Vec<&'a [u8]>,
+    products: Vec<&'a [u8]>,
 }
 
-/// The words of a command as a key has them. Where the product goes doesn't count.
-/// Errors: the first word that a cache doesn't know.
-fn counted(command: Command<'_>, lists: &[&[&str]]) -> Result<Vec<String>, Option<String>> {
-    let is_listed = |is: &dyn Fn(&str) -> bool| lists.iter().any(|list| list.iter().any(|known| is(known)));
-    let path_of = |word: &str| Path::new(command.cwd()).join(word);
-    let name = Path::new(command.program()).file_name().and_then(|name| name.to_str()).ok_or(None)?;
-    let mut counted = vec![name.to_owned()];
-    let mut words = command.arguments();
-    while let Some(word) = words.next() {
-        let has_value = is_listed(&|known| known.strip_suffix(' ') == Some(word));
-        let is_known =
-            has_value || is_listed(&|known| (known == word && !word.ends_with(' ')) || (known.ends_with(['=', '_']) && word.starts_with(known)));
-        if !is_known && (word.starts_with('-') || !command.reads().any(|path| path_of(word) == Path::new(path))) {
-            return Err(Some(word.to_owned()));
-        }
-        counted.push(word.to_owned());
-        if has_value {
-            let value = words.next().ok_or_else(|| Some(word.to_owned()))?;
-            let is_product = word == "-o" && command.writes().any(|path| path_of(value) == Path::new(path));
-            counted.push(if is_product { "product" } else { value }.to_owned());
-        }
+impl<'a> Asked<'a> {
+    fn of(command: Command<'a>, tool: CommandTool) -> Result<Self, OutOfMemory> {
+        let bytes = |texts: TextsIter<'a>| listed(texts.map(|text| Ok::<_, OutOfMemory>(text.as_bytes())));
+        let (words, reads, products) = (bytes(command.arguments())?, bytes(command.reads())?, bytes(command.writes())?);
+        Ok(Asked { tool: tool.program(), words, cwd: command.cwd(), reads, products })
     }
-    Ok(counted)
+
+    /// So many of its words, as they count: where products go doesn't. `None` if a cache doesn't know them.
+    fn counted(&self, count: usize) -> Result<Option<List<CountedWord<'a>>>, AllocError> {
+        let Some(words) = self.words.get(..count) else { return Ok(None) };
+        let files = NamedFiles { cwd: self.cwd.as_bytes(), reads: &self.reads, products: &self.products };
+        counted_words(Global, self.tool, words, &files)
+    }
+
+    /// The first word that a cache doesn't know: up to it there is no reading, and none up to the next, which might be its value.
+    fn unknown(&self) -> Option<String> {
+        let is_known = |count| self.counted(count).is_ok_and(|words| words.is_some());
+        let count = (1..=self.words.len()).find(|&count| !is_known(count) && !is_known(count + 1))?;
+        Some(String::from_utf8_lossy(self.words[count - 1]).into_owned())
+    }
 }
 
 /// The value of a variable of a command, or an empty text. Of a name that occurs twice, the last value counts.
@@ -146,14 +80,62 @@ fn is_binary(program: &Path) -> io::Result<bool> {
     Ok(begin == b"\x7fELF")
 }
 
-/// Whether the PTX that a command reads names files. Of each, ptxas writes the size, and when it was changed.
-fn names_files(command: Command<'_>) -> io::Result<bool> {
+/// What counts of a command beside its words and variables: facts with names that no variable of a tool has.
+type Facts = Vec<(Vec<u8>, Vec<u8>)>;
+
+/// The size of a file, and when it was changed. Nothing if it isn't there.
+fn stamp(path: &Path) -> io::Result<String> {
+    let Ok(status) = fs::metadata(path) else { return Ok(String::new()) };
+    Ok(match status.modified()?.duration_since(UNIX_EPOCH) {
+        Ok(since) => format!("{} {}", status.len(), since.as_nanos()),
+        Err(before) => format!("{} -{}", status.len(), before.duration().as_nanos()),
+    })
+}
+
+/// Adds the files that the PTX of a command names. Of each, ptxas writes the size, and when it was changed.
+fn add_named(facts: &mut Facts, command: Command<'_>) -> Result<(), Error> {
+    let odd = || Error::uncacheable("its PTX names files", None);
     for path in command.reads() {
-        if fs::read(path)?.windows(5).any(|text| text == b".file") {
-            return Ok(true);
+        let ptx = fs::read(path).map_err(unread)?;
+        for name in files_of_ptx(&ptx).ok_or_else(odd)? {
+            let file = Path::new(command.cwd()).join(str::from_utf8(name).map_err(|_| odd())?);
+            facts.push(([b".file ", name].concat(), stamp(&file).map_err(unread)?.into_bytes()));
         }
     }
-    Ok(false)
+    Ok(())
+}
+
+/// The facts of a command. If names reach what it makes, its directory is one, and where that and the source really are.
+fn facts(command: Command<'_>, tool: CommandTool, names_reach: bool) -> Result<Facts, Error> {
+    let name = Path::new(command.program()).file_name().unwrap_or_default();
+    let mut facts = vec![(b".tool".to_vec(), name.as_encoded_bytes().to_vec())];
+    let place = |path: &str| fs::canonicalize(Path::new(command.cwd()).join(path)).unwrap_or_default().into_os_string().into_encoded_bytes();
+    // (a module id has a sum of where the source really is)
+    let sources = command.arguments().zip(command.arguments().skip(1)).filter(|(option, _)| *option == "--orig_src_path_name");
+    facts.extend(sources.map(|(_, source)| (b".source".to_vec(), place(source))));
+    if names_reach {
+        facts.push((b".cwd".to_vec(), command.cwd().as_bytes().to_vec()));
+        facts.push((b".place".to_vec(), place("")));
+    }
+    if tool == CommandTool::Ptxas {
+        add_named(&mut facts, command)?;
+    }
+    Ok(facts)
+}
+
+/// The text of a command's key, given its words as they count.
+fn text_of(command: Command<'_>, tool: CommandTool, words: &[CountedWord<'_>], names_reach: bool) -> Result<Vec<u8>, Error> {
+    let facts = facts(command, tool, names_reach)?;
+    let environment: Vec<_> = command.variables().map(|(name, value)| (name.as_bytes(), value.as_bytes())).collect();
+    let chosen = tool_variables(Global, tool.program(), &environment)?;
+    let counting = chosen.as_slice().iter().copied().filter(|(name, _)| names_reach || *name != b"PWD");
+    let variables: Vec<(&[u8], &[u8])> = counting.chain(facts.iter().map(|(name, value)| (name.as_slice(), value.as_slice()))).collect();
+    let key = counted_key(Global, words, names_reach, &variables, &[])?.ok_or_else(Error::nul)?;
+    Ok(copied_bytes(key.as_slice())?)
+}
+
+fn unread(error: io::Error) -> Error {
+    Error::io("read a file of the command", error)
 }
 
 /// The libraries that the loader may take in place of the system's libm. cicc has libm compute constants.
@@ -180,36 +162,34 @@ fn libraries(command: Command<'_>) -> io::Result<Vec<PathBuf>> {
 
 impl Command<'_> {
     /// What a cache hashes of this command. Two commands with equal keys, whose tools' files and inputs have equal contents, make files of equal
-    /// contents, in whatever directories they run. Two exceptions: if a source defines no external name, cudafe++ makes up another
-    /// module id each time; and cicc has libm compute constants such as `cos(8.2)`, whose last bit can depend on the C library and on the
-    /// processor. So if machines that differ in these share a cache, hash what tells them apart, too.
+    /// contents, in whatever directories they run; if debugging information names directories, the key has them. Two exceptions: if a source
+    /// defines no external name, cudafe++ makes up another module id each time; and cicc has libm compute constants such as `cos(8.2)`, whose
+    /// last bit can depend on the C library and on the processor. So if machines that differ in these share a cache, hash what tells them apart,
+    /// too.
     ///
     /// # Errors
     ///
-    /// [`ErrorKind::BadLine`](crate::ErrorKind), with the reason, if a cache may not serve the command: it isn't one of cudafe++, cicc or ptxas, whose words
-    /// name all that it touches; a word of it isn't known, asks for debugging information, or names a further file; its program is a script;
-    /// `LD_PRELOAD` or `LD_AUDIT` is set; the PTX that ptxas reads has a `.file`. So ask when the commands that it needs have ended. `Io` if
-    /// the program, its library or its PTX can't be read; `OutOfMemory`.
+    /// [`ErrorKind::BadLine`](crate::ErrorKind), with the reason, if a cache may not serve the command: it isn't one of cudafe++, cicc or ptxas,
+    /// whose words name all that it touches; a word of it isn't known or names a further file; its program is a script; `LD_PRELOAD` or
+    /// `LD_AUDIT` is set; the PTX that ptxas reads has a `.file` of an odd form. `Io` if the program, its library or its PTX can't be read, so
+    /// ask when the commands that it needs have ended; `OutOfMemory`.
     pub fn cache_key(&self) -> Result<CacheKey, Error> {
         let refused = |why| Error::uncacheable(why, None);
-        let tool = self.tool().filter(|tool| !known(*tool).is_empty()).ok_or_else(|| refused("only cudafe++, cicc and ptxas name all that they touch"))?;
+        let others = || refused("only cudafe++, cicc and ptxas name all that they touch");
+        let tool = self.tool().filter(|tool| TOOLS.contains(tool)).ok_or_else(others)?;
         if !self.is_cacheable() || self.missing().is_some() {
             return Err(refused("its line can't be read"));
         }
-        let words = counted(*self, known(tool)).map_err(|word| Error::uncacheable("unknown word", word))?;
-        let program = Path::new(self.program());
-        let unread = |error| Error::io("read a file of the command", error);
+        let asked = Asked::of(*self, tool)?;
+        let words = asked.counted(asked.words.len())?.ok_or_else(|| Error::uncacheable("unknown word", asked.unknown()))?;
         if has_other_code(*self) {
             return Err(refused("LD_PRELOAD or LD_AUDIT is set"));
         }
+        let program = Path::new(self.program());
         if !is_binary(program).map_err(unread)? {
             return Err(refused("its program is a script"));
         }
-        if tool == CommandTool::Ptxas && names_files(*self).map_err(unread)? {
-            return Err(refused("its PTX names files"));
-        }
-        let variables: Vec<_> = self.variables().filter(|(name, _)| *name != "PWD").map(|(name, value)| Variable::new(name, value)).collect();
-        let text = command_key(&KeyCall { tool, words: &words, variables: &variables, roots: &[] })?;
+        let text = text_of(*self, tool, words.as_slice(), names_reach(asked.tool, &asked.words))?;
         let mut files = vec![program.to_owned()];
         files.extend(libms(*self));
         files.extend(if tool == CommandTool::Cicc { libraries(*self).map_err(unread)? } else { Vec::new() });

@@ -24,6 +24,7 @@ mod outline;
 mod pairs;
 mod plan;
 pub mod programs;
+pub mod ptx;
 mod reason;
 pub mod schedule;
 #[cfg(test)]

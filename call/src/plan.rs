@@ -336,6 +336,11 @@ impl Plan {
         format.file(self)
     }
 
+    /// The files of its commands, in plan order.
+    pub(crate) fn records(&self) -> &[CommandFiles] {
+        self.facts.files.as_slice()
+    }
+
     /// The working directory that it is for.
     #[must_use]
     pub fn cwd(&self) -> &str {

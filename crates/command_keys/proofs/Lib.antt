@@ -1,2 +1,4 @@
+pub mod ImageLemmas
 pub mod KeyLemmas
 pub mod MarkLemmas
+pub mod WordLemmas

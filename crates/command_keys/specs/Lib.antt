@@ -1,5 +1,11 @@
+pub mod CountedWords
+pub mod Images
 pub mod KeyLaws
 pub mod KeyReading
 pub mod Keys
+pub mod KnownWords
 pub mod Marks
+pub mod ReadWords
 pub mod ToolVariables
+pub mod WordLaws
+pub mod WordTable

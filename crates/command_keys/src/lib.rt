@@ -6,11 +6,20 @@
 //! of the contents of files: a cache adds those.
 #![tactic(auto)]
 
+mod counting;
 mod environment;
+mod images;
 mod keys;
+mod known_words;
 pub mod laws;
 mod marks;
+mod reading;
 
+pub use counting::{CountedWord, NamedFiles, counted_key, counted_text, counted_words};
 pub use environment::tool_variables;
 pub use keys::{MOST_ROOTS, command_key};
+pub use known_words::{
+    Form, KnownWord, Meaning, known_word, names_reach, own_name_reaches, own_words, shared_words,
+};
 pub use marks::Part;
+pub use reading::{ReadWord, Role, read_words};

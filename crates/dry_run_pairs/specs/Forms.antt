@@ -1,10 +1,11 @@
 -- The forms of a dry run's lines: what two dry runs of one call are compared by. What may differ between the two isn't in a form.
 use Rattle.std.specs.Prelude.{◌≡◌, ℕ, List, [], ◌∷◌, ◌++◌, length, reverse, Bool, true, false, not, ◌&&◌, ◌||◌, ◌==◌, nat_eq, Option, Some, None, if◌then◌else◌, codes, refl, unwrap_or, option_map, option_and_then, option_to_list}
 use Rattle.std.specs.List.{ends_with, flat_map, list_any, starts_with}
+use Rattle.std.specs.Str.Lines.{lines}
 use Rattle.texts.specs.Lists.{rest_after}
 use Rattle.dry_run_pairs.specs.declared.comparison.Comparison.{Comparison}
 use Rattle.dry_run_pairs.specs.Cuts.{cut, holds, past}
-use Rattle.dry_run_pairs.specs.Lines.{lines_of, marked}
+use Rattle.dry_run_pairs.specs.Lines.{marked}
 use Rattle.dry_run_pairs.specs.Names.{bare, front_of}
 
 -- What a comparison has to know of a call: its working directory, the directory that keeps its generated files, or no text, and
@@ -82,7 +83,7 @@ form_of_text folders text = bare (front_of true folders) (without_created text)
 
 -- the forms of a dry run's lines, in order
 abbrev pub forms_in : CallOf → List (List ℕ) → List ℕ → List (List ℕ)
-forms_in call folders run = flat_map (λ line. option_to_list (option_map (form_of_text folders) (counted call line))) (lines_of run)
+forms_in call folders run = flat_map (λ line. option_to_list (option_map (form_of_text folders) (counted call line))) (lines run)
 
 abbrev pub forms_of : CallOf → List ℕ → List (List ℕ)
 forms_of call run = forms_in call (folders_of call) run
@@ -115,6 +116,6 @@ product_stays = refl
 
 pub lines_that_count :
     forms_of (call_in (codes "/w") [] true)
-    (codes "warning\n#$ A=b \n#$ gcc -E \"/w/k.cu\" -o \"/t/tmpxft_1_2-3_k.cpp1.ii\" \n#$ gcc -E \"k.cu\" -o \"/t/tmpxft_1_2-4_k.cpp4.ii\" \n#$ -- Filter Dependencies -- > k.d\n#$ rm k.ii\n#$ cicc x") ≡
+    (codes "warning\n#$ A=b \r\n#$ gcc -E \"/w/k.cu\" -o \"/t/tmpxft_1_2-3_k.cpp1.ii\" \n#$ gcc -E \"k.cu\" -o \"/t/tmpxft_1_2-4_k.cpp4.ii\" \n#$ -- Filter Dependencies -- > k.d\n#$ rm k.ii\n#$ cicc x") ≡
     codes "A=b" ∷ codes "gcc -E \"k.cu\" -o \"k.cpp1.ii\"" ∷ codes "cicc x" ∷ []
 lines_that_count = refl

@@ -1,8 +1,9 @@
 -- What else is read off dry runs: nvcc's messages, and in which order it runs device commands.
 use Rattle.std.specs.Prelude.{◌≡◌, ℕ, List, [], ◌∷◌, ◌++◌, Bool, true, false, not, ◌&&◌, ◌||◌, nat_eq, Option, Some, None, if◌then◌else◌, codes, refl, option_and_then}
 use Rattle.std.specs.List.{ends_with, flat_map, list_any}
+use Rattle.std.specs.Str.Lines.{lines}
 use Rattle.dry_run_pairs.specs.Cuts.{cut, holds}
-use Rattle.dry_run_pairs.specs.Lines.{lines_of, is_marked, marked}
+use Rattle.dry_run_pairs.specs.Lines.{is_marked, marked}
 
 -- a line with its newline
 abbrev pub ended : List ℕ → List ℕ
@@ -10,7 +11,7 @@ ended line = line ++ 10 ∷ []
 
 -- the lines of a dry run that pass a test, each with its newline
 abbrev pub lines_that : (List ℕ → Bool) → List ℕ → List ℕ
-lines_that test run = flat_map (λ line. if test line then ended line else []) (lines_of run)
+lines_that test run = flat_map (λ line. if test line then ended line else []) (lines run)
 
 -- whether a line is a message of nvcc
 abbrev pub is_remark : List ℕ → Bool
@@ -26,7 +27,7 @@ misses_printed line = holds (codes "Could not open input file ") line && ends_wi
 
 -- whether a dry run failed because it lacks such a file, as one with --threads does before nvcc 13
 abbrev pub fails_by_threads : List ℕ → Bool
-fails_by_threads run = list_any misses_printed (lines_of run)
+fails_by_threads run = list_any misses_printed (lines run)
 
 -- the dry run that such a one would have been: its other messages, and the commands of one with one thread
 abbrev pub is_other_remark : List ℕ → Bool
@@ -50,12 +51,12 @@ runs program line = ends_with nat_eq (program_of line) program || ends_with nat_
 -- whether nvcc runs cicc before cudafe++, as before version 12
 abbrev pub devices_first_in : List (List ℕ) → Bool
 devices_first_in [] = false
-devices_first_in (line ∷ lines) =
+devices_first_in (line ∷ rest) =
     if runs (codes "cudafe++") line then false else
-    if runs (codes "cicc") line then list_any (runs (codes "cudafe++")) lines else devices_first_in lines
+    if runs (codes "cicc") line then list_any (runs (codes "cudafe++")) rest else devices_first_in rest
 
 abbrev pub devices_first : List ℕ → Bool
-devices_first run = devices_first_in (lines_of run)
+devices_first run = devices_first_in (lines run)
 
 -- examples
 pub two_messages : remarks (codes "a\n#$ b\n\nc") ≡ codes "a\n\nc\n"

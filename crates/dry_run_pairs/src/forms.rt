@@ -7,8 +7,9 @@ ghost use Rattle.dry_run_pairs.specs.Parts.{parts_of};
 
 use crate::comparison::Comparison;
 use crate::cuts::{behind, cut, holds};
-use crate::lines::{first_line, marked};
+use crate::lines::marked;
 use crate::names::push_bare;
+use dry_runs::first_line;
 use std::alloc::{AllocError, Global};
 use texts::bytes::Bytes;
 

@@ -2,11 +2,13 @@
 
 ghost use Rattle.std.specs.Prelude.{◌≡◌, ◌++◌, IfOk, OnOk, codes, not, ◌&&◌, map, option_map};
 ghost use Rattle.std.specs.List.{list_any};
-ghost use Rattle.dry_run_pairs.specs.Lines.{is_marked, lines_of};
+ghost use Rattle.std.specs.Str.Lines.{lines};
+ghost use Rattle.dry_run_pairs.specs.Lines.{is_marked};
 ghost use Rattle.dry_run_pairs.specs.Remarks as spec;
 
 use crate::cuts::{cut, holds};
-use crate::lines::{first_line, is_marked, marked};
+use crate::lines::{is_marked, marked};
+use dry_runs::first_line;
 use std::alloc::{AllocError, Global};
 
 // Adds a line and its newline.
@@ -18,7 +20,7 @@ fn push_line(text: &mut Vec<u8>, line: &[u8]) -> Result<(), AllocError>
     Ok(())
 }
 
-/// nvcc's messages in a dry run: the lines that are no commands or variables, each with its newline.
+/// nvcc's messages in a dry run: the lines that are no commands or variables, each with its newline, without a carriage return before that.
 pub fn remarks_in(alloc: Global, run: &[u8]) -> Result<Vec<u8>, AllocError>
     ensures { IfOk result (λ text. text.items ≡ spec.remarks run.now) }
 {
@@ -125,7 +127,7 @@ fn runs_cudafe(line: &[u8]) -> bool
 
 // Whether a command of cudafe++ is among these lines.
 fn one_runs_cudafe(run: &[u8]) -> bool
-    ensures { result ≡ list_any (spec.runs (codes "cudafe++")) (lines_of run.now) }
+    ensures { result ≡ list_any (spec.runs (codes "cudafe++")) (lines run.now) }
 {
     let mut rest = run;
     while let Some((line, others)) = first_line(rest) {

@@ -1,13 +1,14 @@
 //! Looks again at what a command has read, once it has run. An edit may have come while it ran, and be undone later: then what it made isn't what
 //! its text says.
 use crate::cache::digest::{Digest, Hasher};
-use crate::cache::host_text::{files_entered, files_of_ptx};
+use crate::cache::host_text::files_entered;
 use crate::cache::key::Part;
 use crate::cache::recipe::Recipe;
 use crate::cache::searches::Ways;
 use crate::cache::stamps::{GRAIN, Moment, is_unchanged, keeps_changes};
 use crate::cache::tool::Kind;
 use crate::cache::{Keys, Session, path_of, words};
+use call::ptx::files_of_ptx;
 use std::collections::{BTreeSet, HashSet};
 use std::ffi::OsString;
 use std::fs;
@@ -24,7 +25,7 @@ const INSTALLED: &str = "/usr";
 fn read_by(recipe: &Recipe, text: &[u8]) -> Option<Vec<PathBuf>> {
     let named: Vec<&[u8]> = match recipe.kind {
         Kind::Host if recipe.question.is_some() => files_entered(text)?.into_iter().collect(),
-        Kind::Ptxas => files_of_ptx(text),
+        Kind::Ptxas => files_of_ptx(text)?,
         Kind::Host | Kind::CudaFe | Kind::Cicc | Kind::Fatbinary => Vec::new(),
     };
     Some(named.into_iter().map(|name| path_of(recipe, name)).chain(recipe.reads.iter().cloned()).collect())

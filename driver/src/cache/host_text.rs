@@ -123,12 +123,6 @@ pub fn shown_files<'a>(text: &'a [u8], messages: &[u8]) -> BTreeSet<&'a [u8]> {
     names.into_iter().filter(|name| contains(messages, name)).collect()
 }
 
-/// The files that PTX names for debuggers.
-pub fn files_of_ptx(text: &[u8]) -> Vec<&[u8]> {
-    let is_file = |line: &&[u8]| line.trim_ascii_start().strip_prefix(b".file").is_some_and(|rest| rest.starts_with(b"\t") || rest.starts_with(b" "));
-    text.split(|&byte| byte == b'\n').filter(is_file).filter_map(between_quotes).collect()
-}
-
 fn between_quotes(line: &[u8]) -> Option<&[u8]> {
     let begin = line.iter().position(|&byte| byte == b'"')? + 1;
     let end = line.iter().rposition(|&byte| byte == b'"')?;
@@ -273,12 +267,6 @@ mod tests {
             }
         }
         assert!(LINE_WORDS.iter().all(|word| token_texts::sees_lines(word)));
-    }
-
-    #[test]
-    fn ptx_names_files() {
-        let text = b".version 8\n\t.file\t1 \"/w/k.cu\"\n.file 2 \"a b.h\"\n.filex 3 \"c\"\n// .file\n";
-        assert_eq!(files_of_ptx(text), [&b"/w/k.cu"[..], b"a b.h"]);
     }
 
     #[test]

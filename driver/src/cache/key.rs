@@ -1,13 +1,14 @@
 //! The key of a command: what its outputs and messages depend on.
 use crate::cache::digest::{Digest, Hasher};
-use crate::cache::host_text::{files_of_ptx, parts_of, sees_lines};
+use crate::cache::host_text::{parts_of, sees_lines};
 use crate::cache::marked;
 use crate::cache::processor::instructions;
 use crate::cache::recipe::Recipe;
 use crate::cache::store::Store;
 use crate::cache::tool::Kind;
+use crate::cache::words::program_of;
+use call::ptx::files_of_ptx;
 use command_keys::{command_key, tool_variables};
-use compilers::plans::Program;
 use rattle_std::alloc::Global;
 use std::borrow::Cow;
 use std::ffi::{OsStr, OsString};
@@ -18,7 +19,7 @@ use std::path::{Path, PathBuf};
 use token_texts::token_text;
 
 /// What every key begins with. It changes with what is in an entry, or in a key.
-const FORM: &[u8] = b"zigrunk command 5";
+const FORM: &[u8] = b"zigrunk command 6";
 
 /// A part of a text that has so many bytes is found in the store, with what its tokens are.
 const LARGE: usize = 1 << 16;
@@ -94,16 +95,6 @@ fn counted<'a>(text: &'a Text, recipe: &Recipe) -> Option<Cow<'a, [u8]>> {
     if recipe.stem.as_ref().is_some_and(is_seen) { None } else { recipe.unnamed(&text.content) }
 }
 
-fn program_of(kind: Kind) -> Program {
-    match kind {
-        Kind::CudaFe => Program::Cudafe,
-        Kind::Cicc => Program::Cicc,
-        Kind::Ptxas => Program::Ptxas,
-        Kind::Fatbinary => Program::Fatbinary,
-        Kind::Host => Program::Other,
-    }
-}
-
 /// The key of a command's words and variables, by what is proved of keys. `PWD` is where the command runs, which only debugging information has.
 fn words_key(recipe: &Recipe, environment: &[(OsString, OsString)]) -> Option<Vec<u8>> {
     let variables: Vec<(&[u8], &[u8])> = environment.iter().map(|(name, value)| (name.as_bytes(), value.as_bytes())).collect();
@@ -116,13 +107,9 @@ fn words_key(recipe: &Recipe, environment: &[(OsString, OsString)]) -> Option<Ve
     Some(key.as_slice().to_vec())
 }
 
-/// The files that PTX names for debuggers count by their sizes and times, which ptxas writes. `None` if it names one with a backslash, which may
-/// quote something.
+/// The files that PTX names for debuggers count by their sizes and times, which ptxas writes. `None` if it may name one in another way.
 fn add_named(hasher: &mut Hasher, ptx: &[u8], folder: &Path) -> Option<()> {
-    for name in files_of_ptx(ptx) {
-        if name.contains(&b'\\') {
-            return None;
-        }
+    for name in files_of_ptx(ptx)? {
         let status = fs::metadata(folder.join(OsStr::from_bytes(name))).ok();
         let stamp = status.map(|status| format!("{} {} {}", status.len(), status.mtime(), status.mtime_nsec()));
         hasher.add(stamp.unwrap_or_default().as_bytes());

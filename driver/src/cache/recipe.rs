@@ -3,15 +3,18 @@ use crate::cache::host_text::{assembler_reads_more, has_directive};
 use crate::cache::key::Role;
 use crate::cache::marked::{self, contains};
 use crate::cache::tool::Kind;
-use crate::cache::words::{self, Role as WordRole};
+use crate::cache::words;
 use crate::late;
 use crate::machine::Job;
 use crate::planned::PlannedCommand;
 use crate::tasks::OWN;
+use command_keys::{CountedWord, NamedFiles, Role as WordRole, counted_text};
+use rattle_std::alloc::Global;
 use std::borrow::Cow;
 use std::collections::{BTreeMap, BTreeSet};
 use std::env;
 use std::ffi::{OsStr, OsString};
+use std::os::unix::ffi::OsStrExt;
 use std::path::{Path, PathBuf};
 
 /// Variables by which gcc writes or compares more than its words say.
@@ -80,24 +83,30 @@ fn outputs(command: &PlannedCommand, number: usize, tmp: &str) -> Vec<Output> {
 
 /// The words of a command as they count, and as it runs. `None` if a word isn't known, or names a file that its record doesn't.
 fn words_of(kind: Kind, words: &[String], folder: &Path, reads: &[PathBuf], outputs: &[Output], counts_all: bool) -> Option<[Vec<String>; 2]> {
-    let (mut counted, mut run, mut moved) = (Vec::new(), Vec::new(), BTreeSet::new());
-    for (word, role) in words::roles(kind, words)? {
-        let name = words::file_in(word, role);
-        let path = folder.join(name);
-        let product = outputs.iter().position(|output| output.path == path && output.written_to != path);
-        let product = product.filter(|_| matches!(role, WordRole::TakesValue | WordRole::Created));
-        if matches!(role, WordRole::File | WordRole::Image) && !reads.contains(&path) {
-            return None;
-        }
-        let renamed = |other: &str| format!("{}{other}", word.strip_suffix(name).unwrap_or_default());
-        if counts_all || !matches!(role, WordRole::Preprocessed | WordRole::PreprocessedValue) {
-            counted.push(product.map_or_else(|| word.to_owned(), |number| renamed(&format!("output {number}"))));
-        }
-        moved.extend(product);
-        run.push(product.map_or_else(|| word.to_owned(), |number| renamed(&outputs[number].written_to.to_string_lossy())));
-    }
-    let is_moved = |(number, output): (usize, &Output)| output.written_to == output.path || moved.contains(&number);
-    outputs.iter().enumerate().all(is_moved).then_some([counted, run])
+    let reads: Vec<&[u8]> = reads.iter().map(|path| path.as_os_str().as_bytes()).collect();
+    let moved: Vec<&Output> = outputs.iter().filter(|output| output.written_to != output.path).collect();
+    let products: Vec<&[u8]> = moved.iter().map(|output| output.path.as_os_str().as_bytes()).collect();
+    let files = NamedFiles { cwd: folder.as_os_str().as_bytes(), reads: &reads, products: &products };
+    words::with_counted(kind, words, &files, |all| {
+        let seen = all.iter().filter(|word| counts_all || word.read.role != WordRole::Preprocessor);
+        let counted: Option<Vec<String>> = seen.map(text_in_key).collect();
+        let run = all.iter().map(|word| text_that_runs(word, &moved)).collect();
+        let names_all = (0..moved.len()).all(|number| all.iter().any(|word| word.product == Some(number)));
+        Some([counted.filter(|_| names_all)?, run])
+    })?
+}
+
+/// A word as its command's key has it.
+fn text_in_key(word: &CountedWord<'_>) -> Option<String> {
+    Some(words::text_of(counted_text(Global, word).ok()?.as_slice()))
+}
+
+/// A word as its command runs: with each product in the call's directory.
+fn text_that_runs(word: &CountedWord<'_>, products: &[&Output]) -> String {
+    let text = words::text_of(word.read.word);
+    let Some(product) = word.product.map(|number| products[number]) else { return text };
+    let front = text.strip_suffix(&words::text_of(word.read.name)).unwrap_or_default();
+    format!("{front}{}", product.written_to.to_string_lossy())
 }
 
 /// What cudafe++'s files begin with, by the words of a command that writes them, or assembler text of one.
@@ -154,10 +163,9 @@ impl Recipe {
         let names_count = words::names_count(kind, words);
         let reads: Vec<PathBuf> = command.reads.iter().map(PathBuf::from).collect();
         let outputs = outputs(command, number, tmp);
-        let has_product = outputs.iter().any(|output| output.written_to != output.path);
         // To look up what fatbinary makes for an object takes longer than to make it.
-        let is_quick = kind == Kind::Fatbinary && !has_product;
-        if reads.is_empty() || outputs.is_empty() || is_quick || (words::names_product(kind, words) && has_product) {
+        let is_quick = kind == Kind::Fatbinary && outputs.iter().all(|output| output.written_to == output.path);
+        if reads.is_empty() || outputs.is_empty() || is_quick {
             return None;
         }
         let [counted, run] = words_of(kind, words, Path::new(&job.folder), &reads, &outputs, names_count)?;
@@ -280,7 +288,7 @@ mod tests {
     #[test]
     fn a_product_goes_to_the_calls_directory_first() {
         let made = recipe("/b/gcc -DA -c -x c++ -O2 /t/x.cpp -o k.o", &["/t/x.cpp"], &["/w/k.o"]).unwrap();
-        assert_eq!(made.counted, ["-c", "-x", "c++", "-O2", "/t/x.cpp", "-o", "output 0"]);
+        assert_eq!(made.counted, ["-c", "-x", "c++", "-O2", "/t/x.cpp", "-o", "\u{1}"]);
         assert_eq!(made.job.words.join(" "), "/b/gcc -DA -c -x c++ -O2 /t/x.cpp -o /t/zigrunk.tmp/product.3.0");
         let (question, file) = made.question.clone().unwrap();
         assert_eq!(
@@ -311,7 +319,7 @@ mod tests {
     #[test]
     fn with_debugging_information_names_count() {
         let made = recipe("/b/gcc -g -DA -c -x c++ /t/x.cpp -o k.o", &["/t/x.cpp"], &["/w/k.o"]).unwrap();
-        assert_eq!((made.directory.as_str(), made.counted.join(" ").as_str()), ("", "-g -DA -c -x c++ /t/x.cpp -o output 0"));
+        assert_eq!((made.directory.as_str(), made.counted.join(" ").as_str()), ("", "-g -DA -c -x c++ /t/x.cpp -o \u{1}"));
         let words = "/b/ptxas -arch=sm_80 -g /t/x.ptx -o";
         assert!(recipe(&format!("{words} /t/x.cubin"), &["/t/x.ptx"], &["/t/x.cubin"]).is_some());
         assert_eq!(recipe(&format!("{words} k.cubin"), &["/t/x.ptx"], &["/w/k.cubin"]), None);
@@ -323,7 +331,7 @@ mod tests {
     fn a_fatbin_goes_to_the_calls_directory_first() {
         let words = "/b/fatbinary --create=k.fatbin -64 --image3=kind=elf,sm=80,file=/t/x.cubin";
         let made = recipe(words, &["/t/x.cubin"], &["/w/k.fatbin"]).unwrap();
-        assert_eq!(made.counted, ["--create=output 0", "-64", "--image3=kind=elf,sm=80,file=/t/x.cubin"]);
+        assert_eq!(made.counted, ["--create=\u{1}", "-64", "--image3=kind=elf,sm=80,file=/t/x.cubin"]);
         assert_eq!(made.job.words.join(" "), words.replace("k.fatbin", "/t/zigrunk.tmp/product.3.0"));
         assert_eq!((made.directory.as_str(), made.directory_in_texts(), made.kind), ("/t", &b""[..], Kind::Fatbinary));
         assert_eq!(recipe(words, &["/t/y.cubin"], &["/w/k.fatbin"]), None, "another file than its record has");

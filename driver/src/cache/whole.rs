@@ -2,14 +2,13 @@
 use crate::cache::ahead::Asked;
 use crate::cache::calls::{self, Answer, Product};
 use crate::cache::direct::Found;
-use crate::cache::host_text::files_of_ptx;
 use crate::cache::includes::{self, Folders};
 use crate::cache::manifest::{Form, Manifest, Seen, real_place};
 use crate::cache::recipe::environment_of;
 use crate::cache::searches::{MARGIN, Search};
 use crate::cache::stamps::{Moment, Stamp, is_older};
 use crate::cache::tool::{Kind, Run, is_called, is_disguised};
-use crate::cache::words::{self, Role};
+use crate::cache::words;
 use crate::cache::{Candidate, Session, State, names, terminal};
 use crate::machine::Job;
 use crate::planned::PlannedCommand;
@@ -18,6 +17,7 @@ use crate::split::Said;
 use crate::streams::content_of;
 use call::NvccLine;
 use call::programs;
+use call::ptx::files_of_ptx;
 use std::collections::{BTreeMap, BTreeSet, HashMap};
 use std::env;
 use std::ffi::{OsStr, OsString};
@@ -32,9 +32,8 @@ use std::time::SystemTime;
 /// The files that a command reads by its words as it runs. `None` if the cache doesn't know the command or one of its words.
 fn read_by(job: &Job) -> Option<Vec<PathBuf>> {
     let (program, words) = job.words.split_first()?;
-    let roles = words::roles(Kind::of(program)?, words)?;
-    let names = roles.iter().filter(|(_, role)| matches!(role, Role::File | Role::Image)).map(|&(word, role)| words::file_in(word, role));
-    Some(names.map(|name| Path::new(&job.folder).join(name)).collect())
+    let names = words::names_read(Kind::of(program)?, words)?;
+    Some(names.iter().map(|name| Path::new(&job.folder).join(name)).collect())
 }
 
 /// A call that has come to its end, and has succeeded.
@@ -385,7 +384,7 @@ impl Session<'_> {
     fn gather_named(&self, cwd: &Path, gathered: &mut Gathered<'_>) -> Option<()> {
         let of_ptxas = self.candidates.values().map(|candidate| &candidate.recipe).filter(|recipe| recipe.kind == Kind::Ptxas);
         for (recipe, ptx) in of_ptxas.flat_map(|recipe| recipe.reads.iter().map(move |ptx| (recipe, ptx))) {
-            for name in files_of_ptx(&content_of(ptx).ok()?) {
+            for name in files_of_ptx(&content_of(ptx).ok()?)? {
                 let path = Path::new(&recipe.job.folder).join(OsStr::from_bytes(name));
                 match fs::symlink_metadata(&path) {
                     Err(error) if error.kind() == ErrorKind::NotFound => gathered.search.lacks(path),

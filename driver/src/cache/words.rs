@@ -1,306 +1,57 @@
-//! Which words of a command the cache knows, and what each means to a key. A command with any other word isn't cached: it may read or write
-//! files that its record doesn't name, or say something that differs each time.
+//! What the words of a command are to its key, by the table of `command_keys`. A command with a word that isn't there isn't cached.
 use crate::cache::tool::Kind;
+use command_keys::{CountedWord, NamedFiles, ReadWord, Role};
+use compilers::plans::Program;
+use rattle_std::alloc::Global;
 
-/// The words that a tool takes, as far as the cache knows them.
-struct Known {
-    /// Whole words.
-    alone: &'static [&'static str],
-    /// What words begin with that go on.
-    beginnings: &'static [&'static str],
-    /// Words with a value in the next one.
-    with_value: &'static [&'static str],
-    /// Those of all these by which names of files and folders reach the product.
-    naming: &'static [&'static str],
-}
-
-/// Words of the front end that cudafe++ and cicc both have.
-const CUDA_FE: Known = Known {
-    alone: &[
-        "--allow_managed",
-        "--c++03",
-        "--c++11",
-        "--c++14",
-        "--c++17",
-        "--c++20",
-        "--debug_mode",
-        "--device-c",
-        "--device-hidden-visibility",
-        "--display_error_number",
-        "--extended-lambda",
-        "--gen_module_id_file",
-        "--keep-device-functions",
-        "--m64",
-        "--no_warnings",
-        "--parse_templates",
-        "--promote_warnings",
-        "--relaxed_constexpr",
-        "--static-host-stub",
-    ],
-    beginnings: &["--diag_error=", "--diag_suppress=", "--diag_warn=", "--gnu_version=", "--unicode_source_kind="],
-    with_value: &[
-        "--diag_error",
-        "--diag_suppress",
-        "--diag_warn",
-        "--gen_c_file_name",
-        "--module_id_file_name",
-        "--orig_src_file_name",
-        "--orig_src_path_name",
-        "--stub_file_name",
-    ],
-    naming: &["--debug_mode"],
-};
-
-/// Words of cicc beside those.
-const CICC: Known = Known {
-    alone: &[
-        "--gen_div_approx_ftz",
-        "--no-version-ident",
-        "-O0",
-        "-extra-device-vectorization",
-        "-fast-math",
-        "-g",
-        "-generate-line-info",
-        "-inline-info",
-        "-kernel-params-are-restrict",
-        "-m64",
-        "-tused",
-    ],
-    beginnings: &["-fmad=", "-ftz=", "-prec_div=", "-prec_sqrt="],
-    with_value: &["--gen_device_file_name", "--include_file_name", "-arch", "-maxreg", "-o", "-split-compile"],
-    naming: &["-g", "-generate-line-info", "-inline-info"],
-};
-
-const PTXAS: Known = Known {
-    alone: &[
-        "--compile-only",
-        "--dont-merge-basicblocks",
-        "--generate-line-info",
-        "--return-at-end",
-        "--warning-as-error",
-        "-O0",
-        "-O1",
-        "-O2",
-        "-O3",
-        "-g",
-        "-lineinfo",
-        "-m64",
-        "-suppress-stack-size-warning",
-        "-v",
-        "-warn-lmem-usage",
-        "-warn-spills",
-    ],
-    beginnings: &["--allow-expensive-optimizations=", "--maxrregcount=", "-arch=sm_", "-dlcm=", "-maxrregcount=", "-split-compile="],
-    with_value: &["-o"],
-    naming: &["--dont-merge-basicblocks", "--generate-line-info", "--return-at-end", "-g", "-lineinfo"],
-};
-
-/// Those of its words that tell debuggers of lines, and of nothing else.
-const LINES_ALONE: [&str; 2] = ["--generate-line-info", "-lineinfo"];
-
-/// Words of fatbinary beside those that name files.
-const FATBINARY: Known = Known {
-    alone: &["--device-c", "-64", "-compress-all", "-g"],
-    beginnings: &["--cicc-cmdline=", "--cmdline=", "--compress-mode=", "--ident=", "-compress="],
-    with_value: &[],
-    naming: &[],
-};
-
-/// What words of fatbinary begin with that name a file: one that it reads, and those that it writes.
-const IMAGE: &str = "--image3=";
-const CREATED: [&str; 2] = ["--create=", "--embedded-fatbin="];
-
-const HOST: Known = Known {
-    alone: &[
-        "-O",
-        "-O0",
-        "-O1",
-        "-O2",
-        "-O3",
-        "-Ofast",
-        "-Og",
-        "-Os",
-        "-c",
-        "-S",
-        "-fPIC",
-        "-fPIE",
-        "-fcf-protection",
-        "-fdata-sections",
-        "-ffast-math",
-        "-ffunction-sections",
-        "-fno-asynchronous-unwind-tables",
-        "-fno-common",
-        "-fno-exceptions",
-        "-fno-gnu-unique",
-        "-fno-math-errno",
-        "-fno-omit-frame-pointer",
-        "-fno-plt",
-        "-fno-rtti",
-        "-fno-semantic-interposition",
-        "-fno-strict-aliasing",
-        "-fno-trapping-math",
-        "-fomit-frame-pointer",
-        "-fopenmp",
-        "-fpermissive",
-        "-fpic",
-        "-fpie",
-        "-fsigned-char",
-        "-funroll-loops",
-        "-funsigned-char",
-        "-fvisibility-inlines-hidden",
-        "-fwrapv",
-        "-g",
-        "-g0",
-        "-g1",
-        "-g2",
-        "-ggdb",
-        "-m64",
-        "-pedantic",
-        "-pthread",
-        "-w",
-    ],
-    beginnings: &[
-        "-W",
-        "-fdiagnostics-color",
-        "-fmax-errors=",
-        "-fmessage-length=",
-        "-frandom-seed=",
-        "-fstack-protector",
-        "-ftemplate-depth=",
-        "-fvisibility=",
-        "-gdwarf-",
-        "-march=",
-        "-mavx",
-        "-mbmi",
-        "-mf16c",
-        "-mfma",
-        "-mpopcnt",
-        "-msse",
-        "-mtune=",
-        "-std=",
-    ],
-    with_value: &["-o", "-x"],
-    naming: &["-g", "-g1", "-g2", "-ggdb", "-gdwarf-"],
-};
-
-/// Words of a host compiler that only its preprocessor reads, whose text counts by itself: those that go on, and those with a value.
-const PREPROCESSED: [&str; 3] = ["-D", "-I", "-U"];
-const PREPROCESSED_WITH_VALUE: [&str; 4] = ["-D", "-I", "-U", "-isystem"];
-/// Those of them that say where a preprocessor looks.
+/// Words of a preprocessor that say where it looks.
 const SEARCHED: [&str; 2] = ["-I", "-isystem"];
-/// Words of these beginnings that go to other programs, or mean this machine's processor.
-const NOT_KNOWN: [&str; 5] = ["-Wa,", "-Wl,", "-Wp,", "-march=native", "-mtune=native"];
 
-impl Known {
-    fn has(&self, word: &str) -> bool {
-        self.alone.contains(&word) || self.beginnings.iter().any(|begin| goes_on(word, begin))
-    }
-
-    fn names(&self, word: &str) -> bool {
-        self.naming.iter().any(|name| word == *name || name.ends_with('-') && goes_on(word, name))
-    }
-}
-
-fn goes_on(word: &str, begin: &str) -> bool {
-    word.len() > begin.len() && word.starts_with(begin)
-}
-
-/// The lists of a kind of tools.
-fn known(kind: Kind) -> &'static [Known] {
+/// The tool of a kind, as the table has it.
+pub fn program_of(kind: Kind) -> Program {
     match kind {
-        Kind::CudaFe => &[CUDA_FE],
-        Kind::Cicc => &[CUDA_FE, CICC],
-        Kind::Ptxas => &[PTXAS],
-        Kind::Fatbinary => &[FATBINARY],
-        Kind::Host => &[HOST],
+        Kind::CudaFe => Program::Cudafe,
+        Kind::Cicc => Program::Cicc,
+        Kind::Ptxas => Program::Ptxas,
+        Kind::Fatbinary => Program::Fatbinary,
+        Kind::Host => Program::Other,
     }
 }
 
-/// What a word is to a key.
-#[derive(Clone, Copy, PartialEq, Eq, Debug)]
-pub enum Role {
-    Counts,
-    /// Only the preprocessor reads it.
-    Preprocessed,
-    /// The next word is its value.
-    TakesValue,
-    /// The next word is its value, and only the preprocessor reads both.
-    PreprocessedValue,
-    /// It names a file.
-    File,
-    /// A part of it names a file that is read.
-    Image,
-    /// Its end names a file that is written.
-    Created,
+fn bytes_of(words: &[String]) -> Vec<&[u8]> {
+    words.iter().map(String::as_bytes).collect()
 }
 
-/// What a word is that isn't the value of another; `None` if the cache doesn't know.
-fn role(kind: Kind, word: &str) -> Option<Role> {
-    let lists = known(kind);
-    if kind == Kind::Fatbinary && !lists.iter().any(|list| list.has(word)) {
-        return role_of_file(word);
-    }
-    if !word.starts_with('-') {
-        return (!word.starts_with('@')).then_some(Role::File);
-    }
-    if NOT_KNOWN.iter().any(|begin| word.starts_with(begin)) {
-        return None;
-    }
-    if kind == Kind::Host && PREPROCESSED_WITH_VALUE.contains(&word) {
-        return Some(Role::PreprocessedValue);
-    }
-    if kind == Kind::Host && PREPROCESSED.iter().any(|begin| goes_on(word, begin)) {
-        return Some(Role::Preprocessed);
-    }
-    if lists.iter().any(|list| list.with_value.contains(&word)) {
-        return Some(Role::TakesValue);
-    }
-    lists.iter().any(|list| list.has(word)).then_some(Role::Counts)
+/// Calls a function with each word of a command as it is read. `None` if the cache doesn't know one of them.
+pub fn with_read<T>(kind: Kind, words: &[String], read: impl FnOnce(&[ReadWord<'_>]) -> T) -> Option<T> {
+    let known = command_keys::read_words(Global, program_of(kind), &bytes_of(words)).ok()??;
+    Some(read(known.as_slice()))
 }
 
-/// What a word of fatbinary is that names a file: in one part of several, or behind what it begins with. Quotes may hide further parts.
-fn role_of_file(word: &str) -> Option<Role> {
-    if word.contains(['"', '\'', '\\']) {
-        return None;
-    }
-    let names_one = |image: &str| image.split(',').filter(|part| part.starts_with("file=")).count() == 1;
-    let is_image = word.strip_prefix(IMAGE).is_some_and(names_one);
-    let is_created = CREATED.iter().any(|begin| goes_on(word, begin));
-    if is_image { Some(Role::Image) } else { is_created.then_some(Role::Created) }
+/// The same with each word as it counts, given the command's files. `None` if one of them names a file that the command doesn't read, too.
+pub fn with_counted<T>(kind: Kind, words: &[String], files: &NamedFiles<'_>, read: impl FnOnce(&[CountedWord<'_>]) -> T) -> Option<T> {
+    let counted = command_keys::counted_words(Global, program_of(kind), &bytes_of(words), files).ok()??;
+    Some(read(counted.as_slice()))
 }
 
-/// The name of a file in a word of this role.
-pub fn file_in(word: &str, role: Role) -> &str {
-    let name = match role {
-        Role::Image => word.strip_prefix(IMAGE).and_then(|image| image.split(',').find_map(|part| part.strip_prefix("file="))),
-        Role::Created => CREATED.iter().find_map(|begin| word.strip_prefix(begin)),
-        _ => None,
-    };
-    name.unwrap_or(word)
+/// The names in the words of a command of files that it reads. `None` if the cache doesn't know one of its words.
+pub fn names_read(kind: Kind, words: &[String]) -> Option<Vec<String>> {
+    let names = |read: &[ReadWord<'_>]| read.iter().filter(|word| word.role == Role::Reads).map(|word| text_of(word.name)).collect();
+    with_read(kind, words, names)
 }
 
-/// The words of a command with their roles; a value has the role of its option. `None` if the cache doesn't know one of them.
-pub fn roles(kind: Kind, words: &[String]) -> Option<Vec<(&str, Role)>> {
-    let mut roles: Vec<(&str, Role)> = Vec::with_capacity(words.len());
-    let mut words = words.iter().map(String::as_str);
-    while let Some(word) = words.next() {
-        let role = role(kind, word)?;
-        roles.push((word, role));
-        if matches!(role, Role::TakesValue | Role::PreprocessedValue) {
-            roles.push((words.next()?, role));
-        }
-    }
-    Some(roles)
+/// A part of a word.
+pub fn text_of(part: &[u8]) -> String {
+    String::from_utf8_lossy(part).into_owned()
+}
+
+fn are_known(kind: Kind, words: &[String]) -> bool {
+    with_read(kind, words, |_| ()).is_some()
 }
 
 /// Whether names of files and folders may reach what a command with these words makes.
 pub fn names_count(kind: Kind, words: &[String]) -> bool {
-    words.iter().any(|word| known(kind).iter().any(|list| list.names(word)))
-}
-
-/// Whether a command with these words writes its product's own name into it: for debuggers, ptxas does.
-pub fn names_product(kind: Kind, words: &[String]) -> bool {
-    kind == Kind::Ptxas && words.iter().any(|word| PTXAS.names(word) && !LINES_ALONE.contains(&word.as_str()))
+    command_keys::names_reach(program_of(kind), &bytes_of(words))
 }
 
 /// Whether a host compiler makes one file of a language, in one of these phases.
@@ -333,7 +84,7 @@ pub fn is_preprocess(words: &[String]) -> bool {
         }
     }
     let is_other = |word: &String| matches!(word.as_str(), "-c" | "-S");
-    roles(Kind::Host, &others).is_some() && !others.iter().any(is_other)
+    are_known(Kind::Host, &others) && !others.iter().any(is_other)
 }
 
 /// The files that the words of a preprocessor have it include first.
@@ -350,20 +101,22 @@ pub fn defined(words: &[String]) -> Vec<&str> {
 /// The words of a preprocessor that say where it looks for what it includes.
 pub fn search_words(words: &[String]) -> Vec<String> {
     let is_option = |place: usize| SEARCHED.contains(&words[place].as_str());
-    let counts = |&place: &usize| is_option(place) || place > 0 && is_option(place - 1) || goes_on(&words[place], "-I");
+    let goes_on = |place: usize| words[place].len() > 2 && words[place].starts_with("-I");
+    let counts = |&place: &usize| is_option(place) || place > 0 && is_option(place - 1) || goes_on(place);
     (0..words.len()).filter(counts).map(|place| words[place].clone()).collect()
 }
 
 #[cfg(test)]
 mod tests {
     use super::*;
+    use command_keys::{Form, KnownWord, Meaning};
 
     fn list(words: &str) -> Vec<String> {
         words.split(' ').map(String::from).collect()
     }
 
     fn is_known(kind: Kind, words: &str) -> bool {
-        roles(kind, &list(words)).is_some()
+        are_known(kind, &list(words))
     }
 
     #[test]
@@ -416,18 +169,20 @@ mod tests {
         }
     }
 
+    const KINDS: [Kind; 5] = [Kind::CudaFe, Kind::Cicc, Kind::Ptxas, Kind::Fatbinary, Kind::Host];
+
     #[test]
     fn all_that_is_known_are_options() {
-        for known in [CUDA_FE, CICC, PTXAS, FATBINARY, HOST] {
-            let lists = [known.alone, known.beginnings, known.with_value, known.naming];
-            assert!(lists.concat().iter().all(|word| word.len() > 1 && word.starts_with('-')), "{lists:?}");
-            assert!(known.naming.iter().all(|word| known.alone.contains(word) || known.beginnings.contains(word)), "{lists:?}");
+        for row in KINDS.iter().flat_map(|&kind| command_keys::own_words(program_of(kind))) {
+            assert!(row.text.len() > 1 && row.text.starts_with('-') && !row.does.is_empty(), "{row:?}");
         }
     }
 
     #[test]
     fn a_host_compiler_takes_each_word() {
-        let tried = std::process::Command::new("g++").args(["-x", "c++", "-fsyntax-only", "/dev/null"]).args(HOST.alone).output();
+        let is_taken = |row: &&KnownWord| matches!(row.form, Form::Whole) && !matches!(row.meaning, Meaning::Refused);
+        let words = command_keys::own_words(Program::Other).iter().filter(is_taken).map(|row| row.text);
+        let tried = std::process::Command::new("g++").args(["-x", "c++", "-fsyntax-only", "/dev/null"]).args(words).output();
         let tried = tried.ok().filter(|_| cfg!(target_arch = "x86_64"));
         assert!(tried.as_ref().is_none_or(|tried| tried.status.success()), "{tried:?}");
     }
@@ -479,30 +234,20 @@ mod tests {
 
     #[test]
     fn words_name_files() {
-        let names = |words: &str| {
-            let words = list(words);
-            roles(Kind::Fatbinary, &words).unwrap().into_iter().map(|(word, role)| (file_in(word, role).to_owned(), role)).collect::<Vec<_>>()
-        };
-        let wanted = [("/t/a.x", Role::Created), ("b.c", Role::Created), ("x,y", Role::Created), ("c", Role::Image), ("d=e", Role::Image)];
+        let pairs = |read: &[ReadWord<'_>]| read.iter().map(|word| (text_of(word.name), word.role)).collect::<Vec<_>>();
+        let names = |words: &str| with_read(Kind::Fatbinary, &list(words), pairs);
+        let wanted = [("/t/a.x", Role::Names), ("b.c", Role::Names), ("x,y", Role::Names), ("c", Role::Reads), ("d=e", Role::Reads)];
         let words = "--create=/t/a.x --embedded-fatbin=b.c --create=x,y --image3=file=c,kind=elf --image3=kind=ptx,file=d=e";
-        assert_eq!(names(words), wanted.map(|(name, role)| (name.to_owned(), role)));
-        assert_eq!(names("-64 --cmdline=file=x"), [("-64".to_owned(), Role::Counts), ("--cmdline=file=x".to_owned(), Role::Counts)]);
-    }
-
-    #[test]
-    fn a_debuggers_cubin_has_its_own_name_in_it() {
-        let names = ["-g", "--return-at-end", "--generate-line-info -lineinfo", "-O3"].map(|words| names_product(Kind::Ptxas, &list(words)));
-        assert_eq!(names, [true, true, false, false]);
-        assert!(!names_product(Kind::Cicc, &list("-g --debug_mode")) && !names_product(Kind::Host, &list("-g")));
+        assert_eq!(names(words), Some(wanted.map(|(name, role)| (name.to_owned(), role)).to_vec()));
+        assert_eq!(names("-64 --cmdline=file=x"), Some(vec![(String::new(), Role::Counts); 2]));
     }
 
     #[test]
     fn what_only_the_preprocessor_reads_has_its_role() {
-        let words = list("-DA=1 -isystem /s -O2 -o k.o x.cpp");
-        let wanted =
-            [Role::Preprocessed, Role::PreprocessedValue, Role::PreprocessedValue, Role::Counts, Role::TakesValue, Role::TakesValue, Role::File];
-        assert_eq!(roles(Kind::Host, &words).unwrap().iter().map(|word| word.1).collect::<Vec<_>>(), wanted);
-        assert_eq!(roles(Kind::Cicc, &list("-DA=1")), None);
+        let roles = |kind, words: &str| with_read(kind, &list(words), |read| read.iter().map(|word| word.role).collect::<Vec<_>>());
+        let wanted = [Role::Preprocessor, Role::Preprocessor, Role::Preprocessor, Role::Counts, Role::Counts, Role::Names, Role::Reads];
+        assert_eq!(roles(Kind::Host, "-DA=1 -isystem /s -O2 -o k.o x.cpp"), Some(wanted.to_vec()));
+        assert_eq!(roles(Kind::Cicc, "-DA=1"), None);
     }
 
     #[test]

@@ -57,4 +57,13 @@ impl<K: Eq + Hash, V> HashMap<K, V> {
     {
         self.entries.get(key)
     }
+
+    /// Whether the map has `key`.
+    #[inline]
+    pub fn contains_key<Q: Eq + Hash + ?Sized>(&self, key: &Q) -> bool
+    where
+        K: Borrow<Q>,
+    {
+        self.entries.contains_key(key)
+    }
 }

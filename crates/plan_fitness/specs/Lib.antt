@@ -1,0 +1,2 @@
+pub mod Fitness
+pub mod Written
