@@ -1335,12 +1335,15 @@ refused() {
 
 settings() {
     case_of 'a setting that cannot be' || return
+    local program=$scratch/bin/zigrunk name
     while IFS='|' read -r setting allowed; do
-        for program in nvcc plan batch cache; do
-            words=()
-            case $program in nvcc) words=(-c k.cu -o k.o) ;; plan) words=(json nvcc -c k.cu) ;; batch) words=(/dev/null) ;; cache) words=(stats) ;; esac
-            as=$scratch/bin/zigrunk-$program refused "$setting" "${words[@]}"
-            same "messages of $program with $setting" "$(cat "$room/err")" "zigrunk-$program: $setting: expected $allowed"
+        refused "$setting" -c k.cu -o k.o
+        same "messages of nvcc with $setting" "$(cat "$room/err")" "zigrunk-nvcc: $setting: expected $allowed"
+        for words in 'plan json nvcc -c k.cu' 'batch /dev/null' 'cache stats'; do
+            name="zigrunk ${words%% *}"
+            # shellcheck disable=SC2086 # several words
+            as=$program refused "$setting" $words
+            same "messages of $name with $setting" "$(cat "$room/err")" "$name: $setting: expected $allowed"
         done
     done << 'ROWS'
 ZIGRUNK_CACHE=cache|yes, no, or a folder's path with a slash, such as ./cache
@@ -1352,12 +1355,11 @@ ZIGRUNK_EARLY=never|yes or no (or 1, 0, true, false, on, off)
 ZIGRUNK_LATE=never|yes or no (or 1, 0, true, false, on, off)
 ZIGRUNK_CALLS=never|yes or no (or 1, 0, true, false, on, off)
 ROWS
-    for program in nvcc batch; do
-        as=$scratch/bin/zigrunk-$program refused ZIGRUNK_JOBS=abc ZIGRUNK_SLOTS=x "${words[@]}"
-    done
-    for program in batch cache plan; do
-        as=$scratch/bin/zigrunk-$program call ZIGRUNK_JOBS=abc --help
-        same "status of $program --help" "$status$(cat "$room/err")" 0
+    refused ZIGRUNK_JOBS=abc ZIGRUNK_SLOTS=x -c k.cu
+    as=$program refused ZIGRUNK_JOBS=abc ZIGRUNK_SLOTS=x batch /dev/null
+    for word in batch cache plan; do
+        as=$program call ZIGRUNK_JOBS=abc "$word" --help
+        same "status of $word --help" "$status$(cat "$room/err")" 0
     done
     call ZIGRUNK_EXPLAIN=off NVCC_STATUS=5 k.cu
     same 'messages with ZIGRUNK_EXPLAIN=off' "$status $(cat "$room/err")" '5 nvcc says'

@@ -7,7 +7,7 @@ use crate::cache::marked::contains;
 use crate::cache::place;
 use crate::cache::stamps::{GRAIN, Stamp, is_unchanged};
 use crate::cache::store::{Store, digest_of};
-use crate::host_compilers::is_gccs_name;
+use crate::host_compilers::{HostCompiler, is_gccs_name};
 use crate::machine::Job;
 use crate::streams::content_of;
 use crate::system;
@@ -272,7 +272,7 @@ impl Tools {
     }
 
     fn new_identity(&mut self, run: &Run<'_>) -> Option<Digest> {
-        if run.kind == Kind::Host && is_disguised(run.program) {
+        if run.kind == Kind::Host && HostCompiler::of(run.program) != HostCompiler::Gcc {
             return None;
         }
         let mut hasher = Hasher::default();
@@ -484,9 +484,14 @@ mod tests {
         symlink(&cache, &other).unwrap();
         let missing = scratch.0.join("missing-gcc");
         assert_eq!([&real, &cache, &gcc, &other, &missing].map(|path| is_disguised(path)), [false, true, false, true, true]);
-        let store = Store::new(scratch.0.join("store"), 1 << 20);
-        let run = Run { kind: Kind::Host, program: &other, folder: Path::new("/"), environment: &[] };
-        assert_eq!(Tools::in_stores(vec![store]).identity(&run), None);
+        // (a program that only has gcc's name isn't it either)
+        let own = programs::find("gcc".as_ref(), &env::var_os("PATH").unwrap(), Path::new("/")).unwrap();
+        let is_known = |program: &PathBuf| {
+            let environment: Vec<_> = env::vars_os().collect();
+            let mut tools = Tools::in_stores(vec![Store::new(scratch.0.join("store"), 1 << 20)]);
+            tools.identity(&Run { kind: Kind::Host, program, folder: Path::new("/"), environment: &environment }).is_some()
+        };
+        assert_eq!([&own, &real, &cache, &gcc, &other, &missing].map(is_known), [true, false, false, false, false, false]);
     }
 
     #[test]
