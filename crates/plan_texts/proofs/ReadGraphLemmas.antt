@@ -29,7 +29,7 @@ use Rattle.plan_texts.specs.Script.{unless_refused}
 use Rattle.compilers.specs.Reasons.{reason_name}
 use Rattle.plan_texts.specs.Graph.{escaped, stamp_path, stamp_text, runner, touch, edge_command, edge_line, description_line, edge, plan_places, place_at, stamp_at, stamps_at, edges_from as written_edges, plan_edges, comment, head, graph, holds_dropped, judged_rest, ninja_answer}
 use Rattle.plan_texts.specs.ReadBack.{IsOfTexts}
-use Rattle.plan_texts.specs.ReadGraph.{parts_at, behind, Edge, path_of, head_of, with_edge, edges_from, edges_of, path_at, edge_at, edges_of_plan, IsDroppedText}
+use Rattle.plan_texts.specs.ReadGraph.{parts_at, Edge, path_of, head_of, with_edge, edges_from, edges_of, path_at, edge_at, edges_of_plan, IsDroppedText}
 use Rattle.compilers.specs.Listed.{Listed, listed}
 use Rattle.command_files.specs.Numbered.{numbered}
 use Rattle.command_files.specs.Order.{needs_at}
