@@ -29,7 +29,7 @@ use Rattle.plan_texts.specs.Script.{unless_refused}
 use Rattle.compilers.specs.Reasons.{reason_name}
 use Rattle.plan_texts.specs.Graph.{escaped, stamp_path, stamp_text, runner, touch, edge_command, edge_line, description_line, edge, plan_places, place_at, stamp_at, stamps_at, edges_from as written_edges, plan_edges, comment, head, graph, holds_dropped, judged_rest, ninja_answer}
 use Rattle.plan_texts.specs.ReadBack.{IsOfTexts}
-use Rattle.plan_texts.specs.ReadGraph.{parts_at, behind, Edge, path_of, head_of, edges_from, edges_of, path_at, edge_at, edges_of_plan, IsDroppedText}
+use Rattle.plan_texts.specs.ReadGraph.{parts_at, Edge, path_of, head_of, with_edge, edges_from, edges_of, path_at, edge_at, edges_of_plan, IsDroppedText}
 use Rattle.compilers.specs.Listed.{Listed, listed}
 use Rattle.command_files.specs.Numbered.{numbered}
 use Rattle.command_files.specs.Order.{needs_at}
@@ -316,9 +316,19 @@ edge-lines : (output needs text shown rest : List ℕ) → (codes "build " ++ (o
     ≡ build_line output needs ++ 10 ∷ (value_line text ++ 10 ∷ (shown_line shown ++ 10 ∷ rest))
 edge-lines output needs text shown rest = simp append_assoc
 
--- a description begins no edge
-shown-skipped : (tmp shown : List ℕ) → head_of tmp (shown_line shown) ≡ None
-shown-skipped tmp shown = refl
+-- they are three: none of them has an end of a line
+edge-parts : (output needs text shown rest : List ℕ) → lacks 10 output ≡ true → lacks 10 needs ≡ true → IsLine text → IsLine shown →
+    parts_at 10 ((codes "build " ++ (output ++ (codes ": run" ++ (needs ++ (edge_line text ++ description_line shown))))) ++ rest)
+    ≡ build_line output needs ∷ value_line text ∷ shown_line shown ∷ parts_at 10 rest
+edge-parts output needs text shown rest output_is needs_are text_is shown_is =
+    let behind_needs = lacks-append 10 (codes ": run") needs refl needs_are in
+    let first = lacks-append 10 (codes "build ") (output ++ (codes ": run" ++ needs)) refl (lacks-append 10 output (codes ": run" ++ needs) output_is behind_needs) in
+    let second = lacks-append 10 (codes "  line = ") (escaped text) refl (line-escaped text text_is) in
+    let third = lacks-append 10 (codes "  description = ") (escaped shown) refl (line-escaped shown shown_is) in
+    ap (parts_at 10) (edge-lines output needs text shown rest)
+    ∙ parts-past 10 (build_line output needs) (value_line text ++ 10 ∷ (shown_line shown ++ 10 ∷ rest)) first
+    ∙ ap (λ parts. build_line output needs ∷ parts) (parts-past 10 (value_line text) (shown_line shown ++ 10 ∷ rest) second)
+    ∙ ap (λ parts. build_line output needs ∷ value_line text ∷ parts) (parts-past 10 (shown_line shown) rest third)
 
 head-read : (tmp output needs : List ℕ) (paths : List (List ℕ)) → lacks 58 output ≡ true → IsNeeds tmp needs paths →
     head_of tmp (build_line output needs) ≡ Some (path_of tmp output, paths)
@@ -330,7 +340,10 @@ pub any-edge-read : (tmp output needs text shown rest : List ℕ) (paths : List 
     edges_from tmp None (parts_at 10 ((codes "build " ++ (output ++ (codes ": run" ++ (needs ++ (edge_line text ++ description_line shown))))) ++ rest))
     ≡ Some (record { output = path_of tmp output; needs = paths; command = text } ∷ es)
 any-edge-read tmp output needs text shown rest paths es newline colon are line short found =
-    grind (arith, lacks-append, edge-lines, parts-past, line-escaped, head-read, value_reads_back, shown-skipped)
+    ap (edges_from tmp None) (edge-parts output needs text shown rest newline are.newline line short)
+    ∙ ap (λ head. edges_from tmp head (value_line text ∷ shown_line shown ∷ parts_at 10 rest)) (head-read tmp output needs paths colon are)
+    ∙ ap (λ command. with_edge (path_of tmp output, paths) command (edges_from tmp None (parts_at 10 rest))) (value_reads_back text line.0)
+    ∙ ap (with_edge (path_of tmp output, paths) (Some text)) found
 
 edge-read : (tmp : List ℕ) (places : List (ℕ × ℕ)) (needs : List (List ℕ)) (n : ℕ) (l : Listed) (rest : List ℕ) (es : List Edge) →
     IsLine tmp → IsOfTexts l.command → holds_command Ninja l.command ≡ true → edges_from tmp None (parts_at 10 rest) ≡ Some es →

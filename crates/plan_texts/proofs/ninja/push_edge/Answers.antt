@@ -8,7 +8,7 @@ pub returns : goal.returns
 returns c =
     let held = c.listed.inside in
     let line = c.as_str.result.now in
-    let shown = description_line (description held.command) in
+    let shown = description_line (description held.command.now) in
     let before = string_bytes c.args.text.now in
     let t4 = string_bytes c.push_str-3.new.self in
     let t5 = string_bytes c.push_str-4.new.self in
