@@ -17,8 +17,8 @@ from dataclasses import dataclass
 from typing import Any, Dict, Iterable, Iterator, List, Mapping, NamedTuple, Optional, Sequence, Tuple, Type, TypeVar, Union
 
 __all__ = ["AfterFailure", "Call", "ColorMode", "Command", "HostCompiler", "Input", "Key", "Language", "Line", "Lookup", "Missing", "Outcome",
-           "Output", "Plan", "PlanStatus", "Reason", "Run", "Schedule", "Stage", "Status", "Told", "Tool", "ZigrunkError", "candidates", "command_key",
-           "headers", "line_records", "line_words", "lookups", "plan", "quote", "remap", "split", "version"]
+           "Output", "Plan", "PlanStatus", "Reason", "Run", "Schedule", "Stage", "Status", "Told", "Tool", "ZigrunkError", "candidates",
+           "command_key", "headers", "line_records", "line_words", "lookups", "plan", "quote", "remap", "split", "version"]
 
 # The numbers of zigrunk.h, which says what each is. What a later library has and this module doesn't know is a plain number.
 Status = enum.IntEnum("Status", "OUT_OF_MEMORY NOT_UTF8 BAD_NUMBER OPEN_QUOTE BAD_DRY_RUN NOT_FOUND BAD_SUFFIXES UNWRITABLE BAD_LINE TO_NVCC "
@@ -153,8 +153,8 @@ _Command = _record("_Command", "list words list environment text cwd list reads 
 _Commands = _record("_Commands", "pointer items size count size dropped size groups")
 _LineCall = _record("_LineCall", "text cwd list words list environment number tool")
 _Line = _record("_Line", "pointer made text input text compilation_flag list keys list paths sizes optional list dependency_args "
-                "list preprocessor_args list common_args list arch_args list unhashed_args list extra_dist_files list extra_hash_files number language number color_mode "
-                "number double_dash_input")
+                "list preprocessor_args list common_args list arch_args list unhashed_args list extra_dist_files list extra_hash_files "
+                "number language number color_mode number double_dash_input")
 _KeyCall = _record("_KeyCall", "list words list environment list roots number tool")
 _Scheduled = _record("_Scheduled", "pointer needs size count size priority")
 _ScheduleCall = _record("_ScheduleCall", "pointer plans size plans_count pointer commands size commands_count size slots number after_failure")
