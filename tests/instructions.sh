@@ -4,9 +4,10 @@
 # than 130 % of the plan's instructions. It needs valgrind, and what `make rust` leaves.
 #
 #   NAMES='one_target two_targets'     the dry runs, of those in tests/drivers/test_plans/data/dry_runs
+#   WORKSPACE=out/rust                 where `make rust` left it
 set -eu
 cd "$(dirname "$0")/.."
-workspace=$PWD/out/rust
+workspace=$(realpath "${WORKSPACE:-out/rust}")
 readonly MOST=130
 data=tests/drivers/test_plans/data/dry_runs
 read -ra names <<< "${NAMES:-one_target two_targets}"
