@@ -175,7 +175,7 @@ cache-edits: rust
 cache-attacks: rust
 	@tests/driver_cache/attacks.py $(workspace)/target/release/zigrunk-driver $(CASES)
 
-# Outside the gate. It takes the proved libzigrunk if out/ has it. Otherwise it compiles one without proof, and says so.
+# Outside the gate: sccache on the crate for Rust.
 peer:
 	@tests/peer.sh
 

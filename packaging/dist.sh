@@ -4,7 +4,7 @@
 #   dist/zigrunk-VERSION.tar.gz                the sources, with a Makefile that needs cargo
 #   dist/zigrunk_VERSION_ARCHITECTURE.deb      packages of them: amd64, and arm64 if rustc and gcc can make it
 #   dist/zigrunk-VERSION-py3-none-PLATFORM.whl  the package for Python with the library of each
-#   dist/zigrunk-VERSION-x86_64-linux.tar.gz   the proved programs and library, if crates/*/out have what these sources make
+#   dist/zigrunk-VERSION-x86_64-linux.tar.gz   the proved cudaplan with the others, if crates/cudaplan/out has what these sources make
 #   dist/SHA256SUMS
 #
 # It proves nothing. Programs are static, so that they run on every Linux. Two runs from one commit give the same bytes: files have
@@ -98,8 +98,8 @@ Description: split nvcc calls into their commands
  in parallel and cacheable ones go through a compiler cache.
  .
  zigrunk-nvcc does so in place of nvcc, in one program; zigrunk writes Ninja
- files, shell scripts and JSON. libzigrunk is for programs in C, Rust
- and Python.
+ files, shell scripts and JSON. libzigrunk is for programs in C, C++, Go,
+ Rust and Python.
 END
 }
 
@@ -154,7 +154,7 @@ package() {
     dpkg-deb --root-owner-group -Zxz --build "$root" "dist/zigrunk_${version}_$1.deb" > /dev/null
 }
 
-# pack_proved: the proved programs and library. The kit's linker asks for symbols of glibc 2.34, so their object files are linked once more.
+# pack_proved: the proved program, and the others. The kit's linker asks for symbols of glibc 2.34, so its object file is linked once more.
 pack_proved() {
     local kit folder=$scratch/$name-x86_64-linux
     kit=$(dirname "$(dirname "$(readlink -f "$(command -v rt)")")")
@@ -177,7 +177,7 @@ fi
 if .ci/built check programs && [ -s crates/cudaplan/out/cudaplan.o ]; then
     pack_proved
 else
-    echo "no $name-x86_64-linux.tar.gz: crates/*/out lack what these sources make; make build and make lib prove and build it"
+    echo "no $name-x86_64-linux.tar.gz: crates/cudaplan/out lacks what these sources make; make build proves and builds it"
 fi
 (cd dist && sha256sum -- *.tar.gz *.deb *.whl > SHA256SUMS)
 ls -l dist

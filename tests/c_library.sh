@@ -43,13 +43,7 @@ header() {
 built() { cc "${strict[@]}" "$1" -o "$2" "${@:3}" "$installed/lib/libzigrunk.a"; }
 
 # answers COMMAND..: what a program says of the table's rows. Its statuses are the table's.
-answers() {
-    "$@" "$room" < "$scratch/rows" > "$scratch/answers" &&
-        diff <(awk '{ print $1, $5, $6, $7 }' "$scratch/rows") <(awk '/^== / { name = $2 } /^flag / { open = 1; end = "0 0 0" }
-            open && /^refused / && !planned { end = $2 " " $3 " " $4 } /^command / { planned = 1 }
-            /^jobs / { } { last[name] = end } /^== / { planned = 0; open = 0; order[++count] = name }
-            END { for (i = 1; i <= count; i++) print order[i], last[order[i]] }' "$scratch/answers")
-}
+answers() { "$@" "$room" < "$scratch/rows" > "$scratch/answers" && are_answered "$scratch/rows" "$scratch/answers"; }
 
 check 'the library and its files' bindings/c/library.sh "$archive" "$installed"
 check 'its symbols' symbols

@@ -25,14 +25,14 @@ chmod 755 "$scratch"
 # Slurm has the first 42 of 52 nodes.
 top=$scratch run=$scratch/run partitions='1-3 4-6 7-9 10-21 22-33 34-36 37-39 40-42' compiled=${CALLS:-8} sleeping=${NAPS:-10}
 mkdir "$run" "$scratch/work" "$scratch/tmp"
-bindings/c/library.sh "${DRIVER_BIN:-out/rust/target/release}/libzigrunk.a" "$scratch/library" > /dev/null || skip_all cluster 'make rust makes the library first'
+bindings/c/library.sh "${DRIVER_BIN:-out/rust/target/release}/libzigrunk_c.a" "$scratch/library" > /dev/null || skip_all cluster 'make rust makes the library first'
 # the words of zigrunk that the parts type, as links
 mkdir "$scratch/links"
 for name in zigrunk zigrunk-nvcc zigrunk-batch zigrunk-worker zigrunk-cache zigrunk-report; do
     ln -s "$(realpath "${DRIVER_BIN:-out/rust/target/release}/zigrunk")" "$scratch/links/$name"
 done
 # a python3 that starts at once stands first
-export ZIGRUNK_LIBRARY=$scratch/library/lib/libzigrunk.so.1 ZIGRUNK_TMP=$scratch/tmp PATH=$scratch/links:/usr/bin:$PATH
+export ZIGRUNK_LIBRARY=$scratch/library/lib/libzigrunk.so.2 ZIGRUNK_TMP=$scratch/tmp PATH=$scratch/links:/usr/bin:$PATH
 SEED=${SEED:-$RANDOM}
 . tests/cluster/nodes.bash
 . tests/cluster/slurm.bash

@@ -297,8 +297,8 @@ cases() {
 
 # What examples/ssh/remote.py needs: libzigrunk, machines, which are directories of this one, and a plan of four commands, of which two may run there.
 machines_without_disk() {
-    bindings/c/library.sh "${DRIVER_BIN:-out/rust/target/release}/libzigrunk.a" "$scratch/library" > /dev/null || exit 1
-    export ZIGRUNK_LIBRARY=$scratch/library/lib/libzigrunk.so.1
+    bindings/c/library.sh "${DRIVER_BIN:-out/rust/target/release}/libzigrunk_c.a" "$scratch/library" > /dev/null || exit 1
+    export ZIGRUNK_LIBRARY=$scratch/library/lib/libzigrunk.so.2
     mkdir "$scratch/far"
     cat > "$scratch/far/ssh" << 'END'
 #!/bin/sh

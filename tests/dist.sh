@@ -1,10 +1,11 @@
 #!/usr/bin/env bash
 # Packs twice, and sees that the packages have the same bytes, good checksums, what belongs into them, and nothing that lintian calls
-# an error; that the source tarball builds and installs by cargo alone; and the same of the proved tarball if `make build` and `make lib`
-# or the gate left programs and library. It proves nothing. The last line is "N passed, M failed".
+# an error; that the source tarball builds and installs by cargo alone; and the same of the proved tarball if `make build`
+# or the gate left cudaplan. It proves nothing. The last line is "N passed, M failed".
 set -u
 cd "$(dirname "$0")/.." || exit 1
 . tests/lib.sh
+. tests/callers/room.sh
 require 'the packages' cargo cc dpkg-deb readelf python3
 version=$(cat VERSION)
 folder=$PWD/dist
@@ -19,7 +20,7 @@ newest_glibc() {
 # has_library PREFIX: whether an installation has the files of the library.
 has_library() {
     local file
-    for file in lib/libzigrunk.a lib/libzigrunk.so lib/libzigrunk.so.1 lib/pkgconfig/zigrunk.pc include/zigrunk.h share/zigrunk/c/example.c \
+    for file in lib/libzigrunk.a lib/libzigrunk.so lib/libzigrunk.so.2 lib/pkgconfig/zigrunk.pc include/zigrunk.h share/zigrunk/c/plan.c \
         share/zigrunk/rust/zigrunk/src/lib.rs share/zigrunk/examples/slurm/step.sh share/doc/zigrunk/CLUSTER.md share/doc/zigrunk/plan.schema.json; do
         [ -f "$1/$file" ] || { echo "missing: $file" && return 1; }
     done
@@ -31,10 +32,11 @@ needs_no_library() {
     ! readelf -d "$1" | grep NEEDED
 }
 
-# example PREFIX: the example in C with an installation's shared object.
+# example PREFIX: the example in C with an installation's shared object. It prints the programs of a call whose tools are stand-ins.
 example() {
-    cc -o "$scratch/example" "$1/share/zigrunk/c/example.c" -I"$1/include" -L"$1/lib" -lzigrunk &&
-        prints $'0: a\n1: b' env LD_LIBRARY_PATH="$1/lib" "$scratch/example" 'a b'
+    cc -o "$scratch/example" "$1/share/zigrunk/c/plan.c" -I"$1/include" -L"$1/lib" -lzigrunk &&
+        prints "$(printf "$room/bin/%s\n" gcc cudafe++ gcc cicc ptxas fatbinary gcc)" \
+            env LD_LIBRARY_PATH="$1/lib" PATH="$room/bin:$PATH" "$scratch/example" "$room/w" "$room/t" -c kernel.cu -o kernel.o
 }
 
 # has_no_path ARCHIVE: whether the folders of this machine are in no file of an archive.
@@ -68,8 +70,8 @@ of_package() {
     for program in cudaplan zigrunk zigrunk-nvcc; do
         check "$program of $name needs no library" needs_no_library "$root/usr/bin/$program"
     done
-    glibc=$(newest_glibc "$root/usr/lib/libzigrunk.so.1")
-    check "libzigrunk.so.1 of $name asks for a version of glibc" test -n "$glibc"
+    glibc=$(newest_glibc "$root/usr/lib/libzigrunk.so.2")
+    check "libzigrunk.so.2 of $name asks for a version of glibc" test -n "$glibc"
     check 'it is at most 2.35' sh -c 'printf "%s\n" "$1" 2.35 | sort -C -V' _ "$glibc"
     same "Depends of $name" "$(dpkg-deb -f "$1" Depends)" "libc6 (>= $glibc)"
     if command -v lintian > /dev/null; then
@@ -84,7 +86,7 @@ of_wheel() {
     local architecture=amd64 at=$scratch/${2##*/}.files
     [ "$1" = x86_64 ] || architecture=arm64
     check "unpacking the wheel for $1" python3 -m zipfile -e "$2" "$at"
-    check 'its library is that of the package' cmp "$at/zigrunk/libzigrunk.so.1" "$scratch/zigrunk_${version}_$architecture.deb.root/usr/lib/libzigrunk.so.1"
+    check 'its library is that of the package' cmp "$at/zigrunk/libzigrunk.so.2" "$scratch/zigrunk_${version}_$architecture.deb.root/usr/lib/libzigrunk.so.2"
     [ "$1" = "$(uname -m)" ] || return 0
     check 'the version of its library' prints "$version" env -C "$scratch" ZIGRUNK_LIBRARY='' PYTHONPATH="$at" PYTHONDONTWRITEBYTECODE=1 \
         python3 -c 'import zigrunk; print(zigrunk.version())'
@@ -101,10 +103,12 @@ of_proved() {
         check "$program of the tarball needs no library" needs_no_library "$here/bin/$program"
     done
     check 'the version of its zigrunk' prints "zigrunk $version" "$here/bin/zigrunk" --version
-    check 'README names the glibc of the library' grep -qF "glibc $(newest_glibc "$here/lib/libzigrunk.so.1")" <(tr '\n' ' ' < "$here/README")
+    check 'README names the glibc of the library' grep -qF "glibc $(newest_glibc "$here/lib/libzigrunk.so.2")" <(tr '\n' ' ' < "$here/README")
     check 'the example with the library of the tarball' example "$here"
 }
 
+room=$scratch/room
+make_room "$room"
 check 'the packages' packaging/dist.sh
 check 'their checksums' cp dist/SHA256SUMS "$scratch"
 check 'the packages again' packaging/dist.sh

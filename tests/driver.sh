@@ -230,13 +230,13 @@ ROWS
         printf '%s\n' '#!/bin/sh' 'case $1 in *cicc) echo direct_cache_hit ;; *ptxas) echo cache_miss ;; esac >> "$CCACHE_STATSLOG"' 'exec "$@"' > "$room/cache" && chmod +x "$room/cache"
         call ZIGRUNK_LAUNCHER="$room/cache" ZIGRUNK_LOG="$room/calls" -c k.cu -o k.o
         same 'hits' "$status $(tr '{' '\n' < "$room/calls" | sed -n 's/.*kind":"\([a-z+]*\).*hit":\([a-z]*\).*/\1 \2/p' | sort | uniq -c | tr -s ' \n' ' ')" '0  2 cicc true 2 ptxas false '
-        same 'the report' "$("${nvcc_driver%nvcc}report" "$room/calls" | grep hits)" 'hits: 2 of 4 (50 %)'
+        same 'the report' "$("${nvcc_driver%-nvcc}" report "$room/calls" | grep hits)" 'hits: 2 of 4 (50 %)'
         printf '%s\n' '#!/bin/sh' 'if [ "$1" = --show-stats ]; then' 'echo "{\"stats\":{\"cache_hits\":{\"counts\":{\"CUDA\":4}},\"cache_misses\":{\"counts\":{\"PTX\":$(wc -l < "$LOG.asked")}}}}"' \
             exit 'fi' 'echo >> "$LOG.asked"' 'exec "$@"' > "$room/sccache" && chmod +x "$room/sccache"
         : > "$room/log.asked"
         call ZIGRUNK_LAUNCHER="$room/sccache" ZIGRUNK_LOG="$room/counted" -c k.cu -o k.o
         same 'what sccache counted' "$status $(grep -o '"counted":[^]]*' "$room/counted")" '0 "counted":[4,0,4,6'
-        same 'its report' "$("${nvcc_driver%nvcc}report" "$room/counted" | grep hits)" 'hits: 0 of 6 (0 %)'
+        same 'its report' "$("${nvcc_driver%-nvcc}" report "$room/counted" | grep hits)" 'hits: 0 of 6 (0 %)'
         end
     fi
     if case_of 'a runner'; then

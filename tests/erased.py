@@ -230,7 +230,6 @@ def check_crate(crate: Crate, folder: Path, needs: set[str], crates: set[str], c
         counts.case(f"{crate.name}/src/{place}.rs", compared(crate.sources[place], crate.outputs[place], crate.laws_below(place), found))
 
 
-
 def let_chains(tokens: list[Token]) -> Iterator[int]:
     """Lines of conditions that join a `let` with `&&`. Newer rustcs than 1.85 take them. A condition ends before `{`, that of a `match` arm
     before `=>`."""

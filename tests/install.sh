@@ -1,24 +1,25 @@
 #!/usr/bin/env bash
 # Installs into an empty directory whose name has a space, runs each program from there, uninstalls, and sees that nothing stays.
-# Needs the programs and the library that `make build`, `make lib` and the gate leave, and proves nothing. The last line is
-# "N passed, M failed".
+# Needs cudaplan, which `make build` and the gate leave, and proves nothing. The last line is "N passed, M failed".
 set -u
 cd "$(dirname "$0")/.." || exit 1
 . tests/lib.sh
-if ! .ci/built check programs || ! .ci/built check library; then
-    count 'crates/*/out' 'it lacks what these sources make; make build and make lib prove and build it'
+. tests/callers/room.sh
+if ! .ci/built check programs; then
+    count 'crates/cudaplan/out' 'it lacks what these sources make; make build proves and builds it'
     summary
     exit
 fi
 top=$PWD
-root="$scratch/in here"
+root="$scratch/in here" room=$scratch/room
+make_room "$room"
 
-# exports: the calls that the library exports, each on a line.
+# exports: the functions of the library, each on a line.
 exports() {
-    sed -n 's/^ *\(zigrunk_[a-z_0-9]*\);$/\1/p' "$top/bindings/c/zigrunk.map" | LC_ALL=C sort
+    grep -o '\bzigrunk_[a-z_0-9]*(' "$top/bindings/c/zigrunk.h" | tr -d '(' | LC_ALL=C sort -u
 }
 
-# page_calls: the calls that the man page of the library declares, and those that it describes, each on a line.
+# page_calls: the functions that the man page of the library declares, and those that it describes, each on a line.
 page_calls() {
     sed -n '/^\.SH SYNOPSIS/,/^\.SH DESCRIPTION/s/.*\<\(zigrunk_[a-z_0-9]*\)(.*/\1/p' "$top/man/zigrunk.h.3" | LC_ALL=C sort
     sed -n '/^\.SH CALLS/,/^\.SH ERRORS/s/^\.B \(zigrunk_[a-z_0-9]*\)$/\1/p' "$top/man/zigrunk.h.3" | LC_ALL=C sort -u
@@ -36,17 +37,17 @@ alike() {
 }
 
 twice() { exports && exports; }
-# a comment may follow the number
-statuses() { sed -n '/^\/\* Statuses/,/^$/s/^#define \(ZIGRUNK_[A-Z_0-9]*\) [0-9].*/\1/p' "$top/bindings/c/zigrunk.h"; }
+# The header has them behind its own version, and the inputs at fault behind them.
+statuses() { sed -n '/^#define ZIGRUNK_INPUT_FIRST /q; s/^#define \(ZIGRUNK_[A-Z_0-9]*\) [0-9].*/\1/p' "$top/bindings/c/zigrunk.h" | grep -vx ZIGRUNK_ABI_VERSION; }
 
-check 'the man page declares and describes the calls of the library' alike page_calls twice
+check 'the man page declares and describes the functions of the library' alike page_calls twice
 check 'the man page lists the statuses of the header' alike page_statuses statuses
 
 # unknown_names: the names in the man page that the header lacks.
 unknown_names() {
     local name
     grep -o '\<\(zigrunk\|ZIGRUNK\)_[A-Za-z_0-9]*' "$top/man/zigrunk.h.3" | LC_ALL=C sort -u | while read -r name; do
-        cat "$top"/bindings/c/*.h | grep -q "\<$name\>" || echo "$name"
+        grep -q "\<$name\>" "$top/bindings/c/zigrunk.h" || echo "$name"
     done
 }
 check 'the header has the names of the man page' prints '' unknown_names
@@ -85,25 +86,32 @@ if command -v man > /dev/null; then
         # shellcheck disable=SC2016 # for sh
         check "the man page $page" sh -c '[ -s shown ] && ! grep . warnings'
     done
-    LC_ALL=C MANWIDTH=130 man -l "$root/usr/share/man/man3/zigrunk.h.3" | sed -n '/#include <stdio.h>/,/^ *}$/p' > words.c
+    LC_ALL=C MANWIDTH=130 man -l "$root/usr/share/man/man3/zigrunk.h.3" | sed -n '/#include <stdio.h>/,/^ *}$/p' > page.c
 else
     echo 'skipped: the man pages, without man'
 fi
+
+# planned PROGRAM: whether an example prints the programs of the room's call.
+planned() {
+    diff <(for tool in gcc cudafe++ gcc cicc ptxas fatbinary gcc; do echo "$room/bin/$tool"; done) \
+        <(PATH=$room/bin:$PATH "$1" "$room/w" "$room/t" -c kernel.cu -o kernel.o)
+}
+
 if command -v cc > /dev/null && command -v pkg-config > /dev/null; then
     check 'the version of zigrunk.pc' prints "$version" library_flags --modversion
     words=()
     # pkg-config puts a backslash before a space
     eval "words=($(library_flags --cflags --libs))"
-    check 'the example in C' cc -o example "$root/usr/share/zigrunk/c/example.c" "${words[@]}"
+    check 'the example that plans' cc -o plan "$root/usr/share/zigrunk/c/plan.c" "${words[@]}"
     export LD_LIBRARY_PATH=$root/usr/lib
-    check 'what it prints' prints $'0: a\n1: \'b c\'' ./example 'a "b c"'
-    if [ -s words.c ]; then
-        check "the man page's example" cc -std=c99 -Wall -Wextra -pedantic -Werror -o words words.c "${words[@]}"
-        check 'what that prints' prints 3 ./words
+    check 'what it prints' planned ./plan
+    check 'the example that makes' cc -o schedule "$root/usr/share/zigrunk/c/schedule.c" "${words[@]}"
+    if [ -s page.c ]; then
+        check "the man page's example" cc -std=c99 -Wall -Wextra -pedantic -Werror -o page page.c "${words[@]}"
+        check 'what that prints' planned ./page
     fi
-    printf '%s\n' '#include <stdio.h>' '#include <zigrunk.h>' 'int main(void) { uint8_t text[99]; zigrunk_text_answer answer =' \
-        'zigrunk_version(text, sizeof text); printf("%.*s\n", (int)answer.length, (char *)text);' \
-        'return zigrunk_abi_version() != ZIGRUNK_ABI_VERSION; }' > version.c
+    printf '%s\n' '#include <stdio.h>' '#include <zigrunk.h>' \
+        'int main(void) { puts(zigrunk_version()); return zigrunk_abi_version() != ZIGRUNK_ABI_VERSION; }' > version.c
     check 'the versions by the shared object' cc -o by_shared version.c "${words[@]}"
     check 'the version that it has' prints "$version" ./by_shared
     check 'the versions by the archive' cc -o by_archive version.c -I"$root/usr/include" "$root/usr/lib/libzigrunk.a"

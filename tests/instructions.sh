@@ -1,16 +1,14 @@
 #!/usr/bin/env bash
-# Counts the instructions of plans by libzigrunk, as the kit builds it and as cargo builds the plain Rust, and the second as a share of the
-# first: of 21 calls less those of one, by 20; and those of a plan as records, by the crate for Rust and by libzigrunk, as a share of a plan
-# alone, all in plain Rust. docs/PERFORMANCE.md has what came out. Outside the gate; it fails if the plain build takes more than 105 % of the
-# proved one's instructions, or the records of a plan for two targets more than 130 % of the plan's.
-#
-#   tests/instructions.sh [PROVED]     the archive that `make lib` leaves, unless given; the plain one is that of `make rust`
+# Counts the instructions of plans by libzigrunk and by the crate for Rust: of 21 calls less those of one, by 20. Records also as a share of a plan
+# alone, by the crates below. docs/PERFORMANCE.md has what came out. Outside the gate; it fails if the records of a plan for two targets take more
+# than 130 % of the plan's instructions. It needs valgrind, and what `make rust` leaves.
 #
 #   NAMES='one_target two_targets'     the dry runs, of those in tests/drivers/test_plans/data/dry_runs
+#   WORKSPACE=out/rust                 where `make rust` left it
 set -eu
 cd "$(dirname "$0")/.."
-proved=${1:-crates/zigrunk_c/out/libzigrunk_c.a} workspace=$PWD/out/rust
-readonly MOST=105 MOST_OF_RECORDS=130
+workspace=$(realpath "${WORKSPACE:-out/rust}")
+readonly MOST=130
 data=tests/drivers/test_plans/data/dry_runs
 read -ra names <<< "${NAMES:-one_target two_targets}"
 scratch=$(mktemp -d)
@@ -26,14 +24,13 @@ each() {
     echo $((($(instructions "${@/#@/21}") - $(instructions "${@/#@/1}")) / 20))
 }
 
-# build NAME ARCHIVE: a program that plans with one build of the library.
+# build: a program in C that plans with the library.
 build() {
-    bindings/c/library.sh "$2" "$scratch/$1" > /dev/null
-    gcc -std=c99 -D_POSIX_C_SOURCE=200809L -O1 -DVERSION="\"$(cat VERSION)\"" -Itests/c -Ibindings/c tests/c/work.c -o "$scratch/$1/work" \
-        "$scratch/$1/lib/libzigrunk.a"
+    bindings/c/library.sh "$workspace/target/release/libzigrunk_c.a" "$scratch/library"
+    cc -std=c99 -Wall -Wextra -Werror -O1 -I"$scratch/library/include" tests/c/work.c -o "$scratch/work" "$scratch/library/lib/libzigrunk.a"
 }
 
-# build_alone: the program that plans and writes nothing, by the crates of the plain library and as they are compiled.
+# build_alone: the program that plans and writes nothing, by the crates of the library and as they are compiled.
 build_alone() {
     mkdir -p "$scratch/alone/src"
     cp tests/c/plan_alone.rs "$scratch/alone/src/main.rs"
@@ -46,24 +43,24 @@ build_alone() {
     cargo build --quiet --offline --release --manifest-path "$scratch/alone/Cargo.toml"
 }
 
+# records NAME WHOSE COUNT: prints the count beside that of the plan alone. Of two targets it has to be small enough.
+records() {
+    echo "$1, records by $2: $3, $(($3 * 100 / planned)) % of a plan alone"
+    [ "$1" != two_targets ] || [ $(($3 * 100)) -le $((planned * MOST)) ] || status=1
+}
+
 cargo build --quiet --offline --release --manifest-path "$workspace/Cargo.toml" -p zigrunk --example times
-build proved "$proved"
-build plain "$workspace/target/release/libzigrunk.a"
+build
 build_alone
 status=0
 for name in "${names[@]}"; do
-    planned=$(each "$scratch/alone/target/release/plan_alone" @ /w /t "$(cat "$data/$name.flag")" "$data/$name.dry1" "$data/$name.dry2")
-    by_rust=$(each "$workspace/target/release/examples/times" @ /w /t "$(cat "$data/$name.flag")" "$data/$name.dry1" "$data/$name.dry2")
-    echo "$name, a plan alone: $planned; records by Rust: $by_rust, $((by_rust * 100 / planned)) %"
-    [ "$name" != two_targets ] || [ $((by_rust * 100)) -le $((planned * MOST_OF_RECORDS)) ] || status=1
-    for form in text steps json; do
-        one=$(each "$scratch/proved/work" "$form" @ "$data" "$name") other=$(each "$scratch/plain/work" "$form" @ "$data" "$name")
-        share=$((other * 100 / one))
-        echo "$name, $form: proved $one, plain $other, $share %"
-        [ $((other * 100)) -le $((one * MOST)) ] || status=1
-        [ "$form" = steps ] || continue
-        echo "$name, records: $((other * 100 / planned)) % of a plan alone"
-        [ "$name" != two_targets ] || [ $((other * 100)) -le $((planned * MOST_OF_RECORDS)) ] || status=1
+    words=(@ /w /t "$(cat "$data/$name.flag")" "$data/$name.dry1" "$data/$name.dry2")
+    planned=$(each "$scratch/alone/target/release/plan_alone" "${words[@]}")
+    echo "$name, a plan alone: $planned"
+    records "$name" Rust "$(each "$workspace/target/release/examples/times" "${words[@]}")"
+    records "$name" libzigrunk "$(each "$scratch/work" records "${words[@]}")"
+    for form in text json; do
+        echo "$name, $form by libzigrunk: $(each "$scratch/work" "$form" "${words[@]}")"
     done
 done
 exit "$status"

@@ -47,7 +47,7 @@ by_shellcheck() {
 
 # by_rustfmt: the crates for Rust. (tests/rust_crate.sh has clippy: that wants the crates below.)
 by_rustfmt() {
-    rustfmt --check --edition 2024 --config-path bindings/rust bindings/rust/src/lib.rs bindings/rust/{examples,tests,tests/misuses}/*.rs &&
+    rustfmt --check --edition 2024 --config-path bindings/rust bindings/rust/src/lib.rs bindings/rust/{examples,tests,tests/answers}/*.rs &&
         rustfmt --check --edition 2024 --config-path call call/src/lib.rs
 }
 

@@ -1,20 +1,19 @@
 #!/usr/bin/env bash
 # Tests the plain Rust that the eraser writes: its text beside the proved sources, and then what cargo builds of it, by the same cases as
-# the proved programs, libzigrunk and drivers. It needs neither the kit nor a network. The last line is 'N passed, M failed'.
-# tests/stand_ins.sh tests what these crates have in place of the kit's std, tests/rust_crate.sh the crate for Rust.
+# the proved programs and drivers. It needs neither the kit nor a network. The last line is 'N passed, M failed'.
+# tests/stand_ins.sh tests what these crates have in place of the kit's std, tests/rust_crate.sh the crate for Rust, tests/c_library.sh libzigrunk.
 #
 #   tests/plain_rust.sh [FOLDER [PART..]]   FOLDER: where the workspace and what cargo builds stay; nothing stays unless it is given
-#                                           PART: text workspace programs library drivers; all of them unless given
+#                                           PART: text workspace programs drivers; all of them unless given
 #
-# No answer differs from the proved build's. Of libzigrunk this differs: it needs more of the C library, since it has Rust's std in it, and
-# for the same reason its archive can't be linked into a Rust program.
+# No answer differs from the proved build's.
 set -u
 cd "$(dirname "$0")/.." || exit 1
 . tests/lib.sh
 folder=$(realpath -m "${1:-$scratch/rust}")
 shift $(($# > 0 ? 1 : 0))
 parts=("$@")
-[ $# -gt 0 ] || parts=(text workspace programs library drivers)
+[ $# -gt 0 ] || parts=(text workspace programs drivers)
 built=$folder/target/release
 export CARGO_NET_OFFLINE=true
 
@@ -68,10 +67,6 @@ workspace() {
 
 programs() {
     script 'the programs' tests/program.sh "$built/cudaplan" "$built/zigrunk-driver"
-}
-
-library() {
-    script 'libzigrunk' tests/c_library.sh --plain "$built/libzigrunk.a"
 }
 
 # drive NAME: a driver's cases. It has to write what its `stdout` has, which counts them.

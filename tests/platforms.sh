@@ -11,12 +11,12 @@
 set -u
 cd "$(dirname "$0")/.." || exit 1
 . tests/lib.sh
+. tests/callers/room.sh
 [ "$(id -u)" -eq 0 ] || skip_all 'other platforms' 'that needs root'
 require 'other platforms' debootstrap cargo
 trap 'rm -rf --one-file-system "$scratch"' EXIT
 root=$(realpath -m "${1:-$scratch/root}")
 work=$root/root/zigrunk
-data=tests/drivers/test_plans/data/dry_runs
 version=$(cat VERSION)
 jobs=${RT_JOBS:-2}
 
@@ -77,8 +77,8 @@ make_unwinder() {
 # copy_sources: the workspace with its test drivers, and what the tests in C need.
 copy_sources() {
     cargo run --quiet --manifest-path rust/Cargo.toml -p eraser -- --drivers . "$work/rust" &&
-        mkdir -p "$work/tests/drivers/test_plans/data" && cp -r tests/c "$work/tests" && cp -r "$data" "$work/$data" &&
-        cp -r bindings VERSION "$work"
+        mkdir -p "$work/tests" && cp -r tests/c tests/callers "$work/tests" && cp -r bindings VERSION "$work" &&
+        rm -rf "$work/room" && moved_room "$work/room" /root/zigrunk/room && cp "$root/bin/ls" "$work/room/bin/cudafe++"
 }
 
 # has_library TARGET: whether Debian has Rust's library for a platform.
@@ -120,12 +120,13 @@ built() {
     linker=CARGO_TARGET_$(tr a-z- A-Z_ <<< "$1")_LINKER
     [[ $1 != *-musl ]] || flags+=' -C link-self-contained=no -C relocation-model=static -L native=/root/zigrunk/unwind'
     export "$linker=$2" CARGO_PROFILE_RELEASE_LTO=off
-    by_cargo build "$1" --release --bins && flags='' by_cargo build "$1" --release -p zigrunk_c
+    by_cargo build "$1" --release --bins && flags='' by_cargo build "$1" --release -p capi
 }
 
-# checked TARGET: whether the crates are right for a platform that nothing here can run, but for the driver, which is for Linux, and tests.
+# checked TARGET: whether the crates are right for a platform that nothing here can run, but for the driver and what runs nvcc, which are for
+# Linux, and tests.
 checked() {
-    by_cargo check "$1" --workspace --exclude zigrunk-driver --exclude 'test_*'
+    by_cargo check "$1" --workspace --exclude zigrunk-driver --exclude call --exclude zigrunk --exclude capi --exclude 'test_*'
 }
 
 # runner PROGRAM EMULATOR: a script that runs a program of another platform.
@@ -159,25 +160,22 @@ driven() {
     diff "tests/drivers/$2/stdout" "$scratch/driven"
 }
 
-# in_c TARGET PREFIX EMULATOR: the tests in C, with the library for a platform.
+# in_c TARGET PREFIX EMULATOR: the tests in C, with the library for a platform. nvcc and its tools are stand-ins, of the root's own platform.
 in_c() {
-    local name words tools=${2#musl-} compiler=$2gcc
+    local name tools=${2#musl-} compiler=$2gcc wraps=-Wl,--wrap=malloc,--wrap=calloc,--wrap=realloc,--wrap=posix_memalign,--wrap=free
     # gcc's unwinder is in these too
     [[ $1 != *-musl ]] || compiler+=' /root/zigrunk/unwind/find.o'
-    inside env CC="$compiler" LD="${tools}ld" AR="${tools}ar" OBJCOPY="${tools}objcopy" bindings/c/library.sh "rust/target/$1/release/libzigrunk.a" "$1" || return 1
-    for name in calls plans lines keys limits; do
-        # shellcheck disable=SC2086 # a compiler, and an object
-        inside $compiler -std=c99 -D_POSIX_C_SOURCE=200809L -O1 -Itests/c "-DVERSION=\"$version\"" "-I$1/include" -static \
-            "tests/c/$name.c" "$1/lib/libzigrunk.a" -o "$1/$name" || return 1
+    inside env CC="$compiler" LD="${tools}ld" AR="${tools}ar" OBJCOPY="${tools}objcopy" bindings/c/library.sh "rust/target/$1/release/libzigrunk_c.a" "$1" || return 1
+    for name in callers/answers c/threads c/failing_memory; do
+        # shellcheck disable=SC2046,SC2086 # a compiler, and an object; a word or none
+        inside $compiler -std=c99 -D_POSIX_C_SOURCE=200809L -O1 "-I$1/include" -static -pthread $([ "$name" != c/failing_memory ] || echo "$wraps") \
+            "tests/$name.c" "$1/lib/libzigrunk.a" -o "$1/${name#*/}" || return 1
     done
-    words=("$data"/*.flag)
-    words=("${words[@]##*/}")
-    # an emulator takes time and memory of its own
-    for name in 'calls 100' "plans $data ${words[*]%.flag}" 'lines 100' 'keys 100' "limits${3:+ watched}"; do
-        # shellcheck disable=SC2086 # an emulator, and the program's words
-        inside $3 ./"$1"/$name || return 1
-        echo "  $1: ${name%% *}" >> "$scratch/counts"
-    done
+    misuse_rows > "$scratch/rows"
+    # shellcheck disable=SC2086 # an emulator, or none
+    inside $3 "./$1/answers" /root/zigrunk/room < "$scratch/rows" > "$scratch/answers" && are_answered "$scratch/rows" "$scratch/answers" &&
+        inside $3 "./$1/threads" /root/zigrunk/room 20 && inside $3 "./$1/failing_memory" /root/zigrunk/room 1 2000 || return 1
+    echo "  $1: the tests in C" >> "$scratch/counts"
 }
 
 # platform TARGET PREFIX EMULATOR: all that can be run.

@@ -87,7 +87,7 @@ def main(arguments: Sequence[str]) -> None:
         try:
             call = zigrunk.Call(str(room / "bin/nvcc"), ["-c", "kernel.cu", "-o", "kernel.o"], os.environ, str(room / "w"), f"{room}/{tmp}")
             print_call(call)
-            print_plan(call.plan_of(*((room / run).read_bytes() for run in (own, first, second))))
+            print_plan(call.plan_of((room / own).read_bytes(), (room / first).read_bytes(), (room / second).read_bytes()))
         except zigrunk.ZigrunkError as error:
             print_refusal(error)
 

@@ -1,9 +1,17 @@
-# A folder in which nvcc and its tools are stand-ins, with the stored dry runs as if they were made there. Sourced by tests/callers.sh and
-# tests/rust_crate.sh, from the top of the repository.
+# A folder in which nvcc and its tools are stand-ins, with the stored dry runs as if they were made there. Sourced by the scripts that test libzigrunk
+# or the crate for Rust, from the top of the repository.
 # shellcheck shell=bash
 
 # misuse_rows: the rows of the table of misuses.
 misuse_rows() { grep -v '^#' "${top:-$PWD}/tests/callers/misuses.txt"; }
+
+# are_answered ROWS ANSWERS: whether the statuses and places that answers.c says of rows of the table are those of the table.
+are_answered() {
+    diff <(awk '{ print $1, $5, $6, $7 }' "$1") <(awk '/^== / { name = $2 } /^flag / { open = 1; end = "0 0 0" }
+        open && /^refused / && !planned { end = $2 " " $3 " " $4 } /^command / { planned = 1 }
+        { last[name] = end } /^== / { planned = 0; open = 0; order[++count] = name }
+        END { for (i = 1; i <= count; i++) print order[i], last[order[i]] }' "$2")
+}
 
 # in_room ROOM NAME FILE..: stored dry runs as NAME.dry1 and NAME.dry2, with the room's paths.
 in_room() {
@@ -65,4 +73,10 @@ make_room() {
         'while [ $# -gt 0 ]; do case $1 in --keep-dir) tmp=$2 run=dry2 ;; --keep) [ "$run" = dry2 ] || run=dry1 ;; esac; shift; done' \
         "sed \"s,$1/t/,\$tmp/,g\" '$1/one.'\$run >&2" > "$1/bin/nvcc"
     chmod +x "$1"/bin/*
+}
+
+# moved_room ROOM PATH: the folder for another root, where it has this path.
+moved_room() {
+    make_room "$1"
+    grep -rlF "$1" "$1" | xargs sed -i "s,$1,$2,g"
 }

@@ -4,8 +4,8 @@ A `Call` is an nvcc line, the environment, and where it is made. `Call.plan` run
 commands: those of the plan in its order, and those that it dropped, each with the reason. `plan` plans two dry runs without their line.
 
 The module takes the shared object that the environment variable ZIGRUNK_LIBRARY names. If that isn't set, it looks for `libzigrunk.so.2` in its own
-folder, in `lib` of the prefix that it is installed in, in `out/lib` of the repository, and then where the loader does. Texts are UTF-8; other bytes of
-the system are in them as `os.fsdecode` has them. Any number of threads may call, but a schedule is for one at a time.
+folder, in `lib` of the prefix that it is installed in, in `out/lib` of the repository, and then where the loader does. Texts are UTF-8; other bytes
+of the system are in them as `os.fsdecode` has them. Any number of threads may call, but a schedule is for one at a time.
 """
 from __future__ import annotations
 
@@ -16,13 +16,13 @@ import sys
 from dataclasses import dataclass
 from typing import Any, Dict, Iterable, Iterator, List, Mapping, NamedTuple, Optional, Sequence, Tuple, Type, TypeVar, Union
 
-__all__ = ["AfterFailure", "Call", "ColorMode", "Command", "HostCompiler", "Input", "Key", "Language", "Line", "Lookup", "Missing", "Outcome", "Output",
-           "Plan", "PlanStatus", "Reason", "Run", "Schedule", "Stage", "Status", "Told", "Tool", "ZigrunkError", "candidates", "command_key", "headers",
-           "line_records", "line_words", "lookups", "plan", "quote", "remap", "split", "version"]
+__all__ = ["AfterFailure", "Call", "ColorMode", "Command", "HostCompiler", "Input", "Key", "Language", "Line", "Lookup", "Missing", "Outcome",
+           "Output", "Plan", "PlanStatus", "Reason", "Run", "Schedule", "Stage", "Status", "Told", "Tool", "ZigrunkError", "candidates",
+           "command_key", "headers", "line_records", "line_words", "lookups", "plan", "quote", "remap", "split", "version"]
 
 # The numbers of zigrunk.h, which says what each is. What a later library has and this module doesn't know is a plain number.
-Status = enum.IntEnum("Status", "OUT_OF_MEMORY NOT_UTF8 BAD_NUMBER OPEN_QUOTE BAD_DRY_RUN NOT_FOUND BAD_SUFFIXES UNWRITABLE BAD_LINE TO_NVCC OVER_LIMIT "
-                      "NO_DRY_RUN ODD_DIRECTORY NVCC IO")
+Status = enum.IntEnum("Status", "OUT_OF_MEMORY NOT_UTF8 BAD_NUMBER OPEN_QUOTE BAD_DRY_RUN NOT_FOUND BAD_SUFFIXES UNWRITABLE BAD_LINE TO_NVCC "
+                      "OVER_LIMIT NO_DRY_RUN ODD_DIRECTORY NVCC IO")
 Input = enum.IntEnum("Input", "FIRST SECOND CWD TMP FLAG OWN VARIABLES SUFFIXES NVCC WORDS")
 Tool = enum.IntEnum("Tool", "CICC PTXAS CUDAFE NVCC NVC NVCXX FATBINARY NVLINK HOST", start=0)
 Language = enum.IntEnum("Language", "C CXX OBJC OBJCXX CUDA CUDAFE PTX CUBIN", start=0)
@@ -41,9 +41,10 @@ _ALL = ctypes.c_size_t(-1).value
 
 
 class ZigrunkError(Exception):
-    """A call is refused: its `status`, the `input` that is at fault, if one is, and the `line` of a dry run, from 1. After TO_NVCC, nvcc has to make it."""
+    """A call is refused: its `status`, the `input` at fault, if one is, and the `line` of a dry run, from 1. After TO_NVCC, nvcc has to make it."""
 
-    def __init__(self, status: int, message: str, input: Optional[int] = None, line: Optional[int] = None) -> None:  # pylint: disable=redefined-builtin
+    def __init__(self, status: int, message: str, input: Optional[int] = None,  # pylint: disable=redefined-builtin
+                 line: Optional[int] = None) -> None:
         super().__init__(message)
         self.status, self.input, self.line = _known(Status, status), _known(Input, input) if input else None, line or None
 
@@ -145,15 +146,15 @@ _NvccCall = _record("_NvccCall", "text nvcc list words list environment text cwd
 _Outline = _record("_Outline", "run own run first run second run dependencies text flag text keep_dir text input list outputs size jobs")
 _Program = _record("_Program", "text program text path text found")
 _DryRuns = _record("_DryRuns", "text own text first text second pointer programs size count size limit")
-_PlanCall = _record("_PlanCall", "text dry1 text dry2 text cwd text tmp text flag list environment list suffixes pointer programs size count size limit "
-                    "number host_compiler number keeps_names")
+_PlanCall = _record("_PlanCall", "text dry1 text dry2 text cwd text tmp text flag list environment list suffixes pointer programs size count "
+                    "size limit number host_compiler number keeps_names")
 _Command = _record("_Command", "list words list environment text cwd list reads list writes list may_write list targets sizes needs size needs_count "
                    "size group size dry_run size line number stage number tool number missing number reason number cacheable number preprocesses")
 _Commands = _record("_Commands", "pointer items size count size dropped size groups")
 _LineCall = _record("_LineCall", "text cwd list words list environment number tool")
-_Line = _record("_Line", "pointer made text input text compilation_flag list keys list paths sizes optional list dependency_args list preprocessor_args "
-                "list common_args list arch_args list unhashed_args list extra_dist_files list extra_hash_files number language number color_mode "
-                "number double_dash_input")
+_Line = _record("_Line", "pointer made text input text compilation_flag list keys list paths sizes optional list dependency_args "
+                "list preprocessor_args list common_args list arch_args list unhashed_args list extra_dist_files list extra_hash_files "
+                "number language number color_mode number double_dash_input")
 _KeyCall = _record("_KeyCall", "list words list environment list roots number tool")
 _Scheduled = _record("_Scheduled", "pointer needs size count size priority")
 _ScheduleCall = _record("_ScheduleCall", "pointer plans size plans_count pointer commands size commands_count size slots number after_failure")
@@ -315,7 +316,7 @@ class Call:
         return Plan(_Owned("zigrunk_call_plan", self._owned.pointer))
 
     def plan_of(self, own: bytes, first: bytes, second: bytes, programs: Optional[Mapping[Lookup, Optional[str]]] = None, limit: int = 0) -> Plan:
-        """Plans what `dry_runs` printed to standard error, here or elsewhere. If someone else wrote it, give a limit on the bytes that reading makes."""
+        """Plans what `dry_runs` printed to standard error, here or elsewhere. If someone else wrote it, give a limit on the bytes that it makes."""
         kept, table, count = _programs(programs)
         given = _DryRuns(_text(own), _text(first), _text(second), table, count, limit)
         given.keep = kept
@@ -326,8 +327,8 @@ def plan(dry1: bytes, dry2: bytes, cwd: str, tmp: str, flag: str = "", environme
          programs: Optional[Mapping[Lookup, Optional[str]]] = None, limit: int = 0, host_compiler: int = 0, keeps_names: bool = False) -> Plan:
     """Plans two dry runs alone: of the call with `--dryrun --keep`, and with `--keep-dir TMP --dryrun --keep`."""
     kept, table, count = _programs(programs)
-    given = _PlanCall(_text(dry1), _text(dry2), _text(cwd), _text(tmp), _text(flag), _variables(environment or {}), _list(suffixes), table, count, limit,
-                      host_compiler, keeps_names)
+    given = _PlanCall(_text(dry1), _text(dry2), _text(cwd), _text(tmp), _text(flag), _variables(environment or {}), _list(suffixes), table, count,
+                      limit, host_compiler, keeps_names)
     given.keep = kept
     return Plan(_Owned("zigrunk_plan_of", given))
 
@@ -338,7 +339,8 @@ class Schedule:
     def __init__(self, plans: Sequence[Plan], slots: int, after_failure: int = AfterFailure.START_EARLIER) -> None:
         self._plans = (ctypes.c_void_p * len(plans))(*[it._owned.pointer for it in plans])  # pylint: disable=protected-access
         self._length = sum(len(it.commands) for it in plans)
-        self._owned = _Owned("zigrunk_schedule_of", _ScheduleCall(ctypes.cast(self._plans, ctypes.c_void_p), len(plans), None, 0, slots, after_failure))
+        given = _ScheduleCall(ctypes.cast(self._plans, ctypes.c_void_p), len(plans), None, 0, slots, after_failure)
+        self._owned = _Owned("zigrunk_schedule_of", given)
 
     def __len__(self) -> int:
         return self._length
