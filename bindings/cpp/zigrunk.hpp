@@ -148,6 +148,15 @@ private:
     std::vector<Command> commands_, dropped_;
 };
 
+// Plans two dry runs alone, with generated files under canonical names: zigrunk_plan_call says what they are.
+inline Plan plan_of(std::string_view dry1, std::string_view dry2, std::string_view cwd, std::string_view tmp, std::string_view flag,
+    const Texts &environment = {}, std::size_t limit = 0) {
+    const own::Given variables(environment);
+    const zigrunk_plan_call given{own::given(dry1), own::given(dry2), own::given(cwd), own::given(tmp), own::given(flag), variables, {}, nullptr, 0, limit,
+        ZIGRUNK_GCC, 0};
+    return Plan(own::made<zigrunk_plan>(zigrunk_plan_of, &given));
+}
+
 // A call of nvcc: its words without nvcc's name, all of its environment (nvcc reads NVCC_PREPEND_FLAGS and NVCC_APPEND_FLAGS there, and the
 // commands run in it), its directory, and one for temporary files, which has to be there.
 class Call {

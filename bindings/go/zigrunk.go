@@ -224,6 +224,18 @@ func (c *Call) PlanOf(ownRun, first, second []byte, limit int) (*Plan, error) {
 	return planned(made, status, refused)
 }
 
+// PlanOf plans two dry runs alone, with generated files under canonical names: zigrunk_plan_call of zigrunk.h says what they are.
+func PlanOf(dry1, dry2 []byte, directory, tmp, flag string, environment []string, limit int) (*Plan, error) {
+	var passed given
+	defer passed.free()
+	call := C.zigrunk_plan_call{dry1: passed.text(string(dry1)), dry2: passed.text(string(dry2)), cwd: passed.text(directory), tmp: passed.text(tmp),
+		flag: passed.text(flag), environment: passed.texts(environment), limit: C.size_t(limit)}
+	var made *C.zigrunk_plan
+	var refused *C.zigrunk_error
+	status := C.zigrunk_plan_of(&call, &made, &refused)
+	return planned(made, status, refused)
+}
+
 func planned(made *C.zigrunk_plan, status C.int32_t, refused *C.zigrunk_error) (*Plan, error) {
 	plan, err := own(unsafe.Pointer(made), status, refused)
 	if err != nil {

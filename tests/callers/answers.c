@@ -1,4 +1,5 @@
-/* All that the C library says of the rows of misuses.txt: `answers ROOM < misuses.txt`. The programs for the other languages print the same. */
+/* All that the C library says of the rows of misuses.txt: `answers ROOM < misuses.txt`. With a further word, the plan of each row's two dry runs alone, as
+ * text. The programs for the other languages print the same. */
 #include <stdio.h>
 #include <stdlib.h>
 #include <string.h>
@@ -149,14 +150,34 @@ static void print_row(const char *room, const char *tmp_name, const char *first,
     free((void *)runs.own.bytes), free((void *)runs.first.bytes), free((void *)runs.second.bytes);
 }
 
+static void print_pair(const char *room, const char *first, const char *second) {
+    char cwd[4096], tmp[4096];
+    snprintf(cwd, sizeof cwd, "%s/w", room), snprintf(tmp, sizeof tmp, "%s/t", room);
+    zigrunk_plan_call given = {content(room, first), content(room, second), {cwd, ZIGRUNK_ALL}, {tmp, ZIGRUNK_ALL}, {"-c", ZIGRUNK_ALL}, {NULL, NULL, 0},
+        {NULL, NULL, 0}, NULL, 0, 0, ZIGRUNK_GCC, 0};
+    zigrunk_plan *plan = NULL;
+    zigrunk_error *error = NULL;
+    if (zigrunk_plan_of(&given, &plan, &error) != ZIGRUNK_OK) {
+        print_refusal(error);
+    } else {
+        print_form(plan, "text");
+    }
+    zigrunk_free(plan);
+    free((void *)given.dry1.bytes), free((void *)given.dry2.bytes);
+}
+
 int main(int count, char **arguments) {
     char line[1024], name[64], tmp[64], first[64], second[64], own[64];
-    while (count == 2 && fgets(line, sizeof line, stdin)) {
+    while (count >= 2 && fgets(line, sizeof line, stdin)) {
         if (sscanf(line, "%63s %63s %63s %63s %*s %*s %*s %63s", name, tmp, first, second, own) != 5) {
             return 2;
         }
         printf("== %s\n", name);
-        print_row(arguments[1], tmp, first, second, own);
+        if (count == 2) {
+            print_row(arguments[1], tmp, first, second, own);
+        } else {
+            print_pair(arguments[1], first, second);
+        }
     }
-    return count != 2;
+    return count < 2;
 }

@@ -1,4 +1,4 @@
-// All that the C++ layer says of the rows of misuses.txt, as answers.c prints it: `answers ROOM < misuses.txt`.
+// All that the C++ layer says of the rows of misuses.txt, as answers.c prints it: `answers ROOM [text] < misuses.txt`.
 #include <zigrunk.hpp>
 
 #include <deque>
@@ -106,8 +106,14 @@ static std::string content(const std::string &path) {
     return {std::istreambuf_iterator<char>(file), {}};
 }
 
+static void print_row(const std::string &room, const std::string &tmp, const std::string &first, const std::string &second, const std::string &own) {
+    const zigrunk::Call call(room + "/bin/nvcc", {"-c", "kernel.cu", "-o", "kernel.o"}, zigrunk::environment(), room + "/w", room + "/" + tmp);
+    print_call(call);
+    print_plan(call.plan_of(content(room + "/" + own), content(room + "/" + first), content(room + "/" + second)));
+}
+
 int main(int count, char **arguments) {
-    if (count != 2) {
+    if (count < 2) {
         return 2;
     }
     const std::string room = arguments[1];
@@ -117,9 +123,11 @@ int main(int count, char **arguments) {
         words >> name >> tmp >> first >> second >> skipped >> skipped >> skipped >> own;
         std::cout << "== " << name << '\n';
         try {
-            const zigrunk::Call call(room + "/bin/nvcc", {"-c", "kernel.cu", "-o", "kernel.o"}, zigrunk::environment(), room + "/w", room + "/" + tmp);
-            print_call(call);
-            print_plan(call.plan_of(content(room + "/" + own), content(room + "/" + first), content(room + "/" + second)));
+            if (count == 2) {
+                print_row(room, tmp, first, second, own);
+            } else {
+                print_text("text", zigrunk::plan_of(content(room + "/" + first), content(room + "/" + second), room + "/w", room + "/t", "-c").text("text"));
+            }
         } catch (const zigrunk::Error &error) {
             print_refusal(error);
         }

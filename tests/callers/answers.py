@@ -1,4 +1,4 @@
-"""All that the Python layer says of the rows of misuses.txt, as answers.c prints it: answers.py ROOM < misuses.txt."""
+"""All that the Python layer says of the rows of misuses.txt, as answers.c prints it: answers.py ROOM [text] < misuses.txt."""
 
 import os
 import sys
@@ -85,6 +85,10 @@ def main(arguments: Sequence[str]) -> None:
         name, tmp, first, second, *_, own = row.split()
         print("==", name)
         try:
+            if arguments[1:]:
+                pair = ((room / run).read_bytes() for run in (first, second))
+                print_texts("text", [zigrunk.plan(*pair, f"{room}/w", f"{room}/t", "-c").text("text")])
+                continue
             call = zigrunk.Call(str(room / "bin/nvcc"), ["-c", "kernel.cu", "-o", "kernel.o"], os.environ, str(room / "w"), f"{room}/{tmp}")
             print_call(call)
             print_plan(call.plan_of((room / own).read_bytes(), (room / first).read_bytes(), (room / second).read_bytes()))

@@ -1,4 +1,4 @@
-// All that the Go layer says of the rows of misuses.txt, as answers.c prints it: `answers ROOM < misuses.txt`.
+// All that the Go layer says of the rows of misuses.txt, as answers.c prints it: `answers ROOM [text] < misuses.txt`.
 package main
 
 import (
@@ -136,24 +136,40 @@ func printRow(room string, row []string) error {
 		return err
 	}
 	printCall(call)
-	var runs [3][]byte
-	for i, name := range []string{row[7], row[2], row[3]} {
-		if runs[i], err = os.ReadFile(filepath.Join(room, name)); err != nil {
-			log.Fatal(err)
-		}
-	}
-	plan, err := call.PlanOf(runs[0], runs[1], runs[2], 0)
+	plan, err := call.PlanOf(content(room, row[7]), content(room, row[2]), content(room, row[3]), 0)
 	if err == nil {
 		printPlan(plan)
 	}
 	return err
 }
 
+func content(room, name string) []byte {
+	read, err := os.ReadFile(filepath.Join(room, name))
+	if err != nil {
+		log.Fatal(err)
+	}
+	return read
+}
+
+func printPair(room string, row []string) error {
+	plan, err := zigrunk.PlanOf(content(room, row[2]), content(room, row[3]), room+"/w", room+"/t", "-c", nil, 0)
+	if err != nil {
+		return err
+	}
+	text, err := plan.Text("text")
+	printTexts("text", text)
+	return err
+}
+
 func main() {
+	print := printRow
+	if len(os.Args) > 2 {
+		print = printPair
+	}
 	for rows := bufio.NewScanner(os.Stdin); rows.Scan(); {
 		row := strings.Fields(rows.Text())
 		fmt.Println("==", row[0])
-		if err := printRow(os.Args[1], row); err != nil {
+		if err := print(os.Args[1], row); err != nil {
 			printRefusal(err)
 		}
 	}

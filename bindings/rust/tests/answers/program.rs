@@ -1,12 +1,12 @@
-//! All that the crate says of the rows of `tests/callers/misuses.txt`, as `answers.c` there prints it: `answers ROOM < misuses.txt`.
+//! All that the crate says of the rows of `tests/callers/misuses.txt`, as `answers.c` there prints it: `answers ROOM [text] < misuses.txt`.
 
 use std::collections::VecDeque;
 use std::error::Error;
-use std::path::PathBuf;
+use std::path::{Path, PathBuf};
 use std::{env, fs, io};
 
 use zigrunk::schedule::{AfterFailure, Outcome, Schedule};
-use zigrunk::{Call, Command, CommandTool, Disk, DropReason, DryRuns, Format, Missing, NvccCall, Plan, Run, Stage, variables};
+use zigrunk::{Call, Command, CommandTool, Disk, DropReason, DryRuns, Format, Missing, NvccCall, Plan, PlanCall, Run, Stage, plan, variables};
 
 fn print_text(name: &str, text: impl AsRef<[u8]>) {
     let escaped = text.as_ref().iter().map(|&byte| match byte {
@@ -143,6 +143,16 @@ fn print_plan(plan: &Plan) -> Result<(), Box<dyn Error>> {
     print_schedule(plan)
 }
 
+/// The plan of two dry runs alone.
+fn print_pair(room: &Path, first: &[u8], second: &[u8]) {
+    let (cwd, tmp, disk) = (room.join("w"), room.join("t"), Disk::default());
+    let planned = plan(&PlanCall { flag: "-c", ..PlanCall::new(first, second, &disk).at(&cwd, &tmp) });
+    match planned.and_then(|plan| plan.text(Format::Text)) {
+        Ok(text) => print_text("text", text),
+        Err(error) => print_refusal(&error),
+    }
+}
+
 fn main() -> Result<(), Box<dyn Error>> {
     let room = PathBuf::from(env::args_os().nth(1).ok_or("usage: answers ROOM")?);
     let environment: Vec<_> = env::vars_os().collect();
@@ -152,6 +162,11 @@ fn main() -> Result<(), Box<dyn Error>> {
             return Err("a short row".into());
         };
         println!("== {name}");
+        let read = |name: &str| fs::read(room.join(name));
+        if env::args_os().nth(2).is_some() {
+            print_pair(&room, &read(first)?, &read(second)?);
+            continue;
+        }
         let (nvcc, cwd, tmp) = (room.join("bin/nvcc"), room.join("w"), room.join(tmp));
         let words = ["-c", "kernel.cu", "-o", "kernel.o"];
         let call = match Call::new(&NvccCall::new(&nvcc, &words).at(&cwd, &tmp).variables(&variables(&environment))) {
@@ -162,7 +177,6 @@ fn main() -> Result<(), Box<dyn Error>> {
             }
         };
         print_call(&call);
-        let read = |name: &str| fs::read(room.join(name));
         match call.plan_of(&DryRuns::new(read(own)?, read(first)?, read(second)?), &Disk::default(), None) {
             Ok(plan) => print_plan(&plan)?,
             Err(error) => print_refusal(&error),

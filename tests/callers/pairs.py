@@ -1,0 +1,67 @@
+#!/usr/bin/env python3
+"""Plans pairs of dry runs by lot by cudaplan and by each language, and compares: pairs.py CUDAPLAN ROOM SEED COUNT -- PROGRAM.. [-- PROGRAM..].
+
+ROOM is a folder of room.sh, and each PROGRAM prints what answers.c does. A language has to print cudaplan's plan, or to refuse where cudaplan does or
+its plan has no command. The last line is 'N passed, M failed', and counts pairs of all languages."""
+
+import os
+import subprocess
+import sys
+from concurrent.futures import ThreadPoolExecutor
+from itertools import groupby
+from pathlib import Path
+from typing import Dict, List
+
+HERE = Path(__file__).resolve().parent
+CHUNK = 500
+
+
+def escaped(text: bytes) -> str:
+    return "".join(chr(it) if 32 < it < 127 and it != 92 else f"\\{it:02x}" for it in text)
+
+
+def by_cudaplan(cudaplan: str, room: str, row: str) -> str:
+    """The plan as a text, or nothing if there is none or it has no command."""
+    _, _, first, second, *_ = row.split()
+    words = [cudaplan, "plan", f"{room}/w", f"{room}/t", "-c", f"{room}/{first}", f"{room}/{second}"]
+    ran = subprocess.run(words, stdout=subprocess.PIPE, stderr=subprocess.DEVNULL, check=False)
+    has_command = any(line.startswith((b"yes cd ", b"no cd ")) for line in ran.stdout.split(b"\n"))
+    return f"text {escaped(ran.stdout)}" if ran.returncode == 0 and has_command else ""
+
+
+def said(program: List[str], room: str, rows: str) -> Dict[str, str]:
+    """What a program says of each row: the plan, or nothing if it refuses."""
+    printed = subprocess.run([*program, room, "text"], input=rows, stdout=subprocess.PIPE, text=True, check=True).stdout
+    found, name = {}, ""
+    for line in printed.splitlines():
+        if line.startswith("== "):
+            name = line[3:]
+            found[name] = ""
+        elif line.startswith("text "):
+            found[name] = line
+    return found
+
+
+def main(arguments: List[str]) -> int:
+    cudaplan, room, seed, count = arguments[:4]
+    programs = [list(words) for is_mark, words in groupby(arguments[4:], lambda it: it == "--") if not is_mark]
+    passed = failed = 0
+    with ThreadPoolExecutor(os.cpu_count()) as pool:
+        for chunk in range(0, int(count), CHUNK):
+            words = [sys.executable, str(HERE / "mutated.py"), room, f"{seed} {chunk}", str(min(CHUNK, int(count) - chunk))]
+            rows = subprocess.run(words, stdout=subprocess.PIPE, text=True, check=True).stdout
+            wanted = list(pool.map(lambda row: by_cudaplan(cudaplan, room, row), rows.splitlines()))
+            for program, found in zip(programs, pool.map(lambda program: said(program, room, rows), programs)):
+                for row, plan in zip(rows.splitlines(), wanted):
+                    name = row.split()[0]
+                    # (cudaplan ends its text with a newline more than the library)
+                    is_same = found.get(name, "no answer").removesuffix("\\0a") == plan.removesuffix("\\0a")
+                    passed, failed = passed + is_same, failed + (not is_same)
+                    if not is_same:
+                        print(f"{' '.join(program)}: {seed} {chunk}, {row}: another plan than cudaplan's")
+    print(f"{passed} passed, {failed} failed")
+    return 1 if failed or not passed else 0
+
+
+if __name__ == "__main__":
+    sys.exit(main(sys.argv[1:]))
