@@ -124,7 +124,7 @@ closed() {
 # nvcc itself makes nothing without standard input, where a process that it starts gets its number for something else. zigrunk-nvcc may make the
 # product there, and say that a source is bad.
 closed_streams() {
-    local streams quiet word status
+    local streams quiet status
     for streams in in out err 'out err' 'in out err'; do
         quiet='' status=0
         [[ $streams != *err* ]] || quiet=yes
@@ -195,21 +195,19 @@ within() {
 
 # A program that gets some memory, but not enough, says so. With less it doesn't start: the loader says that, or the kernel kills it.
 little_memory() {
-    local size word want status out least
+    local size want status out least
     want=$(cudaplan line cicc /w k.cpp1.ii -o k.ptx)
-    for word in cudaplan; do
-        least=''
-        for size in $(seq 800 100 6000); do
-            out=$(within "$size" "$word" line cicc /w k.cpp1.ii -o k.ptx 2> "$scratch/err")
-            status=$?
-            case $status,$out,$(cat "$scratch/err") in
-            "0,$want,") least=${least:-$size} ;;
-            "1,,$word: out of memory" | 12[67],,* | 13[0-9],,*) [ -z "$least" ] || count "$word within $size KiB" 'it ran with less' ;;
-            *) count "$word within $size KiB" "status $status, '$out', '$(cat "$scratch/err")'" ;;
-            esac
-        done
-        count "$word with little memory" "$([ -n "$least" ] || echo 'it never ran')"
+    least=''
+    for size in $(seq 800 100 6000); do
+        out=$(within "$size" cudaplan line cicc /w k.cpp1.ii -o k.ptx 2> "$scratch/err")
+        status=$?
+        case $status,$out,$(cat "$scratch/err") in
+        "0,$want,") least=${least:-$size} ;;
+        "1,,cudaplan: out of memory" | 12[67],,* | 13[0-9],,*) [ -z "$least" ] || count "cudaplan within $size KiB" 'it ran with less' ;;
+        *) count "cudaplan within $size KiB" "status $status, '$out', '$(cat "$scratch/err")'" ;;
+        esac
     done
+    count "cudaplan with little memory" "$([ -n "$least" ] || echo 'it never ran')"
     for size in 20000 60000 100000 200000 400000; do
         makes "a call within $size KiB" "$room/k.ptx" '0 1 2 4 126 127 134 137 139 254 255' in_room within "$size" zigrunk-nvcc -ptx k.cu -o k.ptx
     done

@@ -162,7 +162,7 @@ end_to_end() {
         for words in odd '' 'odd nvcc'; do
             # shellcheck disable=SC2086 # several words, or none
             as=$driver call $words
-            same "status and messages with '$words'" "$status $(cat "$room/err")" '2 usage: zigrunk-driver nvcc|batch|plan|report|cache|worker WORD..'
+            same "status and usage with '$words'" "$status $(tail -n 1 "$room/err")" '2 usage: zigrunk nvcc|plan|batch|report|cache|worker|help WORD..'
         done
         end
     fi
@@ -625,6 +625,12 @@ ROWS
     while IFS='|' read -r refused reason; do
         case_of "the kernel refuses $refused" || continue
         if command -v strace > /dev/null; then
+            # (how often a call reads before depends on the machine's control groups)
+            if [[ $refused = *when=SAID* ]]; then
+                (before=(strace -D -o "$room/trace" -e trace=pread64); start DRY_RUN_DOES='sleep 0.2' -c k.cu -o k.o; ended 0)
+                said_at=$(grep -n '^pread64([0-9]*, "#\$ ' "$room/trace" | head -n 1 | cut -d : -f 1)
+                refused=${refused/SAID/${said_at:-none}}
+            fi
             (before=(strace -D -o "$room/trace" -e "trace=${refused%%:*}" -e "inject=$refused"); start "${plain[@]}" DRY_RUN_DOES='sleep 0.2' -c k.cu -o k.o; ended 5; echo "$problems" > "$room/problems")
             same 'in the case' "$(cat "$room/problems")" ''
             same reason "$(grep zigrunk-nvcc "$room/err")" "zigrunk-nvcc: $reason"
@@ -635,8 +641,8 @@ signalfd4:error=EMFILE|nvcc itself: no signals for the call
 clone:error=EAGAIN:when=1|nvcc itself: no process for a dry run
 clone:error=EAGAIN:when=3|nvcc itself: no process for the call
 mkdir:error=ENOSPC|nvcc itself: no room for temporary files
-pread64:error=EINTR:when=6..1006|nvcc itself: what a command said is lost: Interrupted system call (os error 4)
-pread64:error=EIO:when=6|nvcc itself: what a command said is lost: Input/output error (os error 5)
+pread64:error=EINTR:when=SAID..1006|nvcc itself: what a command said is lost: Interrupted system call (os error 4)
+pread64:error=EIO:when=SAID|nvcc itself: what a command said is lost: Input/output error (os error 5)
 wait4:error=EINVAL:when=1|nvcc itself: the end of a command is unknown: Invalid argument (os error 22)
 ROWS
     while IFS='|' read -r what reason settings; do

@@ -1078,8 +1078,11 @@ orders_of_options() {
     kept=$("$program" plan json "${files[@]}" --cwd /w --tmp /w --flag -c; printf .)
     in_folder "$scratch" "$program" plan json "${files[@]}" --cwd /w
     judge 'a directory and a flag that nobody says' 0 "${kept%.}" ''
-    (cd "$scratch" && kept=$("$program" plan text --cwd "$(pwd)" "${files[@]}") && [ "$kept" = "$("$program" plan text "${files[@]}")" ])
-    count 'a working directory that nobody says' "$([ $? = 0 ] || echo 'another plan')"
+    if (cd "$scratch" && kept=$("$program" plan text --cwd "$(pwd)" "${files[@]}") && [ "$kept" = "$("$program" plan text "${files[@]}")" ]); then
+        count 'a working directory that nobody says' ''
+    else
+        count 'a working directory that nobody says' 'another plan'
+    fi
 }
 
 # passes NAME REASON WORD..: a line that goes to nvcc.

@@ -224,7 +224,7 @@ class Build:
                 worked = await (self.make_there(job, machine) if machine else self.make_here(job))
             except OSError as error:
                 job.err, worked = f"{error}\n".encode(), False
-        work.schedule.ended(number, zigrunk.CommandState.SUCCEEDED if worked else zigrunk.CommandState.FAILED)
+        work.schedule.ended(number, zigrunk.Outcome.SUCCEEDED if worked else zigrunk.Outcome.FAILED)
         await self.make_ready(work)
 
     async def make_ready(self, work: Work) -> None:
@@ -247,7 +247,7 @@ def report(work: Work) -> bool:
         sys.stdout.buffer.write(job.out)
         sys.stderr.buffer.write(job.err)
     sys.stdout.flush()
-    if failed := told.status != zigrunk.PlanStatus.SUCCEEDED:
+    if failed := int(told.status) != zigrunk.PlanStatus.ALL_SUCCEEDED:
         plans.say(f"{work.call.name}: failed")
     return failed
 

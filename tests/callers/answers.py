@@ -86,8 +86,8 @@ def main(arguments: Sequence[str]) -> None:
         print("==", name)
         try:
             if arguments[1:]:
-                pair = ((room / run).read_bytes() for run in (first, second))
-                print_texts("text", [zigrunk.plan(*pair, f"{room}/w", f"{room}/t", "-c").text("text")])
+                plan = zigrunk.plan((room / first).read_bytes(), (room / second).read_bytes(), f"{room}/w", f"{room}/t", "-c")
+                print_texts("text", [plan.text("text")])
                 continue
             call = zigrunk.Call(str(room / "bin/nvcc"), ["-c", "kernel.cu", "-o", "kernel.o"], os.environ, str(room / "w"), f"{room}/{tmp}")
             print_call(call)

@@ -334,13 +334,17 @@ def plan(dry1: bytes, dry2: bytes, cwd: str, tmp: str, flag: str = "", environme
 
 
 class Schedule:
-    """Which command of plans may start next, and which outputs may be printed. It starts nothing: you say what happened."""
+    """Which command of plans may start next, and which outputs may be printed. It starts nothing: you say what happened. In place of plans it takes
+    commands of yours: for each the numbers of those that have to succeed before it, all smaller than its own."""
 
-    def __init__(self, plans: Sequence[Plan], slots: int, after_failure: int = AfterFailure.START_EARLIER) -> None:
-        self._plans = (ctypes.c_void_p * len(plans))(*[it._owned.pointer for it in plans])  # pylint: disable=protected-access
-        self._length = sum(len(it.commands) for it in plans)
-        given = _ScheduleCall(ctypes.cast(self._plans, ctypes.c_void_p), len(plans), None, 0, slots, after_failure)
-        self._owned = _Owned("zigrunk_schedule_of", given)
+    def __init__(self, of: Sequence[Union[Plan, Sequence[int]]], slots: int, after_failure: int = AfterFailure.START_EARLIER) -> None:
+        plans = [it for it in of if isinstance(it, Plan)]
+        needs = [] if plans else [(ctypes.c_size_t * len(it))(*it) for it in of if not isinstance(it, Plan)]
+        pointers = (ctypes.c_void_p * len(plans))(*[it._owned.pointer for it in plans])  # pylint: disable=protected-access
+        commands = (_Scheduled * len(needs))(*[_Scheduled(ctypes.cast(it, ctypes.c_void_p), len(it), 0) for it in needs])
+        self._kept, self._length = of, sum(len(it.commands) for it in plans) + len(needs)
+        both = [ctypes.cast(it, ctypes.c_void_p) for it in (pointers, commands)]
+        self._owned = _Owned("zigrunk_schedule_of", _ScheduleCall(both[0], len(plans), both[1], len(needs), slots, after_failure))
 
     def __len__(self) -> int:
         return self._length

@@ -6,7 +6,9 @@ use std::path::{Path, PathBuf};
 use std::{env, fs, io};
 
 use zigrunk::schedule::{AfterFailure, Outcome, Schedule};
-use zigrunk::{Call, Command, CommandTool, Disk, DropReason, DryRuns, Format, Missing, NvccCall, Plan, PlanCall, Run, Stage, plan, variables};
+use zigrunk::{
+    Call, Command, CommandTool, Disk, DropReason, DryRuns, Format, Missing, NvccCall, Plan, PlanCall, Run, Stage, plan, variables,
+};
 
 fn print_text(name: &str, text: impl AsRef<[u8]>) {
     let escaped = text.as_ref().iter().map(|&byte| match byte {
