@@ -70,7 +70,10 @@ fn a_call_is_planned() {
     let plan = room.plan(&["-c", "k.cu"], &[Variable::new("A", "1")]).unwrap();
     let [gcc, cicc, last] = plan.commands().collect::<Vec<_>>().try_into().unwrap();
     assert_eq!((gcc.preprocesses(), last.preprocesses()), (true, false));
-    assert_eq!([gcc, cicc, last].map(|command| command.targets().unwrap()), [vec!["compute_75".to_owned()], vec!["compute_75".to_owned()], vec![]]);
+    assert_eq!(
+        [gcc, cicc, last].map(|command| command.targets().unwrap()),
+        [vec!["compute_75".to_owned()], vec!["compute_75".to_owned()], vec![]]
+    );
     assert_eq!((gcc.program(), cicc.program()), (room.path("gcc").as_str(), room.path("cicc").as_str()));
     assert_eq!((cicc.needs(), cicc.tool()), ([0].as_slice(), Some(CommandTool::Cicc)));
     assert!(cicc.writes().eq([room.path("k.ptx")]) || cicc.writes().eq([room.path("t/k.ptx")]), "{cicc:?}");
