@@ -635,7 +635,7 @@ int32_t zigrunk_plan_of(const struct zigrunk_plan_call *given,
 // The commands of a plan. They are freed with it.
 const struct zigrunk_commands *zigrunk_plan_commands(const zigrunk_plan *plan);
 
-// The plan as a text: as "json", "ninja", "shell" or "text". `ZIGRUNK_BAD_NUMBER` for another format, `ZIGRUNK_UNWRITABLE` if the format
+// The plan as a text: as "json", "ninja", "shell", "compdb" or "text". `ZIGRUNK_BAD_NUMBER` for another format, `ZIGRUNK_UNWRITABLE` if the format
 // can't represent the plan.
 ZIGRUNK_CHECK_RESULT
 int32_t zigrunk_plan_text(const zigrunk_plan *plan,

@@ -134,7 +134,7 @@ public:
     // Those that it dropped, each with its reason.
     const std::vector<Command> &dropped() const & { return dropped_; }
     std::vector<Command> dropped() && { return std::move(dropped_); }
-    // The plan as "json", "ninja", "shell" or "text".
+    // The plan as "json", "ninja", "shell", "compdb" or "text".
     std::string text(std::string_view format) const { return own::answer(zigrunk_plan_text, plan_.get(), own::given(format)).at(0); }
     // The key of a command, by its number: zigrunk_plan_key says what it is for, and when it throws.
     Key key(std::size_t number) const {

@@ -280,7 +280,7 @@ func ask(call func(passed *given, made **C.zigrunk_answer, refused **C.zigrunk_e
 
 func first(all []string, err error) (string, error) { return append(all, "")[0], err }
 
-// Text is the plan as "json", "ninja", "shell" or "text".
+// Text is the plan as "json", "ninja", "shell", "compdb" or "text".
 func (p *Plan) Text(format string) (string, error) {
 	defer runtime.KeepAlive(p)
 	return first(ask(func(passed *given, made **C.zigrunk_answer, refused **C.zigrunk_error) C.int32_t {

@@ -146,16 +146,19 @@ impl Room {
 
     /// A list of texts, each of parts, and a NULL.
     fn list<'a, const N: usize>(&mut self, texts: impl Iterator<Item = [&'a [u8]; N]> + Clone) -> Result<zigrunk_texts, TryReserveError> {
-        let count = texts.clone().count();
-        let (first, lengths) = (self.items.room(count + 1)?.len(), self.numbers.room(count)?.len());
+        let size = |parts: [&[u8]; N]| parts.iter().map(|part| part.len()).sum::<usize>() + 1;
+        let (count, total) = texts.clone().fold((0, 0), |(count, total), parts| (count + 1, total + size(parts)));
+        let (bytes, items, lengths) = (self.bytes.room(total)?, self.items.room(count + 1)?, self.numbers.room(count)?);
+        let (first, first_length) = (items.len(), lengths.len());
         for parts in texts {
-            let text = self.joined(&parts)?;
-            self.items.room(0)?.push(text.bytes);
-            self.numbers.room(0)?.push(text.length);
+            let start = bytes.len();
+            parts.iter().for_each(|part| bytes.extend_from_slice(part));
+            lengths.push(bytes.len() - start);
+            bytes.push(0);
+            items.push(bytes[start..].as_ptr().cast());
         }
-        let items = self.items.room(0)?;
         items.push(ptr::null());
-        Ok(zigrunk_texts { items: items[first..].as_ptr(), lengths: self.numbers.room(0)?[lengths..].as_ptr(), count })
+        Ok(zigrunk_texts { items: items[first..].as_ptr(), lengths: lengths[first_length..].as_ptr(), count })
     }
 
     pub fn texts<'a, T: AsRef<[u8]> + ?Sized + 'a>(&mut self, texts: impl Iterator<Item = &'a T> + Clone) -> Result<zigrunk_texts, TryReserveError> {

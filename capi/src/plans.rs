@@ -350,7 +350,7 @@ pub unsafe extern "C" fn zigrunk_plan_commands(plan: *const zigrunk_plan) -> *co
     unsafe { ptr::addr_of!((*plan).commands) }
 }
 
-/// The plan as a text: as "json", "ninja", "shell" or "text". `ZIGRUNK_BAD_NUMBER` for another format, `ZIGRUNK_UNWRITABLE` if the format
+/// The plan as a text: as "json", "ninja", "shell", "compdb" or "text". `ZIGRUNK_BAD_NUMBER` for another format, `ZIGRUNK_UNWRITABLE` if the format
 /// can't represent the plan.
 #[no_mangle]
 #[must_use]

@@ -291,7 +291,7 @@ class Plan:
         self.commands, self.dropped = commands[:all_of.count - all_of.dropped], commands[all_of.count - all_of.dropped:]
 
     def text(self, form: str = "json") -> str:
-        """The plan as `json`, `ninja`, `shell` or `text`."""
+        """The plan as `json`, `ninja`, `shell`, `compdb` or `text`."""
         return _texts("zigrunk_plan_text", self._owned.pointer, _text(form))[0]
 
     def key(self, number: int) -> Key:
