@@ -177,7 +177,8 @@ check 'C: answers.c' built_c tests/callers/answers.c "$scratch/answers_c" "${fla
 check "C: what it says of the table and of $pairs pairs by lot" told
 check 'C++: answers.cpp' built_cpp tests/callers/answers.cpp "$scratch/answers_cpp" "${flags[@]}"
 check 'C++: the same' alike "$scratch/answers_cpp"
-check 'Python: the same' alike python3 tests/callers/answers.py
+# (a python3 on the path may be a script that sets variables)
+check 'Python: the same' alike "$(python3 -c 'import sys; print(sys.executable)')" tests/callers/answers.py
 if command -v cargo > /dev/null && [ -d "${WORKSPACE:-out/rust}/zigrunk" ]; then
     check 'Rust: answers' cargo build --quiet --offline --release --manifest-path "${WORKSPACE:-out/rust}/Cargo.toml" -p zigrunk --example answers
     check 'Rust: the same' alike "${CARGO_TARGET_DIR:-${WORKSPACE:-out/rust}/target}/release/examples/answers"

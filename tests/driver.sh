@@ -629,7 +629,8 @@ ROWS
             if [[ $refused = *when=SAID* ]]; then
                 (before=(strace -D -o "$room/trace" -e trace=pread64); start DRY_RUN_DOES='sleep 0.2' -c k.cu -o k.o; ended 0)
                 said_at=$(grep -n '^pread64([0-9]*, "#\$ ' "$room/trace" | head -n 1 | cut -d : -f 1)
-                refused=${refused/SAID/${said_at:-none}}
+                refused=${refused/SAID..1006/${said_at:-1}..$((${said_at:-1} + 1000))}
+                refused=${refused/SAID/${said_at:-1}}
             fi
             (before=(strace -D -o "$room/trace" -e "trace=${refused%%:*}" -e "inject=$refused"); start "${plain[@]}" DRY_RUN_DOES='sleep 0.2' -c k.cu -o k.o; ended 5; echo "$problems" > "$room/problems")
             same 'in the case' "$(cat "$room/problems")" ''

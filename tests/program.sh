@@ -1032,8 +1032,8 @@ limits() {
     lines_of small '#$ PATH=/b'
     run_of within '#$ gcc -D__NVCC__ x.i'
     local room within=$'\n    #$ gcc -D__NVCC__ x.i\n'
-    # PATH and its value, and PATH with gcc behind it, -D__NVCC__ and x.i: each counts one byte more, and each line 4,096
-    room=$(($(sed -n 's/^#\$ PATH=//p' "$scratch/within" | tr -d '\n' | wc -c) * 2 + 25 + 2 * 4096))
+    # PATH and its value, the path of gcc, -D__NVCC__ and x.i: each counts one byte more, and each line 4,096
+    room=$(($(sed -n 's/^#\$ PATH=//p' "$scratch/within" | tr -d '\n' | wc -c) + $(printf %s "$scratch/bin/gcc" | wc -c) + 22 + 2 * 4096))
     local exceeded=":2: with this line, the dry run makes over $((room - 1)) bytes: --limit allows more$within"
     out=$(zigrunk_plan json /w /t -c "$scratch/within" "$scratch/within.2"; printf .)
     check 'dry runs that just fit' 0 "${out%.}" '' json --limit "$room" /w /t -c "$scratch/within" "$scratch/within.2"
@@ -1043,8 +1043,8 @@ limits() {
         check "$form: the second run exceeds the limit" 1 '' "zigrunk plan: $scratch/within.2$exceeded" \
             "$form" --limit $((room - 1)) /w /t -c "$scratch/small" "$scratch/within.2"
     done
-    check 'no room at all' 1 '' "zigrunk plan: $scratch/within:1: with this line, the dry run makes over 0 bytes: --limit allows more"$'\n    '"$(head -n 1 "$scratch/within")"$'\n' \
-        json --limit 0 /w /t -c "$scratch/within" "$scratch/within.2"
+    check 'no room at all' 1 '' "zigrunk plan: $scratch/within:1: with this line, the dry run makes over 1 bytes: --limit allows more"$'\n    '"$(head -n 1 "$scratch/within")"$'\n' \
+        json --limit 1 /w /t -c "$scratch/within" "$scratch/within.2"
     doubling 25 > "$scratch/doubling"
     cp "$scratch/doubling" "$scratch/doubling.2"
     for form in json text; do

@@ -49,6 +49,7 @@ impl zigrunk_text {
     /// # Safety
     ///
     /// The pointer is valid for the length, or up to a NUL.
+    #[must_use]
     pub unsafe fn bytes<'a>(&self) -> &'a [u8] {
         // SAFETY: the caller ensures it.
         unsafe { bytes_of(self.bytes, self.length) }
@@ -59,6 +60,7 @@ impl zigrunk_text {
     /// # Safety
     ///
     /// As for `bytes`.
+    #[must_use]
     pub unsafe fn os<'a>(&self) -> &'a OsStr {
         // SAFETY: the caller ensures it.
         OsStr::from_bytes(unsafe { self.bytes() })
@@ -79,21 +81,22 @@ unsafe fn bytes_of<'a>(text: *const c_char, length: usize) -> &'a [u8] {
 
 impl zigrunk_texts {
     fn count(&self) -> usize {
-        if self.items.is_null() {
-            return 0;
+        if self.items.is_null() || self.count != ZIGRUNK_ALL {
+            return if self.items.is_null() { 0 } else { self.count };
         }
-        let ends = |&number: &usize| {
-            // SAFETY: the caller of `listed` ensures that a NULL ends the list.
-            unsafe { *self.items.add(number) }.is_null()
-        };
-        if self.count == ZIGRUNK_ALL {
-            (0..).find(ends).unwrap_or(0)
-        } else {
-            self.count
+        let mut count = 0;
+        // SAFETY: the caller of `listed` ensures that a NULL ends the list.
+        while !unsafe { *self.items.add(count) }.is_null() {
+            count += 1;
         }
+        count
     }
 
     /// Its texts.
+    ///
+    /// # Errors
+    ///
+    /// An allocation that failed.
     ///
     /// # Safety
     ///

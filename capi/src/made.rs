@@ -78,8 +78,9 @@ pub fn give<T: Made>(mut thing: T, room: Room) -> Result<*mut T, TryReserveError
 ///
 /// `give` has given it, and nobody uses it any more.
 unsafe extern "C" fn free_whole<T>(thing: *mut c_void) {
-    // SAFETY: the caller ensures it; it was a slice of one.
-    drop(unsafe { Vec::from_raw_parts(thing.cast::<Whole<T>>(), 1, 1) });
+    let one = ptr::slice_from_raw_parts_mut(thing.cast::<Whole<T>>(), 1);
+    // SAFETY: the caller ensures it; it was a boxed slice of one.
+    drop(unsafe { Box::from_raw(one) });
 }
 
 /// Frees a thing that a function has made. Nothing happens to NULL.
@@ -131,7 +132,9 @@ impl Room {
         let length = parts.iter().map(|part| part.len()).sum();
         let piece = self.bytes.room(length + 1)?;
         let start = piece.len();
-        parts.iter().for_each(|part| piece.extend_from_slice(part));
+        for part in parts {
+            piece.extend_from_slice(part);
+        }
         piece.push(0);
         Ok(zigrunk_text { bytes: piece[start..].as_ptr().cast(), length })
     }
@@ -152,7 +155,9 @@ impl Room {
         let (first, first_length) = (items.len(), lengths.len());
         for parts in texts {
             let start = bytes.len();
-            parts.iter().for_each(|part| bytes.extend_from_slice(part));
+            for part in parts {
+                bytes.extend_from_slice(part);
+            }
             lengths.push(bytes.len() - start);
             bytes.push(0);
             items.push(bytes[start..].as_ptr().cast());
@@ -188,13 +193,16 @@ struct Static(zigrunk_error);
 // SAFETY: nothing changes it.
 unsafe impl Sync for Static {}
 
+// (cbindgen of Debian 12 doesn't read a literal of C)
+const OUT_OF_MEMORY_TEXT: [u8; 14] = *b"out of memory\0";
+
 /// The error that needs no memory.
 static OUT_OF_MEMORY: Static = Static(zigrunk_error {
     made: not_yet(),
     status: 1,
     input: 0,
     line: 0,
-    message: zigrunk_text { bytes: "out of memory\0".as_ptr().cast(), length: 13 },
+    message: zigrunk_text { bytes: OUT_OF_MEMORY_TEXT.as_ptr().cast(), length: 13 },
 });
 
 fn error_of(error: &Error) -> Result<*mut zigrunk_error, TryReserveError> {

@@ -110,7 +110,7 @@ impl<'a> Options<'a> {
             "--limit" => {
                 let number = value(option, "a number of bytes", left)?;
                 let is_number = !number.is_empty() && number.bytes().all(|byte| byte.is_ascii_digit());
-                let limit = number.parse().ok().filter(|_| is_number);
+                let limit = number.parse().ok().filter(|&limit: &usize| is_number && limit > 0);
                 self.limit = Some(limit.ok_or_else(|| misuse(&format!("--limit needs a number of bytes, not {}", shown(number.as_ref()))))?);
             }
             "--keep" => self.keeps = true,
@@ -302,6 +302,7 @@ mod tests {
             ("--dry-runs a b --limit", "--limit needs a number of bytes"),
             ("--dry-runs a b --limit 2M json", "--limit needs a number of bytes, not 2M"),
             ("--dry-runs a b json --limit -1", "--limit needs a number of bytes, not -1"),
+            ("--dry-runs a b json --limit 0", "--limit needs a number of bytes, not 0"),
             ("json --dry-runs a b --cwd", "--cwd needs a directory"),
             ("json --dry-runs a b --suffix", "--suffix needs a suffix, as .gpu"),
         ];

@@ -483,6 +483,7 @@ mod tests {
     use std::os::unix::fs::OpenOptionsExt;
 
     /// A machine whose jobs end in the order in which they start, or in the other. A job's words are its name, its status and what it says.
+    #[allow(clippy::struct_excessive_bools, reason = "each is a switch of its own")]
     #[derive(Default)]
     struct Fake {
         wants: bool,
@@ -843,7 +844,7 @@ mod tests {
             (true, true, ("firstotherearlysecond", "")),
         ] {
             let folder = TestFolder::new();
-            let (started, read) = with_pipe(&folder, Fake { reads_all, backwards, ..Fake::default() });
+            let (started, read) = with_pipe(&folder, Fake { backwards, reads_all, ..Fake::default() });
             assert_eq!((started.as_str(), read.as_str()), wanted, "{reads_all} {backwards}");
             assert_eq!(read_late_in(&folder).unwrap(), "id", "a plain file has its name");
             assert!(!folder.join("withheld").is_symlink());
