@@ -68,10 +68,9 @@ pub fn workspace_of(root: &Path, drivers: bool) -> Result<Workspace, Error> {
     }
     let version = root.join("VERSION");
     let version = fs::read_to_string(&version).map_err(|it| Error::io(&version, it))?;
-    found.tree.add(
-        "Cargo.toml",
-        workspace(version.trim(), &found.members),
-    );
+    found
+        .tree
+        .add("Cargo.toml", workspace(version.trim(), &found.members));
     found.tree.add("erased.txt", found.record.as_str());
     Ok(found)
 }
