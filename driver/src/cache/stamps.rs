@@ -20,17 +20,19 @@ pub const GRAIN: Duration = Duration::from_millis(20);
 #[derive(Clone, Copy, Debug)]
 pub struct Moment {
     pub time: SystemTime,
-    instant: Instant,
+    /// Before the clock was read, and after: on a busy machine much may lie between.
+    instants: [Instant; 2],
 }
 
 impl Moment {
     pub fn now() -> Moment {
-        Moment { time: SystemTime::now(), instant: Instant::now() }
+        let before = Instant::now();
+        Moment { time: SystemTime::now(), instants: [before, Instant::now()] }
     }
 
     /// Whether the clock has gone on since then, at about its pace: if it was set back, a change may seem older than it is.
     pub fn is_before(&self, now: &Moment) -> bool {
-        let passed = now.instant.duration_since(self.instant);
+        let passed = now.instants[0].saturating_duration_since(self.instants[1]);
         now.time.duration_since(self.time).is_ok_and(|by_clock| by_clock + GRAIN + passed / 1000 >= passed)
     }
 }
@@ -104,7 +106,7 @@ mod tests {
         let after = |clock: i64, passed: u64| {
             let ago = Duration::from_millis(clock.unsigned_abs());
             let time = if clock < 0 { moment.time - ago } else { moment.time + ago };
-            moment.is_before(&Moment { time, instant: moment.instant + Duration::from_millis(passed) })
+            moment.is_before(&Moment { time, instants: moment.instants.map(|instant| instant + Duration::from_millis(passed)) })
         };
         assert!(moment.is_before(&Moment::now()) && after(10_000, 10_000) && after(99_990, 100_000) && after(99_000, 10));
         assert!(!after(-10, 5) && !after(-10_000, 10_000) && !after(9000, 10_000));
