@@ -26,22 +26,23 @@ archive = $(workspace)/target/release/libzigrunk_c.a
 # $(call needs_kit,COMMANDS): ends a target that proves, if the Rattle kit isn't there: what to run instead.
 needs_kit = $(if $(shell command -v rt),,$(error make $@ needs the Rattle kit, whose rt is not on PATH. Without it, run: $(1)))
 
-.PHONY: help demo build lib header rust rust-sources rust-install check install install-programs install-library install-rust uninstall dist bench drivers erased-kit must-fail refused-memory end-to-end odd-calls random-calls mutants-by-lot versions cache cache-edits cache-attacks peer cluster field platforms test-install dist-test check-docs lint one test
+.PHONY: help demo build lib header rust rust-sources crates vendor rust-install check install install-programs install-library install-rust uninstall dist bench drivers erased-kit must-fail refused-memory end-to-end odd-calls random-calls mutants-by-lot versions cache cache-edits cache-attacks peer remote cluster field platforms test-install dist-test check-docs lint one test
 
 help:
 	@echo 'make demo             run cudaplan, unproved, on two calls; a minute from a fresh clone'
 	@echo 'make build            prove and build crates/cudaplan/out/cudaplan'
 	@echo 'make lib              build libzigrunk for C, C++, Go and Python: out/lib and out/include'
 	@echo 'make header           write the header of libzigrunk anew; needs cbindgen'
-	@echo 'make rust             write the proved sources as plain Rust and build programs and library of them: out/rust; needs cargo alone'
+	@echo 'make rust             write the proved sources as plain Rust and build programs and library of them: out/rust; needs cargo, and crates'
+	@echo 'make vendor           fill vendor/ with these crates, from Debian 13 by apt-get; installs nothing'
 	@echo 'make install          install programs, library, scripts, man pages and completions; PREFIX=/usr/local, DESTDIR='
 	@echo '                      it proves and builds both, or without the kit builds the plain Rust: BUILT=proved, BUILT=plain'
 	@echo '                      make install-programs and make install-library install, and build, one of them'
 	@echo 'make rust-install     the same with the plain Rust'
 	@echo 'make uninstall        remove what make install installed, with the same PREFIX and DESTDIR'
 	@echo 'make check CRATE=dry_runs   prove one crate over kept libraries, or with FUNCTION=PATH one function of it; no verdict'
-	@echo 'make test             the whole gate, with rt ci in it; the last line is N passed, M failed; BODIES=all tries all wrong bodies,'
-	@echo '                      ANEW=1 takes no proof from an earlier run on this machine'
+	@echo 'make test             with the kit the whole gate, rt ci in it: BODIES=all tries all wrong bodies, ANEW=1 takes no proof from an earlier'
+	@echo '                      run on this machine. Without the kit the tests of the plain build. The last line is N passed, M failed'
 	@echo 'make one CASE=TEXT    run the cases of the shell scripts and the unit tests of the driver whose names have this text'
 	@echo 'make drivers          compile the test drivers, unproved, and run their cases, or those of NAMES="test_lines"'
 	@echo 'make must-fail        check that the prover rejects the wrong bodies of all crates, or of CRATES="texts dry_runs"'
@@ -51,7 +52,7 @@ help:
 	@echo 'make odd-calls        the same for 182 calls with odd words, and for 100 random calls'
 	@echo 'make random-calls     the same for calls whose words are drawn from nvcc'\''s options; SEED=1 COUNT=1000'
 	@echo 'make mutants-by-lot   edit the driver by lot, one line at a time, and say which edits no test finds; SEED=1 COUNT=100, ONLY=17 makes one'
-	@echo '                      of them again; KIND=examples edits the examples. Needs root. The gate makes twenty'
+	@echo '                      of them again. Needs root. The gate makes twenty'
 	@echo 'make versions         the same with nvcc 11.2, 11.8 and 12.4, which it downloads from Debian, up to 3 GB; or CUDA_VERSIONS=FOLDER'
 	@echo 'make cache            compare builds and rebuilds with and without ccache and sccache; needs both, sccache 0.9 or later; PARTS="edits alone"'
 	@echo 'make cache-edits      build a small project by nvcc and with our cache after each of 200 random edits; SEED=, COUNT='
@@ -60,7 +61,9 @@ help:
 	@echo '                      and calls of nvcc by both; needs nvcc and cargo 1.85. No part of the gate'
 	@echo 'make field            build the CUDA code of real projects by nvcc and by zigrunk-nvcc, and compare; needs nvcc and CMake;'
 	@echo '                      downloads 80 MB from Debian; PROJECTS="bart ceres" builds only these. No part of the gate'
-	@echo 'make cluster          build on a Slurm that it starts on this machine, and let nodes vanish; needs nvcc, slurm-wlm, munge, iproute2; root'
+	@echo 'make cluster          make lists on a Slurm that it starts on this machine, whose nodes die, and over ssh; needs nvcc, slurm-wlm, munge, iproute2; root'
+	@echo 'make remote           build zigrunk-remote, and calls of nvcc by Debian'\''s buildbox, which it downloads (120 MB) and lets die; SEED=1 DEATHS=12;'
+	@echo '                      make vendor REMOTE=yes fetches its crates. No part of the gate'
 	@echo 'make platforms        build the plain Rust for other platforms in a root of Debian 13, and run the cases there; needs root'
 	@echo 'make check-docs       check links, quoted code and names in the pages, and the version number'
 	@echo 'make lint             check shell, Python and Rust: shellcheck, mypy, flake8, clippy and rustfmt, as far as they are installed'
@@ -100,13 +103,30 @@ lib:
 header: rust-sources
 	cd $(workspace)/capi && cbindgen --quiet --config cbindgen.toml --crate capi --output $(CURDIR)/bindings/c/zigrunk.h .
 
-# The proved sources as crates of plain Rust (docs/PLAIN_RUST.md), and programs and library of them: no kit, no network.
+# The proved sources as crates of plain Rust (docs/PLAIN_RUST.md), and programs and library of them: no kit, and no network if crates are there.
 rust: rust-sources
 	cd out/rust && cargo build --release
+	$(if $(REMOTE),cd out/rust && cargo build --release -p zigrunk-remote)
 	for name in zigrunk zigrunk-nvcc; do ln -sf zigrunk-driver out/rust/target/release/$$name; done
 
+# Commands by a server of the Remote Execution API.
+remote:
+	@SEED=$(SEED) tests/remote.sh --buildbox
+
+# Crates of others come from vendor/, else from Debian's packages, else from Cargo's registry. REMOTE=yes adds the crate remote, and those that it needs.
+# One at a time: the gate installs and packs side by side, and both begin here.
+REMOTE ?=
 rust-sources:
-	cargo run --quiet --manifest-path rust/Cargo.toml -p eraser -- . out/rust
+	@mkdir -p out
+	flock out/rust.lock cargo run --quiet --manifest-path rust/Cargo.toml -p eraser -- $(if $(REMOTE),--remote) . out/rust
+	@cd out/rust && flock ../rust.lock cargo fetch --quiet 2> /dev/null || { echo 'There is no source of crates: run make vendor (apt-get), or install the librust packages of README, or let cargo reach crates.io' >&2; exit 1; }
+
+vendor:
+	@packaging/vendor.sh $(if $(REMOTE),remote)
+
+# Leaves the sources with their crates, and fetches these if there are none.
+crates:
+	@$(MAKE) -s rust-sources 2> /dev/null || $(MAKE) -s vendor rust-sources
 
 include packaging/install.mk
 
@@ -153,9 +173,8 @@ random-calls: rust
 	@tests/random_calls.py --jobs "$(JOBS)" --seed "$(SEED)" --count "$(COUNT)"
 
 # What no contract sees: each edit has to make a test fail.
-KIND ?= driver
 mutants-by-lot: rust-sources
-	@tests/mutants_by_lot.py --kind "$(KIND)" --seed "$(SEED)" --count "$(if $(filter command line environment,$(origin COUNT)),$(COUNT),100)" $(if $(ONLY),--only "$(ONLY)")
+	@tests/mutants_by_lot.py --seed "$(SEED)" --count "$(if $(filter command line environment,$(origin COUNT)),$(COUNT),100)" $(if $(ONLY),--only "$(ONLY)")
 
 # Other versions of nvcc, with host compilers that suit. docs/VERSIONS.md says what differs.
 versions: rust
@@ -179,9 +198,8 @@ cache-attacks: rust
 peer:
 	@tests/peer.sh
 
-# Packages are in docs/CLUSTER.md.
+# Outside the gate: the scripts of examples/cluster.
 cluster: rust
-	@tests/cluster/attempts.sh
 	@tests/cluster.sh
 
 # Outside the gate. It downloads the projects of tests/field from Debian. docs/FIELD.md has what came out.
@@ -215,7 +233,6 @@ test-install:
 	@.ci/built check programs || $(MAKE) build
 	@tests/install.sh
 
-# rt ci: every proof, wrong bodies, tests and programs. Beside it all other tests, of what it built.
+# With the kit the whole gate: rt ci, and beside it all other tests, of what it built. Without it the tests of the plain build.
 test:
-	$(call needs_kit,make rust lint check-docs && tests/driver.sh && tests/driver_batch.sh)
-	@.ci/gate
+	@if command -v rt > /dev/null; then .ci/gate; else .ci/plain; fi

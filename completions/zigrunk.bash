@@ -43,18 +43,18 @@ _zigrunk() {
     local current=${COMP_WORDS[COMP_CWORD]}
     COMPREPLY=()
     if [ "$COMP_CWORD" -eq 1 ]; then
-        _zigrunk_words 'nvcc plan batch report cache worker help --help --version'
+        _zigrunk_words 'nvcc plan batch report cache check-node help --help --version'
         return
     fi
     case ${COMP_WORDS[1]} in
     plan) _zigrunk_plan "$1" ;;
-    cache) [ "$COMP_CWORD" -ne 2 ] || _zigrunk_words 'stats clear limit' ;;
-    help) _zigrunk_words 'nvcc plan batch report cache worker' ;;
+    cache) [ "$COMP_CWORD" -ne 2 ] || _zigrunk_words 'stats clear limit observe' ;;
+    help) _zigrunk_words 'nvcc plan batch report cache check-node' ;;
+    check-node) if [[ $current == -* ]]; then _zigrunk_words '--write --version --help'; else _zigrunk_files; fi ;;
     report) if [[ $current == -* ]]; then _zigrunk_words '--trace --html --help'; else _zigrunk_files; fi ;;
-    worker) _zigrunk_words '-j --name --version --help' ;;
     batch)
         if [[ $current == -* ]]; then
-            _zigrunk_words '-j -k --progress --incremental --workers --wait --give-up --timeout --send-files --unless-made --version --help'
+            _zigrunk_words '-j -k --progress --incremental --part --missing --unless-made --version --help'
         else
             _zigrunk_files
         fi

@@ -1,7 +1,7 @@
 #!/usr/bin/env bash
 # Packs what anyone can build, which is plain Rust (docs/PLAIN_RUST.md), and what is proved, if it is built:
 #
-#   dist/zigrunk-VERSION.tar.gz                the sources, with a Makefile that needs cargo
+#   dist/zigrunk-VERSION.tar.gz                the sources and the crates that they need, with a Makefile that needs cargo
 #   dist/zigrunk_VERSION_ARCHITECTURE.deb      packages of them: amd64, and arm64 if rustc and gcc can make it
 #   dist/zigrunk-VERSION-py3-none-PLATFORM.whl  the package for Python with the library of each
 #   dist/zigrunk-VERSION-x86_64-linux.tar.gz   the proved cudaplan with the others, if crates/cudaplan/out has what these sources make
@@ -34,10 +34,23 @@ pack() {
     tar -c -C "$(dirname "$1")" --sort=name --format=ustar --owner=0 --group=0 --numeric-owner "$(basename "$1")" | gzip -n -9 > "dist/$(basename "$1").tar.gz"
 }
 
+# prune_vendor: takes out of the sources' vendor what their Cargo.lock doesn't name. `make vendor REMOTE=yes` leaves five times as many crates.
+prune_vendor() {
+    local crate
+    packaging/locked.sh "$sources/Cargo.lock" > "$scratch/locked"
+    for crate in "$sources"/vendor/*; do
+        grep -qxF "${crate##*/}" "$scratch/locked" || rm -r "$crate"
+    done
+}
+
 # write_sources: the tree of the source tarball, which is the workspace of plain Rust and what is installed with it.
 write_sources() {
     local file
-    cargo run --quiet --manifest-path rust/Cargo.toml -p eraser -- . "$sources"
+    rm -rf "$sources/vendor"
+    mkdir -p "$sources"
+    cp -r vendor "$sources/vendor"
+    cargo run --quiet --manifest-path rust/Cargo.toml -p eraser -- --crates=vendor . "$sources"
+    prune_vendor
     git ls-files README.md CHANGELOG.md LICENSE NOTICE VERSION bindings/c bindings/cmake bindings/cpp bindings/go bindings/python completions demo docs examples man | while read -r file; do
         mkdir -p "$sources/$(dirname "$file")"
         cp "$file" "$sources/$file"
@@ -45,8 +58,6 @@ write_sources() {
     cp tests/drivers/test_plans/data/dry_runs/one_target.dry[12] "$sources/demo"
     cp packaging/install.mk "$sources"
     cp packaging/source.mk "$sources/Makefile"
-    # Cargo.lock
-    (cd "$sources" && cargo metadata --offline --format-version 1 > /dev/null)
 }
 
 # can_build TARGET PREFIX: whether rustc has the library of a target, and gcc its tools.
@@ -88,7 +99,7 @@ Architecture: $1
 Maintainer: Zigrunk maintainers <maintainers@users.noreply.zigrunk.example>
 Installed-Size: $(find "$2/usr" -type f -printf '%s\n' | awk '{ size += $1 } END { print int(size / 1024) + 1 }')
 Depends: libc6 (>= $(newest_glibc "$2/usr/lib/libzigrunk.so.2"))
-Suggests: python3, sccache, slurm-client
+Suggests: python3, sccache
 Section: devel
 Priority: optional
 Description: split nvcc calls into their commands
@@ -165,6 +176,7 @@ pack_proved() {
     pack "$folder"
 }
 
+[ -d vendor ] || packaging/vendor.sh
 write_sources
 pack "$sources"
 package amd64 x86_64-unknown-linux-gnu ''

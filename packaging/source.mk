@@ -1,4 +1,4 @@
-# Builds Zigrunk from its source tarball, and installs it. It needs cargo and rustc 1.85 or later, a C compiler and binutils, and no network.
+# Builds Zigrunk from its source tarball, and installs it. It needs cargo and rustc 1.85 or later, a C compiler and binutils, and no network: crates of others are in vendor.
 PREFIX ?= /usr/local
 DESTDIR ?=
 CARGO ?= cargo
@@ -13,7 +13,14 @@ library_from ?= $(MAKE) build
 workspace = .
 crates_from = :
 
-.PHONY: build demo install install-programs install-library install-rust uninstall
+# Unit tests, by cargo alone. The last line is N passed, M failed.
+tests = test.log
+test:
+	@status=0; $(CARGO) test --release --offline --locked --lib --bins --tests -p call -p zigrunk -p unix -p machine -p cache -p runner -p report -p batch -p zigrunk-driver > $(tests) 2>&1 || status=$$?; \
+	    grep -v '^$$' $(tests); awk '/^test result:/ { passed += $$4; failed += $$6 } END { print passed + 0 " passed, " failed + 0 " failed" }' $(tests); \
+	    exit $$status
+
+.PHONY: build demo test install install-programs install-library install-rust uninstall
 
 build:
 	$(CARGO) build --release --offline --locked

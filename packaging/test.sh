@@ -7,6 +7,8 @@
 #   packaging/test.sh [ROOT..]     ROOT: a release, or RELEASE:ARCHITECTURE, or the folder of a root, which is copied. By default four
 #                                  releases, and arm64 if the kernel has an emulator. For an arm64 root that is named here, the script
 #                                  lends the kernel that of the package qemu-user-static
+#
+# QUICK, if set, leaves out `make test`, which takes most of the time.
 set -u
 cd "$(dirname "$0")/.." || exit 1
 . tests/lib.sh
@@ -145,6 +147,12 @@ proved() {
     check "$1: its program on the path" prints "zigrunk $version" inside env -C / PATH="$bin:/usr/bin:/bin" zigrunk --version
 }
 
+# tests FOLDER: whether `make test` there ends well, by its status and last line.
+tests() {
+    offline make -s -C "$1" test > "$scratch/tests" 2>&1 || { tail -n 30 "$scratch/tests"; return 1; }
+    tail -n 1 "$scratch/tests" | grep -E '^[1-9][0-9]* passed, 0 failed'
+}
+
 # new_project PREFIX: a program in Rust that plans, in a new project.
 new_project() {
     offline cargo new --quiet --vcs none planner && offline env -C /root/planner cargo add --quiet --offline --path "$1/share/zigrunk/rust/zigrunk" || return 1
@@ -166,15 +174,28 @@ demo() {
     offline make -s -C clone demo | grep 'cicc --c++17'
 }
 
-# clone NAME: a clone, by the two commands of README.
+# crates_for NAME: the crates that a clone needs: Debian 13's packages, or what `make vendor` takes of them elsewhere.
+crates_for() {
+    if [[ $1 == trixie* ]]; then
+        check "$1: the packages of crates" inside apt-get install -y --no-install-recommends "${crates[@]}"
+    else
+        check "$1: make vendor" inside make -s -C clone vendor
+    fi
+}
+
+# clone NAME: a clone, by the commands of README.
 clone() {
+    local crates
     mkdir -p "$root/root/clone"
     git archive HEAD | tar -x -C "$root/root/clone"
+    mapfile -t crates < <(grep -v '^#' packaging/debian.txt)
+    crates_for "$1"
     check "$1: make rust" offline make -s -C clone rust
     check "$1: make install" offline make -s -C clone install PREFIX=/usr/local
     programs "$1, a clone"
     in_c "$1, a clone" /usr/local
     check "$1: make demo" demo
+    [ "$architecture" != "$here" ] || [ -n "${QUICK-}" ] || check "$1: make test" tests clone
 }
 
 # crate NAME: the crate for Rust, and what a clone has of tests and examples in Rust.
@@ -188,6 +209,7 @@ tarball() {
     check "$1: unpacking the source tarball" tar -x -C "$root/root" -f "dist/zigrunk-$version.tar.gz"
     check "$1: the source tarball" offline make -s -C "zigrunk-$version" install PREFIX=/usr/local
     programs "$1, the source tarball"
+    [ -n "${QUICK-}" ] || check "$1: make test of the source tarball" tests "zigrunk-$version"
     check "$1: removing it" inside make -s -C "zigrunk-$version" uninstall PREFIX=/usr/local
     check "$1: nothing of the tarball stays" nothing_stays
 }

@@ -6,7 +6,8 @@
 #   tests/callers.sh [FOLDER]         FOLDER: as `make install` or `make lib` leaves it, with lib and include; otherwise out, or what `make rust` built
 #   tests/callers.sh --first FOLDER   the programs of the page alone, also that in Rust, with what `make install` left in FOLDER
 #
-# SEED=N draws other pairs of dry runs than those of seed 1, PAIRS=N so many in place of 100.
+# SEED=N draws other pairs of dry runs and other calls than those of seed 1, PAIRS=N so many pairs in place of 100, CALLS=N so many real calls in place
+# of 8, and of 12 whose keys are compared.
 set -u
 cd "$(dirname "$0")/.." || exit 1
 . tests/lib.sh
@@ -180,11 +181,12 @@ check 'C++: the same' alike "$scratch/answers_cpp"
 # (a python3 on the path may be a script that sets variables)
 check 'Python: the same' alike "$(python3 -c 'import sys; print(sys.executable)')" tests/callers/answers.py
 if command -v cargo > /dev/null && [ -d "${WORKSPACE:-out/rust}/zigrunk" ]; then
-    check 'Rust: answers' cargo build --quiet --offline --release --manifest-path "${WORKSPACE:-out/rust}/Cargo.toml" -p zigrunk --example answers
+    check 'Rust: answers' env -C "${WORKSPACE:-out/rust}" cargo build --quiet --offline --release -p zigrunk --example answers --example keys
     check 'Rust: the same' alike "${CARGO_TARGET_DIR:-${WORKSPACE:-out/rust}/target}/release/examples/answers"
 else
     skip 'Rust: answers' 'there is no cargo, or no workspace: make rust'
 fi
+check 'each rule of one call is in one place' tests/rules_once.py
 check 'Python: a wheel' in_wheel
 check 'Python: the auditor' audits
 check 'the lines of the scheduler' at_most 150 bindings/cpp/examples/scheduler.cpp
@@ -201,6 +203,23 @@ if command -v go > /dev/null; then
     check 'Go: the cache server' built_go "$scratch/server" "$scratch/server/cacheserver"
     check 'Go: answers.go' built_go "$scratch/answers_go" "$scratch/answers_go/answers"
     check 'Go: the same' alike "$scratch/answers_go/answers"
+fi
+# the programs that say the same, each behind a mark
+say_the_same=(-- "$scratch/answers_c" -- "$scratch/answers_cpp" -- "$(python3 -c 'import sys; print(sys.executable)')" "$PWD/tests/callers/answers.py")
+built=$(realpath -m "${CARGO_TARGET_DIR:-${WORKSPACE:-out/rust}/target}/release")
+for program in "$built/examples/answers" "$scratch/answers_go/answers"; do
+    [ ! -x "$program" ] || say_the_same+=(-- "$program")
+done
+if [ -x "$built/cudaplan" ]; then
+    check "$pairs pairs by lot beside cudaplan" tests/callers/pairs.py "$built/cudaplan" "$room" "${SEED:-1}" "$pairs" "${say_the_same[@]}"
+else
+    skip 'pairs by lot beside cudaplan' 'cargo has not built it'
+fi
+if command -v nvcc > /dev/null && [ -x "$built/zigrunk-driver" ]; then
+    check 'real calls of nvcc beside the driver' tests/callers/real_calls.py "$built/zigrunk-driver" "${SEED:-1}" "${CALLS:-8}" "${say_the_same[@]}"
+    check 'their keys beside the driver' tests/callers/real_keys.py "$built/zigrunk-driver" "$built/examples/keys" "${SEED:-1}" "${CALLS:-12}"
+else
+    skip 'real calls of nvcc beside the driver' 'there is no nvcc, or no driver'
 fi
 if command -v cmake > /dev/null; then
     check 'a project of CMake' by_cmake

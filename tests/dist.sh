@@ -21,7 +21,7 @@ newest_glibc() {
 has_library() {
     local file
     for file in lib/libzigrunk.a lib/libzigrunk.so lib/libzigrunk.so.2 lib/pkgconfig/zigrunk.pc include/zigrunk.h share/zigrunk/c/plan.c \
-        share/zigrunk/rust/zigrunk/src/lib.rs share/zigrunk/examples/slurm/step.sh share/doc/zigrunk/CLUSTER.md share/doc/zigrunk/plan.schema.json; do
+        share/zigrunk/rust/zigrunk/src/lib.rs share/zigrunk/examples/cluster/slurm.sh share/doc/zigrunk/CLUSTER.md share/doc/zigrunk/plan.schema.json; do
         [ -f "$1/$file" ] || { echo "missing: $file" && return 1; }
     done
     [ -s "$1/share/man/man3/zigrunk.h.3" ] || [ -s "$1/share/man/man3/zigrunk.h.3.gz" ]
@@ -44,12 +44,17 @@ has_no_path() {
     ! tar -xOf "$1" | grep -aqF -e "$PWD" -e "$scratch"
 }
 
+# crates_of LOCK: the crates of others, each with its version.
+crates_of() {
+    packaging/locked.sh "$1" | sort
+}
+
 # of_sources: the source tarball, built without a network, and with cargo's folder empty.
 of_sources() {
     check 'unpacking the sources' tar -x -C "$sources" --strip-components=1 -f "dist/zigrunk-$version.tar.gz"
     check 'no contract is left in them' sh -c '! grep -rnE "^ *(ensures|requires|ghost) " "$1/crates"' _ "$sources"
     check 'no path of this machine is in them' has_no_path "dist/zigrunk-$version.tar.gz"
-    check 'cargo vendors nothing for them' sh -c '! grep -n "^source = " "$1/Cargo.lock"' _ "$sources"
+    check 'the crates that they need are in vendor' prints '' comm -3 <(crates_of "$sources/Cargo.lock") <(find "$sources/vendor" -mindepth 1 -maxdepth 1 -printf '%f\n' | sort)
     # (without what takes most of the time)
     check 'their installation' env -u MAKEFLAGS CARGO_HOME="$scratch/cargo" CARGO_TARGET_DIR="$sources/target" CARGO_PROFILE_RELEASE_LTO=off \
         make -s -C "$sources" install PREFIX="$scratch/in here"

@@ -179,6 +179,78 @@ def lengths() -> Iterator[str]:
         yield f"README.md has {count} lines, and {MOST_LINES} at most are wanted"
 
 
+# The crates whose laws have premises of what programs do, or of what order they run in.
+WITH_PREMISES = ("command_files", "early_starts", "call_tasks", "schedule_orders")
+
+
+def statements(crate: str) -> dict[str, str]:
+    """Returns what each name in a crate's specs stands for, without comments."""
+    found: dict[str, str] = {}
+    for name in files_below(f"crates/{crate}/specs", ".antt"):
+        text = re.sub(r"^ *--.*$", "", text_of(f"crates/{crate}/specs/{name}.antt"), flags=re.MULTILINE)
+        for one in re.finditer(r"^(?:abbrev )?pub (?:record |data )?(\w+)[^\n]*\n(?:\1([^=\n]*)=([\s\S]*?)(?=^\S|\Z))?", text, re.MULTILINE):
+            found[one[1]] = one[3] or ""
+    return found
+
+
+def at_arrows(text: str) -> list[str]:
+    """Cuts a statement at its own arrows, those in brackets aside."""
+    parts, depth = [""], 0
+    for character in text:
+        depth += (character in "([{") - (character in ")]}")
+        if character == "→" and not depth:
+            parts.append("")
+        else:
+            parts[-1] += character
+    return parts
+
+
+def premise(text: str, known: dict[str, str]) -> set[str]:
+    """Returns the first known name in a part of a statement, if it isn't about variables alone."""
+    text = text.strip()
+    while group := re.match(r"\(\s*[\w ]+ :(?:[^()]|\([^()]*\))*\)\s*", text):
+        text = text[group.end():]
+    if text.startswith("(") and text.endswith(")"):
+        return premise(at_arrows(text[1:-1])[-1], known)
+    return {*[word for word in re.findall(r"(?<![\w.])\w+(?![\w.])", text) if word in known][:1]}
+
+
+def premises_of(name: str, known: dict[str, str]) -> set[str]:
+    """Returns the named premises of a statement. One of all histories has those that it names first, too."""
+    text = known.get(name, "").strip()
+    inner = re.match(r"(\w+) \(λ [^.]*\.([\s\S]*)\)$", text)
+    of_all = premises_of(inner[1], known) if inner and inner[1] in known else set[str]()
+    return of_all.union(*(premise(part, known) for part in at_arrows(inner[2] if of_all and inner else text)[:-1]))
+
+
+def premises() -> Iterator[str]:
+    """Laws whose row in GUARANTEES' table lacks a premise that their statement names, or has another."""
+    known = {name: text for crate in crates() for name, text in statements(crate).items()}
+    rows = {law: {*words_in_code(names)} for law, names in re.findall(r"^\| `([\w:]+)` \| (.*) \|$", text_of("docs/GUARANTEES.md"), re.MULTILINE)}
+    for crate in WITH_PREMISES:
+        own = statements(crate)
+        for name in files_below(f"crates/{crate}/src", "laws.rt"):
+            for law, clauses in re.findall(r"^pub fn (\w+)\(\)\n((?:    ensures .*\n)+)", text_of(f"crates/{crate}/src/{name}laws.rt"), re.MULTILINE):
+                said, place = re.findall(r"\{ (?:\w+\.)?(\w+)", clauses), f"{crate}::{name}laws::{law}"
+                wanted = set[str]().union(*(premises_of(one, {**known, **own}) for one in said))
+                if not law.startswith("worked") and not law.endswith("_need") and wanted != rows.get(place, set()):
+                    yield f"GUARANTEES' row of {place} isn't {sorted(wanted)}"
+
+
+def needed() -> Iterator[str]:
+    """Premises of the law on what the driver starts without a clause that says that the law is false without them."""
+    text = text_of("docs/GUARANTEES.md")
+    laws = "\n".join(text_of(f"crates/{crate}/src/laws.rt") for crate in ("call_tasks", "schedule_orders"))
+    clauses = {f"{law}::{clause}" for law, body in re.findall(r"^pub fn (\w+_need)\(\)\n((?:    ensures .*\n)+)", laws, re.MULTILINE)
+               for clause in re.findall(r"ensures (\w+) ", body)}
+    rows = {name: clause for names, clause in re.findall(r"^\| (`.*`) \| `(\w+::\w+)` \|.*\|$", text, re.MULTILINE) for name in words_in_code(names)}
+    wanted = re.search(r"^\| `call_tasks::laws::parts` \| (.*) \|$", text, re.MULTILINE)
+    for name in words_in_code(wanted[1] if wanted else ""):
+        if rows.get(name) not in clauses:
+            yield f"GUARANTEES names no clause by which {name} is needed, but {rows.get(name)}"
+    yield from (f"GUARANTEES' table lacks {clause}" for clause in clauses - {*rows.values()})
+
+
 def print_words() -> int:
     for page in READ:
         print(f"{words_of(page):6} {page}")
@@ -209,7 +281,7 @@ def version() -> Iterator[str]:
 def main() -> int:
     checks: list[tuple[str, Iterable[str]]] = [(page, links(page)) for page in PAGES]
     checks += [(page, commands(page)) for page in READ]
-    checks += [("", check()) for check in (calling, files, contracts, architecture, definitions, lengths, version)]
+    checks += [("", check()) for check in (calling, files, contracts, architecture, definitions, premises, needed, lengths, version)]
     checks += [("", words(page)) for page in ("docs/DEFINITIONS.md", "docs/GUARANTEES.md")]
     counts = Counts()
     for name, findings in checks:

@@ -16,9 +16,12 @@ export ZIGRUNK_LATE=0
 user=$(id -u)
 shell=(driver)
 
-# unit: the unit tests, each as a case.
+# The crates that the program is made of by hand.
+crates=(unix machine cache runner report batch zigrunk-driver)
+
+# unit: their unit tests, each as a case.
 unit() {
-    (cd "$workspace" && PATH=$usual_path cargo test --offline -p zigrunk-driver -- ${ONLY:+"$ONLY"}) > "$scratch/unit" 2>&1
+    (cd "$workspace" && PATH=$usual_path cargo test --offline --no-fail-fast "${crates[@]/#/-p}" -- ${ONLY:+"$ONLY"}) > "$scratch/unit" 2>&1
     local good bad
     good=$(grep -c '^test .* \.\.\. ok$' "$scratch/unit") bad=$(grep -c '^test .* \.\.\. FAILED$' "$scratch/unit")
     [ $((good + bad)) -gt 0 ] || grep -q '; [1-9][0-9]* filtered out' "$scratch/unit" || { bad=1 && tail -n 20 "$scratch/unit"; }
@@ -28,10 +31,8 @@ unit() {
 
 # build: the driver, in the workspace of plain Rust.
 build() {
-    [ -d out/rust/crates ] || make -s rust > "$scratch/built" 2>&1 || { tail -n 20 "$scratch/built"; count 'the workspace' failed; summary; exit 1; }
-    rm -rf out/rust/driver && cp -r driver out/rust/driver
-    grep -q '"driver"' out/rust/Cargo.toml || sed -i 's/^members = \[/&\n    "driver",/' out/rust/Cargo.toml
-    check 'the driver builds' cargo build --quiet --release --offline --manifest-path out/rust/Cargo.toml -p zigrunk-driver
+    make -s rust-sources > "$scratch/built" 2>&1 || { tail -n 20 "$scratch/built"; count 'the workspace' failed; summary; exit 1; }
+    check 'the driver builds' env -C out/rust cargo build --quiet --release --offline -p zigrunk-driver
     driver=$PWD/out/rust/target/release/zigrunk-driver
     [ -x "$driver" ] || { summary; exit 1; }
 }
@@ -162,7 +163,7 @@ end_to_end() {
         for words in odd '' 'odd nvcc'; do
             # shellcheck disable=SC2086 # several words, or none
             as=$driver call $words
-            same "status and usage with '$words'" "$status $(tail -n 1 "$room/err")" '2 usage: zigrunk nvcc|plan|batch|report|cache|worker|help WORD..'
+            same "status and usage with '$words'" "$status $(tail -n 1 "$room/err")" '2 usage: zigrunk nvcc|plan|batch|report|cache|check-node|help WORD..'
         done
         end
     fi
@@ -552,6 +553,8 @@ ROWS
         same 'none' "$status $(cat "$room/err")" '127 zigrunk-nvcc: nvcc is zigrunk-nvcc itself, and PATH has no other nvcc'
         call ZIGRUNK_NVCC="$room/missing" -V
         same 'no nvcc' "$status $(cat "$room/err")" "127 zigrunk-nvcc: cannot find $room/missing in PATH"
+        as=$scratch/bin/zigrunk call ZIGRUNK_NVCC="$room/missing" nvcc -V
+        same 'for the other name' "$status $(cat "$room/err")" "127 zigrunk nvcc: cannot find $room/missing in PATH"
         call ZIGRUNK_NVCC="$room/missing" ZIGRUNK_RUNNER='echo by' -V
         same 'by the runner' "$status $(cat "$room/out" "$room/err")" "0 by $room/missing -V"
         end
@@ -842,7 +845,7 @@ with open(sys.argv[1], "w", buffering=1) as noted:
 signals() {
     for signal in HUP:129 INT:130 TERM:143; do
         case_of "the signal ${signal%:*}" || continue
-        start TOOL_DOES='if [ "$name" = cudafe++ ]; then trap "sleep 0.3; echo stopped >> $LOG.stopped; exit 2" HUP INT TERM; echo "+ trap" >> "$LOG"; env --default-signal=INT sleep 300 & wait; fi' -c k.cu -o k.o
+        start TOOL_DOES='if [ "$name" = cudafe++ ]; then trap "sleep 0.3; echo stopped >> $LOG.stopped; exit 2" HUP INT TERM; echo "+ trap" >> "$LOG"; (trap "" HUP INT TERM; exec sleep 300) & env --default-signal=INT sleep 300 & wait; fi' -c k.cu -o k.o
         within 20 has_begun trap
         kill -s "${signal%:*}" "$process"
         ended "${signal#*:}"
@@ -1389,7 +1392,7 @@ logs() {
             awk 'NF && !call { call = $1; end = $2 } NF && call != $1 && (call > $1 || $1 > $2 || $2 > $3 || $3 > end) { print "odd" } END { print NR }')" 12
         same 'needs' "$(head -n 1 "$room/calls" | grep -o '"needs":[^]]*' | cut -d '[' -f 2 | paste -sd ' ')" ' 0  1,2 3  1,5 6 0,1,2,3,4,5,6,7 0,1,2,3,4,5,6,7,8'
         "$scratch/bin/zigrunk" report "$room/calls" > "$room/report" 2>&1
-        same 'the report' "$(sed -n 1,4p "$room/report")" $'calls: 5, failed: 2\n  status 7: nvcc k.cu a "b\n  status 6: nvcc -c k.cu -o k.o\nsplit: 2 of 5 (40 %)'
+        same 'the report' "$(sed -n 1,4p "$room/report")" $'calls: 5, failed: 2\n  status 7: nvcc k.cu a "b\n  status 6: nvcc -c k.cu -o k.o\nsplit: 2 of 4 (50 %); no compilation: 1'
         { call ZIGRUNK_LOG="$room/calls" NVCC_DOES='kill -TERM $$' k.cu; } 2> /dev/null
         same 'a signal of nvcc' "$status $(tail -n 1 "$room/calls" | grep -o '"status":[0-9]*')" '143 "status":143'
         end

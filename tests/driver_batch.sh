@@ -17,7 +17,7 @@ user=$(id -u)
 shell=(driver)
 driver=$(realpath "${1:-out/rust/target/release/zigrunk-driver}")
 [ -x "$driver" ] || skip_all 'the batch' "there is no $driver: tests/driver.sh builds it"
-stand_ins=$PWD/tests/driver
+stand_ins=$PWD/tests/driver examples=$PWD/examples/cluster
 
 # The toolkit of the stand-ins. The lines of a source are what three preprocessors do: for the host, for 80 and for 90. With a file
 # SOURCE.ii they write that. nvcc itself makes a source whose name begins with 'whole', and does all of its lines.
@@ -278,14 +278,14 @@ failures() {
         end
     fi
     if case_of 'wrong usage'; then
-        for words in 'one two:one list at a time, not two too' '-x:unexpected option -x' '-j:-j needs a number' '-j 0:-j needs a number from 1, not 0' '-k 01:-k needs a number from 1, not 01'; do
+        for words in 'one two:one list at a time, not two too' '-x:unexpected option -x' '-j:-j needs a number' '-j 0:-j needs a number from 1, not 0' '-k 01:-k needs a number from 1, not 01' '--part 3/2 a:--part needs two numbers from 1, such as 3/8' '--missing:--part and --missing need a list in a file'; do
             # shellcheck disable=SC2086 # several words
             batch ${words%:*}
-            same "status and messages, $words" "$status $(cat "$room/err")" "2 zigrunk batch: ${words##*:}"$'\n''usage: zigrunk batch [-j N] [-k N] [--progress] [--incremental] [--workers COMMAND].. [FILE]'
+            same "status and messages, $words" "$status $(cat "$room/err")" "2 zigrunk batch: ${words##*:}"$'\n''usage: zigrunk batch [-j N] [-k N] [--progress] [--incremental] [--part I/N] [--missing] [FILE]'
         done
         batch --help
         same 'status and help' "$status $(cat "$room/out")" "0 $(cat << 'HELP'
-usage: zigrunk batch [-j N] [-k N] [--progress] [--incremental] [--workers COMMAND].. [FILE]
+usage: zigrunk batch [-j N] [-k N] [--progress] [--incremental] [--part I/N] [--missing] [FILE]
 
 Makes the calls of a list, split into their commands, side by side.
 
@@ -294,11 +294,8 @@ FILE          a call on each line, as you would type it, or a compile_commands.j
 -k N          start nothing more once N calls have failed; 0, as without it, makes all other calls
 --progress    say how far it is, also if standard error is no terminal
 --incremental leave out the calls whose words, products and files are as they were when --incremental made them last
---workers COMMAND    run all commands on the machines where COMMAND starts zigrunk worker; give it again for more machines
---wait N      fail once there has been no worker for N seconds; 120, unless set
---give-up N   run a worker's commands elsewhere once it has said nothing for N seconds; 10, unless set
---timeout N   end a worker's command once it takes N seconds; without it, there is no limit
---send-files  workers share no disk: device commands go to them with their files, and all others run here
+--part I/N    make the calls I, I+N, I+2N .. of FILE, as with --incremental: a task of a scheduler
+--missing     make none; print each call of FILE, or of the part, that --incremental hasn't made, and why
 --unless-made NVCC WORD..    make one call, unless a batch with --incremental has made it in this directory: a launcher for CMake
 --version     print the version
 -h, --help    print this text
@@ -779,5 +776,189 @@ with subprocess.Popen(sys.argv[1:]) as process:
     stops TERM 143 '' plans
 }
 
-for part in ${PARTS-lists products failures incremental databases places stopped killed reports}; do "$part"; done
+# missing_are WHAT STATUS TEXT [WORD..]: what is missing of the list, by line and reason.
+missing_are() {
+    batch --missing "${@:4}" list
+    same "status and calls that are missing, $1" "$status$(sed -E "s,$PWD/,,g; s/^(line [0-9]+: [^:]*): .*/ \\1/" "$room/out" | tr -d '\n')" "$2$3"
+}
+
+# part_makes WHAT STATUS SOURCES PART [NAME=VALUE..]: a part of the list, which makes these sources.
+part_makes() {
+    rm -f made
+    batch "${@:5}" --part "$4" list
+    same "status and calls, $1" "$status $(sort made 2> /dev/null | tr '\n' ' ')" "$2 $3"
+}
+
+parts() {
+    if case_of 'parts of a list'; then
+        for name in a b c d; do touch $name.h && reading $name $name.h; done
+        printf '%s\n' '-c a.cu -o a.o' '# no call' '-c b.cu -o b.o' '-c c.cu -o c.o' '' 'echo d >> made' > list
+        missing_are 'at first' 1 ' line 1: no a.o line 3: no b.o line 4: no c.o line 6: not made'
+        part_makes 'the first of two' 0 'a c ' 1/2
+        missing_are 'behind one part' 1 ' line 3: no b.o line 6: not made'
+        missing_are 'of the made part' 0 '' --part 1/2
+        part_makes 'the second of two' 0 'b d ' 2/2
+        missing_are 'behind all parts' 0 ''
+        for part in 1/2 2/2 1/1; do part_makes "part $part, nothing has changed" 0 '' "$part"; done
+        echo x > b.h && rm c.o
+        missing_are 'after two changes' 1 " line 3: b.o isn't up to date line 4: no c.o"
+        part_makes 'all, after two changes' 0 'b c ' 1/1
+        part_makes 'more parts than calls' 0 '' 9/9
+        printf '%s\n' '-c a.cu -o a.o' '-c b.cu -o a.o' > list
+        batch --missing list
+        same 'two calls that make one file' "$status $(cat "$room/err")" "1 zigrunk batch: lines 1 and 2 make one file: $PWD/a.o"
+        end
+    fi
+    if case_of 'calls of a part that fail'; then
+        touch a.h b.h && reading a a.h && reading b b.h
+        echo 'exit 3' >> a.cu
+        printf '%s\n' '-c a.cu -o a.o' '-c b.cu -o b.o' 'exit 7; :' > list
+        part_makes 'on one machine' 3 'a b ' 1/1 ZIGRUNK_NODE=n2
+        missing_are 'that failed' 3 ' line 1: exit status 3 on n2 line 3: exit status 7 on n2'
+        part_makes 'on another' 3 'a ' 1/1 SLURMD_NODENAME=n1
+        missing_are 'that failed twice' 3 ' line 1: exit status 3 on n1 and n2 line 3: exit status 7 on n1 and n2'
+        missing_are 'that failed, of a part' 7 ' line 3: exit status 7 on n1 and n2' --part 3/3
+        reading a a.h
+        part_makes 'mended' 7 'a ' 1/1 ZIGRUNK_NODE=n0
+        missing_are 'but for the last' 7 ' line 3: exit status 7 on n0 and n1 and n2'
+        rm b.o && touch b.o
+        missing_are 'with a product that is empty' 1 " line 2: b.o isn't up to date" --part 2/3
+        end
+    fi
+    if case_of 'a part that a signal ends leaves no mark'; then
+        for name in a b; do touch $name.h && reading $name $name.h; done
+        echo 'until [ -e go ]; do sleep 0.02; done' >> b.cu
+        printf '%s\n' '-c a.cu -o a.o' '-c b.cu -o b.o' > list
+        env LOG="$room/log" TMPDIR="$room/tmp" XDG_RUNTIME_DIR="$room/run" "$scratch/bin/zigrunk-batch" -j1 --part 1/1 list > "$room/out" 2>&1 &
+        within 10 grep -qs b made
+        kill -TERM $! && wait $!
+        same 'status of a part that is ended' $? 143
+        within 10 none_run
+        missing_are 'behind a signal' 1 ' line 2: no b.o'
+        touch go && part_makes 'the rest' 0 'b ' 1/1
+        end
+    fi
+}
+
+# checks WHAT STATUS TEXT [NAME=VALUE..]: what check-node says, without the machine's name.
+checks() {
+    env LOG="$room/log" TMPDIR="$room/tmp" ZIGRUNK_NODE=n1 "${@:4}" "$driver" check-node share/node > "$room/out" 2> "$room/err"
+    same "status and findings, $1" "$? $(sed "s/^zigrunk check-node: n1: //; s,$PWD/,,g; s,$scratch/,,g" "$room/err")" "$2 $3"
+}
+
+nodes() {
+    if case_of 'a machine is compared with another one'; then
+        mkdir share more && echo header > more/h.h
+        env LOG="$room/log" "$driver" check-node --write share/node more 2> "$room/err"
+        same 'status and messages when it is written' "$? $(cat "$room/err")" '0 '
+        checks 'the same machine' 0 ''
+        checks 'another variable' 1 "CPATH is '/x', and wasn't set: unset it in the job" CPATH=/x
+        checks 'no nvcc' 1 'PATH has no nvcc: install cuda/bin/nvcc, or export PATH in the job' PATH="$scratch/bin:/usr/bin:/bin"
+        checks 'another nvcc' 1 'PATH has opt/nvcc, not cuda/bin/nvcc: export PATH in the job' PATH="$scratch/opt:$PATH"
+        checks 'no room' 1 "missing has room for 0 MB: clear it, or set TMPDIR to a folder with 256 MB" TMPDIR="$PWD/missing"
+        echo other > more/h.h
+        checks 'another header' 1 'more differs: install the same version'
+        rm -r more
+        checks 'no header' 1 'no more: install the package that has it, or mount it'
+        mkdir more && echo header > more/h.h
+        mv "$CUDA/bin/ptxas" "$CUDA/bin/ptxas.real" && echo other > "$CUDA/bin/ptxas"
+        checks 'another toolkit' 1 'cuda/bin/ptxas differs: install the same version'
+        mv "$CUDA/bin/ptxas.real" "$CUDA/bin/ptxas"
+        sed -i 's/"ahead": .*/"ahead": 60.0/' share/node
+        checks 'another clock' 1 'the clock is 60 seconds behind: have it set, by chrony or ntpd'
+        sed -i 's/"version": .*/"version": "none",/; s/"ahead": .*/"ahead": 0.0/' share/node
+        checks 'another version' 1 "zigrunk is $("$driver" --version | cut -d' ' -f2), not none: install the same version"
+        echo '{}' > share/node
+        checks 'a file of something else' 1 "share/node isn't of zigrunk check-node --write: missing field \`version\` at line 1 column 2"
+        rm -r share
+        checks 'no share' 1 'cannot read share/node (No such file or directory (os error 2)): mount the disk that all machines share'
+        end
+    fi
+    if case_of 'what check-node cannot write'; then
+        for words in 'missing/node:cannot write missing/node: No such file or directory (os error 2)' 'node missing:no missing'; do
+            # shellcheck disable=SC2086 # several words
+            said=$(LOG=$room/log ZIGRUNK_NODE=n1 "$driver" check-node --write ${words%%:*} 2>&1)
+            same "status and message, $words" "$? $said" "1 zigrunk check-node: n1: ${words#*:}"
+        done
+        said=$(PATH=/usr/bin:/bin LOG=$room/log ZIGRUNK_NODE=n1 ZIGRUNK_NVCC=no-nvcc "$driver" check-node --write node 2>&1)
+        same 'status and message, no nvcc' "$? $said" "1 zigrunk check-node: n1: no-nvcc isn't on PATH, or its dry run names no host compiler"
+        said=$("$driver" check-node 2>&1)
+        same 'wrong usage' "$? $said" $'2 zigrunk check-node: a file is missing\nusage: zigrunk check-node [--write] FILE [PATH]..'
+        end
+    fi
+}
+
+# schedulers: stand-ins that run each task at once, on the first of $NODES that isn't left out. n0 has another CPATH.
+schedulers() {
+    mkdir -p "$room/bin"
+    ln -sf "$driver" "$room/bin/zigrunk"
+    cat > "$room/bin/on_node" << 'END'
+#!/bin/sh
+# on_node OUT STATUS WORD..: runs a task, and notes its end.
+out=$1 node=''
+for name in $NODES; do case ",$out," in *",$name,"*) ;; *) node=${node:-$name} ;; esac; done
+[ -n "$node" ] || exit 1
+shift
+[ "$node" != n0 ] || export CPATH=/x
+echo "$node" >> "$ROOM/nodes"
+if ZIGRUNK_NODE=$node "$@"; then echo "COMPLETED $node"; else echo "FAILED $node"; fi >> "$ROOM/states"
+END
+    cat > "$room/bin/sbatch" << 'END'
+#!/bin/sh
+out=''
+for word; do case $word in --array=*) tasks=${word#*=} ;; --exclude=*) out=${word#*=} ;; esac; done
+while [ ! -f "$1" ]; do shift; done
+for task in $(echo "$tasks" | tr , ' '); do SLURM_ARRAY_TASK_ID=$task on_node "$out" bash "$@" || exit; done
+END
+    printf '%s\n' '#!/bin/sh' 'case $* in *" all "*) cat "$ROOM/states" ;; esac' > "$room/bin/squeue"
+    cat > "$room/bin/condor_submit" << 'END'
+#!/bin/sh
+# A job that ends with 100 goes to another machine.
+of() { sed -n "s/^$1 = //p" "$2"; }
+for task in $(sed -n 's/^queue part in (\(.*\))/\1/p' "$2"); do
+    out=''
+    while
+        eval "on_node '$out' '$(of executable "$2")' $(of arguments "$2" | sed "s/^\"//; s/\"\$//; s/\$(part)/$task/")" || exit
+        tail -n 1 "$ROOM/states" | grep -q '^FAILED n0'
+    do out=n0; done
+done
+echo '7.0 - 7.2'
+END
+    printf '%s\n' '#!/bin/sh' > "$room/bin/condor_wait"
+    chmod +x "$room"/bin/*
+}
+
+# script_makes WHAT STATUS NODES SCRIPT: makes the list in three parts by a script for clusters; the tasks run on these nodes.
+script_makes() {
+    : > "$room/nodes"
+    : > "$room/states"
+    env PATH="$room/bin:$PATH" ROOM="$room" LOG="$room/log" TMPDIR="$room/tmp" XDG_RUNTIME_DIR="$room/run" "${@:5}" "$examples/$4.sh" list 3 > "$room/out" 2> "$room/err"
+    same "status and nodes, $4, $1" "$? $(tr '\n' ' ' < "$room/nodes")" "$2 $3"
+}
+
+scripts() {
+    local script
+    for script in slurm htcondor; do
+        if case_of "the script for $script"; then
+            schedulers
+            for name in a b c; do touch $name.h && reading $name $name.h; done
+            printf '%s\n' '-c a.cu -o a.o' '-c b.cu -o b.o' '-c c.cu -o c.o' > list
+            script_makes 'all is well' 0 'n1 n1 n1 ' $script NODES='n1 n2'
+            script_makes 'nothing is missing' 0 '' $script NODES='n1 n2'
+            rm a.o c.o
+            script_makes 'two parts' 0 'n1 n1 ' $script NODES='n1 n2'
+            rm a.o
+            script_makes 'a node that is not fit' 0 'n0 n1 ' $script NODES='n0 n1'
+            echo '[ "$ZIGRUNK_NODE" != n1 ] || exit 3' >> b.cu
+            [ $script = htcondor ] || script_makes 'a call that fails on one node' 0 'n1 n2 ' $script NODES='n1 n2'
+            echo 'exit 3' >> b.cu
+            script_makes 'a call that fails everywhere' 3 "$([ $script = slurm ] && echo 'n1 n2 ' || echo 'n1 n1 n1 ')" $script NODES='n1 n2'
+            same "what is missing, $script" "$(tail -n 1 "$room/err")" \
+                "line 2: exit status 3 on $([ $script = slurm ] && echo 'n1 and n2' || echo n1): -c b.cu -o b.o"
+            end
+        fi
+    done
+}
+
+for part in ${PARTS-lists products failures incremental parts nodes scripts databases places stopped killed reports}; do "$part"; done
 summary

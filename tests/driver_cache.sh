@@ -353,7 +353,7 @@ stand_ins() {
         done
         call ZIGRUNK_EXPLAIN=1 ZIGRUNK_LAUNCHER=env -c k.cu -o k.o
         ran_uncached 'with a launcher'
-        same 'messages with a launcher' "$(cat "$room/err")" "zigrunk-nvcc: ZIGRUNK_CACHE doesn't count beside ZIGRUNK_LAUNCHER or ZIGRUNK_RUNNER"
+        same 'messages with a launcher' "$(cat "$room/err")" "zigrunk-nvcc: ZIGRUNK_CACHE doesn't count beside ZIGRUNK_LAUNCHER, ZIGRUNK_RUNNER or ZIGRUNK_REMOTE"
         same 'the folder' "$([ -e "$room/cache" ] || echo none)" none
         call ZIGRUNK_CACHE=yes XDG_CACHE_HOME="$room/users" -c k.cu -o k.o
         same "the user's folder" "$(ls "$room/users")" zigrunk
@@ -384,11 +384,33 @@ stand_ins() {
         ran_all 'after limit 0'
         "$scratch/bin/zigrunk-cache" clear
         same 'after clear' "$("$scratch/bin/zigrunk-cache" stats | grep -c '^\(entries\|hits\|misses\): 0$')" 3
-        for words in '' odd 'limit odd' 'limit 1 2'; do
+        for words in '' odd 'limit odd' 'limit 1 2' 'stats x'; do
             # shellcheck disable=SC2086 # several words, or none
             "$scratch/bin/zigrunk-cache" $words > "$room/out" 2> "$room/err"
-            same "wrong usage with '$words'" "$? $(wc -l < "$room/err")" "$([ "$words" = 'limit odd' ] && echo 1 || echo 2) 1"
+            same "wrong usage with '$words'" "$? $(wc -l < "$room/err")" "$([ "$words" = 'limit odd' ] && echo '1 1' || echo '2 2')"
         done
+        end
+    fi
+    if case_of 'a library that comes while a call runs, and is taken away behind it or before its end'; then
+        local library takes='[ "$name" != as ] || rm "$PLACE/libc.so.6"'
+        library=$(ldd "$CUDA/bin/gcc" | sed -n 's/.*libc.so.6 => \([^ ]*\).*/\1/p')
+        mkdir "$CUDA/lib"
+        # comes_and_goes FOLDER COMMAND: what is kept if a library comes there while gcc compiles, and what the assembler does.
+        comes_and_goes() {
+            rm -rf "$room/cache"
+            call LIBRARY="$library" PLACE="$1" TOOL_DOES='[ "$name" != gcc-S ] || cp "$LIBRARY" "$PLACE"; '"$2" -c k.cu -o k.o
+            ran_all "with one in $1 that $2"
+            rm -f "$1/libc.so.6"
+            call -c k.cu -o k.o
+            ran "once it's gone from $1, $2" as gcc-S
+            call -c k.cu -o k.o
+            ran_none "later, with $1, $2"
+        }
+        comes_and_goes "$CUDA/lib" ''
+        comes_and_goes "$CUDA/lib" "$takes"
+        # (in the working directory, where products come and go, it is only noticed if it's still there)
+        comes_and_goes . ''
+        rmdir "$CUDA/lib"
         end
     fi
     PATH=$path
@@ -1056,6 +1078,13 @@ whole_calls() {
             whole '' -MD -MF k.d "${usual[@]}"
         done
         rm k.d
+        # A `/` in front of a comment is no part of it.
+        for pair in '/// ä|/ // ä' '//* ä */|/ /* ä */'; do
+            { cat "$room/first.cu" && printf 'int part(int y, int z) { return y%s\n-z; }\n' "${pair%|*}"; } > k.cu
+            twice "${usual[@]}"
+            { cat "$room/first.cu" && printf 'int part(int y, int z) { return y%s\n-z; }\n' "${pair#*|}"; } > k.cu
+            whole '' "${usual[@]}"
+        done
         for line in __LINE__ HERE 'JOIN(HE, RE)' 'JOIN(__LI, NE__)' 'WORD(1)' '__builtin_LINE()'; do
             cp "$room/first.cu" k.cu
             echo "int here = $line;" >> k.cu

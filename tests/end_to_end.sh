@@ -1,5 +1,5 @@
 #!/usr/bin/env bash
-# Tests zigrunk-nvcc, and what examples/ has (tests/cluster_scripts.sh), by stand-ins, of which tests/driver.sh has more, by calls that nvcc makes
+# Tests zigrunk-nvcc by stand-ins, of which tests/driver.sh has more, by calls that nvcc makes
 # too (tests/compare_calls.py), by the commands that nvcc starts for them (tests/own_commands.py), by the installed nvcc's list of options
 # (tests/nvcc_options.sh), by commands that have only their own files (tests/isolated.py), by plans that run (tests/plans.sh), where the machine refuses something
 # (tests/conditions.sh), by what calls leave (tests/leftovers.sh), and by signals in the middle of a build. It tests too that such tests fail if they show nothing (tests/runners.sh).
@@ -105,7 +105,6 @@ missing() {
     done
 }
 
-start cluster_scripts tests/cluster_scripts.sh
 start options tests/nvcc_options.sh
 start runners tests/runners.sh
 lacking=$(missing)

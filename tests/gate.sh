@@ -38,23 +38,23 @@ ends 'a kit that keeps proofs' 0 '0 words, , at the top' newer
 ends 'one that is told not to' 0 '1 words, --anew, at the top' newer ANEW=1
 ends 'a proof that fails' 1 '30 passed, 1 failed' fails
 
-# without_kit WHAT STATUS INSTEAD COMMAND..: without rt a command ends with this status and one line, which says what to run in its place.
+# without_kit WHAT STATUS INSTEAD COMMAND..: without rt, and cargo, a command ends with this status and one line, which names the kit, and says what
+# to run in its place or needs, too.
 without_kit() {
     local said status problem=''
     said=$(env -i PATH="$scratch/tools" HOME="$scratch" "${@:4}" 2>&1)
     status=$?
-    [ "$status" = "$2" ] && [ "$(wc -l <<< "$said")" = 1 ] && [[ $said == *"needs the Rattle kit"*"$3"* ]] || problem="status $status, $said"
+    [ "$status" = "$2" ] && [ "$(wc -l <<< "$said")" = 1 ] && [[ $said == *"the Rattle kit"* && $said == *"$3"* ]] || problem="status $status, $said"
     count "$1, without the kit" "$problem"
 }
 
 mkdir "$scratch/tools"
-for tool in sh bash env make dirname; do ln -s "$(command -v $tool)" "$scratch/tools/$tool"; done
+for tool in sh bash env make dirname mktemp rm; do ln -s "$(command -v $tool)" "$scratch/tools/$tool"; done
 # (a python3 on the path may be a script that needs more)
 ln -s "$(python3 -c 'import sys; print(sys.executable)')" "$scratch/tools/python3"
-without_kit 'make test' 2 'run: make rust lint check-docs && tests/driver.sh' make test
 for target in check build; do without_kit "make $target" 2 'run: make rust' make "$target"; done
 without_kit 'make test-install' 2 'run: make rust-install' make test-install
-without_kit 'the gate' 2 'run: make rust' .ci/gate
+for gate in .ci/gate .ci/plain; do without_kit "$gate" 2 'needs cargo' "$gate"; done
 without_kit 'tests/quick' 1 'make rust' tests/quick dry_runs
 
 check 'what edits by lot take for a success' python3 - << 'END_OF_PROGRAM'
@@ -65,6 +65,18 @@ for said, wanted in [("", False), ("0 passed, 0 failed\n", False), ("3 passed, 0
                      ("0 passed, 0 failed, 1 skipped\n", True), ("3 passed, 1 failed\n", False), ("13 passed, 0 failed", True), ("x3 passed, 0 failed", False),
                      ("test result: ok. 0 passed; 0 failed; 0 ignored\n", False), ("test result: ok. 9 passed; 0 failed; 0 ignored\n", True)]:
     assert tried_any(said) == wanted, said
+END_OF_PROGRAM
+
+check 'how many edits by lot have to be caught' python3 - << 'END_OF_PROGRAM'
+import sys
+sys.path.insert(0, "tests")
+from mutants_by_lot import least, verdict
+for count, share, wanted in [(20, 0.6, 6), (100, 0.95, 88), (1, 0.95, 0), (20, 1.0, 20), (0, 0.6, 0)]:
+    assert least(count, share) == wanted, (count, share, least(count, share))
+for caught, survived, wanted, said in [(3, 2, 3, "1 passed, 0 failed"), (2, 3, 3, "0 passed, 1 failed"), (0, 0, 0, "1 passed, 0 failed")]:
+    lines, is_enough = verdict(caught, survived, wanted)
+    assert lines.splitlines()[1] == said and is_enough == (said[0] == "1"), lines
+    assert lines.startswith(f"{caught} of {caught + survived} edits caught, {survived} survived; "), lines
 END_OF_PROGRAM
 
 summary

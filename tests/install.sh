@@ -149,6 +149,8 @@ else
 fi
 cd "$top" || exit 1
 check 'the programs of the page, with the installation' env TARGET="$scratch/work/uses/target" tests/callers.sh --first "$root/usr"
+# as the gate does: it installs and packs side by side
+check 'make rust-sources, four at once' sh -c 'for it in 1 2 3 4; do make -s rust-sources & all="$all $!"; done; for it in $all; do wait "$it" || exit; done'
 check 'make install-library, alone' make -s install-library DESTDIR="$scratch/" PREFIX='a library'
 check 'it installs no program' test ! -e "$scratch/a library/bin"
 check 'make uninstall' make -s uninstall DESTDIR="$root" PREFIX=/usr

@@ -49,7 +49,7 @@ records() {
     [ "$1" != two_targets ] || [ $(($3 * 100)) -le $((planned * MOST)) ] || status=1
 }
 
-cargo build --quiet --offline --release --manifest-path "$workspace/Cargo.toml" -p zigrunk --example times
+env -C "$workspace" cargo build --quiet --offline --release -p zigrunk --example times
 build
 build_alone
 status=0

@@ -34,7 +34,7 @@ find_sources() {
         '#!/'*[/\ ]python3:* | *.py) modules+=("$file") ;;
         *.sh | *.bash) sourced+=("$file") ;;
         esac
-    done < <(find . \( -name .git -o -name out -o -name dist -o -name target \) -prune -o -type f -print0 | LC_ALL=C sort -z)
+    done < <(find . \( -name .git -o -name out -o -name dist -o -name target -o -name vendor \) -prune -o -type f -print0 | LC_ALL=C sort -z)
 }
 
 # by_shellcheck: several at once. Code for another shell is in single quotes here (SC2016), a loop takes words (SC2013), and

@@ -16,6 +16,7 @@ fail.
 - So that nothing of the other functions is read or proved again, these have no bodies there, and a hole for a proof. A wrong body that
   isn't rejected so is tried again with all of the crate.
 - The check names functions that call a wrong one, and that doesn't count as a rejection.
+- If a wrong body doesn't compile, the check tries none of its crate. Then each half is tried alone, down to that one, which is a BAD EDIT.
 - A second edit of a function is tried as a function of its own beside it, with another name. If it's a method, or if it has written
   answers, it takes another check. An edit of a definition is tried alone.
 
@@ -328,7 +329,11 @@ class Attempt:
         with tempfile.TemporaryDirectory(prefix="must-fail-") as room:
             self.write(room, edited)
             lines = said_of(room, self.crate, [*words, *[word for it in functions for word in ("--only", it)]], functions)
-            return [judged(self.crate.name, it, texts, lines) for it in bodies]
+        if len(bodies) > 1 and not any(it.startswith(f"fn {self.crate.name}::") for it in lines):
+            # (one doesn't compile, so none was tried: find it by halves)
+            middle = len(bodies) // 2
+            return [*self.checked(bodies[:middle], texts, words), *self.checked(bodies[middle:], texts, words)]
+        return [judged(self.crate.name, it, texts, lines) for it in bodies]
 
     def holed(self, bodies: List[WrongBody]) -> Texts:
         """Returns the crate's texts without what other functions than these wrong bodies' have."""

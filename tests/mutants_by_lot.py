@@ -1,8 +1,8 @@
 #!/usr/bin/env python3
 """Edits by lot what no contract sees, and looks whether a test fails.
 
-    tests/mutants_by_lot.py [--seed S] [--first N] [--count N] [--only N] [--kind KIND] [--lanes N] [--bound PERCENT] [--draw] [--unit]
-                            [--rust FOLDER]
+    tests/mutants_by_lot.py [--seed S] [--first N] [--count N] [--only N] [--kind KIND] [--lanes N] [--share PERCENT] [--draw]
+                            [--unit] [--rust FOLDER]
 
 An edit changes one line of code: it negates a condition, drops a call, and so on (RUST, SCRIPT). The seed and its number say which line and which
 operator, so --only makes one edit again, and --first begins at another than the first. One that doesn't compile is drawn again, and so is one of
@@ -13,13 +13,15 @@ A test counts if it fails twice and passes without the edit. One that takes too 
 An edited driver may send any signal, remove any file and take all memory. So tests run where they see no other process, can write only below the
 folder of their lane, and have 4 GB each. That takes root, or a kernel that lets users make namespaces.
 
-Prints each edit that no test finds as a diff, how many seconds of a processor each took, and 'caught N of M'. The last line is 'N passed, M failed':
-edits that got through are failures if fewer than --bound percent were caught.
+Prints each edit that no test finds as a diff, how many seconds of a processor each took, and in the last line but one how many were caught, how many
+survived, and how many have to be caught. Tests that catch --share percent of all edits, 95 unless set, catch fewer once in 500 runs. The last line is
+'1 passed, 0 failed' if enough were caught: that is one case.
 """
 import argparse
 import difflib
 import filecmp
 import json
+import math
 import os
 import random
 import re
@@ -40,6 +42,8 @@ WORK = Path(os.environ.get("MUTANTS_WORK", ROOT / "out/mutants"))
 LONGEST, LONGEST_BUSY = 240, 20
 # How many seconds all processes of a test may sleep: then it hangs.
 LONGEST_STILL = 40
+# With which chance tests may be judged too weak by bad luck alone.
+LUCK = 0.002
 # How many parts a lane runs side by side: they mostly wait.
 SIDE_BY_SIDE = 3
 # As in a release: sums that overflow don't panic.
@@ -53,25 +57,28 @@ SANDBOX = ["unshare", *([] if os.geteuid() == 0 else ["--user", "--map-root-user
            ' mount -o remount,bind,ro /dev && mount -t tmpfs tmpfs /dev/shm &&'
            f' ulimit -v 4000000 -t {LONGEST_BUSY} && "${{@:3}}"; status=$?; times > /tmp/times; exit $status', "sandbox"]
 
+# The crates that are edited.
+CRATES = ("unix", "machine", "cache", "runner", "report", "batch", "driver")
 # The files of each kind, and the parts of its tests.
 DRIVER_PARTS = "driver: unit end_to_end folders early_starts late_starts compilers to_nvcc outputs products logs plans signals jobservers slots"
-BATCH_PARTS = "driver_batch: lists places failures products databases incremental reports stopped killed"
+BATCH_PARTS = "driver_batch: lists places failures products databases incremental parts nodes reports stopped killed"
+# Of unix, all but what tests alone need.
+UNIX = [f"unix/src/{name}.rs" for name in ("files", "image", "pipes", "processes", "shared", "signals", "streams", "waits")]
 KINDS = {
-    "driver": (["driver/src/**/*.rs"], f"{DRIVER_PARTS} {BATCH_PARTS}"),
-    "examples": (["examples/*/*.sh", "examples/*.bash", "examples/*/*.py"], "cluster_scripts: all"),
+    "driver": ([*UNIX, *(f"{crate}/src/**/*.rs" for crate in CRATES[1:])], f"{DRIVER_PARTS} {BATCH_PARTS}"),
 }
 # The parts that come first for a file, by a part of its path: they are most likely to find an edit.
 FIRST = {
-    "src/batch/": BATCH_PARTS, "src/report/": "driver_batch: reports driver: logs", "src/plan_program": "driver: plans", "src/slots": "driver: slots",
-    "src/jobserver": "driver: jobservers", "src/guard": "driver: folders jobservers", "src/folder": "driver: folders", "src/log": "driver: logs",
-    "src/rule": "driver: products", "src/products": "driver: products", "src/programs": "driver: compilers", "src/dry_runs": "driver: to_nvcc",
-    "src/json_values": "driver_batch: databases reports", "src/entries": "driver: logs", "src/streams": "driver: outputs driver_batch: failures",
-    "src/cache/": "driver_cache: stand_ins", "src/early": "driver: early_starts late_starts", "src/late": "driver: late_starts",
-    "src/farm/": "farm: files work deaths unfit", "src/withheld": "driver: early_starts", "src/run.": "driver: end_to_end early_starts outputs",
-    "src/system": "driver: end_to_end signals folders", "src/host": "driver: end_to_end signals logs", "src/call": "driver: end_to_end to_nvcc",
+    "batch/src/node/": "driver_batch: nodes", "batch/src/": BATCH_PARTS, "report/src/": "driver_batch: reports driver: logs",
+    "cache/src/": "driver_cache: stand_ins", "unix/src/": "driver: end_to_end signals folders", "src/plan_program": "driver: plans",
+    "src/slots": "driver: slots", "src/jobserver": "driver: jobservers", "src/guard": "driver: folders jobservers", "src/folder": "driver: folders",
+    "src/log": "driver: logs", "src/rule": "driver: products", "src/products": "driver: products",
+    "src/streams": "driver: outputs driver_batch: failures", "src/head_start": "driver: early_starts late_starts", "src/late": "driver: late_starts",
+    "src/withheld": "driver: early_starts", "src/run.": "driver: end_to_end early_starts outputs", "src/host": "driver: end_to_end signals logs",
+    "src/call": "driver: end_to_end to_nvcc",
 }
 # No other parts run anything of these files.
-ALONE = ("src/batch/", "src/report/", "src/plan_program", "src/farm/")
+ALONE = ("batch/src/", "report/src/", "src/plan_program")
 
 
 # An edit: the file, the number of a line, what it is before and after, and the operator.
@@ -166,10 +173,19 @@ def sources(kind: str) -> list[Path]:
 
 
 def known() -> set[tuple[str, str, str]]:
-    """The edits that change nothing: file, old and new line."""
+    """The edits that change nothing: file, old and new line. Ends the program if a file has a line no more."""
     text = (ROOT / "tests/mutants_known.txt").read_text()
-    return {(file, old.strip(), new.strip()) for file, edits in re.findall(r"^file: (.*)\n((?:(?:old|new|why):.*\n)+)", text, re.M)
-            for old, new in re.findall(r"^old: ?(.*)\nnew: ?(.*)\nwhy: ?.+$", edits, re.M)}
+    edits = {(file, old.strip(), new.strip()) for file, edits in re.findall(r"^file: (.*)\n((?:(?:old|new|why):.*\n)+)", text, re.M)
+             for old, new in re.findall(r"^old: ?(.*)\nnew: ?(.*)\nwhy: ?.+$", edits, re.M)}
+    gone = sorted({f"{file}: {old}" for file, old, _ in edits if not has_line(ROOT / file, old)})
+    if gone:
+        sys.exit("tests/mutants_known.txt has lines that are gone:\n" + "\n".join(gone))
+    return edits
+
+
+def has_line(path: Path, line: str) -> bool:
+    """Whether a file has a line, whatever blanks are around it."""
+    return path.exists() and line in map(str.strip, path.read_text().splitlines())
 
 
 def draw(chance: random.Random, lines: list[tuple[Path, int]]) -> Edit | None:
@@ -244,17 +260,19 @@ class Lane:
             made = shutil.ignore_patterns("__pycache__", ".mypy_cache", "out")
             shutil.copytree(ROOT / name, self.folder / name, symlinks=True, dirs_exist_ok=True, ignore=made)
         if kind == "driver":
-            others = shutil.ignore_patterns("target", "driver")
+            others = shutil.ignore_patterns("target", *CRATES)
             shutil.copytree(rust, self.sources, symlinks=True, dirs_exist_ok=True, ignore=others, copy_function=copy_other)
-            shutil.copytree(ROOT / "driver", self.sources / "driver", dirs_exist_ok=True, copy_function=copy_other)
-            for path in self.sources.glob("driver/**/*.rs"):
-                if not (ROOT / path.relative_to(self.sources)).exists():
-                    path.unlink()
+            for crate in CRATES:
+                shutil.copytree(ROOT / crate, self.sources / crate, dirs_exist_ok=True, copy_function=copy_other)
+                for path in self.sources.glob(f"{crate}/**/*.rs"):
+                    if not (ROOT / path.relative_to(self.sources)).exists():
+                        path.unlink()
 
     def build(self, *words: str) -> list[Path]:
         """Runs cargo with these words. Says which programs it made: none, if something doesn't compile."""
-        command = ["bash", "-c", '"$@"; status=$?; times >&2; exit $status', "build", "cargo", *words, "--offline", "--quiet", "-p", "zigrunk-driver"]
+        command = ["bash", "-c", '"$@"; status=$?; times >&2; exit $status', "build", "cargo", *words, "--offline", "--quiet"]
         command.append("--message-format=json")
+        command += [f"--package={'zigrunk-driver' if crate == 'driver' else crate}" for crate in CRATES]
         made = subprocess.run(command, cwd=self.sources, env=os.environ | BUILD, capture_output=True, text=True, check=False)
         self.seconds += processor_time(made.stderr)
         found = [json.loads(line) for line in made.stdout.splitlines() if '"executable":"' in line]
@@ -264,7 +282,7 @@ class Lane:
     def compiles(self, path: str) -> bool:
         """Builds the unit tests. Says whether they compile. The program comes later, since most edits are found without it."""
         if self.kind == "driver":
-            tests = self.build("test", "--no-run", "--lib", *["--test", "report"] * ("src/report/" in path))
+            tests = self.build("test", "--no-run", "--lib", *["--test", "report"] * ("report/src/" in path))
             self.built = Built(tests, self.built.program)
         return bool(self.built.tests) or self.kind != "driver"
 
@@ -366,7 +384,8 @@ def parts_of(path: str, kind: str) -> list[tuple[str, str]]:
     """The parts of the tests for a file, each once, in their order."""
     first = next((parts for place, parts in FIRST.items() if place in path), "")
     others = "" if any(place in path for place in ALONE) else KINDS[kind][1]
-    module = path.partition("driver/src/")[2].removesuffix(".rs").removesuffix("/mod").replace("/", "::")
+    module = path.partition("/src/")[2].removesuffix(".rs").removesuffix("/mod").replace("/", "::")
+    module = "tests" if module == "lib" else module
     found: dict[tuple[str, str], None] = {("driver", f"unit {module}::"): None} if module else {}
     script = ""
     for word in ("driver: unit " * (kind == "driver") + f"{first} {others}").split():
@@ -375,6 +394,21 @@ def parts_of(path: str, kind: str) -> list[tuple[str, str]]:
         else:
             found[script, word] = None
     return list(found)
+
+
+def least(count: int, share: float) -> int:
+    """How many of so many edits have to be caught by tests that catch this share of all edits: they catch fewer with a chance of LUCK at most."""
+    chance, caught = 0.0, 0
+    while caught < count and chance + (now := math.comb(count, caught) * share**caught * (1 - share)**(count - caught)) <= LUCK:
+        chance, caught = chance + now, caught + 1
+    return caught
+
+
+def verdict(caught: int, survived: int, wanted: int) -> tuple[str, bool]:
+    """The last two lines, and whether enough edits were caught."""
+    is_enough = caught >= wanted
+    said = f"{caught} of {caught + survived} edits caught, {survived} survived; at least {wanted} have to be caught"
+    return f"{said}\n{int(is_enough)} passed, {int(not is_enough)} failed", is_enough
 
 
 def difference(edit: Edit, text: str) -> str:
@@ -458,7 +492,7 @@ def main() -> int:
     parser.add_argument("--only", type=int, help="the number of an edit")
     parser.add_argument("--kind", choices=KINDS, default="driver")
     parser.add_argument("--lanes", type=int, default=2)
-    parser.add_argument("--bound", type=float, default=95)
+    parser.add_argument("--share", type=float, default=95)
     parser.add_argument("--draw", action="store_true", help="print the edits, and make none")
     parser.add_argument("--unit", action="store_true", help="no scripts")
     parser.add_argument("--rust", default=f"{ROOT}/out/rust")
@@ -489,10 +523,9 @@ def main() -> int:
         print(f"{lot.seconds[is_caught] / max(count, 1):.0f} s of a processor for one that {'is' if is_caught else 'is not'} caught")
     for part in sorted({part for lane in lanes for part, is_sound in lane.sound.items() if not is_sound}):
         print(f"without an edit {' '.join(part)} fails, so it counts for none")
-    print(f"caught {caught} of {caught + survived}, seed {args.seed}")
-    failed = survived if 100 * caught < args.bound * (caught + survived) else 0
-    print(f"{caught} passed, {failed} failed")
-    return int(failed > 0)
+    said, is_enough = verdict(caught, survived, 1 if args.only else least(caught + survived, args.share / 100))
+    print(f"seed {args.seed}: {said}")
+    return int(not is_enough)
 
 
 if __name__ == "__main__":

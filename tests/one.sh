@@ -22,5 +22,5 @@ by_script() {
 while read -r script; do
     by_script "$script"
 done < <(grep -lF -e "$text" tests/*.sh | xargs grep -lF '. tests/lib.sh' | grep -v 'tests/one.sh')
-! grep -rqE "(fn|mod) ${text##*::}\b" driver/src || PARTS=unit by_script tests/driver.sh
+! grep -rqE "(fn|mod) ${text##*::}\b" {unix,machine,cache,runner,report,batch,driver}/src || PARTS=unit by_script tests/driver.sh
 summary

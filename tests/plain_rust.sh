@@ -29,7 +29,7 @@ script() {
 # write: the eraser writes the workspace, with the drivers that run cases, and cargo builds it.
 write() {
     cargo run --quiet --locked --manifest-path rust/Cargo.toml -p eraser -- --drivers . "$folder" &&
-        cargo build --quiet --release --target-dir "$folder/target" --manifest-path "$folder/Cargo.toml"
+        env -C "$folder" cargo build --quiet --release --target-dir "$folder/target"
 }
 
 # no_debug_form: no crate prints a text by `{:?}`, which escapes other characters in Rust than in the kit (docs/PLAIN_RUST.md).
@@ -46,7 +46,7 @@ text() {
 
 # workspace: what rustfmt and cargo say of all crates, the stand-ins and the eraser among them. Each public item has a page.
 workspace() {
-    local words=(--manifest-path "$folder/Cargo.toml") roots name without=()
+    local words roots name without=()
     # test_.. are tests in the kit's form, which rustfmt and clippy would write otherwise; `make rust` leaves them out
     for name in "$folder"/crates/test_*; do
         without+=(--exclude "${name##*/}")
@@ -55,9 +55,11 @@ workspace() {
     roots=("$folder"/{crates,stand}/*/src/{lib,main}.rs)
     mapfile -t roots < <(printf '%s\n' "${roots[@]}" | grep -v '\*\|/test_')
     check 'the layout by rustfmt' rustfmt --check --edition 2024 "${roots[@]}"
-    check "the driver's layout" rustfmt --check --edition 2024 --config-path driver driver/src/lib.rs driver/src/main.rs
-    check 'clippy' cargo clippy --quiet --workspace "${without[@]}" --all-targets "${words[@]}" -- -D warnings -D missing_docs
-    check 'the pages' env RUSTDOCFLAGS='-D warnings' cargo doc --quiet --no-deps --workspace "${words[@]}"
+    for name in unix machine cache runner report batch driver; do
+        check "the layout of $name" rustfmt --check --edition 2024 --config-path "$name" "$name/src/lib.rs"
+    done
+    check 'clippy' env -C "$folder" cargo clippy --quiet --workspace "${without[@]}" --all-targets -- -D warnings -D missing_docs
+    check 'the pages' env -C "$folder" RUSTDOCFLAGS='-D warnings' cargo doc --quiet --no-deps --workspace
     words=(--locked --manifest-path rust/Cargo.toml -p eraser)
     check "the eraser's layout" cargo fmt --check --manifest-path rust/Cargo.toml -p eraser
     check "the eraser's tests" cargo test --quiet "${words[@]}"

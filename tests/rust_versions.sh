@@ -29,8 +29,9 @@ make_root() {
 
 # copy_sources: the workspace, laid out by this machine's rustfmt, and the dry runs that its tests read.
 copy_sources() {
-    mkdir -p "$work/$data" && cp -r "$data"/* "$work/$data" &&
-        cargo run --quiet --manifest-path rust/Cargo.toml -p eraser -- . "$work/rust"
+    [ -d vendor ] || packaging/vendor.sh || return 1
+    rm -rf "$work/rust/vendor" && mkdir -p "$work/$data" "$work/rust" && cp -r "$data"/* "$work/$data" && cp -r vendor "$work/rust/vendor" &&
+        cargo run --quiet --manifest-path rust/Cargo.toml -p eraser -- --crates=vendor . "$work/rust"
 }
 
 # oldest COMMAND..: runs a command in the root, with the file systems that a machine has.

@@ -19,7 +19,7 @@ build_plain() {
     local target=$PWD/out/stand_ins
     cargo run --quiet --offline --target-dir "$target" --manifest-path rust/Cargo.toml -p eraser -- \
         --drivers --unformatted . "$scratch/rust" &&
-        cargo build --quiet --release --offline --target-dir "$target" --manifest-path "$scratch/rust/Cargo.toml" -p test_std &&
+        env -C "$scratch/rust" cargo build --quiet --release --offline --target-dir "$target" -p test_std &&
         cp "$target/release/test_std" "$scratch/plain/test_std"
 }
 

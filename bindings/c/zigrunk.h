@@ -51,7 +51,7 @@ typedef struct zigrunk_schedule zigrunk_schedule;
 // What `zigrunk_abi_version` says.
 #define ZIGRUNK_ABI_VERSION 2
 
-// The function has made what it is asked for.
+// The function succeeded.
 #define ZIGRUNK_OK 0
 
 // An allocation failed.

@@ -9,6 +9,8 @@
 
 #include <zigrunk.h>
 
+#include <cstddef>
+#include <cstdint>
 #include <memory>
 #include <optional>
 #include <stdexcept>
@@ -24,14 +26,29 @@ namespace zigrunk {
 using Texts = std::vector<std::string>;
 
 // Why a call is refused: ZIGRUNK_TO_NVCC if nvcc has to make it itself. `input` is ZIGRUNK_INPUT_FIRST .. or 0, `line` that of a dry run, from 1,
-// or 0.
+// or 0. what() ends at a NUL, which a dry run may have; `message` has all.
 struct Error : std::runtime_error {
-    Error(std::int32_t status_, std::uint32_t input_, std::size_t line_, const std::string &message)
-        : std::runtime_error(message), status(status_), input(input_), line(line_) {}
+    Error(std::int32_t status_, std::uint32_t input_, std::size_t line_, const std::string &message_)
+        : std::runtime_error(message_), message(message_), status(status_), input(input_), line(line_) {}
+    std::string message;
     std::int32_t status;
     std::uint32_t input;
     std::size_t line;
 };
+
+// A program that dry runs name, and the value of PATH there.
+struct Lookup {
+    std::string program, path;
+};
+
+// A look-up, and the path that it found, if there is such a program.
+struct FoundProgram {
+    Lookup lookup;
+    std::optional<std::string> found;
+};
+
+// Where the programs are that dry runs name; none looks on this machine's disk.
+using Programs = std::optional<std::vector<FoundProgram>>;
 
 namespace own {
 
@@ -68,6 +85,20 @@ struct Given {
     operator zigrunk_texts() const { return {items.data(), lengths.data(), items.size()}; }
     std::vector<const char *> items;
     std::vector<std::size_t> lengths;
+};
+
+// A table of programs as C takes it: none looks on this machine's disk.
+struct Table {
+    explicit Table(const Programs &programs) : is_given(programs.has_value()) {
+        rows.reserve(programs ? programs->size() + 1 : 0);
+        for (std::size_t i = 0; programs && i < programs->size(); ++i) {
+            const FoundProgram &of = (*programs)[i];
+            rows.push_back({given(of.lookup.program), given(of.lookup.path), of.found ? given(*of.found) : zigrunk_text{nullptr, 0}});
+        }
+    }
+    const zigrunk_found_program *items() const { return is_given ? rows.data() : nullptr; }
+    std::vector<zigrunk_found_program> rows;
+    bool is_given;
 };
 
 // Calls a function, whose last two parameters are what it made and why not. Throws the latter.
@@ -150,10 +181,11 @@ private:
 
 // Plans two dry runs alone, with generated files under canonical names: zigrunk_plan_call says what they are.
 inline Plan plan_of(std::string_view dry1, std::string_view dry2, std::string_view cwd, std::string_view tmp, std::string_view flag,
-    const Texts &environment = {}, std::size_t limit = 0) {
+    const Texts &environment = {}, std::size_t limit = 0, const Programs &programs = {}) {
     const own::Given variables(environment);
-    const zigrunk_plan_call given{own::given(dry1), own::given(dry2), own::given(cwd), own::given(tmp), own::given(flag), variables, {}, nullptr, 0, limit,
-        ZIGRUNK_GCC, 0};
+    const own::Table table(programs);
+    const zigrunk_plan_call given{own::given(dry1), own::given(dry2), own::given(cwd), own::given(tmp), own::given(flag), variables, {}, table.items(),
+        table.rows.size(), limit, ZIGRUNK_GCC, 0};
     return Plan(own::made<zigrunk_plan>(zigrunk_plan_of, &given));
 }
 
@@ -185,8 +217,9 @@ public:
     // Runs the dry runs, and plans.
     Plan plan() const { return Plan(own::made<zigrunk_plan>(zigrunk_call_plan, call_.get())); }
     // Plans what the dry runs printed: zigrunk_call_plan_of says what it checks.
-    Plan plan_of(std::string_view own_run, std::string_view first, std::string_view second, std::size_t limit = 0) const {
-        const zigrunk_dry_runs given{own::given(own_run), own::given(first), own::given(second), nullptr, 0, limit};
+    Plan plan_of(std::string_view own_run, std::string_view first, std::string_view second, std::size_t limit = 0, const Programs &programs = {}) const {
+        const own::Table table(programs);
+        const zigrunk_dry_runs given{own::given(own_run), own::given(first), own::given(second), table.items(), table.rows.size(), limit};
         return Plan(own::made<zigrunk_plan>(zigrunk_call_plan_of, call_.get(), &given));
     }
 
@@ -250,6 +283,79 @@ inline std::string quote(const Texts &words) {
 // The words that a POSIX shell reads in a text.
 inline Texts split(std::string_view text) {
     return own::answer(zigrunk_split, own::given(text));
+}
+
+// Words with canonical names for the files that nvcc generates.
+inline Texts remap(const Texts &words, const Texts &suffixes = {}) {
+    const own::Given line(words), more(suffixes);
+    return own::answer(zigrunk_remap, static_cast<zigrunk_texts>(line), static_cast<zigrunk_texts>(more));
+}
+
+// The look-ups of programs that a plan of two dry runs needs, none twice.
+inline std::vector<Lookup> lookups(std::string_view dry1, std::string_view dry2, std::string_view cwd, std::size_t limit = 0) {
+    const Texts texts = own::answer(zigrunk_lookups, own::given(dry1), own::given(dry2), own::given(cwd), limit);
+    std::vector<Lookup> made;
+    for (std::size_t i = 0; i + 1 < texts.size(); i += 2) {
+        made.push_back({texts[i], texts[i + 1]});
+    }
+    return made;
+}
+
+// The paths that a look-up tries, in order: the first that is an executable file is the program.
+inline Texts candidates(const Lookup &of, std::string_view cwd) {
+    return own::answer(zigrunk_candidates, own::given(of.program), own::given(of.path), own::given(cwd));
+}
+
+// A file that a line of a tool makes: what it is, as "obj", its path, and whether the command may leave it out.
+struct Output {
+    std::string key, path;
+    bool is_optional;
+};
+
+// What a line of a tool says. zigrunk_line says what its fields are.
+struct Line {
+    explicit Line(const zigrunk_line &of)
+        : input(own::text(of.input)), compilation_flag(own::text(of.compilation_flag)), dependency_args(own::texts(of.dependency_args)),
+          preprocessor_args(own::texts(of.preprocessor_args)), common_args(own::texts(of.common_args)), arch_args(own::texts(of.arch_args)),
+          unhashed_args(own::texts(of.unhashed_args)), extra_dist_files(own::texts(of.extra_dist_files)),
+          extra_hash_files(own::texts(of.extra_hash_files)), language(of.language), color_mode(of.color_mode),
+          double_dash_input(of.double_dash_input != 0) {
+        const Texts keys = own::texts(of.output_keys), paths = own::texts(of.output_paths);
+        for (std::size_t i = 0; i < keys.size(); ++i) {
+            outputs.push_back({keys[i], paths[i], of.output_is_optional[i] != 0});
+        }
+    }
+    std::string input, compilation_flag;
+    std::vector<Output> outputs;
+    Texts dependency_args, preprocessor_args, common_args, arch_args, unhashed_args, extra_dist_files, extra_hash_files;
+    std::uint32_t language, color_mode;
+    bool double_dash_input;
+};
+
+// What a line of a tool, ZIGRUNK_TOOL_CICC .. ZIGRUNK_TOOL_NVCXX, says: its words are without the tool's name.
+inline Line line_records(std::uint32_t tool, std::string_view cwd, const Texts &words, const Texts &environment = {}) {
+    const own::Given line(words), variables(environment);
+    const zigrunk_line_call given{own::given(cwd), line, variables, tool};
+    return Line(*own::made<zigrunk_line>(zigrunk_line_records, &given));
+}
+
+// The words that it is written back as.
+inline Texts line_words(std::uint32_t tool, std::string_view cwd, const Texts &words, const Texts &environment = {}) {
+    const own::Given line(words), variables(environment);
+    const zigrunk_line_call given{own::given(cwd), line, variables, tool};
+    return own::answer(zigrunk_line_words, &given);
+}
+
+// What a cache hashes of a command that no plan has: zigrunk_command_key says what it is for.
+inline std::string command_key(std::uint32_t tool, const Texts &words, const Texts &environment, const Texts &roots = {}) {
+    const own::Given line(words), variables(environment), folders(roots);
+    const zigrunk_key_call given{line, variables, folders, tool};
+    return own::answer(zigrunk_command_key, &given).at(0);
+}
+
+// The files that the output of a preprocessor names.
+inline Texts headers(std::string_view output) {
+    return own::answer(zigrunk_headers, own::given(output));
 }
 
 } // namespace zigrunk

@@ -36,10 +36,10 @@ const (
 	IO           Status = C.ZIGRUNK_IO
 )
 
-// Tool is the tool that a command runs.
+// Tool is the tool that a command runs, or that a line is of.
 type Tool uint32
 
-// The tools. Host is a host compiler, or any other program.
+// The tools. Host is a host compiler, or any other program. Nvcc, Nvc and Nvcxx are of lines only.
 const (
 	Cicc      Tool = C.ZIGRUNK_TOOL_CICC
 	Ptxas     Tool = C.ZIGRUNK_TOOL_PTXAS
@@ -47,6 +47,9 @@ const (
 	Fatbinary Tool = C.ZIGRUNK_TOOL_FATBINARY
 	NvLink    Tool = C.ZIGRUNK_TOOL_NVLINK
 	Host      Tool = C.ZIGRUNK_TOOL_HOST
+	Nvcc      Tool = C.ZIGRUNK_TOOL_NVCC
+	Nvc       Tool = C.ZIGRUNK_TOOL_NVC
+	Nvcxx     Tool = C.ZIGRUNK_TOOL_NVCXX
 )
 
 // Missing says which files a command touches that its words don't name.
@@ -153,6 +156,31 @@ func (g *given) texts(of []string) C.zigrunk_texts {
 	return C.zigrunk_texts{items, lengths, C.size_t(len(of))}
 }
 
+// Lookup is a program that dry runs name, and the value of PATH there.
+type Lookup struct{ Program, Path string }
+
+// FoundProgram is a look-up, and the path that it found, or an empty one if there is no such program.
+type FoundProgram struct {
+	Lookup
+	Found string
+}
+
+// programs is a table of programs for C: nil looks on this machine's disk.
+func (g *given) programs(of []FoundProgram) (*C.zigrunk_found_program, C.size_t) {
+	if of == nil {
+		return nil, 0
+	}
+	rows := (*C.zigrunk_found_program)(g.room(len(of) * C.sizeof_zigrunk_found_program))
+	for i, it := range of {
+		row := C.zigrunk_found_program{program: g.text(it.Program), path: g.text(it.Path)}
+		if it.Found != "" {
+			row.found = g.text(it.Found)
+		}
+		unsafe.Slice(rows, len(of))[i] = row
+	}
+	return rows, C.size_t(len(of))
+}
+
 func run(of C.zigrunk_run) Run { return Run{texts(of.words), texts(of.environment), text(of.cwd)} }
 
 // Call is a call of nvcc.
@@ -212,12 +240,13 @@ func (c *Call) Plan() (*Plan, error) {
 
 // PlanOf plans what the dry runs printed. NoDryRun, and the input that is at fault, if the texts aren't the dry runs of this call; ToNvcc if nvcc does
 // something else for the line, or a command reads a file that no command before it writes. If someone else wrote them, give it a limit on the bytes
-// that reading them makes; 0 is none.
-func (c *Call) PlanOf(ownRun, first, second []byte, limit int) (*Plan, error) {
+// that reading them makes; 0 is none. The programs are where those are that the runs name: nil looks on this machine's disk.
+func (c *Call) PlanOf(ownRun, first, second []byte, programs []FoundProgram, limit int) (*Plan, error) {
 	defer runtime.KeepAlive(c)
 	var passed given
 	defer passed.free()
-	runs := C.zigrunk_dry_runs{own: passed.text(string(ownRun)), first: passed.text(string(first)), second: passed.text(string(second)), limit: C.size_t(limit)}
+	table, count := passed.programs(programs)
+	runs := C.zigrunk_dry_runs{passed.text(string(ownRun)), passed.text(string(first)), passed.text(string(second)), table, count, C.size_t(limit)}
 	var made *C.zigrunk_plan
 	var refused *C.zigrunk_error
 	status := C.zigrunk_call_plan_of((*C.zigrunk_call)(c.call.pointer), &runs, &made, &refused)
@@ -225,11 +254,12 @@ func (c *Call) PlanOf(ownRun, first, second []byte, limit int) (*Plan, error) {
 }
 
 // PlanOf plans two dry runs alone, with generated files under canonical names: zigrunk_plan_call of zigrunk.h says what they are.
-func PlanOf(dry1, dry2 []byte, directory, tmp, flag string, environment []string, limit int) (*Plan, error) {
+func PlanOf(dry1, dry2 []byte, directory, tmp, flag string, environment []string, programs []FoundProgram, limit int) (*Plan, error) {
 	var passed given
 	defer passed.free()
+	table, count := passed.programs(programs)
 	call := C.zigrunk_plan_call{dry1: passed.text(string(dry1)), dry2: passed.text(string(dry2)), cwd: passed.text(directory), tmp: passed.text(tmp),
-		flag: passed.text(flag), environment: passed.texts(environment), limit: C.size_t(limit)}
+		flag: passed.text(flag), environment: passed.texts(environment), programs: table, programs_count: count, limit: C.size_t(limit)}
 	var made *C.zigrunk_plan
 	var refused *C.zigrunk_error
 	status := C.zigrunk_plan_of(&call, &made, &refused)
@@ -263,8 +293,14 @@ func command(of C.zigrunk_command) Command {
 	}
 }
 
+// Where a function puts its answer, or why there is none.
+type (
+	answer  = **C.zigrunk_answer
+	refusal = **C.zigrunk_error
+)
+
 // ask calls a function that makes texts.
-func ask(call func(passed *given, made **C.zigrunk_answer, refused **C.zigrunk_error) C.int32_t) ([]string, error) {
+func ask(call func(passed *given, made answer, why refusal) C.int32_t) ([]string, error) {
 	var passed given
 	defer passed.free()
 	var made *C.zigrunk_answer
@@ -283,8 +319,8 @@ func first(all []string, err error) (string, error) { return append(all, "")[0],
 // Text is the plan as "json", "ninja", "shell", "compdb" or "text".
 func (p *Plan) Text(format string) (string, error) {
 	defer runtime.KeepAlive(p)
-	return first(ask(func(passed *given, made **C.zigrunk_answer, refused **C.zigrunk_error) C.int32_t {
-		return C.zigrunk_plan_text((*C.zigrunk_plan)(p.plan.pointer), passed.text(format), made, refused)
+	return first(ask(func(passed *given, made answer, why refusal) C.int32_t {
+		return C.zigrunk_plan_text((*C.zigrunk_plan)(p.plan.pointer), passed.text(format), made, why)
 	}))
 }
 
@@ -293,8 +329,8 @@ func (p *Plan) Text(format string) (string, error) {
 // exceptions. It's an error (BadLine) that says why if a cache may not serve the command. So ask when the commands that it needs have ended.
 func (p *Plan) Key(number int) (key []byte, toolFiles []string, err error) {
 	defer runtime.KeepAlive(p)
-	all, err := ask(func(_ *given, made **C.zigrunk_answer, refused **C.zigrunk_error) C.int32_t {
-		return C.zigrunk_plan_key((*C.zigrunk_plan)(p.plan.pointer), C.size_t(number), made, refused)
+	all, err := ask(func(_ *given, made answer, why refusal) C.int32_t {
+		return C.zigrunk_plan_key((*C.zigrunk_plan)(p.plan.pointer), C.size_t(number), made, why)
 	})
 	if err != nil {
 		return nil, nil, err
@@ -304,16 +340,48 @@ func (p *Plan) Key(number int) (key []byte, toolFiles []string, err error) {
 
 // Split lists the words that a POSIX shell reads in a text.
 func Split(text string) ([]string, error) {
-	return ask(func(passed *given, made **C.zigrunk_answer, refused **C.zigrunk_error) C.int32_t {
-		return C.zigrunk_split(passed.text(text), made, refused)
+	return ask(func(passed *given, made answer, why refusal) C.int32_t {
+		return C.zigrunk_split(passed.text(text), made, why)
 	})
 }
 
 // Quote is words as one text, which a POSIX shell reads as these words.
 func Quote(words []string) (string, error) {
-	return first(ask(func(passed *given, made **C.zigrunk_answer, refused **C.zigrunk_error) C.int32_t {
-		return C.zigrunk_quote(passed.texts(words), made, refused)
+	return first(ask(func(passed *given, made answer, why refusal) C.int32_t {
+		return C.zigrunk_quote(passed.texts(words), made, why)
 	}))
+}
+
+// Remap is words with canonical names for the files that nvcc generates. The suffixes are behind the standard ones.
+func Remap(words, suffixes []string) ([]string, error) {
+	return ask(func(passed *given, made answer, why refusal) C.int32_t {
+		return C.zigrunk_remap(passed.texts(words), passed.texts(suffixes), made, why)
+	})
+}
+
+// Headers lists the files that the output of a preprocessor names.
+func Headers(output []byte) ([]string, error) {
+	return ask(func(passed *given, made answer, why refusal) C.int32_t {
+		return C.zigrunk_headers(passed.text(string(output)), made, why)
+	})
+}
+
+// Lookups lists the look-ups of programs that a plan of two dry runs needs, none twice.
+func Lookups(dry1, dry2 []byte, directory string, limit int) (found []Lookup, err error) {
+	all, err := ask(func(passed *given, made answer, why refusal) C.int32_t {
+		return C.zigrunk_lookups(passed.text(string(dry1)), passed.text(string(dry2)), passed.text(directory), C.size_t(limit), made, why)
+	})
+	for i := 0; i+1 < len(all); i += 2 {
+		found = append(found, Lookup{all[i], all[i+1]})
+	}
+	return found, err
+}
+
+// Candidates lists the paths that a look-up tries, in order: the first that is an executable file is the program.
+func Candidates(of Lookup, directory string) ([]string, error) {
+	return ask(func(passed *given, made answer, why refusal) C.int32_t {
+		return C.zigrunk_candidates(passed.text(of.Program), passed.text(of.Path), passed.text(directory), made, why)
+	})
 }
 
 // Schedule says which command of a plan may start next, and which outputs may be printed. It starts nothing: you say what happened.

@@ -1,5 +1,7 @@
 //! Keys of a plan's commands that a cache can trust.
 
+use std::ffi::CStr;
+use std::fmt::Display;
 use std::fs::{self, File};
 use std::io::{self, Read};
 use std::path::{Path, PathBuf};
@@ -12,9 +14,9 @@ use rattle_std::alloc::{AllocError, Global};
 use rattle_std::vec::Vec as List;
 
 use crate::error::Error;
-use crate::memory::{OutOfMemory, copied_bytes, listed};
+use crate::memory::{OutOfMemory, copied, copied_bytes, displayed, joined, listed};
 use crate::plan::{Command, CommandTool};
-use crate::ptx::files_of_ptx;
+use crate::ptx::names_in_ptx;
 use crate::words::TextsIter;
 
 /// The tools whose words name all that they touch.
@@ -22,6 +24,12 @@ const TOOLS: [CommandTool; 3] = [CommandTool::CudaFe, CommandTool::Cicc, Command
 
 /// Where the loader looks for libm in a folder, by what the processor can do.
 const LIBMS: [&str; 4] = ["glibc-hwcaps/x86-64-v4/libm.so.6", "glibc-hwcaps/x86-64-v3/libm.so.6", "glibc-hwcaps/x86-64-v2/libm.so.6", "libm.so.6"];
+
+/// The library for device code, by the one name that cicc looks for in its folder.
+const LIBRARY: &str = "libdevice.10.bc";
+
+/// Says where a path really leads.
+pub type RealPath<'a> = &'a dyn Fn(&CStr) -> io::Result<Vec<u8>>;
 
 /// What a cache hashes of a command: this text, then the contents of the tool's files, and of what the command [reads](Command::reads).
 #[derive(Debug, Clone, PartialEq, Eq)]
@@ -56,10 +64,10 @@ impl<'a> Asked<'a> {
     }
 
     /// The first word that a cache doesn't know: up to it there is no reading, and none up to the next, which might be its value.
-    fn unknown(&self) -> Option<String> {
+    fn unknown(&self) -> Option<&'a [u8]> {
         let is_known = |count| self.counted(count).is_ok_and(|words| words.is_some());
         let count = (1..=self.words.len()).find(|&count| !is_known(count) && !is_known(count + 1))?;
-        Some(String::from_utf8_lossy(self.words[count - 1]).into_owned())
+        Some(self.words[count - 1])
     }
 }
 
@@ -75,61 +83,95 @@ fn has_other_code(command: Command<'_>) -> bool {
 
 /// Whether the kernel runs a program itself. A script may run anything.
 fn is_binary(program: &Path) -> io::Result<bool> {
-    let mut begin = Vec::new();
-    File::open(program)?.take(4).read_to_end(&mut begin)?;
-    Ok(begin == b"\x7fELF")
+    let mut begin = [0; 4];
+    let read = File::open(program)?.read(&mut begin)?;
+    Ok(begin[..read] == *b"\x7fELF")
 }
 
 /// What counts of a command beside its words and variables: facts with names that no variable of a tool has.
-type Facts = Vec<(Vec<u8>, Vec<u8>)>;
+#[derive(Default)]
+struct Facts(Vec<(Vec<u8>, Vec<u8>)>);
 
-/// The size of a file, and when it was changed. Nothing if it isn't there.
-fn stamp(path: &Path) -> io::Result<String> {
-    let Ok(status) = fs::metadata(path) else { return Ok(String::new()) };
-    Ok(match status.modified()?.duration_since(UNIX_EPOCH) {
-        Ok(since) => format!("{} {}", status.len(), since.as_nanos()),
-        Err(before) => format!("{} -{}", status.len(), before.duration().as_nanos()),
-    })
+impl Facts {
+    fn add(&mut self, name: Vec<u8>, value: Vec<u8>) -> Result<(), OutOfMemory> {
+        self.0.try_reserve(1)?;
+        self.0.push((name, value));
+        Ok(())
+    }
+
+    /// Adds where a path of a command leads, or nothing if there is no such file.
+    fn add_place(&mut self, name: &str, command: Command<'_>, path: &str, real: RealPath<'_>) -> Result<(), Error> {
+        let path = joined(&[&path_in(command.cwd(), path)?, "\0"])?;
+        let path = CStr::from_bytes_with_nul(path.as_bytes()).map_err(|_| Error::nul())?;
+        let place = match real(path) {
+            Err(error) if error.kind() == io::ErrorKind::OutOfMemory => return Err(OutOfMemory.into()),
+            found => found.unwrap_or_default(),
+        };
+        Ok(self.add(copied_bytes(name.as_bytes())?, place)?)
+    }
+
+    /// Adds the files that the PTX of a command names. Of each, ptxas writes the size, and when it was changed.
+    fn add_named(&mut self, command: Command<'_>) -> Result<(), Error> {
+        let odd = || Error::uncacheable("its PTX names files", None);
+        for path in command.reads() {
+            let ptx = fs::read(path).map_err(unread)?;
+            for name in names_in_ptx(&ptx) {
+                let name = name.and_then(|name| str::from_utf8(name).ok()).ok_or_else(odd)?;
+                let of = stamp(&path_in(command.cwd(), name)?).map_err(unread)?;
+                self.add(joined(&[".file ", name])?.into_bytes(), of.into_bytes())?;
+            }
+        }
+        Ok(())
+    }
 }
 
-/// Adds the files that the PTX of a command names. Of each, ptxas writes the size, and when it was changed.
-fn add_named(facts: &mut Facts, command: Command<'_>) -> Result<(), Error> {
-    let odd = || Error::uncacheable("its PTX names files", None);
-    for path in command.reads() {
-        let ptx = fs::read(path).map_err(unread)?;
-        for name in files_of_ptx(&ptx).ok_or_else(odd)? {
-            let file = Path::new(command.cwd()).join(str::from_utf8(name).map_err(|_| odd())?);
-            facts.push(([b".file ", name].concat(), stamp(&file).map_err(unread)?.into_bytes()));
-        }
+/// By Rust's library, which needs memory for it.
+fn real_path(path: &CStr) -> io::Result<Vec<u8>> {
+    let path = path.to_str().map_err(|_| io::ErrorKind::InvalidInput)?;
+    fs::canonicalize(path).map(|real| real.into_os_string().into_encoded_bytes())
+}
+
+/// A path as a command that runs in a directory finds it.
+fn path_in(cwd: &str, path: &str) -> Result<String, OutOfMemory> {
+    if path.starts_with('/') { copied(path) } else { joined(&[cwd, "/", path]) }
+}
+
+/// The size of a file, and when it was changed. Nothing if it isn't there.
+fn stamp(path: &str) -> io::Result<String> {
+    let Ok(status) = fs::metadata(path) else { return Ok(String::new()) };
+    let text = |time: &dyn Display| displayed(&format_args!("{} {time}", status.len())).map_err(|_| io::ErrorKind::OutOfMemory.into());
+    match status.modified()?.duration_since(UNIX_EPOCH) {
+        Ok(since) => text(&since.as_nanos()),
+        Err(before) => text(&format_args!("-{}", before.duration().as_nanos())),
     }
-    Ok(())
 }
 
 /// The facts of a command. If names reach what it makes, its directory is one, and where that and the source really are.
-fn facts(command: Command<'_>, tool: CommandTool, names_reach: bool) -> Result<Facts, Error> {
-    let name = Path::new(command.program()).file_name().unwrap_or_default();
-    let mut facts = vec![(b".tool".to_vec(), name.as_encoded_bytes().to_vec())];
-    let place = |path: &str| fs::canonicalize(Path::new(command.cwd()).join(path)).unwrap_or_default().into_os_string().into_encoded_bytes();
+fn facts(command: Command<'_>, tool: CommandTool, names_reach: bool, real: RealPath<'_>) -> Result<Facts, Error> {
+    let mut facts = Facts::default();
+    let name = command.program().rsplit('/').next().unwrap_or_default();
+    facts.add(copied_bytes(b".tool")?, copied_bytes(name.as_bytes())?)?;
     // (a module id has a sum of where the source really is)
-    let sources = command.arguments().zip(command.arguments().skip(1)).filter(|(option, _)| *option == "--orig_src_path_name");
-    facts.extend(sources.map(|(_, source)| (b".source".to_vec(), place(source))));
+    for (_, source) in command.arguments().zip(command.arguments().skip(1)).filter(|(option, _)| *option == "--orig_src_path_name") {
+        facts.add_place(".source", command, source, real)?;
+    }
     if names_reach {
-        facts.push((b".cwd".to_vec(), command.cwd().as_bytes().to_vec()));
-        facts.push((b".place".to_vec(), place("")));
+        facts.add(copied_bytes(b".cwd")?, copied_bytes(command.cwd().as_bytes())?)?;
+        facts.add_place(".place", command, "", real)?;
     }
     if tool == CommandTool::Ptxas {
-        add_named(&mut facts, command)?;
+        facts.add_named(command)?;
     }
     Ok(facts)
 }
 
 /// The text of a command's key, given its words as they count.
-fn text_of(command: Command<'_>, tool: CommandTool, words: &[CountedWord<'_>], names_reach: bool) -> Result<Vec<u8>, Error> {
-    let facts = facts(command, tool, names_reach)?;
-    let environment: Vec<_> = command.variables().map(|(name, value)| (name.as_bytes(), value.as_bytes())).collect();
+fn text_of(command: Command<'_>, tool: CommandTool, words: &[CountedWord<'_>], names_reach: bool, facts: &Facts) -> Result<Vec<u8>, Error> {
+    let environment: Vec<_> = listed(command.variables().map(|(name, value)| Ok::<_, OutOfMemory>((name.as_bytes(), value.as_bytes()))))?;
     let chosen = tool_variables(Global, tool.program(), &environment)?;
     let counting = chosen.as_slice().iter().copied().filter(|(name, _)| names_reach || *name != b"PWD");
-    let variables: Vec<(&[u8], &[u8])> = counting.chain(facts.iter().map(|(name, value)| (name.as_slice(), value.as_slice()))).collect();
+    let all = counting.chain(facts.0.iter().map(|(name, value)| (name.as_slice(), value.as_slice())));
+    let variables: Vec<(&[u8], &[u8])> = listed(all.map(Ok::<_, OutOfMemory>))?;
     let key = counted_key(Global, words, names_reach, &variables, &[])?.ok_or_else(Error::nul)?;
     Ok(copied_bytes(key.as_slice())?)
 }
@@ -138,26 +180,41 @@ fn unread(error: io::Error) -> Error {
     Error::io("read a file of the command", error)
 }
 
-/// The libraries that the loader may take in place of the system's libm. cicc has libm compute constants.
-fn libms(command: Command<'_>) -> Vec<PathBuf> {
-    let folders = value_of(command, "LD_LIBRARY_PATH");
-    let within = |folder: &str| LIBMS.map(|name| Path::new(command.cwd()).join(folder).join(name));
-    let paths = folders.split([':', ';']).filter(|_| !folders.is_empty()).flat_map(within);
-    paths.filter(|path| path.is_file()).collect()
-}
+/// The files that tell one version of the tool from another.
+#[derive(Default)]
+struct ToolFiles(Vec<PathBuf>);
 
-/// The files of the library for device code that cicc reads: those beside it, and those that a variable names.
-fn libraries(command: Command<'_>) -> io::Result<Vec<PathBuf>> {
-    let beside = Path::new(command.program()).ancestors().nth(2).map(|toolkit| toolkit.join("libdevice"));
-    let named = Some(value_of(command, "NVVMIR_LIBRARY_DIR")).filter(|folder| !folder.is_empty()).map(PathBuf::from);
-    let mut files = Vec::new();
-    for folder in [beside, named].into_iter().flatten().filter(|folder| folder.is_dir()) {
-        for file in fs::read_dir(folder)? {
-            files.push(file?.path());
-        }
+impl ToolFiles {
+    fn add(&mut self, path: String) -> Result<(), OutOfMemory> {
+        self.0.try_reserve(1)?;
+        self.0.push(path.into());
+        Ok(())
     }
-    files.sort();
-    Ok(files)
+
+    fn add_if_there(&mut self, path: String) -> Result<(), OutOfMemory> {
+        if Path::new(&path).is_file() { self.add(path) } else { Ok(()) }
+    }
+
+    /// Adds the libraries that the loader may take in place of the system's libm. cicc has libm compute constants.
+    fn add_libms(&mut self, command: Command<'_>) -> Result<(), OutOfMemory> {
+        let folders = value_of(command, "LD_LIBRARY_PATH");
+        for folder in folders.split([':', ';']).filter(|_| !folders.is_empty()) {
+            for name in LIBMS {
+                self.add_if_there(path_in(command.cwd(), &joined(&[folder, if folder.is_empty() { "" } else { "/" }, name])?)?)?;
+            }
+        }
+        Ok(())
+    }
+
+    /// Adds the library for device code that cicc reads: that beside it, and that in the folder that a variable names.
+    fn add_libraries(&mut self, command: Command<'_>) -> Result<(), OutOfMemory> {
+        let beside = Path::new(command.program()).ancestors().nth(2).and_then(Path::to_str);
+        let named = Some(value_of(command, "NVVMIR_LIBRARY_DIR")).filter(|folder| !folder.is_empty());
+        if let Some(toolkit) = beside {
+            self.add_if_there(joined(&[toolkit, "/libdevice/", LIBRARY])?)?;
+        }
+        named.map_or(Ok(()), |folder| self.add_if_there(joined(&[folder, "/", LIBRARY])?))
+    }
 }
 
 impl Command<'_> {
@@ -174,6 +231,12 @@ impl Command<'_> {
     /// `LD_AUDIT` is set; the PTX that ptxas reads has a `.file` of an odd form. `Io` if the program, its library or its PTX can't be read, so
     /// ask when the commands that it needs have ended; `OutOfMemory`.
     pub fn cache_key(&self) -> Result<CacheKey, Error> {
+        self.cache_key_by(&real_path)
+    }
+
+    /// The same, given what says where a path really leads.
+    #[doc(hidden)]
+    pub fn cache_key_by(&self, real: RealPath<'_>) -> Result<CacheKey, Error> {
         let refused = |why| Error::uncacheable(why, None);
         let others = || refused("only cudafe++, cicc and ptxas name all that they touch");
         let tool = self.tool().filter(|tool| TOOLS.contains(tool)).ok_or_else(others)?;
@@ -181,18 +244,25 @@ impl Command<'_> {
             return Err(refused("its line can't be read"));
         }
         let asked = Asked::of(*self, tool)?;
-        let words = asked.counted(asked.words.len())?.ok_or_else(|| Error::uncacheable("unknown word", asked.unknown()))?;
+        let Some(words) = asked.counted(asked.words.len())? else {
+            let word = asked.unknown().and_then(|word| str::from_utf8(word).ok()).map(copied).transpose()?;
+            return Err(Error::uncacheable("unknown word", word));
+        };
         if has_other_code(*self) {
             return Err(refused("LD_PRELOAD or LD_AUDIT is set"));
         }
-        let program = Path::new(self.program());
-        if !is_binary(program).map_err(unread)? {
+        if !is_binary(Path::new(self.program())).map_err(unread)? {
             return Err(refused("its program is a script"));
         }
-        let text = text_of(*self, tool, words.as_slice(), names_reach(asked.tool, &asked.words))?;
-        let mut files = vec![program.to_owned()];
-        files.extend(libms(*self));
-        files.extend(if tool == CommandTool::Cicc { libraries(*self).map_err(unread)? } else { Vec::new() });
-        Ok(CacheKey { text, tool: files })
+        let names_reach = names_reach(asked.tool, &asked.words);
+        let facts = facts(*self, tool, names_reach, real)?;
+        let text = text_of(*self, tool, words.as_slice(), names_reach, &facts)?;
+        let mut files = ToolFiles::default();
+        files.add(copied(self.program())?)?;
+        files.add_libms(*self)?;
+        if tool == CommandTool::Cicc {
+            files.add_libraries(*self)?;
+        }
+        Ok(CacheKey { text, tool: files.0 })
     }
 }

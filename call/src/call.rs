@@ -1,5 +1,6 @@
 //! A call of nvcc: from its words to its plan.
 use crate::dry_runs::{DryRuns, Nvcc, Places, Ran};
+use crate::error::reason::Reason;
 use crate::error::{Error, Input};
 use crate::fitness::check_plan;
 use crate::memory::listed;
@@ -7,7 +8,6 @@ use crate::nvcc_line::{NvccCall, NvccLine, text_in};
 use crate::outline::{Outline, Run};
 use crate::plan::{Plan, PlanCall, plan};
 use crate::programs::{Disk, Programs};
-use crate::reason::Reason;
 use crate::variable::Variable;
 use std::ffi::OsStr;
 use std::io;
@@ -207,5 +207,18 @@ impl Call {
         dry_runs.check_pair(&self.tmp)?;
         let plan = self.plan_made(dry_runs, &self.planning(programs, limit))?;
         if dry_runs.are_of_line(&self.places())? { Ok(plan) } else { Err(Error::to_nvcc(Reason::ReadOtherwise).at(Input::Own)) }
+    }
+}
+
+#[cfg(test)]
+mod tests {
+    use super::*;
+
+    fn is_shared<T: Send + Sync>() {}
+
+    #[test]
+    fn threads_may_share_calls_and_plans() {
+        is_shared::<Call>();
+        is_shared::<Plan>();
     }
 }

@@ -1,10 +1,10 @@
 //! The dry runs of a call: how they are made, and what nvcc says in them.
+use crate::error::reason::Reason;
 use crate::error::{Error, Unfit};
 use crate::memory::{OutOfMemory, copied_bytes};
 use crate::outline::{Outline, Run};
 use crate::pairs::check_pair;
-use crate::reason::Reason;
-use dry_run_pairs::{Comparison, agree, fails_by_threads, remarks_in, runs_devices_first, with_commands, without_folder};
+use dry_run_pairs::{Comparison, agree, fails_by_threads, prints_to_files, remarks_in, runs_devices_first, with_commands, without_folder};
 use dry_runs::is_dry_run;
 use rattle_std::alloc::{AllocError, Global};
 use rattle_std::vec::Vec as List;
@@ -71,13 +71,6 @@ fn for_one_thread<N: Nvcc>(nvcc: &mut N, run: &Run, failed: Ran) -> Result<Vec<u
     }
     let again = printed(one(nvcc, &run.with(&["--threads", "1"]).map_err(Error::from)?)?)?;
     Ok(bytes(with_commands(Global, &failed.errors, &again)).map_err(Error::from)?)
-}
-
-/// Whether a dry run's commands run side by side: then each prints to files.
-fn prints_to_files(run: &[u8]) -> bool {
-    const BETWEEN: &[u8] = b"_stdout 2>";
-    let prints = |line: &[u8]| line.ends_with(b"_stderr") && line.windows(BETWEEN.len()).any(|part| part == BETWEEN);
-    run.split(|&byte| byte == b'\n').any(|line| line.starts_with(b"#$ ") && prints(line))
 }
 
 impl Places<'_> {

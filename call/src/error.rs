@@ -1,11 +1,13 @@
 //! Why a call has no answer.
+pub(crate) mod reason;
+
 use crate::memory::{OutOfMemory, copied};
-use crate::reason::Reason;
 use plan_texts::Refusal;
 use rattle_std::alloc::AllocError;
+use reason::Reason;
+use std::collections::TryReserveError;
 use std::fmt;
 use std::io;
-use std::sync::Arc;
 use texts::fault::Fault;
 
 /// The kinds of errors.
@@ -198,7 +200,28 @@ enum Cause {
     Nul,
     Unwritable(Refusal),
     Nvcc(Vec<u8>),
-    Io(&'static str, Arc<io::Error>),
+    Io(&'static str, IoError),
+}
+
+/// Why something can't be done. A copy has the system's number, or the kind if there is none: one that is shared would need memory.
+struct IoError(io::Error);
+
+impl fmt::Display for IoError {
+    /// What Rust's library says, but of rare errors the kind alone: the system's text needs memory.
+    fn fmt(&self, f: &mut fmt::Formatter<'_>) -> fmt::Result {
+        match self.0.kind() {
+            io::ErrorKind::NotFound => f.write_str("No such file or directory")?,
+            io::ErrorKind::PermissionDenied => f.write_str("Permission denied")?,
+            kind => write!(f, "{kind}")?,
+        }
+        self.0.raw_os_error().map_or(Ok(()), |number| write!(f, " (os error {number})"))
+    }
+}
+
+impl Clone for IoError {
+    fn clone(&self) -> IoError {
+        IoError(self.0.raw_os_error().map_or_else(|| self.0.kind().into(), io::Error::from_raw_os_error))
+    }
 }
 
 /// Why a call has no answer: its kind, a message for people, and the place if one input is at fault.
@@ -260,7 +283,10 @@ impl Error {
     /// Something can't be done, which the text names behind "cannot".
     #[must_use]
     pub fn io(deed: &'static str, error: io::Error) -> Error {
-        Error::of(Cause::Io(deed, Arc::new(error)))
+        match error.kind() {
+            io::ErrorKind::OutOfMemory => OutOfMemory.into(),
+            _ => Error::of(Cause::Io(deed, IoError(error))),
+        }
     }
 
     pub(crate) fn at(self, input: Input) -> Error {
@@ -436,7 +462,7 @@ impl std::error::Error for Error {
         match &self.cause {
             Cause::ToNvcc(reason) => Some(reason),
             Cause::Unwritable(refusal) => Some(refusal),
-            Cause::Io(_, error) => Some(&**error),
+            Cause::Io(_, error) => Some(&error.0),
             _ => None,
         }
     }
@@ -451,6 +477,12 @@ impl From<ErrorKind> for Error {
 impl From<OutOfMemory> for Error {
     fn from(_: OutOfMemory) -> Error {
         Error::plain(ErrorKind::OutOfMemory)
+    }
+}
+
+impl From<TryReserveError> for Error {
+    fn from(_: TryReserveError) -> Error {
+        OutOfMemory.into()
     }
 }
 

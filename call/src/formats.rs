@@ -69,6 +69,17 @@ impl Format {
     }
 }
 
+impl Plan {
+    /// The plan in a format. It ends in a newline.
+    ///
+    /// # Errors
+    ///
+    /// [`ErrorKind::Unwritable`](crate::ErrorKind) if the format can't represent the plan, `OutOfMemory`.
+    pub fn text(&self, format: Format) -> Result<String, Error> {
+        format.file(self)
+    }
+}
+
 #[cfg(test)]
 mod tests {
     use super::*;

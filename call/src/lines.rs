@@ -40,6 +40,11 @@ pub enum Tool {
     Nvcxx,
 }
 
+impl Tool {
+    /// All of them, by their numbers in other languages.
+    pub const ALL: [Tool; 6] = [Tool::Cicc, Tool::Ptxas, Tool::CudaFe, Tool::Nvcc, Tool::Nvc, Tool::Nvcxx];
+}
+
 /// A line of a tool.
 #[derive(Clone, Copy, Debug, PartialEq, Eq)]
 pub struct LineCall<'a, S> {

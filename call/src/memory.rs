@@ -36,7 +36,11 @@ impl<T> From<AllocFailed<T>> for OutOfMemory {
 }
 
 /// A copy of a text.
-pub(crate) fn copied(text: &str) -> Result<String, OutOfMemory> {
+///
+/// # Errors
+///
+/// [`OutOfMemory`].
+pub fn copied(text: &str) -> Result<String, OutOfMemory> {
     let mut copy = String::new();
     copy.try_reserve_exact(text.len())?;
     copy.push_str(text);
@@ -51,7 +55,11 @@ pub(crate) fn push(text: &mut String, more: &str) -> Result<(), OutOfMemory> {
 }
 
 /// A copy of bytes.
-pub(crate) fn copied_bytes(bytes: &[u8]) -> Result<Vec<u8>, OutOfMemory> {
+///
+/// # Errors
+///
+/// [`OutOfMemory`].
+pub fn copied_bytes(bytes: &[u8]) -> Result<Vec<u8>, OutOfMemory> {
     let mut copy = Vec::new();
     copy.try_reserve_exact(bytes.len())?;
     copy.extend_from_slice(bytes);
@@ -94,8 +102,13 @@ pub fn displayed(value: &impl Display) -> Result<String, OutOfMemory> {
 }
 
 /// A list of what an iterator gives.
-pub(crate) fn listed<T, E: From<OutOfMemory>>(items: impl Iterator<Item = Result<T, E>>) -> Result<Vec<T>, E> {
+///
+/// # Errors
+///
+/// The first that the iterator gives, or [`OutOfMemory`].
+pub fn listed<T, E: From<OutOfMemory>>(items: impl Iterator<Item = Result<T, E>>) -> Result<Vec<T>, E> {
     let mut list = Vec::new();
+    list.try_reserve(items.size_hint().0).map_err(OutOfMemory::from)?;
     for item in items {
         list.try_reserve(1).map_err(OutOfMemory::from)?;
         list.push(item?);

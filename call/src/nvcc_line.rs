@@ -3,6 +3,7 @@ use crate::error::{Error, ErrorKind, Input};
 use crate::memory::{OutOfMemory, copied, copied_pairs, listed, pairs, strings, texts};
 use crate::outline::{Outline, Run};
 use crate::variable::Variable;
+use canonical_names::is_plain;
 use compilers::command::SingleCompileCommand;
 use compilers::{DirectoryCall, NvccCall as ProvedCall};
 use nvcc_calls::{Answer, directory_name, file_names, read_call};
@@ -67,6 +68,12 @@ pub struct NvccLine {
 /// A copy of a text of the caller.
 pub(crate) fn text_in(text: &OsStr, input: Input) -> Result<String, Error> {
     Ok(copied(text.to_str().ok_or_else(|| Error::plain(ErrorKind::NotUtf8).at(input))?)?)
+}
+
+/// Refuses a directory that isn't absolute and plain. Two commands are taken to use one file if its paths are the same text, so a plan for a
+/// directory that has several texts would lack needs.
+pub(crate) fn plain(path: &str, input: Input) -> Result<(), Error> {
+    if is_plain(path) { Ok(()) } else { Err(Error::odd_directory(input)) }
 }
 
 /// Copies of variables of the caller.

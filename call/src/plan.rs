@@ -1,14 +1,13 @@
 //! Plans: the commands that one nvcc call runs, in groups, with the files of each and what it waits for.
 use crate::error::{Error, Input, Unfit};
-use crate::formats::Format;
 use crate::lines::Tool;
 use crate::memory::{OutOfMemory, copied, joined, listed, pairs, texts};
-use crate::nvcc_line::text_in;
+use crate::nvcc_line::{plain, text_in};
 use crate::programs::{Programs, Proved, within};
 use crate::variable::Variable;
 use crate::words::TextsIter;
 use ::texts::fault::Fault;
-use canonical_names::{Suffixes, all_suffixes, is_plain};
+use canonical_names::{Suffixes, all_suffixes};
 use command_files::{CommandFiles, FilesAndNeeds, files_and_needs, preprocesses};
 use command_groups::{CallToPlan, plan_with_origins, plan_with_origins_within};
 use compilers::command::Cacheable;
@@ -53,6 +52,11 @@ pub enum HostCompiler {
     Msvc,
     /// nvc and nvc++.
     Nvhpc,
+}
+
+impl HostCompiler {
+    /// All of them, by their numbers in other languages.
+    pub const ALL: [HostCompiler; 3] = [HostCompiler::Gcc, HostCompiler::Msvc, HostCompiler::Nvhpc];
 }
 
 /// Two dry runs to plan.
@@ -108,12 +112,6 @@ impl<'a> PlanCall<'a> {
             limit: None,
         }
     }
-}
-
-/// Refuses a directory that isn't absolute and plain. Two commands are taken to use one file if its paths are the same text, so a plan for a
-/// directory that has several texts would lack needs.
-pub(crate) fn plain(path: &str, input: Input) -> Result<(), Error> {
-    if is_plain(path) { Ok(()) } else { Err(Error::odd_directory(input)) }
 }
 
 /// Refuses texts that can't be dry runs. One text can be both: nvcc generates no file for a C or C++ source, so it prints the same twice.
@@ -210,7 +208,7 @@ pub enum DropReason {
     Superseded,
 }
 
-/// The tool that a command runs.
+/// The tool that a command runs. In other languages the three that lines are of, too, have the numbers of [`Tool`].
 #[derive(Clone, Copy, Debug, PartialEq, Eq, Hash)]
 #[non_exhaustive]
 pub enum CommandTool {
@@ -221,7 +219,7 @@ pub enum CommandTool {
     /// cudafe++, the front end for host code.
     CudaFe,
     /// fatbinary, which packs device code.
-    Fatbinary,
+    Fatbinary = Tool::Nvcxx as isize + 1,
     /// nvlink, which links device code.
     NvLink,
     /// A host compiler, or any other program.
@@ -229,6 +227,10 @@ pub enum CommandTool {
 }
 
 impl CommandTool {
+    /// All of them, by their numbers in other languages.
+    pub const ALL: [CommandTool; 6] =
+        [CommandTool::Cicc, CommandTool::Ptxas, CommandTool::CudaFe, CommandTool::Fatbinary, CommandTool::NvLink, CommandTool::Host];
+
     fn of(program: Program) -> Self {
         match program {
             Program::Cicc => CommandTool::Cicc,
@@ -275,12 +277,19 @@ pub enum Missing {
     Inputs,
 }
 
+/// Where a command of a group is: the group, and its number in that. Also the tool that it runs, which is asked for again and again.
+struct Place {
+    group: usize,
+    number: usize,
+    tool: CommandTool,
+}
+
 /// What one nvcc call runs: groups of commands, and the commands that were dropped.
 pub struct Plan {
     planned: PlanWithOrigins,
     facts: FilesAndNeeds,
-    /// Where each command is: its group, and its place in that.
-    places: Vec<(usize, usize)>,
+    /// Where each command is.
+    places: Vec<Place>,
     cwd: String,
     tmp: String,
     flag: String,
@@ -292,7 +301,8 @@ impl Plan {
         let mut places = Vec::new();
         for (group, commands) in planned.plan.groups.as_slice().iter().enumerate() {
             places.try_reserve(commands.len()).map_err(OutOfMemory::from)?;
-            places.extend((0..commands.len()).map(|place| (group, place)));
+            let tools = commands.as_slice().iter().map(|command| CommandTool::of(Program::at(command.exe.as_str())));
+            places.extend(tools.enumerate().map(|(number, tool)| Place { group, number, tool }));
         }
         if places.is_empty() {
             return Err(Error::no_dry_run(Unfit::NoCommand));
@@ -325,15 +335,6 @@ impl Plan {
     pub fn dropped(&self) -> Commands<'_> {
         let first = self.places.len();
         Commands { numbers: first..first + self.planned.plan.dropped.as_slice().len(), plan: self }
-    }
-
-    /// The plan in a format. It ends in a newline.
-    ///
-    /// # Errors
-    ///
-    /// [`ErrorKind::Unwritable`](crate::ErrorKind) if the format can't represent the plan, `OutOfMemory`.
-    pub fn text(&self, format: Format) -> Result<String, Error> {
-        format.file(self)
     }
 
     /// The files of its commands, in plan order.
@@ -412,8 +413,8 @@ impl<'a> Group<'a> {
     #[must_use]
     pub fn commands(&self) -> Commands<'a> {
         let places = &self.plan.places;
-        let from = places.partition_point(|(group, _)| *group < self.number);
-        let to = places.partition_point(|(group, _)| *group <= self.number);
+        let from = places.partition_point(|it| it.group < self.number);
+        let to = places.partition_point(|it| it.group <= self.number);
         Commands { numbers: from..to, plan: self.plan }
     }
 }
@@ -461,7 +462,7 @@ impl<'a> Command<'a> {
     fn of(number: usize, plan: &'a Plan) -> Self {
         let all = &plan.planned.plan;
         let item = match plan.places.get(number) {
-            Some(&(group, place)) => Item::Listed(&all.groups.as_slice()[group].as_slice()[place]),
+            Some(at) => Item::Listed(&all.groups.as_slice()[at.group].as_slice()[at.number]),
             None => Item::Dropped(&all.dropped.as_slice()[number - plan.places.len()]),
         };
         Command { number, item, plan }
@@ -522,7 +523,7 @@ impl<'a> Command<'a> {
     /// The tool that it runs, or `None` if it was dropped.
     #[must_use]
     pub fn tool(&self) -> Option<CommandTool> {
-        self.proved().map(|command| CommandTool::of(Program::at(command.exe.as_str())))
+        self.plan.places.get(self.number).map(|at| at.tool)
     }
 
     /// Which files it touches that aren't among these, or `None` if they are all (or if it was dropped). Among them may be files that
@@ -579,34 +580,41 @@ impl<'a> Command<'a> {
     ///
     /// [`OutOfMemory`].
     pub fn targets(&self) -> Result<Vec<String>, OutOfMemory> {
-        let mut targets = Vec::new();
-        if !self.preprocesses() {
-            self.push_own_targets(&mut targets)?;
-            return Ok(targets);
-        }
-        let reads = |it: &Command<'_>| it.tool() == Some(CommandTool::Cicc) && it.reads().any(|path| self.writes().any(|own| own == path));
-        for reader in self.plan.commands().filter(reads) {
-            reader.push_own_targets(&mut targets)?;
-        }
-        Ok(targets)
+        listed(self.targets_in_parts()?.iter().map(|parts| joined(parts)))
     }
 
-    /// Adds the targets that its own words name.
-    fn push_own_targets(&self, targets: &mut Vec<String>) -> Result<(), OutOfMemory> {
-        let mut push = |parts: &[&str]| {
-            targets.try_reserve(1)?;
-            targets.push(joined(parts)?);
-            Ok(())
-        };
-        match self.tool() {
-            Some(CommandTool::Fatbinary) => self.arguments().filter_map(image_target).try_for_each(|target| push(&target)),
-            Some(CommandTool::Cicc | CommandTool::Ptxas) => {
-                let pairs = self.arguments().zip(self.arguments().skip(1).chain([""]));
-                let named = pairs.filter_map(|(word, next)| if word == "-arch" { Some(next) } else { word.strip_prefix("-arch=") });
-                named.last().map_or(Ok(()), |target| push(&[target]))
-            }
-            _ => Ok(()),
+    /// The same, each in parts that stand one behind the other.
+    #[doc(hidden)]
+    pub fn targets_in_parts(&self) -> Result<Vec<[&'a str; 3]>, OutOfMemory> {
+        if !self.preprocesses() {
+            return self.own_targets();
         }
+        let reads = |it: &Command<'_>| it.tool() == Some(CommandTool::Cicc) && it.reads().any(|path| self.writes().any(|own| own == path));
+        listed(self.plan.commands().filter(reads).filter_map(|reader| reader.architecture()).map(|name| Ok([name, "", ""])))
+    }
+
+    /// The targets that its own words name.
+    fn own_targets(&self) -> Result<Vec<[&'a str; 3]>, OutOfMemory> {
+        match self.tool() {
+            Some(CommandTool::Fatbinary) => listed(self.arguments().filter_map(image_target).map(Ok)),
+            Some(CommandTool::Cicc | CommandTool::Ptxas) => listed(self.architecture().into_iter().map(|name| Ok([name, "", ""]))),
+            _ => Ok(Vec::new()),
+        }
+    }
+
+    /// What the last `-arch` of its words names.
+    fn architecture(&self) -> Option<&'a str> {
+        let mut next = "";
+        for word in self.words_after().iter().rev().map(Text::as_str) {
+            if word == "-arch" {
+                return Some(next);
+            }
+            if let Some(name) = word.strip_prefix("-arch=") {
+                return Some(name);
+            }
+            next = word;
+        }
+        None
     }
 
     /// The environment: names and values. A name may occur twice: the last one counts. None if the command was dropped.
@@ -624,7 +632,7 @@ impl<'a> Command<'a> {
     /// The number of its group, from 0, or `None` if it was dropped.
     #[must_use]
     pub fn group(&self) -> Option<usize> {
-        self.plan.places.get(self.number).map(|(group, _)| *group)
+        self.plan.places.get(self.number).map(|at| at.group)
     }
 
     /// Why it was dropped, or `None` if it is in a group.

@@ -1,8 +1,7 @@
 //! Look-ups of the programs that dry runs name.
 use crate::error::{BadLine, Error, Input};
 use crate::memory::{OutOfMemory, copied, listed, text};
-use crate::nvcc_line::text_in;
-use crate::plan::plain;
+use crate::nvcc_line::{plain, text_in};
 use crate::words::Texts;
 use dry_runs::{LimitedFault, ParsedRuns, Which, lookups_of_runs, parse_dry_runs, parse_within};
 use rattle_std::alloc::{AllocError, Global};
@@ -77,10 +76,21 @@ impl<P: Programs + ?Sized> Programs for &P {
     }
 }
 
+/// A row of a table of programs: a program, the value of `PATH`, and the path that it has, if it is there.
+pub type ProgramRow<'a> = (&'a str, &'a str, Option<&'a str>);
+
+/// What a table says of a look-up: the path in its first row.
+///
+/// # Errors
+///
+/// [`OutOfMemory`].
+pub fn found_in<'a>(mut rows: impl Iterator<Item = ProgramRow<'a>>, program: &str, path: &str) -> Result<Option<String>, OutOfMemory> {
+    rows.find(|row| (row.0, row.1) == (program, path)).and_then(|row| row.2).map(copied).transpose()
+}
+
 impl Programs for [FoundProgram] {
     fn find(&self, program: &str, path: &str, _: &str) -> Result<Option<String>, OutOfMemory> {
-        let row = self.iter().find(|row| row.lookup.program == program && row.lookup.path == path);
-        row.and_then(|row| row.found.as_deref()).map(copied).transpose()
+        found_in(self.iter().map(|row| (row.lookup.program.as_str(), row.lookup.path.as_str(), row.found.as_deref())), program, path)
     }
 }
 

@@ -13,11 +13,16 @@ fn named(rest: &[u8]) -> Option<&[u8]> {
 }
 
 /// The files that PTX names, wherever the directives stand: code in a source may have some, too. Of each, ptxas writes the size, and when it was
-/// changed. `None` if one may be named in a way that isn't known here.
+/// changed. `None` for one that may be named in a way that isn't known here.
+pub fn names_in_ptx(ptx: &[u8]) -> impl Iterator<Item = Option<&[u8]>> {
+    let directives = ptx.windows(FILE.len()).enumerate().filter(|(_, word)| *word == FILE);
+    directives.map(|(place, _)| named(&ptx[place + FILE.len()..]))
+}
+
+/// The same as a list. `None` if one may be named in a way that isn't known here.
 #[must_use]
 pub fn files_of_ptx(ptx: &[u8]) -> Option<Vec<&[u8]>> {
-    let directives = ptx.windows(FILE.len()).enumerate().filter(|(_, word)| *word == FILE);
-    directives.map(|(place, _)| named(&ptx[place + FILE.len()..])).collect()
+    names_in_ptx(ptx).collect()
 }
 
 #[cfg(test)]

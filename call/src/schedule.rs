@@ -1,6 +1,7 @@
 //! Schedules: which command of a plan may start next, what a failure means, and which outputs may be printed.
 //!
 //! A [`Schedule`] starts no process. You say what happened, and it says what to do next.
+use crate::error::{Error, ErrorKind};
 use crate::memory::OutOfMemory;
 use crate::plan::{Command, CommandTool, Plan};
 use rattle_std::alloc::{AllocError, Global};
@@ -21,6 +22,11 @@ pub enum AfterFailure {
     GoOn,
 }
 
+impl AfterFailure {
+    /// All of them, by their numbers in other languages.
+    pub const ALL: [AfterFailure; 3] = [AfterFailure::StartNothing, AfterFailure::StartEarlier, AfterFailure::GoOn];
+}
+
 /// How a command ended.
 #[derive(Debug, Clone, Copy, PartialEq, Eq, Hash)]
 pub enum Outcome {
@@ -30,6 +36,11 @@ pub enum Outcome {
     Failure,
     /// You ended it. It holds others back as a failure does, but its output isn't printed.
     Cancelled,
+}
+
+impl Outcome {
+    /// All of them, by their numbers in other languages.
+    pub const ALL: [Outcome; 3] = [Outcome::Success, Outcome::Failure, Outcome::Cancelled];
 }
 
 /// What has become of a command.
@@ -124,6 +135,15 @@ impl fmt::Display for BadGraph {
 }
 
 impl std::error::Error for BadGraph {}
+
+impl From<BadGraph> for Error {
+    fn from(bad: BadGraph) -> Error {
+        match bad {
+            BadGraph::OutOfMemory => ErrorKind::OutOfMemory.into(),
+            BadGraph::NoSlot | BadGraph::NeedsLater { .. } => ErrorKind::BadNumber.into(),
+        }
+    }
+}
 
 /// A command of a schedule.
 #[derive(Debug, Clone, Default, PartialEq, Eq)]

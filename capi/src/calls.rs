@@ -1,11 +1,9 @@
 //! Calls of nvcc.
-use crate::given::{elements, zigrunk_text, zigrunk_texts, Environment};
-use crate::made::{answer, give, not_yet, zigrunk_error, zigrunk_made, Made, Refusal, Room};
-use crate::plans::{made_plan, zigrunk_found_program, zigrunk_plan, Programs};
-use call::{Call, DryRuns, NvccCall, Run};
-use std::collections::TryReserveError;
+use crate::given::{collected, copies, zigrunk_text, zigrunk_texts, Environment};
+use crate::made::{answer, freed, give, zigrunk_error, zigrunk_made, Room};
+use crate::plans::{made_plan, zigrunk_found_program, zigrunk_plan, Table};
+use call::{copied_bytes, Call, DryRuns, Error, NvccCall, Run};
 use std::num::NonZeroUsize;
-use std::path::Path;
 use std::ptr;
 
 /// A call of nvcc.
@@ -85,26 +83,7 @@ pub struct zigrunk_call {
     others: Vec<Vec<u8>>,
 }
 
-impl Made for zigrunk_call {
-    fn made(&mut self) -> &mut zigrunk_made {
-        &mut self.made
-    }
-}
-
-/// Copies of bytes.
-pub fn copies(texts: &[&[u8]]) -> Result<Vec<Vec<u8>>, TryReserveError> {
-    let mut all = Vec::new();
-    all.try_reserve_exact(texts.len())?;
-    for text in texts {
-        let mut copy = Vec::new();
-        copy.try_reserve_exact(text.len())?;
-        copy.extend_from_slice(text);
-        all.push(copy);
-    }
-    Ok(all)
-}
-
-fn run_of(room: &mut Room, run: Option<&Run>, others: &[Vec<u8>]) -> Result<zigrunk_run, TryReserveError> {
+fn run_of(room: &mut Room, run: Option<&Run>, others: &[Vec<u8>]) -> Result<zigrunk_run, Error> {
     let (words, variables) = run.map_or((&[][..], &[][..]), |run| (run.words(), run.environment()));
     let variables = variables.iter().map(|(name, value)| (name.as_str(), value.as_str()));
     Ok(zigrunk_run {
@@ -114,10 +93,9 @@ fn run_of(room: &mut Room, run: Option<&Run>, others: &[Vec<u8>]) -> Result<zigr
     })
 }
 
-fn outline_of(room: &mut Room, call: &Call, others: &[Vec<u8>]) -> Result<zigrunk_outline, TryReserveError> {
+fn outline_of(room: &mut Room, call: &Call, others: &[Vec<u8>]) -> Result<zigrunk_outline, Error> {
     let [own, first, second] = call.dry_runs();
-    let mut outputs = [""; 2];
-    let count = outputs.iter_mut().zip(call.outputs()).map(|(place, path)| *place = path).count();
+    let outputs = collected(call.outputs())?;
     Ok(zigrunk_outline {
         own_dry_run: run_of(room, Some(own), others)?,
         first_dry_run: run_of(room, Some(first), others)?,
@@ -126,7 +104,7 @@ fn outline_of(room: &mut Room, call: &Call, others: &[Vec<u8>]) -> Result<zigrun
         flag: room.text(call.flag())?,
         keep_dir: room.optional(call.keep_dir())?,
         input: room.text(call.input())?,
-        outputs: room.texts(outputs[..count].iter().copied())?,
+        outputs: room.texts(outputs.iter().copied())?,
         jobs: call.jobs().unwrap_or(0),
     })
 }
@@ -134,15 +112,15 @@ fn outline_of(room: &mut Room, call: &Call, others: &[Vec<u8>]) -> Result<zigrun
 /// # Safety
 ///
 /// What a caller ensures.
-unsafe fn read(given: &zigrunk_nvcc_call) -> Result<*mut zigrunk_call, Refusal> {
+unsafe fn read(given: &zigrunk_nvcc_call) -> Result<*mut zigrunk_call, Error> {
     // SAFETY: the caller ensures it.
-    let (words, environment) = unsafe { (given.words.listed()?, Environment::of(&given.environment.listed()?)?) };
+    let (words, environment) = unsafe { (given.words.listed()?, Environment::of(&given.environment)?) };
     // SAFETY: the caller ensures it.
-    let (nvcc, cwd, tmp) = unsafe { (given.nvcc.os(), Path::new(given.cwd.os()), Path::new(given.tmp.os())) };
+    let (nvcc, cwd, tmp) = unsafe { (given.nvcc.os(), given.cwd.path(), given.tmp.path()) };
     let call = Call::new(&NvccCall { nvcc, words: &words, variables: &environment.variables, cwd, tmp })?;
     let (mut room, others) = (Room::default(), copies(&environment.others)?);
     let outline = outline_of(&mut room, &call, &others)?;
-    Ok(give(zigrunk_call { made: not_yet(), outline, call, others }, room)?)
+    give(zigrunk_call { made: freed::<zigrunk_call>(), outline, call, others }, room)
 }
 
 /// Reads the line of a call. `ZIGRUNK_TO_NVCC` if nvcc has to make the call itself: the message has the reason.
@@ -150,7 +128,7 @@ unsafe fn read(given: &zigrunk_nvcc_call) -> Result<*mut zigrunk_call, Refusal> 
 #[must_use]
 pub unsafe extern "C" fn zigrunk_call_of(given: *const zigrunk_nvcc_call, made: *mut *mut zigrunk_call, error: *mut *mut zigrunk_error) -> i32 {
     // SAFETY: the caller ensures it.
-    unsafe { answer(read(&*given), made, error) }
+    unsafe { answer(made, error, || read(&*given)) }
 }
 
 /// What the line of a call says. It is freed with the call.
@@ -165,23 +143,19 @@ pub unsafe extern "C" fn zigrunk_call_outline(call: *const zigrunk_call) -> *con
 #[must_use]
 pub unsafe extern "C" fn zigrunk_call_plan(call: *const zigrunk_call, made: *mut *mut zigrunk_plan, error: *mut *mut zigrunk_error) -> i32 {
     // SAFETY: the caller ensures it.
-    let call = unsafe { &*call };
-    let plan = call.call.plan().map_err(Refusal::from).and_then(|plan| made_plan(plan, &call.others));
-    // SAFETY: the caller ensures it.
-    unsafe { answer(plan, made, error) }
+    unsafe { answer(made, error, || made_plan((*call).call.plan()?, &(*call).others)) }
 }
 
 /// # Safety
 ///
 /// What a caller ensures.
-unsafe fn plan_given(call: &zigrunk_call, given: &zigrunk_dry_runs) -> Result<*mut zigrunk_plan, Refusal> {
+unsafe fn plan_given(call: &zigrunk_call, given: &zigrunk_dry_runs) -> Result<*mut zigrunk_plan, Error> {
     // SAFETY: the caller ensures it.
-    let texts = unsafe { [given.own.bytes(), given.first.bytes(), given.second.bytes()] };
-    let [own, first, second]: [Vec<u8>; 3] = copies(&texts)?.try_into().unwrap_or_default();
+    let (own, first, second) = unsafe { (given.own.bytes(), given.first.bytes(), given.second.bytes()) };
+    let runs = DryRuns::new(copied_bytes(own)?, copied_bytes(first)?, copied_bytes(second)?);
     // SAFETY: the caller ensures it.
-    let programs = unsafe { Programs::of(given.programs, given.programs_count)? };
-    let plan = call.call.plan_of(&DryRuns::new(own, first, second), &programs, NonZeroUsize::new(given.limit))?;
-    made_plan(plan, &call.others)
+    let table = unsafe { Table::of(given.programs, given.programs_count)? };
+    made_plan(call.call.plan_of(&runs, &table, NonZeroUsize::new(given.limit))?, &call.others)
 }
 
 /// Plans what the dry runs of a call printed, here or elsewhere. `ZIGRUNK_NO_DRY_RUN`, and the input that is at fault, if the texts aren't
@@ -195,15 +169,5 @@ pub unsafe extern "C" fn zigrunk_call_plan_of(
     error: *mut *mut zigrunk_error,
 ) -> i32 {
     // SAFETY: the caller ensures it.
-    unsafe { answer(plan_given(&*call, &*given), made, error) }
-}
-
-/// The programs of a caller's table.
-///
-/// # Safety
-///
-/// The pointer is NULL or valid for so many elements.
-pub unsafe fn table<'a>(programs: *const zigrunk_found_program, count: usize) -> Option<&'a [zigrunk_found_program]> {
-    // SAFETY: the caller ensures it.
-    (!programs.is_null()).then(|| unsafe { elements(programs, count) })
+    unsafe { answer(made, error, || plan_given(&*call, &*given)) }
 }

@@ -1,8 +1,8 @@
 //! What callers pass: texts, lists of them, and numbers.
-use call::Variable;
-use std::collections::TryReserveError;
+use call::{copied_bytes, listed, Error, ErrorKind, Variable};
 use std::ffi::{c_char, CStr, OsStr};
 use std::os::unix::ffi::OsStrExt;
+use std::path::Path;
 use std::slice;
 
 /// As a length: up to a NUL. As the number of texts: up to a NULL. As a command: none. (cbindgen can't write it: see cbindgen.toml.)
@@ -35,7 +35,7 @@ pub struct zigrunk_texts {
 /// # Safety
 ///
 /// The pointer is valid for so many elements.
-pub unsafe fn elements<'a, T>(items: *const T, count: usize) -> &'a [T] {
+pub(crate) unsafe fn elements<'a, T>(items: *const T, count: usize) -> &'a [T] {
     if items.is_null() {
         return &[];
     }
@@ -43,28 +43,19 @@ pub unsafe fn elements<'a, T>(items: *const T, count: usize) -> &'a [T] {
     unsafe { slice::from_raw_parts(items, count) }
 }
 
-impl zigrunk_text {
-    /// Its bytes.
-    ///
-    /// # Safety
-    ///
-    /// The pointer is valid for the length, or up to a NUL.
-    #[must_use]
-    pub unsafe fn bytes<'a>(&self) -> &'a [u8] {
-        // SAFETY: the caller ensures it.
-        unsafe { bytes_of(self.bytes, self.length) }
-    }
+/// A list of what an iterator gives.
+pub(crate) fn collected<T>(items: impl Iterator<Item = T>) -> Result<Vec<T>, Error> {
+    listed(items.map(Ok))
+}
 
-    /// Its bytes as a text of the system.
-    ///
-    /// # Safety
-    ///
-    /// As for `bytes`.
-    #[must_use]
-    pub unsafe fn os<'a>(&self) -> &'a OsStr {
-        // SAFETY: the caller ensures it.
-        OsStr::from_bytes(unsafe { self.bytes() })
-    }
+/// The value that a number of a caller's means, of all that there are.
+pub(crate) fn meant<T: Copy>(all: &[T], number: u32, number_of: impl Fn(T) -> u32) -> Result<T, Error> {
+    all.iter().copied().find(|one| number_of(*one) == number).ok_or_else(|| ErrorKind::BadNumber.into())
+}
+
+/// A text that has to be UTF-8.
+fn utf8(text: &OsStr) -> Result<&str, Error> {
+    text.to_str().ok_or_else(|| ErrorKind::NotUtf8.into())
 }
 
 /// # Safety
@@ -79,76 +70,88 @@ unsafe fn bytes_of<'a>(text: *const c_char, length: usize) -> &'a [u8] {
     unsafe { elements(text.cast(), length) }
 }
 
+/// Of all of these the caller ensures that the pointer is valid for the length, or up to a NUL.
+impl zigrunk_text {
+    pub(crate) unsafe fn bytes<'a>(&self) -> &'a [u8] {
+        // SAFETY: the caller ensures it.
+        unsafe { bytes_of(self.bytes, self.length) }
+    }
+
+    pub(crate) unsafe fn os<'a>(&self) -> &'a OsStr {
+        // SAFETY: the caller ensures it.
+        OsStr::from_bytes(unsafe { self.bytes() })
+    }
+
+    pub(crate) unsafe fn path<'a>(&self) -> &'a Path {
+        // SAFETY: the caller ensures it.
+        Path::new(unsafe { self.os() })
+    }
+
+    pub(crate) unsafe fn utf8<'a>(&self) -> Result<&'a str, Error> {
+        // SAFETY: the caller ensures it.
+        utf8(unsafe { self.os() })
+    }
+}
+
+/// Of all of these the caller ensures that the pointers are valid for their numbers and lengths.
 impl zigrunk_texts {
-    fn count(&self) -> usize {
+    unsafe fn count(&self) -> usize {
         if self.items.is_null() || self.count != ZIGRUNK_ALL {
             return if self.items.is_null() { 0 } else { self.count };
         }
-        let mut count = 0;
-        // SAFETY: the caller of `listed` ensures that a NULL ends the list.
-        while !unsafe { *self.items.add(count) }.is_null() {
-            count += 1;
-        }
-        count
+        // SAFETY: the caller ensures that a NULL ends the list.
+        (0..usize::MAX).take_while(|&number| !unsafe { *self.items.add(number) }.is_null()).count()
     }
 
-    /// Its texts.
-    ///
-    /// # Errors
-    ///
-    /// An allocation that failed.
-    ///
-    /// # Safety
-    ///
-    /// The pointers are valid for their numbers and lengths.
-    pub unsafe fn listed<'a>(&self) -> Result<Vec<&'a OsStr>, TryReserveError> {
-        let count = self.count();
+    pub(crate) unsafe fn listed<'a>(&self) -> Result<Vec<&'a OsStr>, Error> {
         // SAFETY: the caller ensures it.
-        let (items, lengths) = unsafe { (elements(self.items, count), elements(self.lengths, count)) };
-        let mut list = Vec::new();
-        list.try_reserve_exact(count)?;
-        for (number, item) in items.iter().enumerate() {
+        let (items, lengths) = unsafe { (elements(self.items, self.count()), elements(self.lengths, self.count())) };
+        collected(items.iter().enumerate().map(|(number, &item)| {
             let length = lengths.get(number).copied().unwrap_or(ZIGRUNK_ALL);
             // SAFETY: as above; a text that is NULL is empty.
-            let bytes = if item.is_null() { &[] } else { unsafe { bytes_of(*item, length) } };
-            list.push(OsStr::from_bytes(bytes));
-        }
-        Ok(list)
+            OsStr::from_bytes(if item.is_null() { &[] } else { unsafe { bytes_of(item, length) } })
+        }))
     }
+
+    pub(crate) unsafe fn utf8<'a>(&self) -> Result<Vec<&'a str>, Error> {
+        // SAFETY: the caller ensures it.
+        listed(unsafe { self.listed()? }.into_iter().map(utf8))
+    }
+
+    /// The variables of a list of `NAME=VALUE`, whatever their bytes. What has no `=` behind a first byte is no variable.
+    pub(crate) unsafe fn variables<'a>(&self) -> Result<Vec<Variable<'a>>, Error> {
+        // SAFETY: the caller ensures it.
+        collected(unsafe { self.listed()? }.into_iter().filter_map(variable_of))
+    }
+}
+
+fn variable_of(text: &OsStr) -> Option<Variable<'_>> {
+    let text = text.as_bytes();
+    let equals = text.iter().skip(1).position(|byte| *byte == b'=')? + 1;
+    Some(Variable::new(OsStr::from_bytes(&text[..equals]), OsStr::from_bytes(&text[equals + 1..])))
 }
 
 /// An environment: its variables that are UTF-8, and the others as they are, which commands get too.
-pub struct Environment<'a> {
-    pub variables: Vec<Variable<'a>>,
-    pub others: Vec<&'a [u8]>,
+pub(crate) struct Environment<'a> {
+    pub(crate) variables: Vec<Variable<'a>>,
+    pub(crate) others: Vec<&'a [u8]>,
 }
 
 impl<'a> Environment<'a> {
-    /// That of a list of `NAME=VALUE`. What has no `=` behind a first byte is no variable.
-    pub fn of(texts: &[&'a OsStr]) -> Result<Environment<'a>, TryReserveError> {
-        let mut all = Environment { variables: Vec::new(), others: Vec::new() };
-        all.variables.try_reserve_exact(texts.len())?;
-        for text in texts {
-            if text.to_str().is_none() {
-                all.others.try_reserve(1)?;
-                all.others.push(text.as_bytes());
-            } else if let Some((name, value)) = pair_of(text.as_bytes()) {
-                all.variables.push(Variable::new(name, value));
-            }
-        }
-        Ok(all)
-    }
-
-    /// Each variable, whatever its bytes.
-    pub fn all(texts: &[&'a OsStr]) -> Result<Vec<Variable<'a>>, TryReserveError> {
-        let mut all = Vec::new();
-        all.try_reserve_exact(texts.len())?;
-        all.extend(texts.iter().filter_map(|text| pair_of(text.as_bytes())).map(|(name, value)| Variable::new(name, value)));
-        Ok(all)
+    /// # Safety
+    ///
+    /// The pointers are valid for their numbers and lengths.
+    pub(crate) unsafe fn of(texts: &zigrunk_texts) -> Result<Environment<'a>, Error> {
+        // SAFETY: the caller ensures it.
+        let texts: Vec<&'a OsStr> = unsafe { texts.listed()? };
+        let is_text = |text: &&&OsStr| text.to_str().is_some();
+        let variables = collected(texts.iter().filter(is_text).filter_map(|text| variable_of(text)))?;
+        let others = collected(texts.iter().filter(|text| !is_text(text)).map(|text| text.as_bytes()))?;
+        Ok(Environment { variables, others })
     }
 }
 
-fn pair_of(text: &[u8]) -> Option<(&OsStr, &OsStr)> {
-    let equals = text.iter().skip(1).position(|byte| *byte == b'=')? + 1;
-    Some((OsStr::from_bytes(&text[..equals]), OsStr::from_bytes(&text[equals + 1..])))
+/// Copies of bytes.
+pub(crate) fn copies(texts: &[&[u8]]) -> Result<Vec<Vec<u8>>, Error> {
+    listed(texts.iter().map(|text| Ok(copied_bytes(text)?)))
 }

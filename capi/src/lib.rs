@@ -3,27 +3,20 @@
 //!
 //! Nothing here panics, and what grows with the input reports a refused allocation.
 
-mod calls;
-mod given;
-mod lines;
-mod made;
-mod plans;
-mod schedules;
-mod texts;
-
-pub use calls::{zigrunk_call, zigrunk_dry_runs, zigrunk_nvcc_call, zigrunk_outline, zigrunk_run};
-pub use given::{zigrunk_text, zigrunk_texts, ZIGRUNK_ALL};
-pub use lines::{zigrunk_key_call, zigrunk_line, zigrunk_line_call};
-pub use made::{zigrunk_answer, zigrunk_error, zigrunk_made};
-pub use plans::{zigrunk_command, zigrunk_commands, zigrunk_found_program, zigrunk_plan, zigrunk_plan_call};
-pub use schedules::{zigrunk_progress, zigrunk_schedule, zigrunk_schedule_call, zigrunk_scheduled_command};
+pub mod calls;
+pub mod given;
+pub mod lines;
+pub mod made;
+pub mod plans;
+pub mod schedules;
+pub mod texts;
 
 use std::ffi::c_char;
 
 /// What `zigrunk_abi_version` says.
 pub const ZIGRUNK_ABI_VERSION: u32 = 2;
 
-/// The function has made what it is asked for.
+/// The function succeeded.
 pub const ZIGRUNK_OK: i32 = 0;
 /// An allocation failed.
 pub const ZIGRUNK_OUT_OF_MEMORY: i32 = 1;
@@ -91,7 +84,9 @@ pub extern "C" fn zigrunk_version() -> *const c_char {
 
 #[cfg(test)]
 mod tests {
-    use call::{ErrorKind, Input};
+    use crate::{lines as of_lines, plans as of_plans, schedules as of_schedules};
+    use call::schedule::{AfterFailure, Outcome, PlanStatus};
+    use call::{ColorMode, CommandTool, DropReason, ErrorKind, HostCompiler, Input, Language, Missing, Stage, Tool};
 
     #[test]
     fn numbers_are_those_of_the_library() {
@@ -100,13 +95,36 @@ mod tests {
             [super::ZIGRUNK_OUT_OF_MEMORY, super::ZIGRUNK_TO_NVCC, super::ZIGRUNK_IO]
         );
         assert_eq!([Input::First, Input::Words].map(Input::number), [super::ZIGRUNK_INPUT_FIRST, super::ZIGRUNK_INPUT_WORDS]);
+        let tools = [of_plans::ZIGRUNK_TOOL_CICC, of_plans::ZIGRUNK_TOOL_PTXAS, of_plans::ZIGRUNK_TOOL_CUDAFE];
+        let of_a_line = [of_plans::ZIGRUNK_TOOL_NVCC, of_plans::ZIGRUNK_TOOL_NVC, of_plans::ZIGRUNK_TOOL_NVCXX];
+        let of_a_command = [of_plans::ZIGRUNK_TOOL_FATBINARY, of_plans::ZIGRUNK_TOOL_NVLINK, of_plans::ZIGRUNK_TOOL_HOST];
+        assert!(Tool::ALL.map(|tool| tool as u32).into_iter().eq([tools, of_a_line].concat()));
+        assert!(CommandTool::ALL.map(|tool| tool as u32).into_iter().eq([tools, of_a_command].concat()));
     }
 
-    fn is_shared<T: Send + Sync>() {}
+    #[test]
+    fn numbers_of_plans_are_those_of_the_library() {
+        use of_plans::*;
+        assert_eq!([Stage::Front, Stage::Device, Stage::Final].map(|it| it as u32), [ZIGRUNK_FRONT, ZIGRUNK_DEVICE, ZIGRUNK_FINAL]);
+        let reasons = [DropReason::NotCuda, DropReason::NoCiccGroup, DropReason::NoPtxasGroup, DropReason::Superseded];
+        let wanted = [ZIGRUNK_NOT_CUDA, ZIGRUNK_NO_CICC_GROUP, ZIGRUNK_NO_PTXAS_GROUP, ZIGRUNK_SUPERSEDED];
+        assert_eq!(reasons.map(|it| it as u32 + 1), wanted);
+        let missing = [Missing::Unread, Missing::Headers, Missing::Inputs].map(|it| it as u32 + 1);
+        assert_eq!(missing, [ZIGRUNK_UNREAD_MISSING, ZIGRUNK_HEADERS_MISSING, ZIGRUNK_INPUTS_MISSING]);
+        assert_eq!(HostCompiler::ALL.map(|it| it as u32), [ZIGRUNK_GCC, ZIGRUNK_MSVC, ZIGRUNK_NVHPC]);
+    }
 
     #[test]
-    fn threads_may_share_calls_and_plans() {
-        is_shared::<call::Call>();
-        is_shared::<call::Plan>();
+    fn numbers_of_schedules_and_lines_are_those_of_the_library() {
+        use {of_lines::*, of_schedules::*};
+        assert_eq!(AfterFailure::ALL.map(|it| it as u32), [ZIGRUNK_START_NOTHING, ZIGRUNK_START_EARLIER, ZIGRUNK_GO_ON]);
+        assert_eq!(Outcome::ALL.map(|it| it as u32), [ZIGRUNK_SUCCEEDED, ZIGRUNK_FAILED, ZIGRUNK_CANCELLED]);
+        let statuses = [PlanStatus::Unfinished, PlanStatus::Succeeded, PlanStatus::Failed].map(|it| it as u32);
+        assert_eq!(statuses, [ZIGRUNK_UNFINISHED, ZIGRUNK_ALL_SUCCEEDED, ZIGRUNK_ONE_FAILED]);
+        assert_eq!([ColorMode::Off, ColorMode::On, ColorMode::Auto].map(|it| it as u32), [ZIGRUNK_COLOR_OFF, ZIGRUNK_COLOR_ON, ZIGRUNK_COLOR_AUTO]);
+        let sources = [Language::C, Language::Cxx, Language::ObjectiveC, Language::ObjectiveCxx].map(|it| it as u32);
+        assert_eq!(sources, [ZIGRUNK_LANGUAGE_C, ZIGRUNK_LANGUAGE_CXX, ZIGRUNK_LANGUAGE_OBJC, ZIGRUNK_LANGUAGE_OBJCXX]);
+        let device = [Language::Cuda, Language::CudaFe, Language::Ptx, Language::Cubin].map(|it| it as u32);
+        assert_eq!(device, [ZIGRUNK_LANGUAGE_CUDA, ZIGRUNK_LANGUAGE_CUDAFE, ZIGRUNK_LANGUAGE_PTX, ZIGRUNK_LANGUAGE_CUBIN]);
     }
 }

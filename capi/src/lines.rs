@@ -1,14 +1,8 @@
 //! Lines of tools, and keys of commands that no plan has.
-use crate::given::{zigrunk_text, zigrunk_texts, Environment};
-use crate::made::{answer, give, not_yet, texts, zigrunk_answer, zigrunk_error, zigrunk_made, Made, Refusal, Room};
-use crate::plans::{
-    ZIGRUNK_TOOL_CICC, ZIGRUNK_TOOL_CUDAFE, ZIGRUNK_TOOL_FATBINARY, ZIGRUNK_TOOL_HOST, ZIGRUNK_TOOL_NVC, ZIGRUNK_TOOL_NVCC, ZIGRUNK_TOOL_NVCXX,
-    ZIGRUNK_TOOL_NVLINK, ZIGRUNK_TOOL_PTXAS,
-};
-use call::{command_key, line_records, line_words, ColorMode, CommandTool, ErrorKind, KeyCall, Language, Line, LineCall, Tool};
-use std::collections::TryReserveError;
+use crate::given::{collected, meant, zigrunk_text, zigrunk_texts};
+use crate::made::{answer, freed, give, text, texts, zigrunk_answer, zigrunk_error, zigrunk_made, Room};
+use call::{command_key, line_records, line_words, CommandTool, Error, KeyCall, Line, LineCall, Tool};
 use std::ffi::OsStr;
-use std::iter;
 use std::path::Path;
 
 /// C.
@@ -98,58 +92,24 @@ pub struct zigrunk_key_call {
     pub tool: u32,
 }
 
-impl Made for zigrunk_line {
-    fn made(&mut self) -> &mut zigrunk_made {
-        &mut self.made
-    }
-}
-
-fn bad_number() -> Refusal {
-    Refusal::Error(ErrorKind::BadNumber.into())
-}
-
 /// Hands a line over as the library takes it.
 ///
 /// # Safety
 ///
 /// What a caller ensures.
-unsafe fn with_line<R>(given: &zigrunk_line_call, take: impl FnOnce(&LineCall<'_, &OsStr>) -> Result<R, call::Error>) -> Result<R, Refusal> {
-    let tool = match given.tool {
-        ZIGRUNK_TOOL_CICC => Tool::Cicc,
-        ZIGRUNK_TOOL_PTXAS => Tool::Ptxas,
-        ZIGRUNK_TOOL_CUDAFE => Tool::CudaFe,
-        ZIGRUNK_TOOL_NVCC => Tool::Nvcc,
-        ZIGRUNK_TOOL_NVC => Tool::Nvc,
-        ZIGRUNK_TOOL_NVCXX => Tool::Nvcxx,
-        _ => return Err(bad_number()),
-    };
+unsafe fn with_line<R>(given: &zigrunk_line_call, take: impl FnOnce(&LineCall<'_, &OsStr>) -> Result<R, Error>) -> Result<R, Error> {
+    let tool = meant(&Tool::ALL, given.tool, |tool| tool as u32)?;
     // SAFETY: the caller ensures it.
-    let (words, environment, cwd) = unsafe { (given.words.listed()?, given.environment.listed()?, Path::new(given.cwd.os())) };
-    Ok(take(&LineCall { tool, cwd, words: &words, variables: &Environment::all(&environment)? })?)
+    let (words, variables, cwd) = unsafe { (given.words.listed()?, given.environment.variables()?, given.cwd.path()) };
+    take(&LineCall { tool, cwd, words: &words, variables: &variables })
 }
 
-fn language_of(line: &Line) -> u32 {
-    match line.language() {
-        Language::C => ZIGRUNK_LANGUAGE_C,
-        Language::Cxx => ZIGRUNK_LANGUAGE_CXX,
-        Language::ObjectiveC => ZIGRUNK_LANGUAGE_OBJC,
-        Language::ObjectiveCxx => ZIGRUNK_LANGUAGE_OBJCXX,
-        Language::CudaFe => ZIGRUNK_LANGUAGE_CUDAFE,
-        Language::Ptx => ZIGRUNK_LANGUAGE_PTX,
-        Language::Cubin => ZIGRUNK_LANGUAGE_CUBIN,
-        _ => ZIGRUNK_LANGUAGE_CUDA,
-    }
-}
-
-fn record(room: &mut Room, line: &Line) -> Result<zigrunk_line, TryReserveError> {
-    let count = line.outputs().count();
-    let (mut outputs, mut optional) = (Vec::new(), Vec::new());
-    outputs.try_reserve_exact(count)?;
-    outputs.extend(line.outputs());
-    optional.try_reserve_exact(count)?;
-    optional.extend(outputs.iter().map(|output| usize::from(output.is_optional)));
-    Ok(zigrunk_line {
-        made: not_yet(),
+fn record(line: &Line) -> Result<*mut zigrunk_line, Error> {
+    let mut room = Room::default();
+    let outputs = collected(line.outputs())?;
+    let optional = collected(outputs.iter().map(|output| usize::from(output.is_optional)))?;
+    let record = zigrunk_line {
+        made: freed::<zigrunk_line>(),
         input: room.text(line.input())?,
         compilation_flag: room.text(line.compilation_flag())?,
         output_keys: room.texts(outputs.iter().map(|output| output.key))?,
@@ -162,14 +122,11 @@ fn record(room: &mut Room, line: &Line) -> Result<zigrunk_line, TryReserveError>
         unhashed_args: room.texts(line.unhashed_args())?,
         extra_dist_files: room.texts(line.extra_dist_files())?,
         extra_hash_files: room.texts(line.extra_hash_files())?,
-        language: language_of(line),
-        color_mode: match line.color_mode() {
-            ColorMode::Off => ZIGRUNK_COLOR_OFF,
-            ColorMode::On => ZIGRUNK_COLOR_ON,
-            _ => ZIGRUNK_COLOR_AUTO,
-        },
+        language: line.language() as u32,
+        color_mode: line.color_mode() as u32,
         double_dash_input: line.double_dash_input().into(),
-    })
+    };
+    give(record, room)
 }
 
 /// Reads a line of a tool: its input, its outputs, and its words by what they are for. `ZIGRUNK_BAD_LINE` if it compiles nothing or no cache
@@ -178,14 +135,7 @@ fn record(room: &mut Room, line: &Line) -> Result<zigrunk_line, TryReserveError>
 #[must_use]
 pub unsafe extern "C" fn zigrunk_line_records(given: *const zigrunk_line_call, made: *mut *mut zigrunk_line, error: *mut *mut zigrunk_error) -> i32 {
     // SAFETY: the caller ensures it.
-    let line = unsafe { with_line(&*given, |call| line_records(call)) };
-    let line = line.and_then(|line| {
-        let mut room = Room::default();
-        let record = record(&mut room, &line)?;
-        Ok(give(record, room)?)
-    });
-    // SAFETY: the caller ensures it.
-    unsafe { answer(line, made, error) }
+    unsafe { answer(made, error, || record(&with_line(&*given, |call| line_records(call))?)) }
 }
 
 /// Reads a line of a tool, and lists the words that it is written back as.
@@ -193,29 +143,18 @@ pub unsafe extern "C" fn zigrunk_line_records(given: *const zigrunk_line_call, m
 #[must_use]
 pub unsafe extern "C" fn zigrunk_line_words(given: *const zigrunk_line_call, made: *mut *mut zigrunk_answer, error: *mut *mut zigrunk_error) -> i32 {
     // SAFETY: the caller ensures it.
-    unsafe { answer(with_line(&*given, |call| line_words(call)).and_then(|words| texts(words.iter())), made, error) }
+    unsafe { answer(made, error, || texts(with_line(&*given, |call| line_words(call))?.iter())) }
 }
 
 /// # Safety
 ///
 /// What a caller ensures.
-unsafe fn key_of(given: &zigrunk_key_call) -> Result<*mut zigrunk_answer, Refusal> {
-    let tool = match given.tool {
-        ZIGRUNK_TOOL_CICC => CommandTool::Cicc,
-        ZIGRUNK_TOOL_PTXAS => CommandTool::Ptxas,
-        ZIGRUNK_TOOL_CUDAFE => CommandTool::CudaFe,
-        ZIGRUNK_TOOL_FATBINARY => CommandTool::Fatbinary,
-        ZIGRUNK_TOOL_NVLINK => CommandTool::NvLink,
-        ZIGRUNK_TOOL_HOST => CommandTool::Host,
-        _ => return Err(bad_number()),
-    };
+unsafe fn key_of(given: &zigrunk_key_call) -> Result<Vec<u8>, Error> {
+    let tool = meant(&CommandTool::ALL, given.tool, |tool| tool as u32)?;
     // SAFETY: the caller ensures it.
-    let (words, environment, given_roots) = unsafe { (given.words.listed()?, given.environment.listed()?, given.roots.listed()?) };
-    let mut roots = Vec::new();
-    roots.try_reserve_exact(given_roots.len())?;
-    roots.extend(given_roots.into_iter().map(Path::new));
-    let key = command_key(&KeyCall { tool, words: &words, variables: &Environment::all(&environment)?, roots: &roots })?;
-    texts(iter::once(key.as_slice()))
+    let (words, variables, roots) = unsafe { (given.words.listed()?, given.environment.variables()?, given.roots.listed()?) };
+    let roots = collected(roots.into_iter().map(Path::new))?;
+    command_key(&KeyCall { tool, words: &words, variables: &variables, roots: &roots })
 }
 
 /// What a cache hashes of a command together with the contents of its files and whatever tells one version of its tool from another: its
@@ -225,5 +164,5 @@ unsafe fn key_of(given: &zigrunk_key_call) -> Result<*mut zigrunk_answer, Refusa
 #[must_use]
 pub unsafe extern "C" fn zigrunk_command_key(given: *const zigrunk_key_call, made: *mut *mut zigrunk_answer, error: *mut *mut zigrunk_error) -> i32 {
     // SAFETY: the caller ensures it.
-    unsafe { answer(key_of(&*given), made, error) }
+    unsafe { answer(made, error, || text(key_of(&*given)?)) }
 }

@@ -1,13 +1,13 @@
 //! Plans, as records and as texts.
-use crate::calls::{copies, table};
-use crate::given::{zigrunk_text, zigrunk_texts, Environment};
-use crate::made::{answer, give, not_yet, texts, zigrunk_answer, zigrunk_error, zigrunk_made, Made, Refusal, Room};
-use call::{Command, CommandTool, Disk, DropReason, ErrorKind, Format, HostCompiler, Missing, OutOfMemory, Plan, PlanCall, Stage};
-use std::collections::TryReserveError;
-use std::iter;
+use crate::given::{copies, elements, meant, zigrunk_text, zigrunk_texts, Environment};
+use crate::made::{answer, freed, give, text, texts, zigrunk_answer, zigrunk_error, zigrunk_made, Room};
+use call::{
+    copied_bytes, found_in, listed, Command, CommandTool, Disk, Error, ErrorKind, Format, HostCompiler, OutOfMemory, Plan, PlanCall, ProgramRow,
+    Programs, Stage,
+};
+use std::ffi::{c_char, CStr};
 use std::num::NonZeroUsize;
-use std::path::Path;
-use std::ptr;
+use std::{io, iter, ptr};
 
 /// cicc, which compiles device code to PTX.
 pub const ZIGRUNK_TOOL_CICC: u32 = 0;
@@ -166,172 +166,100 @@ pub struct zigrunk_plan {
     pub(crate) plan: Plan,
 }
 
-impl Made for zigrunk_plan {
-    fn made(&mut self) -> &mut zigrunk_made {
-        &mut self.made
-    }
+/// Where programs are: a caller's rows, or this machine's disk.
+pub(crate) struct Table<'a> {
+    rows: Option<Vec<ProgramRow<'a>>>,
+    disk: Disk,
 }
 
-/// The answers to look-ups: a caller's, or this machine's.
-pub enum Programs<'a> {
-    Table(Vec<[Option<&'a str>; 3]>),
-    Disk(Disk),
-}
-
-impl Programs<'_> {
+impl Table<'_> {
     /// # Safety
     ///
-    /// The pointers are valid.
-    pub unsafe fn of<'a>(programs: *const zigrunk_found_program, count: usize) -> Result<Programs<'a>, TryReserveError> {
+    /// The pointer is NULL or valid for so many elements.
+    pub(crate) unsafe fn of(programs: *const zigrunk_found_program, count: usize) -> Result<Self, Error> {
         // SAFETY: the caller ensures it.
-        let Some(rows) = (unsafe { table(programs, count) }) else { return Ok(Programs::Disk(Disk::default())) };
-        let mut known = Vec::new();
-        known.try_reserve_exact(rows.len())?;
-        for row in rows {
-            // SAFETY: the caller ensures it.
-            known.push(unsafe { [row.program.os().to_str(), row.path.os().to_str(), row.found().and_then(|found| found.os().to_str())] });
-        }
-        Ok(Programs::Table(known))
+        let given = (!programs.is_null()).then(|| unsafe { elements(programs, count) });
+        // SAFETY: the caller ensures it.
+        let path_of = |row: &zigrunk_found_program| unsafe { Ok::<_, Error>((!row.found.bytes.is_null()).then_some(row.found.utf8()?)) };
+        // SAFETY: the caller ensures it.
+        let texts = |row: &zigrunk_found_program| unsafe { Ok::<ProgramRow<'_>, Error>((row.program.utf8()?, row.path.utf8()?, path_of(row)?)) };
+        let rows = given.map(|rows| listed(rows.iter().map(texts))).transpose()?;
+        Ok(Table { rows, disk: Disk::default() })
     }
 }
 
-impl zigrunk_found_program {
-    fn found(&self) -> Option<&zigrunk_text> {
-        Some(&self.found).filter(|found| !found.bytes.is_null())
-    }
-}
-
-impl call::Programs for Programs<'_> {
+impl Programs for Table<'_> {
     fn find(&self, program: &str, path: &str, cwd: &str) -> Result<Option<String>, OutOfMemory> {
-        match self {
-            Programs::Disk(disk) => disk.find(program, path, cwd),
-            Programs::Table(rows) => {
-                let row = rows.iter().find(|row| row[0] == Some(program) && row[1] == Some(path));
-                row.and_then(|row| row[2]).map(copied).transpose()
-            }
-        }
+        let of_rows = |rows: &Vec<ProgramRow<'_>>| found_in(rows.iter().copied(), program, path);
+        self.rows.as_ref().map_or_else(|| self.disk.find(program, path, cwd), of_rows)
     }
 }
 
-fn copied(text: &str) -> Result<String, OutOfMemory> {
-    let mut copy = String::new();
-    copy.try_reserve_exact(text.len())?;
-    copy.push_str(text);
-    Ok(copy)
-}
-
-fn tool_of(command: &Command<'_>) -> u32 {
-    match command.tool() {
-        Some(CommandTool::Cicc) => ZIGRUNK_TOOL_CICC,
-        Some(CommandTool::Ptxas) => ZIGRUNK_TOOL_PTXAS,
-        Some(CommandTool::CudaFe) => ZIGRUNK_TOOL_CUDAFE,
-        Some(CommandTool::Fatbinary) => ZIGRUNK_TOOL_FATBINARY,
-        Some(CommandTool::NvLink) => ZIGRUNK_TOOL_NVLINK,
-        _ => ZIGRUNK_TOOL_HOST,
-    }
-}
-
-fn missing_of(command: &Command<'_>) -> u32 {
-    match command.missing() {
-        Some(Missing::Headers) => ZIGRUNK_HEADERS_MISSING,
-        Some(Missing::Inputs) => ZIGRUNK_INPUTS_MISSING,
-        Some(_) => ZIGRUNK_UNREAD_MISSING,
-        None => ZIGRUNK_NONE_MISSING,
-    }
-}
-
-fn reason_of(command: &Command<'_>) -> u32 {
-    match command.reason() {
-        Some(DropReason::NoCiccGroup) => ZIGRUNK_NO_CICC_GROUP,
-        Some(DropReason::NoPtxasGroup) => ZIGRUNK_NO_PTXAS_GROUP,
-        Some(DropReason::Superseded) => ZIGRUNK_SUPERSEDED,
-        Some(_) => ZIGRUNK_NOT_CUDA,
-        None => ZIGRUNK_IN_GROUP,
-    }
-}
-
-fn record(room: &mut Room, command: &Command<'_>, stage: u32, others: &[Vec<u8>]) -> Result<zigrunk_command, Refusal> {
-    let targets = command.targets()?;
+fn record(room: &mut Room, command: &Command<'_>, stage: u32, environment: zigrunk_texts) -> Result<zigrunk_command, Error> {
     Ok(zigrunk_command {
         words: room.texts(iter::once(command.program()).chain(command.arguments()))?,
-        environment: room.environment(command.variables(), others)?,
+        environment,
         cwd: room.text(command.cwd())?,
         reads: room.texts(command.reads())?,
         writes: room.texts(command.writes())?,
         may_write: room.texts(command.may_write())?,
-        targets: room.texts(targets.iter().map(String::as_str))?,
+        targets: room.list(command.targets_in_parts()?.iter().map(|parts| parts.map(str::as_bytes)))?,
         needs: room.numbers(command.needs())?,
         needs_count: command.needs().len(),
         group: command.group().unwrap_or(usize::MAX),
         dry_run: command.run(),
         line: command.line(),
         stage,
-        tool: tool_of(command),
-        missing: missing_of(command),
-        reason: reason_of(command),
+        tool: command.tool().unwrap_or(CommandTool::Host) as u32,
+        missing: command.missing().map_or(ZIGRUNK_NONE_MISSING, |missing| missing as u32 + 1),
+        reason: command.reason().map_or(ZIGRUNK_IN_GROUP, |reason| reason as u32 + 1),
         is_cacheable: command.is_cacheable().into(),
         preprocesses: command.preprocesses().into(),
     })
 }
 
 /// A plan with its records. Commands get the variables that aren't UTF-8, too.
-pub fn made_plan(plan: Plan, others: &[Vec<u8>]) -> Result<*mut zigrunk_plan, Refusal> {
-    let (mut room, mut records) = (Room::default(), Vec::new());
+pub(crate) fn made_plan(plan: Plan, others: &[Vec<u8>]) -> Result<*mut zigrunk_plan, Error> {
+    let (mut room, mut last) = (Room::default(), None::<(Command<'_>, zigrunk_texts)>);
+    let grouped = plan.groups().flat_map(|group| group.commands().map(move |command| (command, group.stage())));
+    let all = grouped.chain(plan.dropped().map(|command| (command, Stage::Front)));
+    let mut records = Vec::new();
     records.try_reserve_exact(plan.commands().len() + plan.dropped().len())?;
-    for group in plan.groups() {
-        let stage = match group.stage() {
-            Stage::Front => ZIGRUNK_FRONT,
-            Stage::Final => ZIGRUNK_FINAL,
-            _ => ZIGRUNK_DEVICE,
+    for (command, stage) in all {
+        // (most commands have the environment of the one before)
+        let is_same = |before: &Command<'_>| before.reason() == command.reason() && before.variables().eq(command.variables());
+        let environment = match last.filter(|(before, _)| is_same(before)) {
+            Some((_, environment)) => environment,
+            None => room.environment(command.variables(), if command.reason().is_none() { others } else { &[] })?,
         };
-        for command in group.commands() {
-            records.push(record(&mut room, &command, stage, others)?);
-        }
-    }
-    for command in plan.dropped() {
-        records.push(record(&mut room, &command, ZIGRUNK_FRONT, &[])?);
+        last = Some((command, environment));
+        records.push(record(&mut room, &command, stage as u32, environment)?);
     }
     let (items, count) = (records.as_ptr(), records.len());
     let commands = zigrunk_commands { items, count, dropped: plan.dropped().len(), groups: plan.groups().len() };
-    Ok(give(zigrunk_plan { made: not_yet(), commands, _records: records, plan }, room)?)
-}
-
-fn bad_number() -> Refusal {
-    Refusal::Error(ErrorKind::BadNumber.into())
+    give(zigrunk_plan { made: freed::<zigrunk_plan>(), commands, _records: records, plan }, room)
 }
 
 /// # Safety
 ///
 /// What a caller ensures.
-unsafe fn planned(given: &zigrunk_plan_call) -> Result<*mut zigrunk_plan, Refusal> {
-    let host_compiler = match given.host_compiler {
-        ZIGRUNK_GCC => HostCompiler::Gcc,
-        ZIGRUNK_MSVC => HostCompiler::Msvc,
-        ZIGRUNK_NVHPC => HostCompiler::Nvhpc,
-        _ => return Err(bad_number()),
-    };
+unsafe fn planned(given: &zigrunk_plan_call) -> Result<*mut zigrunk_plan, Error> {
+    let host_compiler = meant(&HostCompiler::ALL, given.host_compiler, |compiler| compiler as u32)?;
     // SAFETY: the caller ensures it.
-    let (environment, suffixes) = unsafe { (Environment::of(&given.environment.listed()?)?, given.suffixes.listed()?) };
-    let mut texts = Vec::new();
-    texts.try_reserve_exact(suffixes.len())?;
-    for suffix in suffixes {
-        texts.push(suffix.to_str().ok_or(ErrorKind::NotUtf8).map_err(|kind| Refusal::Error(kind.into()))?);
-    }
+    let (environment, suffixes) = unsafe { (Environment::of(&given.environment)?, given.suffixes.utf8()?) };
     // SAFETY: the caller ensures it.
-    let plan = unsafe {
-        let programs = Programs::of(given.programs, given.programs_count)?;
-        call::plan(&PlanCall {
-            cwd: Path::new(given.cwd.os()),
-            tmp: Path::new(given.tmp.os()),
-            flag: given.flag.os().to_str().unwrap_or("\u{fffd}"),
-            keeps_names: given.keeps_names != 0,
-            variables: &environment.variables,
-            suffixes: &texts,
-            host_compiler,
-            limit: NonZeroUsize::new(given.limit),
-            ..PlanCall::new(given.dry1.bytes(), given.dry2.bytes(), &programs)
-        })?
-    };
+    let table = unsafe { Table::of(given.programs, given.programs_count)? };
+    // SAFETY: the caller ensures it.
+    let (runs, cwd, tmp, flag) = unsafe { ([given.dry1.bytes(), given.dry2.bytes()], given.cwd.path(), given.tmp.path(), given.flag.os()) };
+    let plan = call::plan(&PlanCall {
+        flag: flag.to_str().unwrap_or("\u{fffd}"),
+        keeps_names: given.keeps_names != 0,
+        variables: &environment.variables,
+        suffixes: &suffixes,
+        host_compiler,
+        limit: NonZeroUsize::new(given.limit),
+        ..PlanCall::new(runs[0], runs[1], &table).at(cwd, tmp)
+    })?;
     made_plan(plan, &copies(&environment.others)?)
 }
 
@@ -340,7 +268,7 @@ unsafe fn planned(given: &zigrunk_plan_call) -> Result<*mut zigrunk_plan, Refusa
 #[must_use]
 pub unsafe extern "C" fn zigrunk_plan_of(given: *const zigrunk_plan_call, made: *mut *mut zigrunk_plan, error: *mut *mut zigrunk_error) -> i32 {
     // SAFETY: the caller ensures it.
-    unsafe { answer(planned(&*given), made, error) }
+    unsafe { answer(made, error, || planned(&*given)) }
 }
 
 /// The commands of a plan. They are freed with it.
@@ -361,10 +289,27 @@ pub unsafe extern "C" fn zigrunk_plan_text(
     error: *mut *mut zigrunk_error,
 ) -> i32 {
     // SAFETY: the caller ensures it.
-    let (plan, format) = unsafe { (&*plan, format.os()) };
-    let text = format.to_str().and_then(Format::named).ok_or_else(bad_number).and_then(|format| Ok(plan.plan.text(format)?));
+    let format = || unsafe { format.os() }.to_str().and_then(Format::named).ok_or(ErrorKind::BadNumber);
     // SAFETY: the caller ensures it.
-    unsafe { answer(text.and_then(|text| texts(iter::once(text.as_str()))), made, error) }
+    unsafe { answer(made, error, || text((*plan).plan.text(format()?)?)) }
+}
+
+extern "C" {
+    fn realpath(path: *const c_char, real: *mut c_char) -> *mut c_char;
+}
+
+/// Where a path really leads, by C's library, which can say so without memory.
+fn real_path(path: &CStr) -> io::Result<Vec<u8>> {
+    let mut real = [0_u8; 4096];
+    // SAFETY: there is room for the longest path.
+    ptr::NonNull::new(unsafe { realpath(path.as_ptr(), real.as_mut_ptr().cast()) }).ok_or_else(io::Error::last_os_error)?;
+    copied_bytes(CStr::from_bytes_until_nul(&real).map_or(&[], CStr::to_bytes)).map_err(|_| io::ErrorKind::OutOfMemory.into())
+}
+
+fn key_of(plan: &zigrunk_plan, command: usize) -> Result<*mut zigrunk_answer, Error> {
+    let key = plan.plan.commands().nth(command).ok_or(ErrorKind::BadNumber)?.cache_key_by(&real_path)?;
+    let files = key.tool.iter().map(|path| path.as_os_str().as_encoded_bytes());
+    texts(iter::once(key.text.as_slice()).chain(files))
 }
 
 /// What a cache hashes of a command of a plan, by its number: the first text, then the contents of the files that the others name, which tell
@@ -380,12 +325,5 @@ pub unsafe extern "C" fn zigrunk_plan_key(
     error: *mut *mut zigrunk_error,
 ) -> i32 {
     // SAFETY: the caller ensures it.
-    let plan = unsafe { &(*plan).plan };
-    let key = plan.commands().nth(command).ok_or_else(bad_number).and_then(|command| {
-        let key = command.cache_key()?;
-        let files = key.tool.iter().map(|path| path.as_os_str().as_encoded_bytes());
-        texts(iter::once(key.text.as_slice()).chain(files))
-    });
-    // SAFETY: the caller ensures it.
-    unsafe { answer(key, made, error) }
+    unsafe { answer(made, error, || key_of(&*plan, command)) }
 }

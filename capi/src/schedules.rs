@@ -1,9 +1,9 @@
 //! Schedules of commands.
-use crate::given::{elements, ZIGRUNK_ALL};
-use crate::made::{answer, give, not_yet, zigrunk_error, zigrunk_made, Made, Refusal, Room};
+use crate::given::{collected, elements, meant, ZIGRUNK_ALL};
+use crate::made::{answer, freed, give, zigrunk_error, zigrunk_made, Room};
 use crate::plans::zigrunk_plan;
-use call::schedule::{AfterFailure, BadGraph, Outcome, PlanStatus, Refused, Schedule, ScheduledCommand};
-use call::ErrorKind;
+use call::schedule::{AfterFailure, Outcome, Refused, Schedule, ScheduledCommand};
+use call::{listed, Error};
 
 /// After a failure nothing starts.
 pub const ZIGRUNK_START_NOTHING: u32 = 0;
@@ -81,49 +81,23 @@ pub struct zigrunk_schedule {
     schedule: Schedule,
 }
 
-impl Made for zigrunk_schedule {
-    fn made(&mut self) -> &mut zigrunk_made {
-        &mut self.made
-    }
-}
-
-fn refusal(bad: &BadGraph) -> Refusal {
-    match bad {
-        BadGraph::OutOfMemory => Refusal::Memory,
-        _ => Refusal::Error(ErrorKind::BadNumber.into()),
-    }
-}
-
 /// # Safety
 ///
 /// What a caller ensures.
-unsafe fn begun(given: &zigrunk_schedule_call) -> Result<*mut zigrunk_schedule, Refusal> {
-    let after_failure = match given.after_failure {
-        ZIGRUNK_START_NOTHING => AfterFailure::StartNothing,
-        ZIGRUNK_START_EARLIER => AfterFailure::StartEarlier,
-        ZIGRUNK_GO_ON => AfterFailure::GoOn,
-        _ => return Err(Refusal::Error(ErrorKind::BadNumber.into())),
-    };
+unsafe fn begun(given: &zigrunk_schedule_call) -> Result<*mut zigrunk_schedule, Error> {
+    let after_failure = meant(&AfterFailure::ALL, given.after_failure, |after| after as u32)?;
     // SAFETY: the caller ensures it.
     let (plans, commands) = unsafe { (elements(given.plans, given.plans_count), elements(given.commands, given.commands_count)) };
     let schedule = if plans.is_empty() {
-        let mut listed = Vec::new();
-        listed.try_reserve_exact(commands.len())?;
-        for command in commands {
-            // SAFETY: the caller ensures it.
-            let given = unsafe { elements(command.needs, command.needs_count) };
-            let mut needs = Vec::new();
-            needs.try_reserve_exact(given.len())?;
-            needs.extend_from_slice(given);
-            listed.push(ScheduledCommand { needs, priority: command.priority });
-        }
-        Schedule::new(listed, given.slots, after_failure)
+        // SAFETY: the caller ensures it.
+        let needs = |command: &zigrunk_scheduled_command| unsafe { elements(command.needs, command.needs_count) };
+        let scheduled = |it| Ok::<_, Error>(ScheduledCommand { needs: collected(needs(it).iter().copied())?, priority: it.priority });
+        Schedule::new(listed(commands.iter().map(scheduled))?, given.slots, after_failure)?
     } else {
         // SAFETY: the caller ensures it.
-        Schedule::of_plans(plans.iter().map(|plan| unsafe { &(**plan).plan }), given.slots, after_failure)
+        Schedule::of_plans(plans.iter().map(|plan| unsafe { &(**plan).plan }), given.slots, after_failure)?
     };
-    let schedule = schedule.map_err(|bad| refusal(&bad))?;
-    Ok(give(zigrunk_schedule { made: not_yet(), schedule }, Room::default())?)
+    give(zigrunk_schedule { made: freed::<zigrunk_schedule>(), schedule }, Room::default())
 }
 
 /// A schedule of commands of which none has started. `ZIGRUNK_BAD_NUMBER` if there are no slots, a command needs one that isn't before it, or
@@ -136,7 +110,7 @@ pub unsafe extern "C" fn zigrunk_schedule_of(
     error: *mut *mut zigrunk_error,
 ) -> i32 {
     // SAFETY: the caller ensures it.
-    unsafe { answer(begun(&*given), made, error) }
+    unsafe { answer(made, error, || begun(&*given)) }
 }
 
 /// The command to start now, which the schedule notes as started, or `ZIGRUNK_ALL` if none may start: call it until it says so.
@@ -149,12 +123,7 @@ pub unsafe extern "C" fn zigrunk_schedule_start(schedule: *mut zigrunk_schedule)
 /// Notes how a command ended: `ZIGRUNK_SUCCEEDED` .. 0, or `ZIGRUNK_NO_SUCH_COMMAND` .., and the schedule is unchanged.
 #[no_mangle]
 pub unsafe extern "C" fn zigrunk_schedule_ended(schedule: *mut zigrunk_schedule, command: usize, outcome: u32) -> i32 {
-    let outcome = match outcome {
-        ZIGRUNK_SUCCEEDED => Outcome::Success,
-        ZIGRUNK_FAILED => Outcome::Failure,
-        ZIGRUNK_CANCELLED => Outcome::Cancelled,
-        _ => return ZIGRUNK_NO_OUTCOME,
-    };
+    let Ok(outcome) = meant(&Outcome::ALL, outcome, |outcome| outcome as u32) else { return ZIGRUNK_NO_OUTCOME };
     // SAFETY: the caller ensures it.
     match unsafe { &mut (*schedule).schedule }.ended(command, outcome) {
         Ok(()) => 0,
@@ -170,10 +139,5 @@ pub unsafe extern "C" fn zigrunk_schedule_progress(schedule: *const zigrunk_sche
     // SAFETY: the caller ensures it.
     let schedule = unsafe { &(*schedule).schedule };
     let told = schedule.told(first..end);
-    let status = match told.status {
-        PlanStatus::Unfinished => ZIGRUNK_UNFINISHED,
-        PlanStatus::Succeeded => ZIGRUNK_ALL_SUCCEEDED,
-        PlanStatus::Failed => ZIGRUNK_ONE_FAILED,
-    };
-    zigrunk_progress { running: schedule.running(), told: told.commands.end, status, is_over: schedule.is_over().into() }
+    zigrunk_progress { running: schedule.running(), told: told.commands.end, status: told.status as u32, is_over: schedule.is_over().into() }
 }

@@ -1,29 +1,8 @@
 //! Texts in, texts out: shell words, canonical names, look-ups and headers.
 use crate::given::{zigrunk_text, zigrunk_texts};
-use crate::made::{answer, texts, zigrunk_answer, zigrunk_error, Refusal};
-use call::{candidates, headers, lookups, quote, remap, split, ErrorKind, Lookup};
-use std::ffi::OsStr;
-use std::iter;
+use crate::made::{answer, text, texts, zigrunk_answer, zigrunk_error};
+use call::{candidates, copied, headers, lookups, quote, remap, split, Lookup};
 use std::num::NonZeroUsize;
-use std::path::Path;
-
-fn utf8(text: &OsStr) -> Result<&str, Refusal> {
-    text.to_str().ok_or_else(|| Refusal::Error(ErrorKind::NotUtf8.into()))
-}
-
-/// # Safety
-///
-/// What a caller ensures.
-unsafe fn strs<'a>(given: &zigrunk_texts) -> Result<Vec<&'a str>, Refusal> {
-    // SAFETY: the caller ensures it.
-    let given = unsafe { given.listed()? };
-    let mut list = Vec::new();
-    list.try_reserve_exact(given.len())?;
-    for text in given {
-        list.push(utf8(text)?);
-    }
-    Ok(list)
-}
 
 /// Splits a text into the words that a POSIX shell reads: quotes and backslashes group characters, and nothing is expanded.
 /// `ZIGRUNK_OPEN_QUOTE` if it ends inside quotes or in a backslash.
@@ -31,9 +10,7 @@ unsafe fn strs<'a>(given: &zigrunk_texts) -> Result<Vec<&'a str>, Refusal> {
 #[must_use]
 pub unsafe extern "C" fn zigrunk_split(text: zigrunk_text, made: *mut *mut zigrunk_answer, error: *mut *mut zigrunk_error) -> i32 {
     // SAFETY: the caller ensures it.
-    let words = utf8(unsafe { text.os() }).and_then(|text| texts(split(text)?.iter()));
-    // SAFETY: the caller ensures it.
-    unsafe { answer(words, made, error) }
+    unsafe { answer(made, error, || texts(split(text.utf8()?)?.iter())) }
 }
 
 /// Writes words as one text, which a POSIX shell and `zigrunk_split` read as these words.
@@ -41,9 +18,7 @@ pub unsafe extern "C" fn zigrunk_split(text: zigrunk_text, made: *mut *mut zigru
 #[must_use]
 pub unsafe extern "C" fn zigrunk_quote(words: zigrunk_texts, made: *mut *mut zigrunk_answer, error: *mut *mut zigrunk_error) -> i32 {
     // SAFETY: the caller ensures it.
-    let text = unsafe { strs(&words) }.and_then(|words| texts(iter::once(quote(words)?.as_str())));
-    // SAFETY: the caller ensures it.
-    unsafe { answer(text, made, error) }
+    unsafe { answer(made, error, || text(quote(words.utf8()?)?)) }
 }
 
 /// Lists words with canonical names for the files that nvcc generates: as many words, in their order. Pass the words of all commands of a dry
@@ -57,10 +32,7 @@ pub unsafe extern "C" fn zigrunk_remap(
     error: *mut *mut zigrunk_error,
 ) -> i32 {
     // SAFETY: the caller ensures it.
-    let given = unsafe { strs(&words).and_then(|words| Ok((words, strs(&suffixes)?))) };
-    let renamed = given.and_then(|(words, suffixes)| texts(remap(&words, &suffixes)?.iter()));
-    // SAFETY: the caller ensures it.
-    unsafe { answer(renamed, made, error) }
+    unsafe { answer(made, error, || texts(remap(&words.utf8()?, &suffixes.utf8()?)?.iter())) }
 }
 
 /// Lists the look-ups of programs that a plan of two dry runs needs, none twice: a program, then the value of PATH there, and so on. The limit
@@ -76,25 +48,9 @@ pub unsafe extern "C" fn zigrunk_lookups(
     error: *mut *mut zigrunk_error,
 ) -> i32 {
     // SAFETY: the caller ensures it.
-    let found = unsafe { lookups(dry1.bytes(), dry2.bytes(), Path::new(cwd.os()), NonZeroUsize::new(limit)) };
-    let found = found.map_err(Refusal::from).and_then(|found| texts(found.iter().flat_map(|it| [it.program.as_str(), it.path.as_str()])));
+    let look = || unsafe { lookups(dry1.bytes(), dry2.bytes(), cwd.path(), NonZeroUsize::new(limit)) };
     // SAFETY: the caller ensures it.
-    unsafe { answer(found, made, error) }
-}
-
-/// # Safety
-///
-/// What a caller ensures.
-unsafe fn tried(program: zigrunk_text, path: zigrunk_text, cwd: zigrunk_text) -> Result<*mut zigrunk_answer, Refusal> {
-    // SAFETY: the caller ensures it.
-    let [program, path, cwd] = unsafe { [program.os(), path.os(), cwd.os()] };
-    let own = |text: &OsStr| {
-        let (text, mut own) = (utf8(text)?, String::new());
-        own.try_reserve_exact(text.len())?;
-        own.push_str(text);
-        Ok::<_, Refusal>(own)
-    };
-    texts(candidates(&Lookup { program: own(program)?, path: own(path)? }, Path::new(cwd))?.iter())
+    unsafe { answer(made, error, || texts(look()?.iter().flat_map(|it| [it.program.as_str(), it.path.as_str()]))) }
 }
 
 /// Lists the paths that a look-up tries from a working directory, in order: the first that is an executable file is the program.
@@ -108,7 +64,9 @@ pub unsafe extern "C" fn zigrunk_candidates(
     error: *mut *mut zigrunk_error,
 ) -> i32 {
     // SAFETY: the caller ensures it.
-    unsafe { answer(tried(program, path, cwd), made, error) }
+    let lookup = || unsafe { Ok::<_, call::Error>(Lookup { program: copied(program.utf8()?)?, path: copied(path.utf8()?)? }) };
+    // SAFETY: the caller ensures it.
+    unsafe { answer(made, error, || texts(candidates(&lookup()?, cwd.path())?.iter())) }
 }
 
 /// Lists the files that the output of a preprocessor names, none twice.
@@ -116,5 +74,5 @@ pub unsafe extern "C" fn zigrunk_candidates(
 #[must_use]
 pub unsafe extern "C" fn zigrunk_headers(output: zigrunk_text, made: *mut *mut zigrunk_answer, error: *mut *mut zigrunk_error) -> i32 {
     // SAFETY: the caller ensures it.
-    unsafe { answer(texts(headers(output.bytes()).iter().map(String::as_str)), made, error) }
+    unsafe { answer(made, error, || texts(headers(output.bytes())?.iter().map(String::as_str))) }
 }

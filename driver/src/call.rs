@@ -1,31 +1,25 @@
 //! A call of zigrunk-nvcc, from its words to its status.
-use crate::folder::CallFolder;
-use crate::host::{self, Host};
-use crate::jobserver::Make;
-use crate::log::{self, LoggedCall};
-use crate::places::{absolute, working_directory};
-use crate::products;
-use crate::quota;
-use crate::rule::Refusals;
-use crate::served;
-use crate::settings::Settings;
-use crate::split::{self, Outcome, Stop, by_nvcc};
-use crate::streams::{complain, say};
 use crate::system::{self, CHLD, Signals, Status, TSTP};
 use call::compiler::{self, Compiler};
 use call::environments::Environment;
-use call::programs::find;
 use call::{LineReason, NvccLine, Reason};
-use std::env;
+use machine::clock::now;
+use machine::folder::{CallFolder, NAME_HINT};
+use machine::host::{Host, become_program};
+use machine::jobserver::Make;
+use machine::places::{absolute, working_directory};
+use machine::quota;
+use machine::settings::{Settings, own_variable};
+use machine::streams::{called, complain, say, set_called};
+use runner::log::{self, LoggedCall};
+use runner::products;
+use runner::rule::Refusals;
+use runner::served;
+use runner::split::{self, FEWEST_FILES, Outcome, Stop, by_nvcc};
 use std::ffi::{OsStr, OsString};
 use std::path::Path;
 use std::rc::Rc;
 use std::time::SystemTime;
-
-/// With fewer files that it may still open, nvcc makes the call.
-pub const FEWEST_FILES: usize = 27;
-/// What a user can do whose calls have directories of random names.
-pub const NAME_HINT: &str = "make zigrunk-UID below TMPDIR yours alone, with mode 700: the same call then always has the same directory";
 
 /// How many milliseconds a call that waits for nvcc sleeps at most, until it looks again.
 const LOOK: i32 = 1000;
@@ -41,24 +35,25 @@ struct Call<'a> {
     folder: Option<Rc<CallFolder>>,
 }
 
-/// Makes a call, given the name by which the program was started and its words. Says its status. If a signal ends the call, it ends this
-/// process too.
+/// Makes a call, given the name by which the program was started and its words. Says its status. If a signal
+/// ends the call, it ends this process too.
 pub fn make(own_name: &OsStr, words: &[OsString]) -> i32 {
+    set_called(own_name);
     let settings = match Settings::of_environment() {
         Ok(settings) => settings,
         Err(complaint) => {
-            complain(&format!("zigrunk-nvcc: {complaint}"));
+            complain(&format!("{}: {complaint}", called()));
             return 2;
         }
     };
     let (compiler, words) = match compiler::compiler(&settings.caller(own_name), words) {
         Ok(found) => found,
         Err(complaint) => {
-            complain(&format!("zigrunk-nvcc: {complaint}"));
+            complain(&format!("{}: {complaint}", called()));
             return 127;
         }
     };
-    let mut call = Call { settings, compiler, words, begun: host::now(), host: None, folder: None };
+    let mut call = Call { settings, compiler, words, begun: now(), host: None, folder: None };
     if !call.settings.inside.is_empty() {
         return call.become_nvcc(&[]);
     }
@@ -75,8 +70,8 @@ pub fn make(own_name: &OsStr, words: &[OsString]) -> i32 {
     }
 }
 
-/// Why a call goes to nvcc at once. A cache that looks up whole calls asks for the version at each one, and preprocesses those that it
-/// doesn't find.
+/// Why a call goes to nvcc at once. A cache that looks up whole calls asks for the version at each one, and
+/// preprocesses those that it doesn't find.
 fn plain_reason(words: &[OsString]) -> Option<Reason> {
     words.iter().find_map(|word| match word.to_str() {
         Some("-E" | "--preprocess") => Some(LineReason::OtherPhase.into()),
@@ -107,14 +102,21 @@ impl Call<'_> {
         self.folder = Some(Rc::clone(&folder));
         let refusals = Refusals::default();
         let at_once = quota::processors() + 2;
-        let split = split::Call { settings: &self.settings, line: &line, folder: &folder, at_once, refusals: &refusals };
+        let split = split::Call {
+            settings: &self.settings,
+            line: &line,
+            folder: &folder,
+            at_once,
+            refusals: &refusals,
+        };
         let call = split.read()?;
         let environment = Environment::own().with("ZIGRUNK_INSIDE", &self.compiler.inside);
         let host = Host::of_process(&self.settings, make, environment, Rc::clone(&folder));
         let mut host = host.map_err(Reason::Lacks)?;
         host.give_way();
         let begun = SystemTime::now();
-        let outcome = split.run(&mut host, &call, &mut |is_error, text| drop(say(if is_error { 2 } else { 1 }, text)));
+        let outcome =
+            split.run(&mut host, &call, &mut |is_error, text| drop(say(if is_error { 2 } else { 1 }, text)));
         self.host = Some(host);
         let outcome = outcome?;
         if let Some(keep_dir) = call.keep_dir() {
@@ -129,8 +131,10 @@ impl Call<'_> {
         let text = |text: &OsStr| text.to_str().map(String::from).ok_or(Reason::WordNotUtf8);
         let mut variables = Vec::new();
         for name in ["NVCC_PREPEND_FLAGS", "NVCC_APPEND_FLAGS", "ZIGRUNK_JOBS", "MAKEFLAGS"] {
-            let counts = name != "MAKEFLAGS" || make.flags.server.is_none() || (make.server.is_none() && make.flags.jobs.is_none());
-            if let Some(value) = env::var_os(name).filter(|_| counts) {
+            let counts = name != "MAKEFLAGS"
+                || make.flags.server.is_none()
+                || (make.server.is_none() && make.flags.jobs.is_none());
+            if let Some(value) = own_variable(name).filter(|_| counts) {
                 variables.push((name.to_owned(), text(&value)?));
             }
         }
@@ -154,11 +158,17 @@ impl Call<'_> {
         let hint = random.then_some(NAME_HINT);
         let Outcome { status, commands, counted, .. } = outcome;
         let (status, counted, words) = (*status, *counted, &self.logged_words()[..]);
-        log::append(file, &LoggedCall { begun: self.begun, status, reason: None, hint, commands, counted, words });
+        log::append(
+            file,
+            &LoggedCall { begun: self.begun, status, reason: None, hint, commands, counted, words },
+        );
     }
 
     fn logged_words(&self) -> Vec<&OsStr> {
-        [self.compiler.name.as_os_str()].into_iter().chain(self.words.iter().map(OsString::as_os_str)).collect()
+        [self.compiler.name.as_os_str()]
+            .into_iter()
+            .chain(self.words.iter().map(OsString::as_os_str))
+            .collect()
     }
 
     /// Leaves nothing behind.
@@ -175,10 +185,10 @@ impl Call<'_> {
     fn by_nvcc(&mut self, reason: &Reason) -> i32 {
         self.leave();
         if self.settings.explains {
-            complain(&format!("zigrunk-nvcc: nvcc itself: {reason}"));
+            complain(&format!("{}: nvcc itself: {reason}", called()));
         }
         if self.compiler.path.is_none() && self.settings.runner.is_empty() {
-            complain(&format!("zigrunk-nvcc: cannot find {} in PATH", self.compiler.name.to_string_lossy()));
+            complain(&format!("{}: cannot find {} in PATH", called(), self.compiler.name.to_string_lossy()));
             return 127;
         }
         let runner: Vec<OsString> = self.settings.runner.iter().map(OsString::from).collect();
@@ -196,14 +206,16 @@ impl Call<'_> {
         let words: Vec<&OsStr> = runner.iter().map(OsString::as_os_str).chain(self.logged_words()).collect();
         let environment = Environment::own().with("ZIGRUNK_INSIDE", &self.compiler.inside);
         let error = become_program(&words, &environment);
-        complain(&format!("zigrunk-nvcc: cannot run {}: {error}", words[0].to_string_lossy()));
+        complain(&format!("{}: cannot run {}: {error}", called(), words[0].to_string_lossy()));
         127
     }
 
     /// Runs nvcc, and adds a line to the log. Its status is this process's, and its signal too.
     fn run_nvcc(&mut self, runner: &[OsString], reason: &Reason, file: &Path) -> i32 {
         let opened = if self.host.is_none() { Signals::open().ok() } else { None };
-        let Some(signals) = self.host.as_ref().map(Host::signals).or(opened.as_ref()) else { return self.become_nvcc(runner) };
+        let Some(signals) = self.host.as_ref().map(Host::signals).or(opened.as_ref()) else {
+            return self.become_nvcc(runner);
+        };
         let child = system::fork_to(|| {
             system::end_with_parent();
             signals.give_back();
@@ -211,17 +223,26 @@ impl Call<'_> {
         });
         let Ok(child) = child else { return self.become_nvcc(runner) };
         let Some(status) = end_of(child, signals) else {
-            complain("zigrunk-nvcc: the end of nvcc is unknown");
+            complain(&format!("{}: the end of nvcc is unknown", called()));
             return 1;
         };
         let (reason, hint, words) = (Some(reason), reason.hint(), &self.logged_words());
-        let call = LoggedCall { begun: self.begun, status: status.code, reason, hint, commands: &[], counted: None, words };
+        let call = LoggedCall {
+            begun: self.begun,
+            status: status.code,
+            reason,
+            hint,
+            commands: &[],
+            counted: None,
+            words,
+        };
         log::append(file, &call);
         status.signal.map_or(status.code, system::end_by)
     }
 }
 
-/// How nvcc ends that runs as a child of this process. It gets the signals that come to this one. `None` if that can't be known.
+/// How nvcc ends that runs as a child of this process. It gets the signals that come to this one. `None` if
+/// that can't be known.
 fn end_of(child: i32, signals: &Signals) -> Option<Status> {
     loop {
         system::wait_for(&[signals.number()], LOOK);
@@ -236,14 +257,6 @@ fn end_of(child: i32, signals: &Signals) -> Option<Status> {
             return Some(status);
         }
     }
-}
-
-/// Becomes a program by its name or path. Comes back with the reason if that can't be done.
-pub(crate) fn become_program(words: &[&OsStr], environment: &Environment) -> String {
-    let path = environment.get("PATH").unwrap_or_default();
-    let Some(program) = find(words[0], path, Path::new("")) else { return "not found".into() };
-    let image = environment.changed(&[]).and_then(|variables| host::image(program.as_os_str(), words.iter().copied(), variables, ""));
-    image.map_or_else(|error| error.to_string(), |image| image.become_it().to_string())
 }
 
 #[cfg(test)]

@@ -1,10 +1,8 @@
 //! The first words of the program, and its help.
-use crate::excerpts::excerpt;
-use crate::nearest::question;
-use crate::streams::{complain, say};
-use crate::{batch, cache, call, farm, plan_program, report};
+use crate::{call, plan_program};
+use machine::nearest::{question, shown};
+use machine::streams::{complain, say};
 use std::ffi::{OsStr, OsString};
-use std::os::unix::ffi::OsStrExt;
 
 /// What the program does.
 #[derive(Clone, Copy, PartialEq, Eq, Debug)]
@@ -14,11 +12,11 @@ pub enum FirstWord {
     Batch,
     Report,
     Cache,
-    Worker,
+    CheckNode,
     Help,
 }
 
-const USAGE: &str = "usage: zigrunk nvcc|plan|batch|report|cache|worker|help WORD..";
+const USAGE: &str = "usage: zigrunk nvcc|plan|batch|report|cache|check-node|help WORD..";
 
 /// What `zigrunk help nvcc` prints: nvcc's words are all nvcc's own, `--help` too.
 const NVCC_HELP: &str = "usage: zigrunk nvcc [NVCC] WORD..
@@ -38,8 +36,15 @@ man zigrunk-nvcc has the rest.
 
 impl FirstWord {
     /// All of them, in the order in which the help and completion show them.
-    pub const ALL: [FirstWord; 7] =
-        [FirstWord::Nvcc, FirstWord::Plan, FirstWord::Batch, FirstWord::Report, FirstWord::Cache, FirstWord::Worker, FirstWord::Help];
+    pub const ALL: [FirstWord; 7] = [
+        FirstWord::Nvcc,
+        FirstWord::Plan,
+        FirstWord::Batch,
+        FirstWord::Report,
+        FirstWord::Cache,
+        FirstWord::CheckNode,
+        FirstWord::Help,
+    ];
 
     /// The word.
     pub const fn name(self) -> &'static str {
@@ -49,7 +54,7 @@ impl FirstWord {
             FirstWord::Batch => "batch",
             FirstWord::Report => "report",
             FirstWord::Cache => "cache",
-            FirstWord::Worker => "worker",
+            FirstWord::CheckNode => "check-node",
             FirstWord::Help => "help",
         }
     }
@@ -61,8 +66,8 @@ impl FirstWord {
             FirstWord::Plan => "print the commands of a call: for Ninja, a shell or a program",
             FirstWord::Batch => "make many calls of nvcc in one process",
             FirstWord::Report => "summarise what ZIGRUNK_LOG has noted of calls",
+            FirstWord::CheckNode => "compare a machine with the one that hands out calls",
             FirstWord::Cache => "show, clear or shrink the cache of commands",
-            FirstWord::Worker => "run commands of a batch on another machine",
             FirstWord::Help => "print this text, or the help of one of these words",
         }
     }
@@ -80,7 +85,7 @@ impl FirstWord {
             FirstWord::Batch => batch::main(words),
             FirstWord::Report => report::run(words),
             FirstWord::Cache => cache::program::run(words),
-            FirstWord::Worker => farm::worker::run(words),
+            FirstWord::CheckNode => batch::node::program::run(words),
             FirstWord::Help => help_of(words),
         }
     }
@@ -88,7 +93,8 @@ impl FirstWord {
 
 /// The page of all first words. It fits a screen of 24 lines.
 fn help() -> String {
-    let words: Vec<String> = FirstWord::ALL.iter().map(|word| format!("  {:<7} {}\n", word.name(), word.about())).collect();
+    let words: Vec<String> =
+        FirstWord::ALL.iter().map(|word| format!("  {:<10} {}\n", word.name(), word.about())).collect();
     format!(
         "{USAGE}
 
@@ -117,7 +123,7 @@ fn misuse(reason: &str) -> i32 {
 
 fn unknown(word: &OsStr) -> i32 {
     let nearest = question(&word.to_string_lossy(), FirstWord::ALL.map(FirstWord::name));
-    misuse(&format!("unknown word {}{nearest}", excerpt(word.as_bytes(), 100)))
+    misuse(&format!("unknown word {}{nearest}", shown(word)))
 }
 
 /// Prints the help of a word, or of all.

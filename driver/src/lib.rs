@@ -1,57 +1,22 @@
-//! The program `zigrunk`: its first word says what it does, and so does its name, as in the link `zigrunk-nvcc`.
-mod batch;
-mod cache;
-mod caches;
-mod call;
-mod early;
-mod excerpts;
-mod farm;
-mod first_words;
-mod folder;
-#[cfg(test)]
-mod forked;
-mod guard;
-mod host;
-mod host_compilers;
-mod jobserver;
-mod json_values;
-mod late;
-mod log;
-mod machine;
-mod nearest;
-mod nvcc_jobs;
-mod piped;
-mod places;
-mod plan_program;
-mod planned;
-mod products;
-mod quota;
-mod report;
-mod rule;
-mod run;
-mod served;
-mod settings;
-mod slots;
-mod split;
-mod stored_plan;
-mod streams;
-mod system;
-mod tasks;
-#[cfg(test)]
-mod test_folder;
-mod threads;
-mod voice;
-#[cfg(test)]
-mod whole_call;
-mod withheld;
+//! The program `zigrunk`: its first word says what it does, and so does its name, as in the link
+//! `zigrunk-nvcc`.
+#![forbid(unsafe_code)]
 
-pub use system::open_standard_streams;
+mod call;
+mod first_words;
+mod plan_program;
+mod stored_plan;
+
+pub use unix::open_standard_streams;
+
+use unix as system;
 
 use first_words::FirstWord;
 use std::ffi::{OsStr, OsString};
 use std::path::Path;
 
-/// What a program of this name does, if its name says that: `zigrunk-nvcc`, and any other name that ends in nvcc, compiles.
+/// What a program of this name does, if its name says that: `zigrunk-nvcc`, and any other name that ends in
+/// nvcc, compiles.
 fn by_name(name: &OsStr) -> Option<FirstWord> {
     let name = name.to_str()?;
     let word = name.strip_prefix("zigrunk-").and_then(FirstWord::named);
@@ -95,7 +60,12 @@ mod tests {
         for words in [&[][..], &["zigrunk"], &["zigrunk", "odd"], &["zigrunk", "plan"], &["zigrunk-plan"]] {
             assert_eq!(run(words), 2, "{words:?}");
         }
-        for words in [&["/b/zigrunk-plan", "--help"][..], &["zigrunk", "plan", "--help"], &["zigrunk", "help"], &["zigrunk", "--version"]] {
+        for words in [
+            &["/b/zigrunk-plan", "--help"][..],
+            &["zigrunk", "plan", "--help"],
+            &["zigrunk", "help"],
+            &["zigrunk", "--version"],
+        ] {
             assert_eq!(run(words), 0, "{words:?}");
         }
     }

@@ -1,26 +1,26 @@
-//! `zigrunk plan`: prints the plan of an nvcc line, or that of two dry runs in files. It makes the dry runs as `zigrunk nvcc` does, and runs
-//! nothing else.
-use crate::excerpts::excerpt;
-use crate::folder::Folder;
-use crate::guard::Shared;
-use crate::host::Host;
-use crate::nearest::question;
-use crate::nvcc_jobs::{Jobs, Stopped};
-use crate::places::{absolute, working_directory};
-use crate::settings::Settings;
+//! `zigrunk plan`: prints the plan of an nvcc line, or that of two dry runs in files. It makes the dry runs
+//! as `zigrunk nvcc` does, and runs nothing else.
 use crate::stored_plan::Stored;
-use crate::streams::{complain, say};
 use crate::system::{self, Signals};
 use call::environments::Environment;
 use call::{Disk, ErrorKind, Format, MOST_BYTES as MOST_OF_NVCC, NvccLine, Planning};
-use std::env;
+use lexopt::Parser;
+use lexopt::prelude::{Long, Short, Value};
+use machine::folder::Folder;
+use machine::guard::Shared;
+use machine::host::Host;
+use machine::nearest::{question, shown, unexpected, value};
+use machine::places::{absolute, working_directory};
+use machine::settings::{Settings, own_variable};
+use machine::streams::{complain, say};
+use runner::nvcc_jobs::{Jobs, Stopped};
 use std::ffi::{OsStr, OsString};
-use std::os::unix::ffi::OsStrExt;
+use std::fmt::Display;
 
 const USAGE: &str = "usage: zigrunk plan FORMAT [--] NVCC WORD..
        zigrunk plan --dry-runs FILE FILE [OPTION].. FORMAT";
 
-/// How many bytes reading a dry run may make, unless that is said.
+/// How many bytes parsing a dry run may take by default.
 const MOST_BYTES: usize = 1 << 21;
 
 /// Why there is no plan: the exit status, and what to say.
@@ -34,104 +34,100 @@ fn refusal(status: i32, text: impl Into<String>) -> Refusal {
     Refusal { status, text: text.into() }
 }
 
-/// How much of a word a message shows.
-const MOST_SHOWN: usize = 100;
-
-fn misuse(reason: &str) -> Refusal {
+fn misuse(reason: impl Display) -> Refusal {
     refusal(2, format!("zigrunk plan: {reason}\n{USAGE}"))
-}
-
-/// A word as a message shows it.
-fn shown(word: &OsStr) -> String {
-    excerpt(word.as_bytes(), MOST_SHOWN)
 }
 
 /// A call of nvcc to plan.
 #[derive(PartialEq, Eq, Debug)]
-struct Call<'a> {
-    nvcc: &'a OsStr,
-    words: &'a [OsString],
+struct Call {
+    nvcc: OsString,
+    words: Vec<OsString>,
 }
 
 /// What is asked for.
 #[derive(PartialEq, Eq, Debug)]
-enum Asked<'a> {
+enum Asked {
     Help,
     /// The names of the formats.
     Formats,
-    Call(Format, Call<'a>),
+    Call(Format, Call),
     Stored(Format, Stored),
 }
 
-/// What the options say, as far as they say it.
+/// The options, as they are written.
+const OPTIONS: [&str; 10] = [
+    "--dry-runs",
+    "--cwd",
+    "--tmp",
+    "--flag",
+    "--keep",
+    "--whole",
+    "--limit",
+    "--suffix",
+    "--formats",
+    "--help",
+];
+
+/// What the options say of dry runs in files, as far as they say it.
 #[derive(Default)]
-struct Options<'a> {
-    /// The first option that needs `--dry-runs`.
-    first: Option<&'a str>,
-    files: Option<[&'a str; 2]>,
-    cwd: Option<&'a str>,
-    tmp: Option<&'a str>,
-    flag: Option<&'a str>,
+struct Options {
+    /// The first option.
+    first: Option<String>,
+    files: Option<[String; 2]>,
+    cwd: Option<String>,
+    tmp: Option<String>,
+    flag: Option<String>,
     keeps: bool,
     whole: bool,
     limit: Option<usize>,
     suffixes: Vec<String>,
 }
 
-/// The value of an option, which is then no longer left.
-fn value<'a>(option: &str, what: &str, left: &mut &'a [OsString]) -> Result<&'a str, Refusal> {
-    let Some((value, rest)) = left.split_first() else { return Err(misuse(&format!("{option} needs {what}"))) };
-    *left = rest;
-    value.to_str().ok_or_else(|| refusal(2, "zigrunk plan: a word isn't UTF-8"))
+/// The value of the option that was read last, which needs one.
+fn text(words: &mut Parser, needs: &str) -> Result<String, Refusal> {
+    let value = value(words, needs).map_err(misuse)?;
+    value.into_string().map_err(|_| refusal(2, "zigrunk plan: a word isn't UTF-8"))
 }
 
-impl<'a> Options<'a> {
-    /// Takes the options that words begin with. Says which words are left.
-    fn take(&mut self, words: &'a [OsString]) -> Result<&'a [OsString], Refusal> {
-        let mut left = words;
-        while let Some((option, rest)) = left.split_first().and_then(|(word, rest)| Some((word.to_str()?, rest))) {
-            if !option.starts_with('-') || option == "--" {
-                break;
-            }
-            left = rest;
-            self.take_one(option, &mut left)?;
-            self.first = self.first.or(Some(option));
-        }
-        Ok(left)
-    }
+/// A number of bytes.
+fn limit(number: &str) -> Result<usize, Refusal> {
+    let is_number = !number.is_empty() && number.bytes().all(|byte| byte.is_ascii_digit());
+    let limit = number.parse().ok().filter(|&limit: &usize| is_number && limit > 0);
+    limit.ok_or_else(|| misuse(format!("--limit needs a number of bytes, not {}", shown(number.as_ref()))))
+}
 
-    fn take_one(&mut self, option: &'a str, left: &mut &'a [OsString]) -> Result<(), Refusal> {
+impl Options {
+    /// Takes an option with its value.
+    fn take(&mut self, option: &str, words: &mut Parser) -> Result<(), Refusal> {
+        let mut of = |what: &str| text(words, &format!("--{option} needs {what}"));
         match option {
-            "--dry-runs" => self.files = Some([value(option, "two files", left)?, value(option, "two files", left)?]),
-            "--cwd" => self.cwd = Some(value(option, "a directory", left)?),
-            "--tmp" => self.tmp = Some(value(option, "a directory", left)?),
-            "--flag" => self.flag = Some(value(option, "a flag, as -c", left)?),
-            "--suffix" => self.suffixes.push(value(option, "a suffix, as .gpu", left)?.to_owned()),
-            "--limit" => {
-                let number = value(option, "a number of bytes", left)?;
-                let is_number = !number.is_empty() && number.bytes().all(|byte| byte.is_ascii_digit());
-                let limit = number.parse().ok().filter(|&limit: &usize| is_number && limit > 0);
-                self.limit = Some(limit.ok_or_else(|| misuse(&format!("--limit needs a number of bytes, not {}", shown(number.as_ref()))))?);
-            }
-            "--keep" => self.keeps = true,
-            "--whole" => self.whole = true,
-            _ => {
-                let known = ["--dry-runs", "--cwd", "--tmp", "--flag", "--keep", "--whole", "--limit", "--suffix", "--formats", "--help"];
-                return Err(misuse(&format!("unexpected option {}{}", shown(option.as_ref()), question(option, known))));
-            }
+            "dry-runs" => self.files = Some([of("two files")?, of("two files")?]),
+            "cwd" => self.cwd = Some(of("a directory")?),
+            "tmp" => self.tmp = Some(of("a directory")?),
+            "flag" => self.flag = Some(of("a flag, as -c")?),
+            "suffix" => self.suffixes.push(of("a suffix, as .gpu")?),
+            "limit" => self.limit = Some(limit(&of("a number of bytes")?)?),
+            "keep" => self.keeps = true,
+            "whole" => self.whole = true,
+            _ => return Err(misuse(unexpected(&Long(option), &OPTIONS))),
         }
+        self.first.get_or_insert_with(|| format!("--{option}"));
         Ok(())
     }
 
     /// The dry runs that these options mean.
-    fn stored(self, files: [&str; 2]) -> Result<Stored, Refusal> {
+    fn stored(self, files: [String; 2]) -> Result<Stored, Refusal> {
         let here = || working_directory().and_then(|here| here.into_os_string().into_string().ok());
-        let cwd = self.cwd.map(String::from).or_else(here).ok_or_else(|| refusal(1, "zigrunk plan: there is no working directory"))?;
+        let cwd = self
+            .cwd
+            .or_else(here)
+            .ok_or_else(|| refusal(1, "zigrunk plan: there is no working directory"))?;
         Ok(Stored {
-            files: files.map(String::from),
-            tmp: self.tmp.map_or_else(|| cwd.clone(), String::from),
+            files,
+            tmp: self.tmp.unwrap_or_else(|| cwd.clone()),
             cwd,
-            flag: self.flag.unwrap_or("-c").to_owned(),
+            flag: self.flag.unwrap_or_else(|| "-c".into()),
             keeps: self.keeps,
             whole: self.whole,
             limit: self.limit.unwrap_or(MOST_BYTES),
@@ -141,63 +137,81 @@ impl<'a> Options<'a> {
 }
 
 /// The format of a word.
-fn format_of(word: Option<&OsString>) -> Result<Format, Refusal> {
-    let Some(word) = word else { return Err(misuse("a format is missing")) };
+fn format_of(word: &OsStr) -> Result<Format, Refusal> {
     let name = word.to_string_lossy();
-    let unknown = || misuse(&format!("unknown format {}{}", shown(word), question(&name, Format::ALL.map(Format::name))));
+    let unknown = || {
+        misuse(format!("unknown format {}{}", shown(word), question(&name, Format::ALL.map(Format::name))))
+    };
     Format::named(&name).ok_or_else(unknown)
 }
 
 /// Parses `FORMAT [--] NVCC WORD..`, or options with `--dry-runs` before and behind a format.
-fn asked(words: &[OsString]) -> Result<Asked<'_>, Refusal> {
-    match words {
-        [word, ..] if word == "-h" || word == "--help" => return Ok(Asked::Help),
-        [word] if word == "--formats" => return Ok(Asked::Formats),
-        _ => {}
-    }
-    let mut options = Options::default();
-    let left = options.take(words)?;
-    let format = format_of(left.first())?;
-    let behind = &left[1..];
-    let behind = options.take(behind)?;
-    match (options.files, options.first) {
-        (Some(_), _) if !behind.is_empty() => Err(misuse(&format!("unexpected word {}", shown(&behind[0])))),
-        (Some(files), _) => Ok(Asked::Stored(format, options.stored(files)?)),
-        (None, Some(option)) => Err(misuse(&format!("{option} needs --dry-runs"))),
-        (None, None) => {
-            let words = behind.strip_prefix(&[OsString::from("--")][..]).unwrap_or(behind);
-            let Some((nvcc, words)) = words.split_first() else { return Err(misuse("nvcc and its words are missing")) };
-            Ok(Asked::Call(format, Call { nvcc, words }))
+fn asked(words: &[OsString]) -> Result<Asked, Refusal> {
+    let mut words = Parser::from_args(words);
+    let (mut format, mut options) = (None, Options::default());
+    while let Some(word) = words.next().map_err(misuse)? {
+        match (word, format) {
+            (Short('h') | Long("help"), _) => return Ok(Asked::Help),
+            (Long("formats"), _) => return Ok(Asked::Formats),
+            (Long(option), _) => {
+                let option = option.to_owned();
+                options.take(&option, &mut words)?;
+            }
+            (Value(name), None) => format = Some(format_of(&name)?),
+            (Value(nvcc), Some(format)) if options.first.is_none() => {
+                let words = words.raw_args().map_err(misuse)?.collect();
+                return Ok(Asked::Call(format, Call { nvcc, words }));
+            }
+            (Value(_), Some(_)) if options.files.is_none() => break,
+            (word, _) => return Err(misuse(unexpected(&word, &OPTIONS))),
         }
+    }
+    let format = format.ok_or_else(|| misuse("a format is missing"))?;
+    match (options.files.take(), &options.first) {
+        (Some(files), _) => Ok(Asked::Stored(format, options.stored(files)?)),
+        (None, Some(option)) => Err(misuse(format!("{option} needs --dry-runs"))),
+        (None, None) => Err(misuse("nvcc and its words are missing")),
     }
 }
 
 /// The line of a call, with all variables that count.
-fn line_of(call: &Call<'_>) -> Result<NvccLine, Refusal> {
-    let text = |word: &OsStr| word.to_str().map(String::from).ok_or_else(|| refusal(2, "zigrunk plan: a word isn't UTF-8"));
+fn line_of(call: &Call) -> Result<NvccLine, Refusal> {
+    let text = |word: &OsStr| {
+        word.to_str().map(String::from).ok_or_else(|| refusal(2, "zigrunk plan: a word isn't UTF-8"))
+    };
     let cwd = working_directory().ok_or_else(|| refusal(1, "zigrunk plan: there is no working directory"))?;
     let names = ["NVCC_PREPEND_FLAGS", "NVCC_APPEND_FLAGS", "ZIGRUNK_JOBS", "MAKEFLAGS"];
-    let set = names.iter().filter_map(|name| Some((name, env::var_os(name)?)));
-    let variables = set.map(|(name, value)| Ok(((*name).to_owned(), text(&value)?))).collect::<Result<_, _>>()?;
+    let set = names.iter().filter_map(|name| Some((name, own_variable(name)?)));
+    let variables =
+        set.map(|(name, value)| Ok(((*name).to_owned(), text(&value)?))).collect::<Result<_, _>>()?;
     let words = call.words.iter().map(|word| text(word)).collect::<Result<_, _>>()?;
-    Ok(NvccLine { cwd: text(cwd.as_os_str())?, nvcc: text(call.nvcc)?, words, variables })
+    Ok(NvccLine { cwd: text(cwd.as_os_str())?, nvcc: text(&call.nvcc)?, words, variables })
 }
 
-/// The path of the directory that the call itself would have. The user's folder above it is made, as private as a call needs it: what runs
-/// the plan makes directories that all can read.
+/// The path of the directory that the call itself would have. The user's folder above it is made, as private
+/// as a call needs it: what runs the plan makes directories that all can read.
 fn directory_of(line: &NvccLine) -> Result<String, Refusal> {
-    let settings = Settings::of_environment().map_err(|complaint| refusal(2, format!("zigrunk plan: {complaint}")))?;
+    let settings =
+        Settings::of_environment().map_err(|complaint| refusal(2, format!("zigrunk plan: {complaint}")))?;
     let above = absolute(settings.plans(), line.cwd.as_ref());
     let name = line.directory_name().map_err(|error| refused(&error))?;
     let user = format!("zigrunk-{}", system::user());
     let _ = Folder::private(&above, &user);
     let path = above.join(user).join(name);
-    path.into_os_string().into_string().map_err(|_| refusal(1, "zigrunk plan: the temporary directory isn't UTF-8"))
+    path.into_os_string()
+        .into_string()
+        .map_err(|_| refusal(1, "zigrunk plan: the temporary directory isn't UTF-8"))
 }
 
 /// A machine without slots, for the dry runs.
 fn machine() -> std::io::Result<Host> {
-    Host::new(Signals::open()?, Shared::new()?, None, None, Environment::own().with("ZIGRUNK_INSIDE", OsStr::new("")))
+    Host::new(
+        Signals::open()?,
+        Shared::new()?,
+        None,
+        None,
+        Environment::own().with("ZIGRUNK_INSIDE", OsStr::new("")),
+    )
 }
 
 /// Why there is no plan of a call.
@@ -210,21 +224,28 @@ fn refused(error: &call::Error) -> Refusal {
 }
 
 /// The plan of a call, in a format.
-fn plan_of(format: Format, call: &Call<'_>) -> Result<String, Refusal> {
+fn plan_of(format: Format, call: &Call) -> Result<String, Refusal> {
     let line = line_of(call)?;
     let tmp = directory_of(&line)?;
     let call = call::Call::read(line, tmp).map_err(|error| refused(&error))?;
     let mut machine = machine().map_err(|error| refusal(1, format!("zigrunk plan: {error}")))?;
-    let dry_runs = call.make_dry_runs(&mut Jobs::new(&mut machine, || Ok(()))).map_err(|stopped| match stopped {
-        Stopped::Refused(error) => refused(&error),
-        Stopped::Signal(number) => refusal(128 + number, ""),
-    })?;
-    let planning = Planning { variables: &[], keeps_names: call.keep_dir().is_some(), programs: &Disk::default(), limit: Some(MOST_OF_NVCC) };
+    let dry_runs =
+        call.make_dry_runs(&mut Jobs::new(&mut machine, || Ok(()))).map_err(|stopped| match stopped {
+            Stopped::Refused(error) => refused(&error),
+            Stopped::Signal(number) => refusal(128 + number, ""),
+        })?;
+    let planning = Planning {
+        variables: &[],
+        keeps_names: call.keep_dir().is_some(),
+        programs: &Disk::default(),
+        limit: Some(MOST_OF_NVCC),
+    };
     call.plan_made(&dry_runs, &planning).and_then(|plan| plan.text(format)).map_err(|error| refused(&error))
 }
 
 fn help() -> String {
-    let formats: Vec<String> = Format::ALL.iter().map(|format| format!("  {:<7} {}", format.name(), format.about())).collect();
+    let formats: Vec<String> =
+        Format::ALL.iter().map(|format| format!("  {:<7} {}", format.name(), format.about())).collect();
     format!(
         "{USAGE}
 
@@ -237,12 +258,12 @@ With --dry-runs, the plan is that of two dry runs of a call, which are in files;
   nvcc WORD.. --dryrun --keep 2> FILE
   nvcc WORD.. --keep-dir DIR --dryrun --keep 2> FILE
 
---cwd DIR      where nvcc was called; the working directory, unless set
---tmp DIR      the DIR of the second dry run; that of --cwd, unless set
---flag FLAG    what nvcc makes; -c, unless set
+--cwd DIR      where nvcc was called; by default the working directory
+--tmp DIR      the DIR of the second dry run; by default that of --cwd
+--flag FLAG    what nvcc makes; by default -c
 --keep         generated files keep nvcc's names
 --whole        fail if the plan drops a command
---limit BYTES  fail if reading a dry run makes over so many bytes; {MOST_BYTES}, unless set
+--limit BYTES  fail if parsing a dry run takes over so many bytes; by default {MOST_BYTES}
 --suffix S     S, such as .gpu, ends the names of further generated files; give it again for more
 --formats      print the names of the formats
 -h, --help     print this text
@@ -253,13 +274,16 @@ The status is 1 for an error, 2 for wrong usage, and 3 if zigrunk leaves the cal
     )
 }
 
-/// Prints what these words ask for. Says the exit status: 2 for wrong usage, 3 if the line goes to nvcc unchanged.
+/// Prints what these words ask for. Says the exit status: 2 for wrong usage, 3 if the line goes to nvcc
+/// unchanged.
 pub fn run(words: &[OsString]) -> i32 {
     let text = asked(words).and_then(|asked| match asked {
         Asked::Help => Ok(help()),
         Asked::Formats => Ok(Format::ALL.map(|format| format!("{}\n", format.name())).concat()),
         Asked::Call(format, call) => plan_of(format, &call),
-        Asked::Stored(format, stored) => stored.text(format).map_err(|reason| refusal(1, format!("zigrunk plan: {reason}"))),
+        Asked::Stored(format, stored) => {
+            stored.text(format).map_err(|reason| refusal(1, format!("zigrunk plan: {reason}")))
+        }
     });
     match text.map(|text| say(1, text.as_bytes())) {
         Ok(Ok(())) => 0,
@@ -292,7 +316,8 @@ mod tests {
             ("jsn nvcc", "unknown format jsn; did you mean json?"),
             ("json", "nvcc and its words are missing"),
             ("json --", "nvcc and its words are missing"),
-            ("-- nvcc", "unknown format --"),
+            ("-- nvcc", "unknown format nvcc"),
+            ("-x nvcc", "unexpected option -x"),
             ("--json nvcc", "unexpected option --json"),
             ("--dry-run a b json", "unexpected option --dry-run; did you mean --dry-runs?"),
             ("--dry-runs a", "--dry-runs needs two files"),
@@ -320,10 +345,9 @@ mod tests {
 
     #[test]
     fn a_call_has_nvcc_and_its_words() {
-        for line in ["json -- nvcc -c k.cu", "json nvcc -c k.cu"] {
-            let words = words(line);
-            let behind = &words[words.len() - 2..];
-            assert_eq!(asked(&words), Ok(Asked::Call(Format::Json, Call { nvcc: "nvcc".as_ref(), words: behind })));
+        for line in ["json -- nvcc -c k.cu", "json nvcc -c k.cu", "-- json nvcc -c k.cu"] {
+            let call = Call { nvcc: "nvcc".into(), words: words("-c k.cu") };
+            assert_eq!(asked(&words(line)), Ok(Asked::Call(Format::Json, call)), "{line}");
         }
         assert_eq!(asked(&words("--formats")), Ok(Asked::Formats));
         assert_eq!(asked(&words("-h")), Ok(Asked::Help));
@@ -343,13 +367,15 @@ mod tests {
         };
         let lines = [
             "--dry-runs a - --cwd /w --tmp /t --flag -ptx --keep --whole --limit 7 --suffix .b --suffix .a ninja",
-            "ninja --dry-runs a - --suffix .b --limit 9 --whole --keep --flag -ptx --tmp /t --cwd /w --suffix .a --limit 07",
+            "ninja --dry-runs a - --suffix=.b --limit=9 --whole --keep --flag=-ptx --tmp /t --cwd /w --suffix .a --limit 07",
             "--keep --limit 1 --cwd /x --suffix .b --dry-runs a - ninja --whole --cwd /w --flag -ptx --limit 7 --suffix .a --tmp /t",
         ];
         for line in lines {
             assert_eq!(asked(&words(line)), Ok(Asked::Stored(Format::Ninja, wanted.clone())), "{line}");
         }
-        let Ok(Asked::Stored(_, stored)) = asked(&words("--dry-runs a b --cwd /w json")) else { panic!("no dry runs") };
+        let Ok(Asked::Stored(_, stored)) = asked(&words("--dry-runs a b --cwd /w json")) else {
+            panic!("no dry runs")
+        };
         assert_eq!(
             stored,
             Stored {

@@ -1,6 +1,6 @@
 //! Plans of two dry runs that are in files.
-use crate::excerpts::excerpt;
 use call::{Disk, Error, ErrorKind, Format, Input, Plan, PlanCall, plan};
+use machine::excerpts::excerpt;
 use std::fs;
 use std::io::{self, Read};
 use std::num::NonZeroUsize;
@@ -20,7 +20,7 @@ pub struct Stored {
     pub keeps: bool,
     /// Whether a plan that dropped a command is an error.
     pub whole: bool,
-    /// How many bytes reading a dry run may make: a few variables can make a short one explode.
+    /// How many bytes parsing a dry run may take: a few variables can make a short one explode.
     pub limit: usize,
     /// Further suffixes of generated files.
     pub suffixes: Vec<String>,
@@ -57,20 +57,30 @@ impl Stored {
     /// What is wrong with a line of a run: where it is, the reason, and the line itself.
     fn at_line(&self, runs: [&[u8]; 2], (input, line): (Input, usize), error: &Error) -> String {
         let (file, text) = self.input(input, runs, line);
-        let advice = "this line filters dependencies: make the dry runs without dependency options, such as -MD";
+        let advice =
+            "this line filters dependencies: make the dry runs without dependency options, such as -MD";
         let more = if error.kind() == ErrorKind::OverLimit { ": --limit allows more" } else { "" };
-        let reason = if text.starts_with(FILTER) { advice.into() } else { format!("{}{more}", shown(&error.what().to_string())) };
+        let reason = if text.starts_with(FILTER) {
+            advice.into()
+        } else {
+            format!("{}{more}", shown(&error.what().to_string()))
+        };
         format!("{}:{line}: {reason}\n    {}", shown(file), excerpt(text, MOST_LINE))
     }
 
     /// The message of an error.
     fn message(&self, runs: [&[u8]; 2], error: &Error) -> String {
         let Some(place) = error.place() else { return shown(&error.to_string()) };
-        let folder = |option: &str, folder: &str| format!("{option} {}: the path has to be absolute, without an empty part, . or ..", shown(folder));
+        let folder = |option: &str, folder: &str| {
+            format!("{option} {}: the path has to be absolute, without an empty part, . or ..", shown(folder))
+        };
         match (place.input, place.line) {
             (input, Some(line)) => self.at_line(runs, (input, line), error),
             (Input::First | Input::Second, None) => {
-                format!("{}: no dry run: no line begins with \"#$ \"", shown(self.input(place.input, runs, 0).0))
+                format!(
+                    "{}: no dry run: no line begins with \"#$ \"",
+                    shown(self.input(place.input, runs, 0).0)
+                )
             }
             (Input::Cwd, None) => folder("--cwd", &self.cwd),
             (Input::Tmp, None) => folder("--tmp", &self.tmp),
@@ -84,9 +94,16 @@ impl Stored {
 
     /// The plan of two dry runs.
     fn planned(&self, runs: [&[u8]; 2]) -> Result<Plan, Error> {
-        let (suffixes, disk): (Vec<&str>, Disk) = (self.suffixes.iter().map(String::as_str).collect(), Disk::default());
+        let (suffixes, disk): (Vec<&str>, Disk) =
+            (self.suffixes.iter().map(String::as_str).collect(), Disk::default());
         let call = PlanCall::new(runs[0], runs[1], &disk).at(&self.cwd, &self.tmp);
-        plan(&PlanCall { flag: &self.flag, keeps_names: self.keeps, suffixes: &suffixes, limit: NonZeroUsize::new(self.limit), ..call })
+        plan(&PlanCall {
+            flag: &self.flag,
+            keeps_names: self.keeps,
+            suffixes: &suffixes,
+            limit: NonZeroUsize::new(self.limit),
+            ..call
+        })
     }
 
     /// The plan in a format.

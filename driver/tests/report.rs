@@ -32,7 +32,8 @@ fn a_log_has_a_summary_a_page_and_a_trace() {
     let (head, body) = page.split_at(page.find("<body>").unwrap());
     assert!(head.starts_with("<!DOCTYPE html>"));
     assert_eq!(difference(body, include_str!("report/page")), None);
-    assert_eq!(trace, include_str!("report/trace"));
+    let value = |text: &str| serde_json::from_str::<serde_json::Value>(text).unwrap();
+    assert_eq!(value(&trace), value(include_str!("report/trace")));
 }
 
 #[test]

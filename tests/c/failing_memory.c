@@ -104,6 +104,11 @@ static int32_t made(int number) {
     case 14: status = zigrunk_lookups(plan.dry1, plan.dry2, plan.cwd, 0, answer, &error); break;
     case 15: status = zigrunk_candidates(text("g++"), text("/a:b"), text("/w"), answer, &error); break;
     case 16: status = zigrunk_split(text("a 'b"), answer, &error); break; /* an error has memory, too */
+    case 17: status = zigrunk_headers(text("# 1 \"a.h\"\n# 2 \"b \xff\\\"\" 2\n# 3 \"a.h\"\n"), answer, &error); break;
+    case 18: case 19: case 20: case 21: /* keys of cudafe++, cicc and ptxas, and of a command that has none */
+        status = zigrunk_plan_of(&plan, (zigrunk_plan **)&it, &error);
+        status = status ? status : zigrunk_plan_key(it, (size_t)(number - 17), (zigrunk_answer **)&other, &error);
+        break;
     default: break;
     }
     if (status > 0 && (!error || error->status != status)) {

@@ -1,8 +1,9 @@
 /* All that the C library says of the rows of misuses.txt: `answers ROOM < misuses.txt`. With a further word, the plan of each row's two dry runs alone, as
- * text. The programs for the other languages print the same. */
+ * text. `answers --call TMP NVCC WORD..` makes the dry runs of a call in the working directory. The programs for the other languages print the same. */
 #include <stdio.h>
 #include <stdlib.h>
 #include <string.h>
+#include <unistd.h>
 #include <zigrunk.h>
 
 extern char **environ;
@@ -80,6 +81,18 @@ static void print_form(const zigrunk_plan *plan, const char *format) {
     zigrunk_free(answer);
 }
 
+/* The words of the last command with other names, and what a preprocessor's output names. */
+static void print_words(zigrunk_texts words) {
+    const char *output = "# 1 \"a.h\"\n# 2 \"k \\\"b\" 2\n# 3 \"a.h\"\n";
+    zigrunk_answer *renamed = NULL, *headers = NULL;
+    if (zigrunk_remap(words, (zigrunk_texts){0}, &renamed, NULL) != ZIGRUNK_OK || zigrunk_headers((zigrunk_text){output, ZIGRUNK_ALL}, &headers, NULL) != ZIGRUNK_OK) {
+        exit(2);
+    }
+    print_texts("renamed", renamed->texts);
+    print_texts("header", headers->texts);
+    zigrunk_free(renamed), zigrunk_free(headers);
+}
+
 /* Two slots, and the command that began first ends first. */
 static void print_schedule(const zigrunk_plan *plan, size_t count) {
     zigrunk_schedule_call given = {&plan, 1, NULL, 0, 2, ZIGRUNK_START_EARLIER};
@@ -100,10 +113,65 @@ static void print_schedule(const zigrunk_plan *plan, size_t count) {
     zigrunk_free(schedule), free(started);
 }
 
+/* What the line of a cicc command says, how it is written back, and the key of such a command without a plan. */
+static void print_line(const zigrunk_command *of) {
+    zigrunk_texts words = {of->words.items + 1, of->words.lengths + 1, of->words.count - 1}, root = {&of->cwd.bytes, &of->cwd.length, 1};
+    zigrunk_line_call given = {of->cwd, words, {NULL, NULL, 0}, ZIGRUNK_TOOL_CICC};
+    zigrunk_key_call key_call = {of->words, of->environment, root, ZIGRUNK_TOOL_CICC};
+    zigrunk_line *line = NULL;
+    zigrunk_answer *written = NULL, *key = NULL;
+    if (zigrunk_line_records(&given, &line, NULL) != ZIGRUNK_OK || zigrunk_line_words(&given, &written, NULL) != ZIGRUNK_OK ||
+        zigrunk_command_key(&key_call, &key, NULL) != ZIGRUNK_OK) {
+        exit(2);
+    }
+    print_text(" line", line->input.bytes, line->input.length);
+    print_text(" line", line->compilation_flag.bytes, line->compilation_flag.length);
+    print_texts(" line", line->output_keys), print_texts(" line", line->output_paths), print_texts(" line", line->dependency_args);
+    print_texts(" line", line->preprocessor_args), print_texts(" line", line->common_args), print_texts(" line", line->arch_args);
+    print_texts(" line", line->unhashed_args), print_texts(" line", line->extra_dist_files), print_texts(" line", line->extra_hash_files);
+    printf(" line of %u %u %u %zu\n", (unsigned)line->language, (unsigned)line->color_mode, (unsigned)line->double_dash_input, *line->output_is_optional);
+    print_texts(" written", written->texts), print_texts(" own key", key->texts);
+    zigrunk_free(line), zigrunk_free(written), zigrunk_free(key);
+}
+
+/* The look-ups of a call, the paths that each tries, and the plan if each finds the first. */
+static void print_table(const zigrunk_call *call, zigrunk_dry_runs runs, const char *cwd) {
+    zigrunk_found_program programs[16];
+    zigrunk_answer *asked = NULL, *tried[16] = {NULL};
+    zigrunk_plan *plan = NULL;
+    zigrunk_text folder = {cwd, ZIGRUNK_ALL};
+    if (zigrunk_lookups(runs.first, runs.second, folder, 0, &asked, NULL) != ZIGRUNK_OK || asked->texts.count > 32) {
+        exit(2);
+    }
+    print_texts("lookup", asked->texts);
+    for (size_t i = 0; i < asked->texts.count / 2; i++) {
+        zigrunk_text program = {asked->texts.items[2 * i], ZIGRUNK_ALL}, path = {asked->texts.items[2 * i + 1], ZIGRUNK_ALL};
+        if (zigrunk_candidates(program, path, folder, &tried[i], NULL) != ZIGRUNK_OK) {
+            exit(2);
+        }
+        print_texts("candidate", tried[i]->texts);
+        programs[i] = (zigrunk_found_program){program, path, {*tried[i]->texts.items, *tried[i]->texts.lengths}};
+    }
+    runs.programs = programs, runs.programs_count = asked->texts.count / 2;
+    zigrunk_error *error = NULL;
+    if (zigrunk_call_plan_of(call, &runs, &plan, &error) != ZIGRUNK_OK) {
+        print_refusal(error);
+    } else {
+        print_form(plan, "text");
+    }
+    for (size_t i = 0; i < 16; i++) {
+        zigrunk_free(tried[i]);
+    }
+    zigrunk_free(plan), zigrunk_free(asked);
+}
+
 static void print_plan(const zigrunk_plan *plan) {
     const zigrunk_commands *all = zigrunk_plan_commands(plan);
     for (size_t i = 0; i < all->count; i++) {
         print_command(&all->items[i]);
+        if (all->items[i].tool == ZIGRUNK_TOOL_CICC) {
+            print_line(&all->items[i]);
+        }
         if (i < all->count - all->dropped) {
             print_key(plan, i);
         }
@@ -112,6 +180,7 @@ static void print_plan(const zigrunk_plan *plan) {
     for (size_t i = 0; i < 5; i++) {
         print_form(plan, formats[i]);
     }
+    print_words(all->items[all->count - all->dropped - 1].words);
     print_schedule(plan, all->count - all->dropped);
 }
 
@@ -145,6 +214,7 @@ static void print_row(const char *room, const char *tmp_name, const char *first,
         print_refusal(error);
     } else {
         print_plan(plan);
+        print_table(call, runs, cwd);
     }
     zigrunk_free(plan), zigrunk_free(call);
     free((void *)runs.own.bytes), free((void *)runs.first.bytes), free((void *)runs.second.bytes);
@@ -166,8 +236,29 @@ static void print_pair(const char *room, const char *first, const char *second) 
     free((void *)given.dry1.bytes), free((void *)given.dry2.bytes);
 }
 
+static void print_made(const char *tmp, char **nvcc) {
+    char cwd[4096];
+    zigrunk_texts words = {(const char *const *)nvcc + 1, NULL, ZIGRUNK_ALL}, environment = {(const char *const *)environ, NULL, ZIGRUNK_ALL};
+    zigrunk_nvcc_call given = {{*nvcc, ZIGRUNK_ALL}, words, environment, {getcwd(cwd, sizeof cwd), ZIGRUNK_ALL}, {tmp, ZIGRUNK_ALL}};
+    zigrunk_call *call = NULL;
+    zigrunk_plan *plan = NULL;
+    zigrunk_error *error = NULL;
+    if (zigrunk_call_of(&given, &call, &error) != ZIGRUNK_OK) {
+        print_refusal(error);
+    } else if (print_outline(zigrunk_call_outline(call)), zigrunk_call_plan(call, &plan, &error) != ZIGRUNK_OK) {
+        print_refusal(error);
+    } else {
+        print_plan(plan);
+    }
+    zigrunk_free(plan), zigrunk_free(call);
+}
+
 int main(int count, char **arguments) {
     char line[1024], name[64], tmp[64], first[64], second[64], own[64];
+    if (count > 3 && strcmp(arguments[1], "--call") == 0) {
+        print_made(arguments[2], arguments + 3);
+        return 0;
+    }
     while (count >= 2 && fgets(line, sizeof line, stdin)) {
         if (sscanf(line, "%63s %63s %63s %63s %*s %*s %*s %63s", name, tmp, first, second, own) != 5) {
             return 2;

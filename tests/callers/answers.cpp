@@ -1,4 +1,5 @@
-// All that the C++ layer says of the rows of misuses.txt, as answers.c prints it: `answers ROOM [text] < misuses.txt`.
+// All that the C++ layer says of the rows of misuses.txt, as answers.c prints it: `answers ROOM [text] < misuses.txt`, or `answers --call
+// TMP NVCC WORD..`.
 #include <zigrunk.hpp>
 
 #include <deque>
@@ -6,6 +7,8 @@
 #include <iostream>
 #include <iterator>
 #include <sstream>
+
+#include <unistd.h>
 
 using zigrunk::Texts;
 
@@ -37,7 +40,7 @@ static void print_run(const std::string &name, const std::optional<zigrunk::Run>
 
 static void print_refusal(const zigrunk::Error &error) {
     std::cout << "refused " << error.status << ' ' << error.input << ' ' << error.line << '\n';
-    print_text("message", error.what());
+    print_text("message", error.message);
 }
 
 static void print_call(const zigrunk::Call &call) {
@@ -78,9 +81,45 @@ static void print_schedule(const zigrunk::Plan &plan) {
     }
 }
 
+static void print_line(const zigrunk::Command &of) {
+    const Texts words(of.words.begin() + 1, of.words.end());
+    const zigrunk::Line line = zigrunk::line_records(of.tool, of.cwd, words);
+    print_texts(" line", {line.input, line.compilation_flag});
+    for (const zigrunk::Output &output : line.outputs) {
+        print_text(" line", output.key);
+    }
+    for (const zigrunk::Output &output : line.outputs) {
+        print_text(" line", output.path);
+    }
+    for (const Texts &texts : {line.dependency_args, line.preprocessor_args, line.common_args, line.arch_args, line.unhashed_args,
+             line.extra_dist_files, line.extra_hash_files}) {
+        print_texts(" line", texts);
+    }
+    std::cout << " line of " << line.language << ' ' << line.color_mode << ' ' << line.double_dash_input << ' ' << line.outputs.at(0).is_optional << '\n';
+    print_texts(" written", zigrunk::line_words(of.tool, of.cwd, words));
+    print_text(" own key", zigrunk::command_key(of.tool, of.words, of.environment, {of.cwd}));
+}
+
+static void print_table(const zigrunk::Call &call, const std::string &own, const std::string &first, const std::string &second, const std::string &cwd) {
+    zigrunk::Programs programs(std::in_place);
+    Texts asked;
+    for (const zigrunk::Lookup &lookup : zigrunk::lookups(first, second, cwd)) {
+        asked.push_back(lookup.program), asked.push_back(lookup.path);
+        programs->push_back({lookup, zigrunk::candidates(lookup, cwd).at(0)});
+    }
+    print_texts("lookup", asked);
+    for (const zigrunk::FoundProgram &of : *programs) {
+        print_texts("candidate", zigrunk::candidates(of.lookup, cwd));
+    }
+    print_text("text", call.plan_of(own, first, second, 0, programs).text("text"));
+}
+
 static void print_plan(const zigrunk::Plan &plan) {
     for (std::size_t i = 0; i < plan.commands().size(); ++i) {
         print_command(plan.commands()[i]);
+        if (plan.commands()[i].tool == ZIGRUNK_TOOL_CICC) {
+            print_line(plan.commands()[i]);
+        }
         try {
             const zigrunk::Key key = plan.key(i);
             print_text(" key", key.text), print_texts(" key", key.tool_files);
@@ -98,6 +137,8 @@ static void print_plan(const zigrunk::Plan &plan) {
             print_refusal(error);
         }
     }
+    print_texts("renamed", zigrunk::remap(plan.commands().back().words));
+    print_texts("header", zigrunk::headers("# 1 \"a.h\"\n# 2 \"k \\\"b\" 2\n# 3 \"a.h\"\n"));
     print_schedule(plan);
 }
 
@@ -109,7 +150,16 @@ static std::string content(const std::string &path) {
 static void print_row(const std::string &room, const std::string &tmp, const std::string &first, const std::string &second, const std::string &own) {
     const zigrunk::Call call(room + "/bin/nvcc", {"-c", "kernel.cu", "-o", "kernel.o"}, zigrunk::environment(), room + "/w", room + "/" + tmp);
     print_call(call);
-    print_plan(call.plan_of(content(room + "/" + own), content(room + "/" + first), content(room + "/" + second)));
+    const std::string runs[] = {content(room + "/" + own), content(room + "/" + first), content(room + "/" + second)};
+    print_plan(call.plan_of(runs[0], runs[1], runs[2]));
+    print_table(call, runs[0], runs[1], runs[2], room + "/w");
+}
+
+static void print_made(const std::string &tmp, const Texts &words) {
+    char cwd[4096];
+    const zigrunk::Call call(words[0], Texts(words.begin() + 1, words.end()), zigrunk::environment(), getcwd(cwd, sizeof cwd), tmp);
+    print_call(call);
+    print_plan(call.plan());
 }
 
 int main(int count, char **arguments) {
@@ -117,6 +167,14 @@ int main(int count, char **arguments) {
         return 2;
     }
     const std::string room = arguments[1];
+    if (count > 3 && room == "--call") {
+        try {
+            print_made(arguments[2], Texts(arguments + 3, arguments + count));
+        } catch (const zigrunk::Error &error) {
+            print_refusal(error);
+        }
+        return 0;
+    }
     for (std::string row; std::getline(std::cin, row);) {
         std::istringstream words(row);
         std::string name, tmp, first, second, skipped, own;

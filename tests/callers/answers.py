@@ -1,4 +1,5 @@
-"""All that the Python layer says of the rows of misuses.txt, as answers.c prints it: answers.py ROOM [text] < misuses.txt."""
+"""All that the Python layer says of the rows of misuses.txt, as answers.c prints it: answers.py ROOM [text] < misuses.txt, or
+answers.py --call TMP NVCC WORD.."""
 
 import os
 import sys
@@ -51,9 +52,33 @@ def print_command(of: zigrunk.Command) -> None:
         print(" needs", need)
 
 
+def print_line(of: zigrunk.Command) -> None:
+    line = zigrunk.line_records(of.tool, of.cwd, of.words[1:])
+    lists = (line.dependency_args, line.preprocessor_args, line.common_args, line.arch_args, line.unhashed_args,
+             line.extra_dist_files, line.extra_hash_files)
+    print_texts(" line", (line.input, line.compilation_flag, *(it.key for it in line.outputs), *(it.path for it in line.outputs)))
+    for texts in lists:
+        print_texts(" line", texts)
+    print(" line of", int(line.language), int(line.color_mode), int(line.double_dash_input), int(line.outputs[0].optional))
+    print_texts(" written", zigrunk.line_words(of.tool, of.cwd, of.words[1:]))
+    print_texts(" own key", [zigrunk.command_key(of.tool, of.words, of.environment, [of.cwd])])
+
+
+def print_table(call: zigrunk.Call, own: bytes, first: bytes, second: bytes, cwd: str) -> None:
+    asked = zigrunk.lookups(first, second, cwd)
+    print_texts("lookup", (text for it in asked for text in (it.program, it.path)))
+    tried = [zigrunk.candidates(it, cwd) for it in asked]
+    for paths in tried:
+        print_texts("candidate", paths)
+    programs = {it: paths[0] for it, paths in zip(asked, tried)}
+    print_texts("text", [call.plan_of(own, first, second, programs).text("text")])
+
+
 def print_plan(plan: zigrunk.Plan) -> None:
     for number, command in enumerate((*plan.commands, *plan.dropped)):
         print_command(command)
+        if command.tool == zigrunk.Tool.CICC:
+            print_line(command)
         if number < len(plan.commands):
             try:
                 key = plan.key(number)
@@ -65,6 +90,8 @@ def print_plan(plan: zigrunk.Plan) -> None:
             print_texts(form, [plan.text(form)])
         except zigrunk.ZigrunkError as error:
             print_refusal(error)
+    print_texts("renamed", zigrunk.remap(plan.commands[-1].words))
+    print_texts("header", zigrunk.headers(b'# 1 "a.h"\n# 2 "k \\"b" 2\n# 3 "a.h"\n'))
     print_schedule(zigrunk.Schedule([plan], 2))
 
 
@@ -79,7 +106,18 @@ def print_schedule(schedule: zigrunk.Schedule) -> None:
         print("told", schedule.told(0, len(schedule)).commands.stop)
 
 
+def print_made(tmp: str, nvcc: str, words: Sequence[str]) -> None:
+    try:
+        call = zigrunk.Call(nvcc, words, os.environ, os.getcwd(), tmp)
+        print_call(call)
+        print_plan(call.plan())
+    except zigrunk.ZigrunkError as error:
+        print_refusal(error)
+
+
 def main(arguments: Sequence[str]) -> None:
+    if arguments[0] == "--call":
+        return print_made(arguments[1], arguments[2], arguments[3:])
     room = Path(arguments[0])
     for row in sys.stdin:
         name, tmp, first, second, *_, own = row.split()
@@ -91,7 +129,9 @@ def main(arguments: Sequence[str]) -> None:
                 continue
             call = zigrunk.Call(str(room / "bin/nvcc"), ["-c", "kernel.cu", "-o", "kernel.o"], os.environ, str(room / "w"), f"{room}/{tmp}")
             print_call(call)
-            print_plan(call.plan_of((room / own).read_bytes(), (room / first).read_bytes(), (room / second).read_bytes()))
+            own_text, one, two = ((room / name).read_bytes() for name in (own, first, second))
+            print_plan(call.plan_of(own_text, one, two))
+            print_table(call, own_text, one, two, f"{room}/w")
         except zigrunk.ZigrunkError as error:
             print_refusal(error)
 

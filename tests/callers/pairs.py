@@ -1,10 +1,12 @@
 #!/usr/bin/env python3
 """Plans pairs of dry runs by lot by cudaplan and by each language, and compares: pairs.py CUDAPLAN ROOM SEED COUNT -- PROGRAM.. [-- PROGRAM..].
 
-ROOM is a folder of room.sh, and each PROGRAM prints what answers.c does. A language has to print cudaplan's plan, or to refuse where cudaplan does or
-its plan has no command. The last line is 'N passed, M failed', and counts pairs of all languages."""
+ROOM is a folder of room.sh, and each PROGRAM prints what answers.c does. A language has to print cudaplan's plan, or to refuse where cudaplan does,
+its plan has no command, or a text has no line of a dry run. cudaplan takes a program to be in the first directory of PATH and doesn't look, so a
+language may also say that it can't find a program that isn't there. The last line is 'N passed, M failed', and counts pairs of all languages."""
 
 import os
+import re
 import subprocess
 import sys
 from concurrent.futures import ThreadPoolExecutor
@@ -14,6 +16,7 @@ from typing import Dict, List
 
 HERE = Path(__file__).resolve().parent
 CHUNK = 500
+NOT_FOUND = "refused 6 "
 
 
 def escaped(text: bytes) -> str:
@@ -21,24 +24,39 @@ def escaped(text: bytes) -> str:
 
 
 def by_cudaplan(cudaplan: str, room: str, row: str) -> str:
-    """The plan as a text, or nothing if there is none or it has no command."""
+    """The plan as a text, or nothing if there is none, it has no command, or a text is no dry run."""
     _, _, first, second, *_ = row.split()
+    if not all(re.search(rb"^#\$ ", Path(room, name).read_bytes(), re.MULTILINE) for name in (first, second)):
+        return ""
     words = [cudaplan, "plan", f"{room}/w", f"{room}/t", "-c", f"{room}/{first}", f"{room}/{second}"]
     ran = subprocess.run(words, stdout=subprocess.PIPE, stderr=subprocess.DEVNULL, check=False)
     has_command = any(line.startswith((b"yes cd ", b"no cd ")) for line in ran.stdout.split(b"\n"))
     return f"text {escaped(ran.stdout)}" if ran.returncode == 0 and has_command else ""
 
 
+def is_program(path: str) -> bool:
+    return os.path.isfile(path) and os.access(path, os.X_OK)
+
+
+def is_missing(message: str, cwd: str) -> bool:
+    """Whether the program that a message can't find really isn't there."""
+    text = re.sub(r"\\([0-9a-f]{2})", lambda it: chr(int(it[1], 16)), message)
+    found = re.search(r": cannot find (.*?)(?: in PATH \((.*)\)|: no such program)$", text, re.DOTALL)
+    return found is not None and not any(is_program(os.path.join(cwd, folder, found[1])) for folder in (found[2] or "").split(":"))
+
+
 def said(program: List[str], room: str, rows: str) -> Dict[str, str]:
-    """What a program says of each row: the plan, or nothing if it refuses."""
+    """What a program says of each row: the plan, that it can't find a program, or nothing if it refuses otherwise."""
     printed = subprocess.run([*program, room, "text"], input=rows, stdout=subprocess.PIPE, text=True, check=True).stdout
     found, name = {}, ""
     for line in printed.splitlines():
         if line.startswith("== "):
             name = line[3:]
             found[name] = ""
-        elif line.startswith("text "):
+        elif line.startswith(("text ", NOT_FOUND)):
             found[name] = line
+        elif line.startswith("message ") and found[name].startswith(NOT_FOUND):
+            found[name] += line
     return found
 
 
@@ -55,7 +73,10 @@ def main(arguments: List[str]) -> int:
                 for row, plan in zip(rows.splitlines(), wanted):
                     name = row.split()[0]
                     # (cudaplan ends its text with a newline more than the library)
-                    is_same = found.get(name, "no answer").removesuffix("\\0a") == plan.removesuffix("\\0a")
+                    answer = found.get(name, "no answer")
+                    is_same = answer.removesuffix("\\0a") == plan.removesuffix("\\0a")
+                    if answer.startswith(NOT_FOUND):
+                        is_same = is_missing(answer, f"{room}/w")
                     passed, failed = passed + is_same, failed + (not is_same)
                     if not is_same:
                         print(f"{' '.join(program)}: {seed} {chunk}, {row}: another plan than cudaplan's")

@@ -17,36 +17,33 @@ start_nodes() {
     done
 }
 
-# on_node NUMBER COMMAND WORD..: runs a command there, with the node's name as that of the machine and mounts of its own. It finds all nodes by
-# their names. PREPARE, if set, is a command for a shell that runs first.
+# on_node NUMBER COMMAND WORD..: runs a command there, with the node's name as that of the machine, and mounts of its own: its disk for temporary
+# files is $local. It finds all nodes by their names. PREPARE, if set, is a command for a shell that runs first.
 on_node() {
     nsenter --net="/run/netns/zigrunk-$$-$1" unshare --mount --uts \
-        sh -c 'mount --bind "$1" /etc/hosts && hostname "n$2" && shift 2 && eval "${PREPARE-}" && exec "$@"' sh "$hosts" "$@"
+        sh -c 'mount --bind "$1" /etc/hosts && mount -t tmpfs -o size=400M none "$2" && hostname "n$3" && shift 3 && eval "${PREPARE-}" && exec "$@"' \
+        sh "$hosts" "$local" "$@"
+}
+
+# inside NUMBER COMMAND WORD..: runs a command with the mounts of a node, as long as its slurmd lives.
+inside() {
+    nsenter --mount --target "$(daemon "$1")" "${@:2}"
+}
+
+# end_of NUMBER PROGRAM: kills what runs there of a program.
+end_of() {
+    # shellcheck disable=SC2046 # several ids
+    kill -9 $(processes_of "$1" | xargs -r ps -o pid=,args= -p | awk -v name="$2" 'index($0, name) { print $1 }') 2> /dev/null
+}
+
+# daemon NUMBER: the slurmd of a node.
+daemon() {
+    processes_of "$1" | xargs -r ps -o pid=,args= -p | awk '$2 ~ /slurmd$/ { print $1; exit }'
 }
 
 # processes_of NUMBER
 processes_of() {
     ip netns pids "zigrunk-$$-$1" 2> /dev/null
-}
-
-# slow NUMBER: ten megabytes a second reach the node, so that a file takes its time.
-slow() {
-    tc qdisc replace dev "zg$$v$1" root tbf rate 80mbit burst 64kb latency 50ms
-}
-
-# fast NUMBER: no longer slow.
-fast() {
-    tc qdisc del dev "zg$$v$1" root
-}
-
-# arrived NUMBER BYTES: waits until so many bytes more have reached the node.
-arrived() {
-    local file=/sys/class/net/zg$$v$1/statistics/tx_bytes begun
-    begun=$(cat "$file")
-    until [ "$(($(cat "$file") - begun))" -ge "$2" ]; do
-        kill -0 "$job" 2> /dev/null || return
-        sleep 0.02
-    done
 }
 
 # link NUMBER up|down: other machines hear nothing of a node whose link is down, not even that its connections end.

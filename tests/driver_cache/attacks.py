@@ -140,6 +140,68 @@ class Box:
             settle()
             self.check(f"undone after {wait} s", others)
 
+    def once_asked(self, words: list[str], change: Callable[[], object], undo: Callable[[], object]) -> None:
+        """Makes a change while a call's host compile is preprocessed, which is what the cache asks first, and undoes it behind the call."""
+        settle()
+        with subprocess.Popen([self.own, *words, f"-I{self.room}/small"], cwd=self.work, env={**self.environment, "PWD": str(self.work)}) as process:
+            while process.poll() is None and not list((self.room / "tmp").rglob("cache.*.ii")):
+                pass
+            if process.poll() is not None:
+                raise Wrong("no preprocessor was seen: the case says nothing")
+            change()
+        undo()
+        for what in ("right behind", "later"):
+            self.check(f"undone, {what}", words)
+            settle()
+
+    def within(self, words: list[str], change: Callable[[], object], undo: Callable[[], object],
+               env: dict[str, str] | None = None) -> None:
+        """Makes a change while a call's host compile is preprocessed, and undoes it while the compiler proper runs."""
+        settle()
+        environment = {**self.environment, "PWD": str(self.work), **(env or {})}
+        command = [str(self.own), *words, f"-I{self.room}/small"]
+        with subprocess.Popen(command, cwd=self.work, env=environment) as process:
+            while process.poll() is None and not list((self.room / "tmp").rglob("cache.*.ii")):
+                time.sleep(0.001)
+            change()
+            while process.poll() is None and not self.compiles():
+                time.sleep(0.01)
+            if process.poll() is not None:
+                raise Wrong("no compiler was seen: the case says nothing")
+            time.sleep(0.2)
+            undo()
+        settle()
+        self.check("undone within a call", words, env)
+
+    def compiles(self) -> bool:
+        """Whether gcc's compiler proper compiles for a call here."""
+        def words_of(folder: pathlib.Path) -> list[bytes]:
+            try:
+                return (folder / "cmdline").read_bytes().split(b"\0")
+            except OSError:
+                return [b""]
+        lines = [words_of(folder) for folder in pathlib.Path("/proc").iterdir() if folder.name.isdigit()]
+        own = str(self.room / "tmp").encode()
+        return any(line[0].endswith(b"cc1plus") and b"-E" not in line and any(own in word for word in line) for line in lines)
+
+    def leaves(self, words: list[str], env: dict[str, str] | None = None, before: Callable[[], object] | None = None) -> None:
+        """Makes a call twice with the cache and once by nvcc. Each time all files that it leaves, and their kinds and modes, are to be the same."""
+        first = {path.name for path in self.work.iterdir()}
+        settle()
+        left: list[list[tuple[str, int, int, int]]] = []
+        for program in (str(self.own), str(self.own), "nvcc"):
+            for path in [path for path in self.work.iterdir() if path.name not in first]:
+                path.unlink()
+            if before:
+                before()
+            environment = {**self.environment, "PWD": str(self.work), **(env or {})}
+            subprocess.run([program, *words, f"-I{self.room}/small"], cwd=self.work, env=environment, capture_output=True, check=False)
+            status = {path.name: (path.lstat(), path.stat()) for path in self.work.iterdir() if path.name not in first}
+            left.append(sorted((name, own.st_mode, own.st_nlink, target.st_size) for name, (own, target) in status.items()))
+            settle()
+        if left[0] != left[2] or left[1] != left[2]:
+            raise Wrong(f"files {left[0]}, then {left[1]}, not {left[2]}")
+
     def once_preprocessed(self, change: Callable[[], object]) -> None:
         """Makes a change once a compile's text is there that a preprocessor wrote, or after a while."""
         until = time.monotonic() + 20
@@ -456,6 +518,29 @@ def undone_edit_of_a_library(box: Box) -> None:
     path.rename(away)
     box.environment["LD_LIBRARY_PATH"] = str(box.work / "mod")
     box.undone(CPP, lambda: away.rename(path), lambda: path.rename(away), [0.05, 0.2, 0.4])
+
+
+@case
+def undone_library_before_a_compile(box: Box) -> None:
+    """A library comes between the cache's look at it and the compile. The source is large, so that much time is between them."""
+    box.put("k.cu", "".join(f"extern int a{number};\n" for number in range(100_000)) + FOLDED.replace("f()", "g()") + KERNEL)
+    box.shim("libmpfr.so.6", "mod")
+    path, away = box.work / "mod/libmpfr.so.6", box.work / "away"
+    path.rename(away)
+    box.environment["LD_LIBRARY_PATH"] = str(box.work / "mod")
+    box.once_asked(CUDA, lambda: away.rename(path), lambda: path.rename(away))
+
+
+@case
+def undone_assembler_before_a_compile(box: Box) -> None:
+    """An assembler comes on the path between the cache's look at gcc's parts and the compile."""
+    box.put("k.cu", "".join(f"extern int a{number};\n" for number in range(100_000)) + KERNEL)
+    real, path = shutil.which("as"), box.put("bin/away", "")
+    path.write_text(f'#!/bin/sh\n{real} "$@"\nfor word; do [ "$last" != -o ] || out=$word; last=$word; done\n'
+                    'objcopy --add-section .other=$0 "$out"\n')
+    path.chmod(0o755)
+    box.environment["PATH"] = f"{box.work}/bin:{os.environ['PATH']}"
+    box.once_asked(CUDA, lambda: path.rename(box.work / "bin/as"), lambda: (box.work / "bin/as").rename(path))
 
 
 @case
@@ -922,6 +1007,208 @@ def readers_of_others(box: Box) -> None:
     path = box.put("h.h", "#define V 1\n")
     box.put("m.cpp", HOST)
     box.changes(CPP, lambda: path.chmod(0), differs=False)
+
+
+# What comes and goes within a call.
+
+# A source that takes long to read, so that much time is between the cache's look at gcc and the compile, which is slow, too.
+LARGE = "".join(f"extern int a{number};\n" for number in range(100_000)) + f"#ifndef __CUDA_ARCH__\n{SLOW.replace('300', '90')}#endif\n"
+
+
+@case
+def library_within_a_call(box: Box) -> None:
+    """In the working directory, where calls put their products, and which is always one of the loader's folders."""
+    box.put("k.cu", LARGE + FOLDED.replace("f()", "g()") + KERNEL)
+    box.shim("libmpfr.so.6", "mod")
+    path, away = box.work / "libmpfr.so.6", box.work / "mod/libmpfr.so.6"
+    box.within(CUDA, lambda: away.rename(path), lambda: path.rename(away))
+
+
+@case
+def library_of_a_kind_of_processors_within_a_call(box: Box) -> None:
+    box.put("k.cu", LARGE + FOLDED.replace("f()", "g()") + KERNEL)
+    box.shim("libmpfr.so.6", "mod/glibc-hwcaps/x86-64-v2")
+    path, away = box.work / "glibc-hwcaps", box.work / "mod/glibc-hwcaps"
+    box.within(CUDA, lambda: away.rename(path), lambda: path.rename(away))
+
+
+@case
+def assembler_within_a_call(box: Box) -> None:
+    """An assembler in a folder where gcc looks first, which removes itself when it is run."""
+    box.put("k.cu", LARGE + KERNEL)
+    real, away = shutil.which("as"), box.put("away", "")
+    away.write_text(f'#!/bin/sh\nrm -f "$0"\n{real} "$@"\nfor word; do [ "$last" != -o ] || out=$word; last=$word; done\n'
+                    'objcopy --add-section .other=/etc/hostname "$out"\n')
+    away.chmod(0o755)
+    (box.work / "tools").mkdir()
+    box.environment["COMPILER_PATH"] = str(box.work / "tools")
+    box.once_asked(CUDA, lambda: away.rename(box.work / "tools/as"), lambda: None)
+
+
+@case
+def specs_within_a_call(box: Box) -> None:
+    version = subprocess.run(["gcc", "-dumpversion"], capture_output=True, text=True, check=True).stdout.strip()
+    machine = subprocess.run(["gcc", "-dumpmachine"], capture_output=True, text=True, check=True).stdout.strip()
+    box.put("k.cu", LARGE + KERNEL)
+    folder = box.work / "tools" / machine / version
+    folder.mkdir(parents=True)
+    variables = {name: str(box.work / "tools") for name in ("LIBRARY_PATH", "COMPILER_PATH")}
+    text = "*cc1_options:\n+ -fpatchable-function-entry=3\n\n"
+    box.within(CUDA, lambda: (folder / "specs").write_text(text), lambda: (folder / "specs").unlink(), variables)
+
+
+@case
+def profile_within_a_call(box: Box) -> None:
+    """A toolkit's profile is another while nvcc reads it."""
+    kit = toolkit(box, "kit")
+    box.put("m.cpp", SLOW + HOST)
+    for folder, value in (("p1", 1), ("p2", 2)):
+        box.put(f"{folder}/h.h", f"#define V {value}\n")
+    profile, away = kit / "bin/nvcc.profile", kit / "bin/away"
+    own = f'{profile.read_text()}\nINCLUDES += "-I{box.work}/{{}}" $(_SPACE_)\n'
+    profile.write_text(own.format("p1"))
+    away.write_text(own.format("p2"))
+    variables = {"PATH": f"{kit}/bin:{os.environ['PATH']}"}
+    settle()
+    first = box.room / "first"
+    profile.rename(first)
+    away.rename(profile)
+    with subprocess.Popen([box.own, *CPP, f"-I{box.room}/small"], cwd=box.work, env={**box.environment, **variables}) as process:
+        while process.poll() is None and not box.compiles():
+            time.sleep(0.01)
+        profile.rename(away)
+        first.rename(profile)
+    settle()
+    box.check("undone within a call", CPP, variables)
+
+
+@case
+def header_within_a_call(box: Box) -> None:
+    """A header in an earlier folder, which comes and goes by a rename of the folder. The cache doesn't notice it yet."""
+    box.put("m.cpp", SLOW + HOST)
+    box.put("late/h.h", "#define V 1\n")
+    box.put("away/h.h", "#define V 2\n")
+    path, away = box.work / "early", box.work / "away"
+    box.within(["-Iearly", "-Ilate", *CPP], lambda: away.rename(path), lambda: path.rename(away))
+
+
+# Files beside the product, and what is at its place.
+
+@case
+def files_beside_a_product(box: Box) -> None:
+    box.put("m.cpp", HOST.partition("\n")[2].replace("V", "1"))
+    box.put("k.cu", KERNEL)
+    for option in ("-fstack-usage", "-gsplit-dwarf", "--coverage", "-fdump-tree-optimized", "-save-temps=obj", "-fcallgraph-info", "-Wa,-al=listing",
+                   "-MMD", "-Wp,-MD,rule", "-fopt-info-all=notes", "-fdump-final-insns"):
+        for words in (CPP, CUDA):
+            box.leaves([f"-Xcompiler={option}", *words])
+
+
+@case
+def dependencies_by_a_variable(box: Box) -> None:
+    box.put("h.h", "#define V 1\n")
+    box.put("m.cpp", HOST)
+    box.put("k.cu", USES)
+    for name in ("DEPENDENCIES_OUTPUT", "SUNPRO_DEPENDENCIES"):
+        for words in (CPP, CUDA):
+            box.leaves(words, {name: str(box.work / "rule")})
+
+
+@case
+def what_is_at_a_products_place(box: Box) -> None:
+    box.put("m.cpp", HOST.partition("\n")[2].replace("V", "1"))
+    box.put("k.cu", KERNEL)
+    box.put("kept", "old")
+
+    def put(mode: int, name: str) -> None:
+        (box.work / name).write_text("old")
+        (box.work / name).chmod(mode)
+
+    def put_twins(product: str) -> None:
+        put(0o644, "twin")
+        os.link(box.work / "twin", box.work / product)
+    for words in (CPP, CUDA, ["-arch=sm_80", "-ptx", "k.cu", "-o", "k.ptx"], ["-arch=sm_80", "-fatbin", "k.cu", "-o", "k.fatbin"]):
+        product = words[-1]
+        box.leaves(words)
+        box.leaves(words, before=lambda product=product: put(0o600, product))  # type: ignore[misc]
+        box.leaves(words, before=lambda product=product: put(0o777, product))  # type: ignore[misc]
+        box.leaves(words, before=lambda product=product: (box.work / product).symlink_to("other"))  # type: ignore[misc]
+        box.leaves(words, before=lambda product=product: put_twins(product))  # type: ignore[misc]
+
+
+# Words of other programs, and of the machine.
+
+@case
+def specs_by_a_word(box: Box) -> None:
+    path = box.put("own.specs", "*cpp_unique_options:\n+ -DV=1\n\n")
+    box.put("m.cpp", HOST.partition("\n")[2])
+    box.changes(["-Xcompiler", "-specs=own.specs", *CPP], lambda: path.write_text("*cpp_unique_options:\n+ -DV=2\n\n"))
+
+
+@case
+def folder_of_programs_by_a_word(box: Box) -> None:
+    box.put("m.cpp", FOLDED)
+    script = box.put("as.c", "#include <unistd.h>\n#include <string.h>\n#include <stdlib.h>\n"
+                     "int main(int n, char** w) { char** v = malloc((n + 2) * 8);"
+                     ' memcpy(v, w, n * 8); v[n] = "--defsym=own=7"; v[n + 1] = 0; v[0] = "as"; execv("/usr/bin/as", v); return 1; }\n')
+    (box.work / "tools").mkdir()
+    words = ["gcc", str(script), "-o", f"{box.work}/tools/as"]
+    box.changes(["-Xcompiler", "-Btools", *CPP], lambda: subprocess.run(words, check=True), differs=False)
+
+
+@case
+def host_compiler_appears(box: Box) -> None:
+    """A gcc in an earlier folder of PATH, which is a program."""
+    box.put("m.cpp", "#ifdef OWN\nint f() { return 2; }\n#else\nint f() { return 1; }\n#endif\n")
+    script = box.put("gcc.c", "#include <unistd.h>\n#include <string.h>\n#include <stdlib.h>\n"
+                     "int main(int n, char** w) { char** v = malloc((n + 2) * 8);"
+                     ' memcpy(v, w, n * 8); v[n] = "-DOWN"; v[n + 1] = 0; v[0] = "gcc"; execv("/usr/bin/gcc", v); return 1; }\n')
+    (box.work / "tools").mkdir()
+    words = ["gcc", str(script), "-o", f"{box.work}/tools/gcc"]
+    box.changes(CPP, lambda: subprocess.run(words, check=True), env={"PATH": f"{box.work}/tools:{os.environ['PATH']}"})
+
+
+@case
+def tool_is_replaced_by_one_of_the_same_time(box: Box) -> None:
+    kit = toolkit(box, "kit")
+    box.put("k.cu", KERNEL)
+    ptxas, real = kit / "bin/ptxas", kit / "bin/real"
+    script = box.put("ptxas.c", "#include <unistd.h>\n#include <string.h>\n#include <stdlib.h>\n"
+                     "int main(int n, char** w) { char** v = malloc((n + 2) * 8);"
+                     ' memcpy(v, w, n * 8); v[n] = "-O0"; v[n + 1] = 0; execv(REAL, v); return 1; }\n')
+
+    def change() -> None:
+        status = ptxas.stat()
+        ptxas.rename(real)
+        subprocess.run(["gcc", f'-DREAL="{real}"', str(script), "-o", str(ptxas)], check=True)
+        os.truncate(ptxas, status.st_size)
+        os.utime(ptxas, ns=(status.st_atime_ns, status.st_mtime_ns))
+    box.changes(CUDA, change, env={"PATH": f"{kit}/bin:{os.environ['PATH']}"}, differs=False)
+
+
+@case
+def locale_appears(box: Box) -> None:
+    """The form of quotes in messages comes from a locale, which appears in a folder of a variable. The cache doesn't notice it yet."""
+    box.put("m.cpp", "static int unused(int a) { return a; }\n")
+    folder = box.work / "locales"
+    folder.mkdir()
+    words = ["localedef", "-i", "en_GB", "-f", "UTF-8", f"{folder}/en_GB.UTF-8"]
+    if not shutil.which("localedef") or not pathlib.Path("/usr/share/i18n/locales/en_GB").exists():
+        raise Skipped("localedef or its sources aren't there")
+    box.changes(["-Xcompiler", "-Wall", *CPP], lambda: subprocess.run(words, capture_output=True, check=False),
+                env={"LOCPATH": str(folder), "LC_ALL": "en_GB.UTF-8"})
+
+
+@case
+def folder_for_temporary_files_goes(box: Box) -> None:
+    box.put("k.cu", KERNEL)
+    box.put("m.cpp", FOLDED)
+    (box.work / "tmp").mkdir()
+    for words in (CPP, CUDA):
+        for _ in range(2):
+            box.check("it is there", words, env={"TMPDIR": str(box.work / "tmp")})
+        box.check("it is a file", words, env={"TMPDIR": str(box.work / "m.cpp")})
+        box.check("it isn't there", words, env={"TMPDIR": str(box.work / "nowhere")})
 
 
 def attempt(name: str, calls: str, driver: pathlib.Path) -> str | None:

@@ -4,9 +4,10 @@ have to be alike, but for the names of temporary files. Some edits are not of so
 elsewhere, libraries that the loader finds, clocks, variables, and edits that are made while a call runs and undone later. nvcc isn't asked again for
 what it has made of the same state.
 
-    tests/driver_cache/edits.py DRIVER [--seed N] [--count N] [--calls 0]
+    tests/driver_cache/edits.py DRIVER [--seed N] [--count N] [--calls 0] [--keep FOLDER]
 
---calls 0 has no call kept as a whole.
+--calls 0 has no call kept as a whole. --keep copies all folders as they are behind an edit that fails: which edits come while a call runs depends on
+how fast it is, so that a seed alone doesn't make them again.
 
 The last line is 'N passed, M failed'; the status is 1 if one failed. It needs nvcc and objcopy."""
 import argparse
@@ -77,7 +78,7 @@ PATHS = [None, None, "mod", "mod:other", "other:mod", ":mod", "mod:"]
 Values = dict[str, object]
 LINES = ["", "", "// a line\n", "\n", "/* two\nlines */\n", "// it's one\n", "/* a // b */ // \"c\n", "  \t\n", "#if 0\nit's\n#endif\n",
          "// joined \\\n lines\n", "/* /* */\n", "// \u00fc\n", "#if 0 // or not\n/* x\n*/ #else\n#endif\n"]
-INSIDE = ["", "", " ", "/**/", " /* x */", "\n", " // x\n", "\n\n  // /* x\n"]
+INSIDE = ["", "", " ", "/**/", " /* x */", "\n", " // x\n", "\n\n  // /* x\n", "/// \u00fc\n", "/ // \u00fc\n"]
 HERE = ["0", "HERE", "JOINED(HE, RE)", "JOINED(__LI, NE__)"]
 KINDS = ["comment", "lines", "lines", "header_lines", "header_lines", "header_line", "inside", "inside", "header_inside", "here", "line",
          "unused", "kernel", "newer", "older", "host", "size", "other", "block", "blank", "targets",
@@ -294,6 +295,7 @@ class Builds:
         os.symlink(driver, self.own)
         (room / "tmp").mkdir()
         self.by_nvcc: dict[str, Build] = {}
+        self.undid = ""
         self.environment = {**os.environ, "TMPDIR": str(room / "tmp"), "ZIGRUNK_CACHE": str(self.cache), "ZIGRUNK_LOG": str(room / "log"),
                             "ZIGRUNK_CALLS": calls, "ZIGRUNK_SLOTS": "0"}
         self.seconds = 0.0
@@ -338,11 +340,15 @@ class Builds:
 
     def undo(self, project: Project, name: str, kind: str) -> None:
         """Makes an edit while a call with the cache runs, and undoes it once that has ended."""
+        wait = self.lot.random() * min(self.seconds, 4)
+        library = (project.folder / "mod" / LIBRARY).exists()
         with self.start(self.own, project, name) as process:
             try:
-                process.communicate(timeout=self.lot.random() * min(self.seconds, 4))
+                process.communicate(timeout=wait)
             except subprocess.TimeoutExpired:
                 pass
+            state, there = "runs" if process.returncode is None else "has ended", "a" if library else "no"
+            self.undid = f"after {wait:.3f} s of a call that {state}; mod had {there} library"
             if kind == "undone_library":
                 project.switch_library("mod")
             elif kind == "undone_file":
@@ -361,6 +367,7 @@ class Builds:
 
     def problem(self, project: Project, name: str, kind: str) -> str | None:
         """What is wrong with the build of a source, if something is."""
+        self.undid = ""
         if kind.startswith("undone"):
             self.undo(project, name, kind)
         wanted = self.wanted(project, name)
@@ -375,7 +382,7 @@ class Builds:
         self.seconds = max(time.monotonic() - begun, self.seconds * 0.9)
         for what, one, other in zip(("status", "messages", "mode", "object"), made, wanted):
             if one != other:
-                return f"{what} of {project.source(name)}: {one!r:.200}, not {other!r:.200}, by {' '.join(project.call(name))}"
+                return f"{what} of {project.source(name)}: {one!r:.200}, not {other!r:.200}, by {' '.join(project.call(name))} ({self.undid})"
         return None
 
 
@@ -398,6 +405,7 @@ def main() -> int:
     parser.add_argument("--seed", type=int, default=1)
     parser.add_argument("--count", type=int, default=200)
     parser.add_argument("--calls", default="1")
+    parser.add_argument("--keep", type=pathlib.Path)
     options = parser.parse_args()
     if not (shutil.which("nvcc") and shutil.which("objcopy")):
         print("random edits: skipped, nvcc or objcopy is not on the path\n0 passed, 0 failed, 1 skipped")
@@ -417,6 +425,8 @@ def main() -> int:
             if problem:
                 failed += 1
                 print(f"edit {number} of seed {options.seed}, {edit}: {problem}", flush=True)
+                if options.keep:
+                    shutil.copytree(room, options.keep / f"{options.seed}.{number}", symlinks=True)
             if number % 100 == 99:
                 print(f"{number + 1} edits, {failed} failed, {time.monotonic() - begun:.0f} s, {len(builds.by_nvcc)} states", flush=True)
         log = (room / "log").read_text(encoding="utf-8")

@@ -61,11 +61,12 @@ class Process(NamedTuple):
 
 class Setup(NamedTuple):
     """Whether a call has a jobserver of make, whether its last host compile is in two halves, and how many slots there are. With three, commands
-    rarely begin before what they need has ended."""
+    rarely begin before what they need has ended. Tools that have the word `dies` are killed."""
 
     has_make: bool
     is_late: bool
     slots: int
+    dies: str = ""
 
 
 class Room:
@@ -100,7 +101,7 @@ class Room:
         kept = {name: value for name, value in os.environ.items() if not name.startswith(("ZIGRUNK", "NVCC", "MAKE"))}
         kept.update(LOG=str(self.log), TMPDIR=str(self.path("tmp")), XDG_RUNTIME_DIR=str(self.path("run")), CUDA=str(self.cuda), DATA=str(DRY_RUNS),
                     PATH=f"{self.cuda}/bin:{kept['PATH']}", TRIAL=mark, PAUSE="15",
-                    ZIGRUNK_SLOTS=str(setup.slots), ZIGRUNK_LATE=str(int(setup.is_late)))
+                    ZIGRUNK_SLOTS=str(setup.slots), ZIGRUNK_LATE=str(int(setup.is_late)), DIES=setup.dies)
         if setup.has_make:
             kept["MAKEFLAGS"] = f" -j4 --jobserver-auth=fifo:{self.path('jobs')}"
         return kept
@@ -344,13 +345,13 @@ class Trial:
             self.problem(f"files left: {left[:4]}")
 
 
-def reference(room: Room, is_late: bool) -> tuple[tuple[bytes | None, bytes | None], float]:
-    """What a call without faults makes, and how long it takes. With late compiles, its last host compile is in two halves."""
+def reference(room: Room, setup: Setup) -> tuple[tuple[bytes | None, bytes | None], float]:
+    """What a call makes to which nothing else is done, and how long it takes."""
     made, lengths = set(), []
     for number in range(3):
         room.renew()
         began = time.monotonic()
-        status = room.start(f"reference.{number}", Setup(False, is_late, 3), []).wait()
+        status = room.start(f"reference.{number}", setup, []).wait()
         lengths.append(time.monotonic() - began)
         if status != 0 or None in room.made():
             sys.exit(f"a call without faults: status {status}: " + room.path(f"said.reference.{number}").read_text())
@@ -377,9 +378,11 @@ def main() -> int:
     failed = 0
     with tempfile.TemporaryDirectory(prefix="faults.") as folder:
         room = Room(args.driver.resolve(), Path(folder))
-        references = {is_late: reference(room, is_late) for is_late in (False, True)}
+        references = {is_late: reference(room, Setup(False, is_late, 3)) for is_late in (False, True)}
         if references[False][0][0] == references[True][0][0]:
             sys.exit("no host compile is in two halves")
+        if reference(room, Setup(False, True, 3, "assembler"))[0] != references[False][0]:
+            sys.exit("a whole host compile in the place of two halves makes something else")
         for number in range(args.first, args.first + args.trials):
             trial = Trial(room, number, args.seed, kinds, references[False][1])
             ends[trial.run(references[trial.setup.is_late][0], references[False][0][0])] += 1

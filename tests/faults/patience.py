@@ -90,7 +90,7 @@ def main() -> int:
     failed = 0
     with tempfile.TemporaryDirectory(prefix="patience.") as folder:
         room = Room(args.driver.resolve(), Path(folder))
-        wanted, _ = reference(room, SETUP.is_late)
+        wanted, _ = reference(room, SETUP)
         for number in range(args.trials):
             slow = ["cudafe++", "cicc"][number % 2]
             problem = problem_of(room, slow, wanted)

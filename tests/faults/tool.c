@@ -4,6 +4,7 @@
 //
 // PAUSE, or PAUSE_cicc for cicc, is how many milliseconds it takes between the halves of what it writes. BEFORE_cicc is how many it takes before it
 // reads. SIZE is how many bytes more stand between the halves, none unless set. RAN, if set, is a file that gets a line with its name and phase.
+// A tool that has the word DIES, if that is set, is killed before it reads.
 #include <fcntl.h>
 #include <signal.h>
 #include <stdint.h>
@@ -201,6 +202,12 @@ int main(int count, char **words) {
     const char *before = variable_of("BEFORE", name);
     wait_for(before ? atol(before) : 0);
     int preprocesses = 0, compiles_whole = 0, is_gcc = strcmp(name, "gcc") == 0;
+    const char *deadly = getenv("DIES");
+    for (int at = 1; at < count && deadly; at++) {
+        if (strcmp(words[at], deadly) == 0) {
+            raise(SIGKILL);
+        }
+    }
     for (int at = 1; at < count; at++) {
         preprocesses |= strcmp(words[at], "-E") == 0;
         compiles_whole |= strcmp(words[at], "-c") == 0;
@@ -218,8 +225,9 @@ int main(int count, char **words) {
         const char *last = words[at - 1];
         int is_name = strncmp(last, "--orig_src_", 11) == 0 || strcmp(last, "--stub_file_name") == 0 || strcmp(last, "--include_file_name") == 0;
         if (path[0] != '-') {
-            // (a cicc that begins early has another name for the module id's file)
-            if (strcmp(last, "--module_id_file_name") != 0) {
+            // (a cicc that begins early has another name for the module id's file, and one whose stub file is read late another for that)
+            int is_stub_of_cicc = strcmp(name, "cicc") == 0 && strcmp(last, "--stub_file_name") == 0;
+            if (!is_stub_of_cicc && strcmp(last, "--module_id_file_name") != 0) {
                 add(base(path), strlen(base(path)));
             }
             if (!is_name) {

@@ -96,7 +96,8 @@ pub use call::command_key;
 ///
 /// ```
 /// let output = b"# 1 \"k.cu\"\n# 1 \"<built-in>\"\n# 1 \"/usr/include/a\\\\b.h\" 1 3\nint a;\n# 2 \"k.cu\" 2\n";
-/// assert_eq!(zigrunk::headers(output), ["k.cu", "/usr/include/a\\b.h"]);
+/// assert_eq!(zigrunk::headers(output)?, ["k.cu", "/usr/include/a\\b.h"]);
+/// # Ok::<(), zigrunk::OutOfMemory>(())
 /// ```
 pub use call::headers;
 

@@ -9,4 +9,4 @@ mod touched;
 
 pub use files::{CommandFiles, files_of};
 pub use needed::{CommandNeeds, FilesAndNeeds, files_and_needs, keeps_orders, needs};
-pub use steps::{files_of_plan, has_word, preprocesses};
+pub use steps::{Role, Step, files_of_plan, has_word, preprocesses, step_of};

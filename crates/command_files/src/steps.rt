@@ -24,7 +24,9 @@ pub enum Role {
 /// A command of a plan, as what its needs and its orders depend on.
 #[derive(Drop)]
 pub struct Step {
+    /// Which files it reads and writes.
     pub files: CommandFiles,
+    /// Where in the plan it is.
     pub role: Role,
     /// Whether its words ask a host compiler to preprocess only.
     pub preprocesses: bool,
@@ -68,8 +70,8 @@ pub fn preprocesses(words: &[String]) -> bool
     has_word(words, "-E")
 }
 
-// A command of the group numbered `group` of `count`.
-fn step_of(
+/// A command of the group numbered `group` of `count`.
+pub fn step_of(
     alloc: Global,
     count: usize,
     group: usize,

@@ -22,11 +22,11 @@ read-text (Byte byte ∷ ps) end rest plain small = grind (arith, not-true, (rea
 read-text (Root number ∷ ps) end rest plain small = grind (arith, (read-text ps end rest plain small))
 
 -- what is asked of texts: no NUL in them, and an end below the letters
-abbrev is_readable : Ended → Bool
+abbrev pub is_readable : Ended → Bool
 is_readable text = lacks 0 text.0 && nat_lt text.1 first_mark
 
 -- all texts are read back
-read-texts : (roots : List (List ℕ)) (texts : List Ended) → list_all is_readable texts ≡ true →
+pub read-texts : (roots : List (List ℕ)) (texts : List Ended) → list_all is_readable texts ≡ true →
     read_from false (flat_map (key_of_text roots) texts) ≡ map (λ text. (parts roots text.0, text.1)) texts
 read-texts roots [] all = refl
 read-texts roots (text ∷ texts) all = grind (arith, append_assoc, read-text, plain-past, (read-texts roots texts))
@@ -39,7 +39,7 @@ readable-variables : (variables : List (List ℕ × List ℕ)) → list_all is_p
 readable-variables [] all = refl
 readable-variables (v ∷ variables) all = grind (arith, and_from, (readable-variables variables))
 
-readable : (command : Command) → is_plain command ≡ true → list_all is_readable (texts_of command) ≡ true
+pub readable : (command : Command) → is_plain command ≡ true → list_all is_readable (texts_of command) ≡ true
 readable command plain = grind (arith, and_parts, and_from, list_all-append, readable-words, readable-variables)
 
 -- a command is made of its texts again
@@ -63,14 +63,14 @@ command-again : (command : Command) → command_of (texts_of command) ≡ comman
 command-again command = simp (words-again, no-words, variables-behind_words)
 
 -- the texts of a command, each changed
-abbrev changed : (List ℕ → List ℕ) → Ended → Ended
+abbrev pub changed : (List ℕ → List ℕ) → Ended → Ended
 changed change text = (change text.0, text.1)
 
 changed-variables : (change : List ℕ → List ℕ) (variables : List (List ℕ × List ℕ)) → flat_map texts_of_variable (map (λ v. (change v.0, change v.1)) variables) ≡ map (changed change) (flat_map texts_of_variable variables)
 changed-variables change [] = refl
 changed-variables change (v ∷ variables) = ap (λ ts. (change v.0, name_end) ∷ (change v.1, value_end) ∷ ts) (changed-variables change variables)
 
-changed-texts : (change : List ℕ → List ℕ) (words : List (List ℕ)) (variables : List (List ℕ × List ℕ)) → texts_of (map change words, map (λ v. (change v.0, change v.1)) variables) ≡ map (changed change) (texts_of (words, variables))
+pub changed-texts : (change : List ℕ → List ℕ) (words : List (List ℕ)) (variables : List (List ℕ × List ℕ)) → texts_of (map change words, map (λ v. (change v.0, change v.1)) variables) ≡ map (changed change) (texts_of (words, variables))
 changed-texts change [] variables = changed-variables change variables
 changed-texts change (word ∷ words) variables = ap (λ ts. (change word, word_end) ∷ ts) (changed-texts change words variables)
 
@@ -85,7 +85,7 @@ restored-key roots others command plain =
     ∙ command-again (renamed_command roots others command)
 
 -- the same roots change nothing
-renamed-same : (roots : List (List ℕ)) (command : Command) → renamed_command roots roots command ≡ command
+pub renamed-same : (roots : List (List ℕ)) (command : Command) → renamed_command roots roots command ≡ command
 renamed-same roots command =
     (λ i. (map (λ text. text-parts roots text i) command.0, map (λ v. (text-parts roots v.0 i, text-parts roots v.1 i)) command.1))
     ∙ (λ i. (map-id command.0 i, map-id command.1 i))
@@ -98,7 +98,7 @@ equal-keys_rename roots others command other plain plain' same =
     sym (keys-read_back others other plain') ∙ ap (restored others) (sym same) ∙ restored-key roots others command plain
 
 -- a text with other roots in place of its own has the same parts
-same-keys : (roots others : List (List ℕ)) (texts : List Ended) → list_all (λ text. are_told others (parts roots text.0)) texts ≡ true →
+pub same-keys : (roots others : List (List ℕ)) (texts : List Ended) → list_all (λ text. are_told others (parts roots text.0)) texts ≡ true →
     flat_map (key_of_text others) (map (changed (renamed roots others)) texts) ≡ flat_map (key_of_text roots) texts
 same-keys roots others [] all = refl
 same-keys roots others (text ∷ texts) all = grind (arith, parts-told, (same-keys roots others texts))

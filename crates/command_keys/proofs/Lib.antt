@@ -1,3 +1,4 @@
+pub mod ActionLemmas
 pub mod ImageLemmas
 pub mod KeyLemmas
 pub mod MarkLemmas

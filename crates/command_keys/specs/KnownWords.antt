@@ -5,7 +5,7 @@ use Rattle.command_keys.specs.declared.known_words.KnownWord.{KnownWord}
 use Rattle.command_keys.specs.declared.known_words.Form.{Form}
 use Rattle.command_keys.specs.declared.known_words.Form.TheVariants.{Whole, Beginning, Valued}
 use Rattle.command_keys.specs.declared.known_words.Meaning.{Meaning}
-use Rattle.command_keys.specs.declared.known_words.Meaning.TheVariants.{Counts, Names, OwnName, Preprocessor, File, Image, Refused}
+use Rattle.command_keys.specs.declared.known_words.Meaning.TheVariants.{Counts, Names, OwnName}
 
 -- a row: the word or what it begins with, which words it fits, and what they are to a key
 abbrev pub Row : Type 0
@@ -27,22 +27,13 @@ fits word row = form_fits word row.0 row.1
 
 -- whether names of files reach the product by a row's words, or the product's own name
 abbrev pub names_by : Meaning → Bool
-names_by Counts = false
 names_by Names = true
 names_by OwnName = true
-names_by Preprocessor = false
-names_by File = false
-names_by Image = false
-names_by Refused = false
+names_by _ = false
 
 abbrev pub names_itself_by : Meaning → Bool
-names_itself_by Counts = false
-names_itself_by Names = false
 names_itself_by OwnName = true
-names_itself_by Preprocessor = false
-names_itself_by File = false
-names_itself_by Image = false
-names_itself_by Refused = false
+names_itself_by _ = false
 
 abbrev pub is_naming : Row → Bool
 is_naming row = names_by row.2

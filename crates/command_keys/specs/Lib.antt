@@ -1,3 +1,6 @@
+pub mod ActionLaws
+pub mod ActionReading
+pub mod Actions
 pub mod CountedWords
 pub mod Images
 pub mod KeyLaws

@@ -1,8 +1,9 @@
 -- The table of the words that a cache knows, as `known_words` has it. What a tool does by each word is said there.
-use Rattle.std.specs.Prelude.{◌≡◌, ℕ, List, [], ◌∷◌, Bool, Option, Some, None, codes, refl, map}
+use Rattle.std.specs.Prelude.{◌≡◌, ℕ, List, [], ◌∷◌, ◌++◌, Bool, Option, Some, None, codes, refl, map}
 use Rattle.std.specs.List.{find}
 use Rattle.std.specs.Option.{option_or}
 use Rattle.texts.specs.Lists.{is_some_and}
+use Rattle.texts.specs.Rows.{spaced}
 use Rattle.compilers.specs.declared.plans.program.Program.{Program}
 use Rattle.compilers.specs.declared.plans.program.Program.TheVariants.{Cicc, Ptxas, Cudafe, Fatbinary, Nvlink, Other}
 use Rattle.command_keys.specs.declared.known_words.Form.{Form}
@@ -11,193 +12,79 @@ use Rattle.command_keys.specs.declared.known_words.Meaning.{Meaning}
 use Rattle.command_keys.specs.declared.known_words.Meaning.TheVariants.{Counts, Names, OwnName, Preprocessor, File, Image, Refused}
 use Rattle.command_keys.specs.KnownWords.{Row, fits, is_naming, is_own_naming}
 
+-- rows of one form and one meaning
+abbrev pub rows : Form → Meaning → List (List ℕ) → List Row
+rows form meaning texts = map (λ text. (text, form, meaning)) texts
+
 -- words that both front ends have: cudafe++ and cicc
 abbrev pub of_front_ends : List Row
 of_front_ends =
-    (codes "--allow_managed", Whole, Counts)
-    ∷ (codes "--c++03", Whole, Counts)
-    ∷ (codes "--c++11", Whole, Counts)
-    ∷ (codes "--c++14", Whole, Counts)
-    ∷ (codes "--c++17", Whole, Counts)
-    ∷ (codes "--c++20", Whole, Counts)
-    ∷ (codes "--debug_mode", Whole, Names)
-    ∷ (codes "--device-c", Whole, Counts)
-    ∷ (codes "--device-hidden-visibility", Whole, Counts)
-    ∷ (codes "--display_error_number", Whole, Counts)
-    ∷ (codes "--extended-lambda", Whole, Counts)
-    ∷ (codes "--gen_module_id_file", Whole, Counts)
-    ∷ (codes "--keep-device-functions", Whole, Counts)
-    ∷ (codes "--m64", Whole, Counts)
-    ∷ (codes "--no-device-int128", Whole, Counts)
-    ∷ (codes "--no_warnings", Whole, Counts)
-    ∷ (codes "--parse_templates", Whole, Counts)
-    ∷ (codes "--promote_warnings", Whole, Counts)
-    ∷ (codes "--relaxed_constexpr", Whole, Counts)
-    ∷ (codes "--simt-only", Whole, Counts)
-    ∷ (codes "--static-host-stub", Whole, Counts)
-    ∷ (codes "--diag_error=", Beginning, Counts)
-    ∷ (codes "--diag_suppress=", Beginning, Counts)
-    ∷ (codes "--diag_warn=", Beginning, Counts)
-    ∷ (codes "--gnu_version=", Beginning, Counts)
-    ∷ (codes "--unicode_source_kind=", Beginning, Counts)
-    ∷ (codes "--diag_error", Valued, Counts)
-    ∷ (codes "--diag_suppress", Valued, Counts)
-    ∷ (codes "--diag_warn", Valued, Counts)
-    ∷ (codes "--gen_c_file_name", Valued, File)
-    ∷ (codes "--module_id_file_name", Valued, File)
-    ∷ (codes "--orig_src_file_name", Valued, Counts)
-    ∷ (codes "--orig_src_path_name", Valued, Counts)
-    ∷ (codes "--stub_file_name", Valued, Counts) ∷ []
+    rows Whole Counts (spaced "--allow_managed --c++03 --c++11 --c++14 --c++17 --c++20")
+    ++ (rows Whole Names (spaced "--debug_mode")
+    ++ (rows Whole Counts (spaced "--device-c --device-hidden-visibility --display_error_number --extended-lambda --gen_module_id_file")
+    ++ (rows Whole Counts (spaced "--keep-device-functions --m64 --no-device-int128 --no_warnings --parse_templates --promote_warnings")
+    ++ (rows Whole Counts (spaced "--relaxed_constexpr --simt-only --static-host-stub")
+    ++ (rows Beginning Counts (spaced "--diag_error= --diag_suppress= --diag_warn= --gnu_version= --unicode_source_kind=")
+    ++ (rows Valued Counts (spaced "--diag_error --diag_suppress --diag_warn")
+    ++ (rows Valued File (spaced "--gen_c_file_name --module_id_file_name")
+    ++ (rows Valued Counts (spaced "--orig_src_file_name --orig_src_path_name --stub_file_name")))))))))
 
 -- cicc's own words
 abbrev pub of_cicc : List Row
 of_cicc =
-    (codes "--gen_div_approx_ftz", Whole, Counts)
-    ∷ (codes "--no-version-ident", Whole, Counts)
-    ∷ (codes "-O0", Whole, Counts)
-    ∷ (codes "-extra-device-vectorization", Whole, Counts)
-    ∷ (codes "-fast-math", Whole, Counts)
-    ∷ (codes "-g", Whole, Names)
-    ∷ (codes "-generate-line-info", Whole, Names)
-    ∷ (codes "-inline-info", Whole, Names)
-    ∷ (codes "-kernel-params-are-restrict", Whole, Counts)
-    ∷ (codes "-m64", Whole, Counts)
-    ∷ (codes "-tused", Whole, Counts)
-    ∷ (codes "-fmad=", Beginning, Counts)
-    ∷ (codes "-ftz=", Beginning, Counts)
-    ∷ (codes "-prec_div=", Beginning, Counts)
-    ∷ (codes "-prec_sqrt=", Beginning, Counts)
-    ∷ (codes "--gen_device_file_name", Valued, File)
-    ∷ (codes "--include_file_name", Valued, Counts)
-    ∷ (codes "-arch", Valued, Counts)
-    ∷ (codes "-maxreg", Valued, Counts)
-    ∷ (codes "-o", Valued, File)
-    ∷ (codes "-split-compile", Valued, Counts) ∷ []
+    rows Whole Counts (spaced "--gen_div_approx_ftz --no-version-ident -O0 -extra-device-vectorization -fast-math")
+    ++ (rows Whole Names (spaced "-g -generate-line-info -inline-info")
+    ++ (rows Whole Counts (spaced "-kernel-params-are-restrict -m64 -tused")
+    ++ (rows Beginning Counts (spaced "-fmad= -ftz= -prec_div= -prec_sqrt=")
+    ++ (rows Valued File (spaced "--gen_device_file_name")
+    ++ (rows Valued Counts (spaced "--include_file_name -arch -maxreg")
+    ++ (rows Valued File (spaced "-o")
+    ++ (rows Valued Counts (spaced "-split-compile"))))))))
 
 -- words of ptxas
 abbrev pub of_ptxas : List Row
 of_ptxas =
-    (codes "--compile-only", Whole, Counts)
-    ∷ (codes "--dont-merge-basicblocks", Whole, Counts)
-    ∷ (codes "--generate-line-info", Whole, Names)
-    ∷ (codes "--return-at-end", Whole, Counts)
-    ∷ (codes "--warning-as-error", Whole, Counts)
-    ∷ (codes "-O0", Whole, Counts)
-    ∷ (codes "-O1", Whole, Counts)
-    ∷ (codes "-O2", Whole, Counts)
-    ∷ (codes "-O3", Whole, Counts)
-    ∷ (codes "-g", Whole, OwnName)
-    ∷ (codes "-lineinfo", Whole, Names)
-    ∷ (codes "-m64", Whole, Counts)
-    ∷ (codes "-suppress-stack-size-warning", Whole, Counts)
-    ∷ (codes "-v", Whole, Counts)
-    ∷ (codes "-warn-lmem-usage", Whole, Counts)
-    ∷ (codes "-warn-spills", Whole, Counts)
-    ∷ (codes "--allow-expensive-optimizations=", Beginning, Counts)
-    ∷ (codes "--maxrregcount=", Beginning, Counts)
-    ∷ (codes "-arch=sm_", Beginning, Counts)
-    ∷ (codes "-dlcm=", Beginning, Counts)
-    ∷ (codes "-maxrregcount=", Beginning, Counts)
-    ∷ (codes "-split-compile=", Beginning, Counts)
-    ∷ (codes "-o", Valued, File) ∷ []
+    rows Whole Counts (spaced "--compile-only --dont-merge-basicblocks")
+    ++ (rows Whole Names (spaced "--generate-line-info")
+    ++ (rows Whole Counts (spaced "--return-at-end --warning-as-error -O0 -O1 -O2 -O3")
+    ++ (rows Whole OwnName (spaced "-g")
+    ++ (rows Whole Names (spaced "-lineinfo")
+    ++ (rows Whole Counts (spaced "-m64 -suppress-stack-size-warning -v -warn-lmem-usage -warn-spills")
+    ++ (rows Beginning Counts (spaced "--allow-expensive-optimizations= --maxrregcount= -arch=sm_ -dlcm= -maxrregcount= -split-compile=")
+    ++ (rows Valued File (spaced "-o"))))))))
 
 -- words of fatbinary
 abbrev pub of_fatbinary : List Row
 of_fatbinary =
-    (codes "--device-c", Whole, Counts)
-    ∷ (codes "-64", Whole, Counts)
-    ∷ (codes "-compress-all", Whole, Counts)
-    ∷ (codes "-g", Whole, Counts)
-    ∷ (codes "--cicc-cmdline=", Beginning, Counts)
-    ∷ (codes "--cmdline=", Beginning, Counts)
-    ∷ (codes "--compress-mode=", Beginning, Counts)
-    ∷ (codes "--create=", Beginning, File)
-    ∷ (codes "--embedded-fatbin=", Beginning, File)
-    ∷ (codes "--ident=", Beginning, Counts)
-    ∷ (codes "--image3=", Beginning, Image)
-    ∷ (codes "-compress=", Beginning, Counts) ∷ []
+    rows Whole Counts (spaced "--device-c -64 -compress-all -g")
+    ++ (rows Beginning Counts (spaced "--cicc-cmdline= --cmdline= --compress-mode=")
+    ++ (rows Beginning File (spaced "--create= --embedded-fatbin=")
+    ++ (rows Beginning Counts (spaced "--ident=")
+    ++ (rows Beginning Image (spaced "--image3=")
+    ++ (rows Beginning Counts (spaced "-compress="))))))
 
 -- words of gcc. What it refuses comes first: a row further down fits it too
 abbrev pub of_hosts : List Row
 of_hosts =
-    (codes "-Wa,", Beginning, Refused)
-    ∷ (codes "-Wl,", Beginning, Refused)
-    ∷ (codes "-Wp,", Beginning, Refused)
-    ∷ (codes "-march=native", Whole, Refused)
-    ∷ (codes "-mtune=native", Whole, Refused)
-    ∷ (codes "-D", Valued, Preprocessor)
-    ∷ (codes "-I", Valued, Preprocessor)
-    ∷ (codes "-U", Valued, Preprocessor)
-    ∷ (codes "-isystem", Valued, Preprocessor)
-    ∷ (codes "-D", Beginning, Preprocessor)
-    ∷ (codes "-I", Beginning, Preprocessor)
-    ∷ (codes "-U", Beginning, Preprocessor)
-    ∷ (codes "-o", Valued, File)
-    ∷ (codes "-x", Valued, Counts)
-    ∷ (codes "-O", Whole, Counts)
-    ∷ (codes "-O0", Whole, Counts)
-    ∷ (codes "-O1", Whole, Counts)
-    ∷ (codes "-O2", Whole, Counts)
-    ∷ (codes "-O3", Whole, Counts)
-    ∷ (codes "-Ofast", Whole, Counts)
-    ∷ (codes "-Og", Whole, Counts)
-    ∷ (codes "-Os", Whole, Counts)
-    ∷ (codes "-S", Whole, Counts)
-    ∷ (codes "-c", Whole, Counts)
-    ∷ (codes "-fPIC", Whole, Counts)
-    ∷ (codes "-fPIE", Whole, Counts)
-    ∷ (codes "-fcf-protection", Whole, Counts)
-    ∷ (codes "-fdata-sections", Whole, Counts)
-    ∷ (codes "-ffast-math", Whole, Counts)
-    ∷ (codes "-ffunction-sections", Whole, Counts)
-    ∷ (codes "-fno-asynchronous-unwind-tables", Whole, Counts)
-    ∷ (codes "-fno-common", Whole, Counts)
-    ∷ (codes "-fno-exceptions", Whole, Counts)
-    ∷ (codes "-fno-gnu-unique", Whole, Counts)
-    ∷ (codes "-fno-math-errno", Whole, Counts)
-    ∷ (codes "-fno-omit-frame-pointer", Whole, Counts)
-    ∷ (codes "-fno-plt", Whole, Counts)
-    ∷ (codes "-fno-rtti", Whole, Counts)
-    ∷ (codes "-fno-semantic-interposition", Whole, Counts)
-    ∷ (codes "-fno-strict-aliasing", Whole, Counts)
-    ∷ (codes "-fno-trapping-math", Whole, Counts)
-    ∷ (codes "-fomit-frame-pointer", Whole, Counts)
-    ∷ (codes "-fopenmp", Whole, Counts)
-    ∷ (codes "-fpermissive", Whole, Counts)
-    ∷ (codes "-fpic", Whole, Counts)
-    ∷ (codes "-fpie", Whole, Counts)
-    ∷ (codes "-fsigned-char", Whole, Counts)
-    ∷ (codes "-funroll-loops", Whole, Counts)
-    ∷ (codes "-funsigned-char", Whole, Counts)
-    ∷ (codes "-fvisibility-inlines-hidden", Whole, Counts)
-    ∷ (codes "-fwrapv", Whole, Counts)
-    ∷ (codes "-g", Whole, Names)
-    ∷ (codes "-g0", Whole, Counts)
-    ∷ (codes "-g1", Whole, Names)
-    ∷ (codes "-g2", Whole, Names)
-    ∷ (codes "-ggdb", Whole, Names)
-    ∷ (codes "-m64", Whole, Counts)
-    ∷ (codes "-pedantic", Whole, Counts)
-    ∷ (codes "-pthread", Whole, Counts)
-    ∷ (codes "-w", Whole, Counts)
-    ∷ (codes "-W", Beginning, Counts)
-    ∷ (codes "-fdiagnostics-color", Beginning, Counts)
-    ∷ (codes "-fmax-errors=", Beginning, Counts)
-    ∷ (codes "-fmessage-length=", Beginning, Counts)
-    ∷ (codes "-frandom-seed=", Beginning, Counts)
-    ∷ (codes "-fstack-protector", Beginning, Counts)
-    ∷ (codes "-ftemplate-depth=", Beginning, Counts)
-    ∷ (codes "-fvisibility=", Beginning, Counts)
-    ∷ (codes "-gdwarf-", Beginning, Names)
-    ∷ (codes "-march=", Beginning, Counts)
-    ∷ (codes "-mavx", Beginning, Counts)
-    ∷ (codes "-mbmi", Beginning, Counts)
-    ∷ (codes "-mf16c", Beginning, Counts)
-    ∷ (codes "-mfma", Beginning, Counts)
-    ∷ (codes "-mpopcnt", Beginning, Counts)
-    ∷ (codes "-msse", Beginning, Counts)
-    ∷ (codes "-mtune=", Beginning, Counts)
-    ∷ (codes "-std=", Beginning, Counts) ∷ []
+    rows Beginning Refused (spaced "-Wa, -Wl, -Wp,")
+    ++ (rows Whole Refused (spaced "-march=native -mtune=native")
+    ++ (rows Valued Preprocessor (spaced "-D -I -U -isystem")
+    ++ (rows Beginning Preprocessor (spaced "-D -I -U")
+    ++ (rows Valued File (spaced "-o")
+    ++ (rows Valued Counts (spaced "-x")
+    ++ (rows Whole Counts (spaced "-O -O0 -O1 -O2 -O3 -Ofast -Og -Os -S -c -fPIC -fPIE -fcf-protection -fdata-sections -ffast-math")
+    ++ (rows Whole Counts (spaced "-ffunction-sections -fno-asynchronous-unwind-tables -fno-common -fno-exceptions -fno-gnu-unique")
+    ++ (rows Whole Counts (spaced "-fno-math-errno -fno-omit-frame-pointer -fno-plt -fno-rtti -fno-semantic-interposition -fno-strict-aliasing")
+    ++ (rows Whole Counts (spaced "-fno-trapping-math -fomit-frame-pointer -fopenmp -fpermissive -fpic -fpie -fsigned-char -funroll-loops")
+    ++ (rows Whole Counts (spaced "-funsigned-char -fvisibility-inlines-hidden -fwrapv")
+    ++ (rows Whole Names (spaced "-g")
+    ++ (rows Whole Counts (spaced "-g0")
+    ++ (rows Whole Names (spaced "-g1 -g2 -ggdb")
+    ++ (rows Whole Counts (spaced "-m64 -pedantic -pthread -w")
+    ++ (rows Beginning Counts (spaced "-W -fdiagnostics-color -fmax-errors= -fmessage-length= -frandom-seed= -fstack-protector -ftemplate-depth=")
+    ++ (rows Beginning Counts (spaced "-fvisibility=")
+    ++ (rows Beginning Names (spaced "-gdwarf-")
+    ++ (rows Beginning Counts (spaced "-march= -mavx -mbmi -mf16c -mfma -mpopcnt -msse -mtune= -std=")))))))))))))))))))
 
 -- the rows of a tool's own words. nvlink has none: it reads libraries by name
 abbrev pub own_words : Program → List Row
@@ -211,11 +98,7 @@ own_words Other = of_hosts
 -- the rows of words that a tool has in common with cudafe++
 abbrev pub shared_words : Program → List Row
 shared_words Cicc = of_front_ends
-shared_words Cudafe = []
-shared_words Ptxas = []
-shared_words Fatbinary = []
-shared_words Nvlink = []
-shared_words Other = []
+shared_words _ = []
 
 -- the row that says what a word is: the first of the tool's own words that fits it, or else the first of those that it shares
 abbrev pub known_word : Program → List ℕ → Option Row

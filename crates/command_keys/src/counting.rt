@@ -199,7 +199,7 @@ fn texts_seen(alloc: Global, all: bool, words: &[CountedWord<'_>]) -> Result<Vec
     Ok(texts)
 }
 
-// Texts as they are lent.
+// The texts, borrowed.
 fn lent(alloc: Global, texts: &[Bytes]) -> Result<Vec<&[u8]>, AllocError>
     ensures { IfOk result (λ lent. map shown lent.items ≡ texts.now) }
 {

@@ -12,13 +12,13 @@ use std::alloc::{AllocError, Global};
 /// How many roots a key can have.
 pub const MOST_ROOTS: usize = 26;
 
-fn is_plain(text: &[u8]) -> bool
+pub(crate) fn is_plain(text: &[u8]) -> bool
     ensures { result ≡ lacks 0 text.now }
 {
     !text.contains(&0)
 }
 
-fn are_plain(words: &[&[u8]]) -> bool
+pub(crate) fn are_plain(words: &[&[u8]]) -> bool
     ensures { result ≡ list_all (lacks 0) (map shown words.now) }
 {
     for word in words {
@@ -29,7 +29,7 @@ fn are_plain(words: &[&[u8]]) -> bool
     true
 }
 
-fn are_plain_variables(variables: &[(&[u8], &[u8])]) -> bool
+pub(crate) fn are_plain_variables(variables: &[(&[u8], &[u8])]) -> bool
     ensures { result ≡ list_all spec.is_plain_variable (map shown_variable variables.now) }
 {
     for variable in variables {
@@ -40,7 +40,11 @@ fn are_plain_variables(variables: &[(&[u8], &[u8])]) -> bool
     true
 }
 
-fn push_words(key: &mut Vec<u8>, roots: &[&[u8]], words: &[&[u8]]) -> Result<(), AllocError>
+pub(crate) fn push_words(
+    key: &mut Vec<u8>,
+    roots: &[&[u8]],
+    words: &[&[u8]],
+) -> Result<(), AllocError>
     requires { length roots.now ≤ 26 }
     ensures { OnOk result (key.new.items ≡ key.old.items
         ++ flat_map (spec.key_of_text (map shown roots.now)) (map (λ word. (word, spec.word_end)) (map shown words.now))) }
@@ -51,7 +55,7 @@ fn push_words(key: &mut Vec<u8>, roots: &[&[u8]], words: &[&[u8]]) -> Result<(),
     Ok(())
 }
 
-fn push_variables(
+pub(crate) fn push_variables(
     key: &mut Vec<u8>,
     roots: &[&[u8]],
     variables: &[(&[u8], &[u8])],

@@ -1,5 +1,6 @@
 //! What holds of all keys.
 
+ghost use Rattle.command_keys.specs.ActionLaws as shared;
 ghost use Rattle.command_keys.specs.KeyLaws as spec;
 ghost use Rattle.command_keys.specs.WordLaws as law;
 
@@ -22,4 +23,11 @@ pub fn words()
     ensures all { law.AllWordsCount }
     ensures unknown { law.UnknownWordsRefuse }
     ensures told { law.EqualKeysHaveTheWords }
+{}
+
+/// Actions with one key are the same but for their roots (`equal`): if the tool, a word, a variable, an input or an output differs otherwise, so
+/// does the key. The action with other roots has the same key, if these occur nowhere else in it (`renamed`).
+pub fn actions()
+    ensures equal { shared.EqualActionsRename }
+    ensures renamed { shared.RenamedActionsAreEqual }
 {}

@@ -6,6 +6,7 @@
 //! of the contents of files: a cache adds those.
 #![tactic(auto)]
 
+mod actions;
 mod counting;
 mod environment;
 mod images;
@@ -15,6 +16,7 @@ pub mod laws;
 mod marks;
 mod reading;
 
+pub use actions::{Action, action_key, may_be_shared};
 pub use counting::{CountedWord, NamedFiles, counted_key, counted_text, counted_words};
 pub use environment::tool_variables;
 pub use keys::{MOST_ROOTS, command_key};

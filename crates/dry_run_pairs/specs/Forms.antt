@@ -41,6 +41,18 @@ abbrev pub without_printing : List ℕ → List ℕ
 without_printing [] = []
 without_printing (c ∷ cs) = if is_printing (c ∷ cs) then [] else c ∷ without_printing cs
 
+-- whether a line is a command that prints to files
+abbrev pub text_prints : Option (List ℕ) → Bool
+text_prints None = false
+text_prints (Some text) = not (length (without_printing text) == length text)
+
+abbrev pub prints : List ℕ → Bool
+prints line = text_prints (marked line)
+
+-- whether a dry run's commands run side by side
+abbrev pub prints_to_files : List ℕ → Bool
+prints_to_files run = list_any prints (lines run)
+
 -- a line without blanks at its end
 abbrev pub without_blanks : List ℕ → List ℕ
 without_blanks line = reverse (past (λ c. c == 32) (reverse line))
@@ -103,6 +115,12 @@ printing_goes = refl
 
 pub redirection_stays : without_printing (codes "cmd > a_stdout 2>\"b_stderr") ≡ codes "cmd > a_stdout 2>\"b_stderr"
 redirection_stays = refl
+
+pub printing_counts : prints_to_files (codes "#$ A=b\n#$ gcc -E \"k.cu\"  > /t/x_stdout 2>/t/x_stderr\r\nb") ≡ true
+printing_counts = refl
+
+pub only_commands_print : prints_to_files (codes "gcc > a_stdout 2>a_stderr\n#$ gcc -o \"a_stdout 2>b_stderr\"\n") ≡ false
+only_commands_print = refl
 
 pub created_file_goes : without_created (codes "fatbinary --create=\"/t/k.fatbin\" -64 \"--image3=file=/t/k.ptx\" --embedded-fatbin=\"/t/k.c\"") ≡
     codes "fatbinary -64 \"--image3=file=/t/k.ptx\" --embedded-fatbin=\"/t/k.c\""

@@ -68,6 +68,30 @@ fn without_printing(line: &[u8]) -> &[u8]
     line
 }
 
+// Whether a line is a command that prints to files.
+fn prints(line: &[u8]) -> bool
+    ensures { result ≡ spec.prints line.now }
+{
+    match marked(line) {
+        None => false,
+        Some(text) => without_printing(text).len() != text.len(),
+    }
+}
+
+/// Whether a dry run's commands run side by side: then one prints to files, which nvcc reads later.
+pub fn prints_to_files(run: &[u8]) -> bool
+    ensures { result ≡ spec.prints_to_files run.now }
+{
+    let mut rest = run;
+    while let Some((line, others)) = first_line(rest) {
+        if prints(line) {
+            return true;
+        }
+        rest = others;
+    }
+    false
+}
+
 // A line without blanks at its end.
 fn without_blanks(line: &[u8]) -> &[u8]
     ensures { result.now ≡ spec.without_blanks line.now }

@@ -15,5 +15,6 @@ mod remarks;
 
 pub use agreement::agree;
 pub use comparison::Comparison;
+pub use forms::prints_to_files;
 pub use names::without_folder;
 pub use remarks::{fails_by_threads, remarks_in, runs_devices_first, with_commands};

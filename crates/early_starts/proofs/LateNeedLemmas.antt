@@ -1,12 +1,10 @@
 -- What the commands of a split need.
-use Rattle.std.proofs.Common.{◌≡◌, ℕ, zero, suc, ◌+◌, ◌<◌, Bool, true, false, cond, ◌&&◌, ◌||◌, List, [], ◌∷◌, ◌++◌, Some, None, refl, ap, sym, ◌∙◌, map, length, take, get_or, length-append, append_assoc, unwrap_or, arith}
+use Rattle.std.proofs.Common.{◌≡◌, ℕ, zero, suc, ◌+◌, ◌<◌, Bool, true, false, cond, ◌||◌, List, [], ◌∷◌, ◌++◌, refl, ap, sym, ◌∙◌, length, take, get_or, length-append, append_assoc, arith}
 use Rattle.std.specs.Prelude.{nat_lt}
-use Rattle.std.specs.List.{list_any, range_with_len}
-use Rattle.std.specs.Option.{is_some}
+use Rattle.std.specs.List.{range_with_len}
 use Rattle.std.proofs.lemmas.Bool.{false≢true, lt-ltb, ltb-true}
 use Rattle.std.proofs.lemmas.List.{get_or_append_left, take-append-le}
 use Rattle.std.proofs.Math.Seq.{take-append_seam}
-use Rattle.command_files.specs.declared.files.CommandFiles.{CommandFiles}
 use Rattle.command_files.specs.declared.steps.Role.TheVariants as roles
 use Rattle.command_files.specs.declared.steps.Step.{Step}
 use Rattle.command_files.specs.Files.{must_follow}
@@ -14,11 +12,9 @@ use Rattle.command_files.specs.Order.{needs_by, needs_at, numbers_where, files_a
 use Rattle.command_files.specs.PlanNeeds.{record_of, step_needs, role_needs}
 use Rattle.command_files.proofs.NeedLemmas.{length-needs_behind, needs_each, needs_at_place}
 use Rattle.command_files.proofs.OrderLemmas.{in_first, in_second}
-use Rattle.early_starts.specs.Overlaps.{files_of, follows}
 use Rattle.early_starts.specs.declared.split.Places.{Places}
 use Rattle.early_starts.specs.declared.split.Split.{Split}
-use Rattle.early_starts.specs.Splits.{compiler_files, is_followed, writes, are_written}
-use Rattle.early_starts.specs.LatePlans.{final_step, compiler_step, assembler_step, late_steps, records_of, late_needs, whole_needs, OthersNeedTheSame, CompilerNeedsThose, LateNeedsHold}
+use Rattle.early_starts.specs.LatePlans.{final_step, compiler_step, assembler_step, late_steps, records_of, late_needs, whole_needs, OthersNeedTheSame, LateNeedsHold}
 
 -- a step that touches nothing
 abbrev pub no_step : Step
@@ -51,16 +47,6 @@ pub late-needs-hold : LateNeedsHold
 late-needs-hold places s front = steps_hold (late_steps places s front)
 
 -- Numbers.
-
--- tests that agree give the same numbers
-same_numbers : {X : Type 0} (one other : X → Bool) → ((x : X) → one x ≡ other x) → (n : ℕ) (xs : List X) → numbers_where one n xs ≡ numbers_where other n xs
-same_numbers one other f n [] = refl
-same_numbers one other f n (x ∷ xs) = λ i. cond (f x i) (n ∷ []) [] ++ same_numbers one other f (n + 1) xs i
-
--- numbers by what a function makes of the items
-numbers_mapped : {X Y : Type 0} (g : X → Y) (test : Y → Bool) (n : ℕ) (xs : List X) → numbers_where test n (map g xs) ≡ numbers_where (λ x. test (g x)) n xs
-numbers_mapped g test n [] = refl
-numbers_mapped g test n (x ∷ xs) = ap (λ ns. cond (test (g x)) (n ∷ []) [] ++ ns) (numbers_mapped g test (n + 1) xs)
 
 -- if all pass, all numbers
 all_numbers : {X : Type 0} (test : X → Bool) → ((x : X) → test x ≡ true) → (n : ℕ) (xs : List X) → numbers_where test n xs ≡ range_with_len n (length xs)
@@ -112,14 +98,6 @@ others-need-the-same places s front fatbinary compile n h =
           ∙ ap (needs_at (whole_needs front fatbinary compile)) (sym same)
     ] refl
 
-or_false : (b : Bool) → (b || false) ≡ b
-or_false true = refl
-or_false false = refl
-
-given : {X : Type 0} (b : Bool) (x y : List X) → cond b (Some x) None ≡ Some y → x ≡ y
-given true x y e = ap (λ o. unwrap_or o []) e
-given false x y e = absurd (false≢true (ap is_some e))
-
 -- the needs of the last of some steps with others behind it
 needs_of_one_behind : (front between rest : List Step) (x : Step) (n : ℕ) → n ≡ length front + length between
     → needs_at (needs_by step_needs (front ++ (between ++ x ∷ rest))) n ≡ numbers_where (λ e. step_needs e x) 0 (front ++ between)
@@ -127,17 +105,6 @@ needs_of_one_behind front between rest x n e =
     ap (λ steps. needs_at (needs_by step_needs steps) n) (sym (append_assoc front between (x ∷ rest)))
     ∙ ap (needs_at (needs_by step_needs ((front ++ between) ++ x ∷ rest))) (e ∙ sym (length-append front between))
     ∙ needs_of_next (front ++ between) rest x
-
-pub compiler-needs-those : CompilerNeedsThose
-compiler-needs-those places s front before needs same said =
-    let those : List Step = front ++ final_step s.fatbinary ∷ [] in
-    let later : CommandFiles = compiler_files s in
-    needs_of_one_behind front (final_step s.fatbinary ∷ []) (assembler_step places s ∷ []) (compiler_step s) (length front + 1) refl
-    ∙ same_numbers (λ e. step_needs e (compiler_step s)) (λ e. follows e.files later) (λ e. or_false (follows e.files later)) 0 those
-    ∙ sym (numbers_mapped (λ (e : Step). e.files) (λ f. follows f later) 0 those)
-    ∙ ap (numbers_where (λ f. follows f later) 0) (sym same)
-    ∙ numbers_mapped files_of (λ f. follows f later) 0 before
-    ∙ given (list_any (writes s.stub) before && are_written (files_of s.compiler).reads before) (numbers_where (is_followed later) 0 before) needs said
 
 pub assembler-needs-all :
     (places : Places) (s : Split) (front : List Step) → needs_at (late_needs places s front) (length front + 2) ≡ range_with_len 0 (length front + 2)

@@ -1,4 +1,3 @@
-pub mod EarlyLemmas
 pub mod LateNeedLemmas
 pub mod LateOrderLemmas
 pub mod OverlapLemmas

@@ -1,11 +1,10 @@
 -- The three kinds of needs, by the code's order of questions.
-use Rattle.std.proofs.Common.{◌≡◌, ℕ, Bool, true, false, ◌&&◌, ◌||◌, List, refl, ap, sym, ◌∙◌}
+use Rattle.std.proofs.Common.{◌≡◌, Bool, true, false, ◌||◌, refl, ap, sym, ◌∙◌}
 use Rattle.std.proofs.lemmas.List.Folds.{list_any-append}
 use Rattle.command_files.specs.declared.files.CommandFiles.{CommandFiles}
 use Rattle.command_files.specs.Files.{is_among, share}
 use Rattle.command_files.specs.PlanNeeds.{record_of}
-use Rattle.compilers.specs.declared.plans.plan.NvccGeneratedSubcommand.{NvccGeneratedSubcommand}
-use Rattle.early_starts.specs.Overlaps.{files_of, follows, gives, head_of, lets_begin, may_begin_beside, touches_one_of}
+use Rattle.early_starts.specs.Overlaps.{follows, touches_one_of}
 
 rearranged : (rw rm ww wm wr : Bool) → ((rw || ww) || ((rm || wm) || wr)) ≡ ((rw || rm) || (wr || (ww || wm)))
 rearranged true rm ww wm wr = refl
@@ -27,19 +26,3 @@ follows-asked e l =
     rearranged (share e.writes l.reads) (share e.may_write l.reads) (share e.writes (record_of l).writes) (share e.may_write (record_of l).writes) (share e.reads (record_of l).writes)
     ∙ ap (λ b. b || (share e.reads (record_of l).writes || (share e.writes (record_of l).writes || share e.may_write (record_of l).writes))) (sym (list_any-append (is_among l.reads) e.writes e.may_write))
     ∙ ap (λ b. share (record_of e).writes l.reads || (share e.reads (record_of l).writes || b)) (sym (list_any-append (is_among (record_of l).writes) e.writes e.may_write))
-
--- whether a command may begin beside another, from what the code asks one after the other
-pub begins :
-    (late : List ℕ) (earlier later : NvccGeneratedSubcommand) (files others head : CommandFiles) (given result : Bool)
-    → given ≡ gives late earlier
-    → given ≡ true
-    → files ≡ files_of earlier
-    → others ≡ files_of later
-    → head ≡ head_of late others
-    → result ≡ lets_begin late files head
-    → result ≡ may_begin_beside late earlier later
-begins late earlier later files others head given result g t f o h r =
-    r
-    ∙ ap (λ x. lets_begin late x head) f
-    ∙ ap (λ x. lets_begin late (files_of earlier) x) (h ∙ ap (head_of late) o)
-    ∙ sym (ap (λ b. b && lets_begin late (files_of earlier) (head_of late (files_of later))) (sym g ∙ t))

@@ -16,7 +16,7 @@ use Rattle.early_starts.specs.declared.split.Split.{Split}
 use Rattle.early_starts.specs.declared.words.Half.TheVariants.{Compiler, Assembler}
 use Rattle.early_starts.specs.LateTexts.{assembler_text, placeholder}
 use Rattle.early_starts.specs.LateWords.{late_words}
-use Rattle.early_starts.specs.Splits.{split_of, compiler_files, assembler_files, compiler_needs}
+use Rattle.early_starts.specs.Splits.{split_of, compiler_files, assembler_files}
 
 -- Its commands, as what needs and orders depend on.
 
@@ -88,14 +88,6 @@ OthersNeedTheSame =
     (places : Places) (s : Split) (front : List Step) (fatbinary compile : NvccGeneratedSubcommand) (n : ℕ)
     → n < length front + 1
     → needs_at (late_needs places s front) n ≡ needs_at (whole_needs front fatbinary compile) n
-
--- the compiler needs what `compiler_needs` says, given the commands before it
-abbrev pub CompilerNeedsThose : Type 0
-CompilerNeedsThose =
-    (places : Places) (s : Split) (front : List Step) (before : List NvccGeneratedSubcommand) (needs : List ℕ)
-    → map files_of before ≡ map (λ x. x.files) (front ++ final_step s.fatbinary ∷ [])
-    → compiler_needs s before ≡ Some needs
-    → needs_at (late_needs places s front) (length front + 1) ≡ needs
 
 -- the assembler needs all: what the compile needs in the plan, and the compiler
 abbrev pub AssemblerNeedsAll : Type 0

@@ -1,6 +1,6 @@
 -- A host compile in two halves, and fatbinary beside the first of them.
 use Rattle.std.specs.Prelude.{◌≡◌, ℕ, List, [], ◌∷◌, ◌++◌, Bool, false, ◌&&◌, nat_eq, if◌then◌else◌, Option, Some, None, map, codes, refl, bytes_eq, option_and_then, option_map}
-use Rattle.std.specs.List.{list_any, list_all, starts_with}
+use Rattle.std.specs.List.{starts_with}
 use Rattle.texts.specs.Equality.{words_eq}
 use Rattle.texts.specs.Extension.{with_extension}
 use Rattle.texts.specs.Lists.{rest_after}
@@ -11,8 +11,7 @@ use Rattle.compilers.specs.declared.plans.plan.NvccGeneratedSubcommand.{NvccGene
 use Rattle.command_files.specs.declared.files.CommandFiles.{CommandFiles}
 use Rattle.command_files.specs.CommandFiles.{first_path}
 use Rattle.command_files.specs.Files.{is_among}
-use Rattle.command_files.specs.Order.{numbers_where}
-use Rattle.early_starts.specs.Overlaps.{files_of, follows}
+use Rattle.early_starts.specs.Overlaps.{files_of}
 use Rattle.early_starts.specs.declared.split.Places.{Places}
 use Rattle.early_starts.specs.declared.split.Split.{Split}
 use Rattle.early_starts.specs.declared.split.SplitWords.{SplitWords}
@@ -99,24 +98,6 @@ assembler_files places s = record (files_of s.assembler) {
   writes = (files_of s.assembler).writes ++ places.included ∷ [];
 }
 
--- whether a command writes a file for certain, and whether each of some files is written by one of some commands
-abbrev pub writes : List ℕ → NvccGeneratedSubcommand → Bool
-writes path c = is_among (files_of c).writes path
-
-abbrev pub are_written : List (List ℕ) → List NvccGeneratedSubcommand → Bool
-are_written paths commands = list_all (λ path. list_any (writes path) commands) paths
-
--- What the compiler's half needs: the commands before it that write what it reads, or touch what it writes. There are none if nobody
--- writes cudafe++'s file, or the stub file.
-abbrev pub is_followed : CommandFiles → NvccGeneratedSubcommand → Bool
-is_followed later c = follows (files_of c) later
-
-abbrev pub compiler_needs : Split → List NvccGeneratedSubcommand → Option (List ℕ)
-compiler_needs s before =
-    if list_any (writes s.stub) before && are_written (files_of s.compiler).reads before
-    then Some (numbers_where (is_followed (compiler_files s)) 0 before)
-    else None
-
 -- a call for one target
 abbrev line : List ℕ → List (List ℕ) → List ℕ → NvccGeneratedSubcommand
 line program words cwd = record { exe = program; args = words; cwd = cwd; env_vars = []; cacheable = Yes }
@@ -165,21 +146,6 @@ pub files_of_the_assembler :
       complete = false;
     }
 files_of_the_assembler = refl
-
--- the compiler waits for cudafe++ and for the cicc that writes its stub file, not for fatbinary
-abbrev those_before : List NvccGeneratedSubcommand
-those_before =
-    line (codes "cudafe++") (spaced "--gen_c_file_name x_0.cudafe1.cpp --stub_file_name x_0.cudafe1.stub.c --module_id_file_name k.module_id x_0.cpp4.ii") (codes "/t")
-    ∷ line (codes "cicc") (spaced "-arch compute_75 --stub_file_name x_1.cudafe1.stub.c x_1.cpp1.ii -o j.ptx") (codes "/t")
-    ∷ line (codes "cicc") (spaced "-arch compute_80 --stub_file_name x_0.cudafe1.stub.c x_0.cpp1.ii -o k.ptx") (codes "/t")
-    ∷ one_split.fatbinary
-    ∷ []
-
-pub needs_of_the_compiler : compiler_needs one_split those_before ≡ Some (0 ∷ 2 ∷ [])
-needs_of_the_compiler = refl
-
-pub no_stub_file : compiler_needs one_split (one_split.fatbinary ∷ []) ≡ None
-no_stub_file = refl
 
 pub relative_places : split_of (record own_places { text_file = codes "late.s" }) one_fatbinary (record one_compile { cwd = codes "/t" }) ≡ None
 relative_places = refl

@@ -1,20 +1,19 @@
 //! Laws of plans whose last host compile begins before its fatbin is there.
 
-ghost use Rattle.early_starts.specs.LatePlans.{EndsPlan, CompilersWords, AssemblersWords, HalvesTouch, OthersNeedTheSame, CompilerNeedsThose, AssemblerNeedsAll, LateNeedsHold, LateOrdersAgree, LateRunsAgree, LateProducts};
+ghost use Rattle.early_starts.specs.LatePlans.{EndsPlan, CompilersWords, AssemblersWords, HalvesTouch, OthersNeedTheSame, AssemblerNeedsAll, LateNeedsHold, LateOrdersAgree, LateRunsAgree, LateProducts};
 
 /// A plan has nvcc's commands but for the split.
 ///
 /// A half has the compile's words, one by one, but for its phase or language, and the assembler text in place of a file (`compiler`,
 /// `assembler`). Both halves together touch what the compile touches, the files that a split adds, and the two that no words name
-/// (`files`). All other commands need what they need in the plan (`others`), the compiler what [`compiler_needs`](crate::compiler_needs)
-/// says (`before`), and the assembler all (`all`). So the last commands of a plan may be such (`plans`).
+/// (`files`). All commands but the halves need what they need in the plan (`others`), and the assembler all (`all`). So the last commands
+/// of a plan may be such (`plans`).
 pub fn splits()
     ensures plans { EndsPlan }
     ensures compiler { CompilersWords }
     ensures assembler { AssemblersWords }
     ensures files { HalvesTouch }
     ensures others { OthersNeedTheSame }
-    ensures before { CompilerNeedsThose }
     ensures all { AssemblerNeedsAll }
 {}
 

@@ -1,12 +1,9 @@
 //! A host compile in two halves, and fatbinary beside the first of them.
 
-ghost use Rattle.std.specs.Prelude.{◌≡◌, IfOk, map, option_copied, option_map, string_bytes, vec_items};
-ghost use Rattle.std.specs.List.{list_any};
-ghost use Rattle.command_files.specs.Order.{numbers_where};
+ghost use Rattle.std.specs.Prelude.{◌≡◌, IfOk, map, option_copied, string_bytes};
 ghost use Rattle.texts.specs.Lists.{rest_after};
 ghost use Rattle.early_starts.specs.Splits as spec;
 
-use crate::follows;
 use crate::words::{Half, late_words};
 use command_files::{CommandFiles, files_of, has_word};
 use compilers::command::Cacheable;
@@ -262,74 +259,4 @@ pub fn split_compile(
         None => Ok(None),
         Some(words) => split_with(alloc, text_file, fatbinary, compile, &words, file),
     }
-}
-
-// Whether one of some commands writes a file for certain.
-fn is_written(
-    alloc: Global,
-    path: &str,
-    commands: &[NvccGeneratedSubcommand],
-) -> Result<bool, AllocError>
-    ensures { IfOk result (λ answer. answer ≡ list_any (spec.writes path.now) commands.now) }
-{
-    for command in commands {
-        if has_word(files_of(alloc, command)?.writes.as_slice(), path) {
-            return Ok(true);
-        }
-    }
-    Ok(false)
-}
-
-// Whether each of some files is written by one of some commands.
-fn are_written(
-    alloc: Global,
-    paths: &[String],
-    commands: &[NvccGeneratedSubcommand],
-) -> Result<bool, AllocError>
-    ensures { IfOk result (λ answer. answer ≡ spec.are_written (map string_bytes paths.now) commands.now) }
-{
-    for path in paths {
-        if !is_written(alloc, path.as_str(), commands)? {
-            return Ok(false);
-        }
-    }
-    Ok(true)
-}
-
-// The numbers of the commands that one with a record has to follow.
-fn followed(
-    alloc: Global,
-    commands: &[NvccGeneratedSubcommand],
-    later: &CommandFiles,
-) -> Result<Vec<usize>, AllocError>
-    ensures { IfOk result (λ numbers. numbers.items ≡ numbers_where (spec.is_followed later.now) 0 commands.now) }
-{
-    let mut numbers = Vec::new(alloc);
-    for (number, command) in commands.iter().enumerate() {
-        if follows(&files_of(alloc, command)?, later) {
-            numbers.push(number)?;
-        }
-    }
-    Ok(numbers)
-}
-
-/// What the compiler's half of a split needs: the numbers, in ascending order, of the commands before it, `before`, that write what it
-/// reads, or touch what it writes. The last of these is the split's fatbinary. `None` if none of them writes cudafe++'s file or the stub
-/// file.
-pub fn compiler_needs(
-    alloc: Global,
-    split: &Split,
-    before: &[NvccGeneratedSubcommand],
-) -> Result<Option<Vec<usize>>, AllocError>
-    ensures { IfOk result (λ needs. option_map vec_items needs ≡ spec.compiler_needs split.now before.now) }
-{
-    let mut files = files_of(alloc, &split.compiler)?;
-    let is_stub_written = is_written(alloc, split.stub.as_str(), before)?;
-    if !is_stub_written || !are_written(alloc, files.reads.as_slice(), before)? {
-        return Ok(None);
-    }
-    // cudafe++'s file includes the stub file, and that one fatbinary's.
-    let (stub, read) = (split.stub.as_str(), split.read.as_str());
-    files.reads.push_pair(alloc, stub, read)?;
-    Ok(Some(followed(alloc, before, &files)?))
 }

@@ -21,7 +21,6 @@ use Rattle.nvcc_calls.specs.declared.answer.Answer.{Answer}
 use Rattle.nvcc_calls.specs.declared.answer.Answer.TheVariants.{Split, Pass}
 use Rattle.compilers.specs.Calls.{NvccOf}
 use Rattle.nvcc_calls.specs.Hazards.{hazard_of}
-use Rattle.nvcc_calls.specs.OutlineTexts.{outline_text}
 use Rattle.std.specs.List.{list_any}
 use Rattle.std.specs.Option.{is_some, option_map_or}
 use Rattle.texts.specs.Variables.{first_value}
@@ -164,35 +163,26 @@ nvcc_answer call variables files = answer_to call variables (line_asked call.wor
 abbrev pub line_at : List (List ℕ) → NvccOf
 line_at words = record { cwd = codes "/w"; tmp = codes "/t"; nvcc = codes "nvcc"; words = words }
 
--- the text for a shell, if the line is split
-abbrev pub split_text : Result Answer Fault → List ℕ
-split_text (Ok (Split outline)) = outline_text outline
-split_text _ = []
-
--- the text of a line that is split, by what it has for the dependency file, the words of its dry runs, and the jobs
-abbrev pub text_with : List ℕ → List ℕ → List ℕ → List ℕ
-text_with dependencies words jobs =
-    codes "dependencies=" ++ (dependencies
-    ++ (codes "\nfirst_dry_run='( unset NVCC_PREPEND_FLAGS NVCC_APPEND_FLAGS; cd /w && nvcc -x cu " ++ (words ++ (codes " --dryrun --keep )'"
-    ++ (codes "\nsecond_dry_run='( unset NVCC_PREPEND_FLAGS NVCC_APPEND_FLAGS; cd /w && nvcc -x cu " ++ (words ++ (codes " --keep-dir /t --dryrun --keep )'"
-    ++ (codes "\nflag=-c\njobs=" ++ (jobs ++ codes "\nkeep_dir=''\n")))))))))
+-- of a line that is split: the words of the first dry run, those of what writes the dependency file, and the jobs
+abbrev pub said : Result Answer Fault → List (List ℕ) × List (List ℕ) × ℕ
+said (Ok (Split o)) = (o.first.arguments, option_map_or (λ command. command.arguments) o.dependencies [], o.jobs)
+said _ = ([], [], 0)
 
 pub words_of_a_variable :
-    split_text (nvcc_answer (line_at (spaced "-c k.cu")) ((codes "NVCC_APPEND_FLAGS", codes "-o=j.o -Xptxas -v") ∷ []) [])
-    ≡ text_with (codes "''") (codes "-o j.o -Xptxas -v -c k.cu") (codes "''")
+    said (nvcc_answer (line_at (spaced "-c k.cu")) ((codes "NVCC_APPEND_FLAGS", codes "-o=j.o -Xptxas -v") ∷ []) [])
+    ≡ (spaced "-x cu -o j.o -Xptxas -v -c k.cu --dryrun --keep", [], 0)
 unfolding chars lib.Utf8.encode keeps
 words_of_a_variable = refl
 
 pub two_values :
-    split_text (nvcc_answer (line_at (spaced "-MD -MF a.d -t2 -o a.o -c k.cu -o b.o -t3 -MF b.d")) [] [])
-    ≡ text_with (codes "'( unset NVCC_PREPEND_FLAGS NVCC_APPEND_FLAGS; cd /w && nvcc -c -x cu k.cu -M -MF b.d -MT b.o )'")
-    (codes "-o b.o -c k.cu") (codes "3")
+    said (nvcc_answer (line_at (spaced "-MD -MF a.d -t2 -o a.o -c k.cu -o b.o -t3 -MF b.d")) [] [])
+    ≡ (spaced "-x cu -o b.o -c k.cu --dryrun --keep", spaced "-c -x cu k.cu -M -MF b.d -MT b.o", 3)
 unfolding chars lib.Utf8.encode keeps
 two_values = refl
 
 pub words_of_a_file :
-    split_text (nvcc_answer (line_at (spaced "-c k.cu --options-file inc.rsp -Iz")) [] ((codes "inc.rsp", codes "-Ix -Iy -o j.o\n") ∷ []))
-    ≡ text_with (codes "''") (codes "-o j.o -Ix -Iy -Iz -c k.cu") (codes "''")
+    said (nvcc_answer (line_at (spaced "-c k.cu --options-file inc.rsp -Iz")) [] ((codes "inc.rsp", codes "-Ix -Iy -o j.o\n") ∷ []))
+    ≡ (spaced "-x cu -o j.o -Ix -Iy -Iz -c k.cu --dryrun --keep", [], 0)
 unfolding chars lib.Utf8.encode keeps
 words_of_a_file = refl
 

@@ -3,7 +3,6 @@ use Rattle.std.specs.Prelude.{◌≡◌, ℕ, List, [], ◌∷◌, fold, map, Bo
 use Rattle.std.specs.List.{list_any, list_all, starts_with}
 use Rattle.std.specs.Option.{option_or}
 use Rattle.texts.specs.Extension.{last_part, with_extension}
-use Rattle.texts.specs.ObjectFlags.{makes_objects}
 use Rattle.texts.specs.Rows.{spaced}
 use Rattle.canonical_names.specs.Alike.{holds}
 use Rattle.canonical_names.specs.Generated.{standard_suffixes}
@@ -26,16 +25,12 @@ abbrev pub is_plain_directory : List ℕ → Bool
 is_plain_directory path =
     list_all (λ byte. nat_le 32 byte && not (byte == 36) && not (byte == 92) && not (byte == 96) && not (byte == 127)) path
 
--- whether a word has each host preprocessor write a dependency file
+-- whether a word has each command of the host compiler write a dependency file, or its times to one: no record has it, and nothing orders those who write it
 abbrev pub host_options : List (List ℕ)
 host_options = spaced "-Xcompiler= --compiler-options= -Wp,"
 
 abbrev pub writes_file : List ℕ → Bool
-writes_file word = begins_with_one host_options word && holds (codes "-M") word
-
--- whether preprocessors may write one file side by side, and no later command writes it again: an object is compiled last
-abbrev pub may_share_file : Call → Bool
-may_share_file call = not (makes_objects call.flag) && list_any writes_file call.words
+writes_file word = begins_with_one host_options word && list_any (λ part. holds part word) (spaced "=-M ,-M -dependencies =-time= ,-time=")
 
 -- whether a word asks nvcc to keep generated files
 abbrev pub asks_to_keep : List ℕ → Bool
@@ -70,7 +65,7 @@ hazard_of call asked normal =
     fold option_or (reason_unless (is_plain_directory call.cwd && is_plain_directory call.tmp) DirectoryName)
     (reason_unless (not (is_renamed call normal)) GeneratedName
     ∷ reason_unless (not (list_any may_name_file normal.words)) ToolFile
-    ∷ reason_unless (not (may_share_file normal)) HostFile
+    ∷ reason_unless (not (list_any writes_file normal.words)) HostFile
     ∷ reason_unless (not (list_any asks_to_keep normal.words && is_kept_name normal)) KeptName
     ∷ reason_unless (not (uses_open_file asked normal)) OpenFile
     ∷ [])
@@ -85,8 +80,8 @@ reason_at cwd kept flag output words =
 pub words_of_objects :
     map (reason_at (codes "/w") [] (codes "-c") (codes "k.o"))
     (spaced "-DN=a.cpp1.ii" ∷ spaced "-DN=a.ii -I/x.cpp1 sub/dev.cu" ∷ spaced "-Xptxas=-optf,p.txt" ∷ spaced "-Xfatbin=--image=file=a"
-    ∷ spaced "-Xcompiler=-MD,-MF,k.d" ∷ spaced "-MD -MF /dev/fd/3" ∷ [])
-    ≡ Some GeneratedName ∷ None ∷ Some ToolFile ∷ Some ToolFile ∷ None ∷ None ∷ []
+    ∷ spaced "-Xcompiler=-MD,-MF,k.d" ∷ spaced "-MD -MF /dev/fd/3" ∷ spaced "-Xcompiler=-Wa,--MD,a.d" ∷ [])
+    ≡ Some GeneratedName ∷ None ∷ Some ToolFile ∷ Some ToolFile ∷ Some HostFile ∷ None ∷ None ∷ []
 words_of_objects = refl
 
 pub folders :
@@ -94,8 +89,11 @@ pub folders :
     ≡ Some GeneratedName ∷ Some DirectoryName ∷ []
 folders = refl
 
-pub shared_file : reason_at (codes "/w") [] (codes "-fatbin") (codes "k.f") (spaced "-Xcompiler=-MD,-MF,k.d") ≡ Some HostFile
-shared_file = refl
+-- an assembler's file has one writer
+pub shared_files :
+    map writes_file (spaced "-Xcompiler=-fPIC,-MMD -Wp,-MD,k.d --compiler-options=--write-dependencies=k.d -Xcompiler=-Wa,--MD,a.d -DN=-MD -Xcompiler=-g,-time=t -Xcompiler=-time")
+    ≡ true ∷ true ∷ true ∷ false ∷ false ∷ true ∷ false ∷ []
+shared_files = refl
 
 pub kept_files :
     map (λ output. reason_at (codes "/w") [] (codes "-c") output (spaced "--keep")) (spaced "o/dev.sm_80.cubin dev.cu.o")

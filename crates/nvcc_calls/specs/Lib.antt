@@ -6,7 +6,6 @@ pub mod Keeping
 pub mod Laws
 pub mod NormalForm
 pub mod Options
-pub mod OutlineTexts
 pub mod Reasons
 pub mod ToolWords
 pub mod Words

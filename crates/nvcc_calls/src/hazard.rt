@@ -12,7 +12,6 @@ use crate::tool_words::may_name_file;
 use crate::{Asked, Call, Reason, extension_of_phase, has_extension};
 use compilers::NvccCall;
 use std::alloc::{AllocError, Global};
-use texts::compilation_flags::asks_object;
 use texts::extension::{last, with_extension};
 
 pub(crate) fn holds(text: &str, part: &str) -> bool
@@ -61,15 +60,23 @@ fn is_host_option(word: &str) -> bool
         || word.starts_with(b"-Wp,")
 }
 
-// Whether preprocessors may write one file side by side, and no later command writes it again.
-fn may_share_file(call: &Call) -> bool
-    ensures { result ≡ spec.may_share_file call.now }
+// Whether a word has each command of the host compiler write a dependency file, or its times to one.
+fn writes_file(word: &str) -> bool
+    ensures { result ≡ spec.writes_file word.now }
 {
-    if asks_object(call.flag.as_str()) {
-        return false;
-    }
-    for word in call.words.as_slice() {
-        if is_host_option(word.as_str()) && holds(word.as_str(), "-M") {
+    is_host_option(word)
+        && (holds(word, "=-M")
+            || holds(word, ",-M")
+            || holds(word, "-dependencies")
+            || holds(word, "=-time=")
+            || holds(word, ",-time="))
+}
+
+fn one_writes_file(words: &[String]) -> bool
+    ensures { result ≡ list_any spec.writes_file (map string_bytes words.now) }
+{
+    for word in words {
+        if writes_file(word.as_str()) {
             return true;
         }
     }
@@ -156,7 +163,7 @@ pub fn hazard_of(
     let reason = reason_unless(is_plain, Reason::DirectoryName)
         .or(reason_unless(!is_renamed(call, normal), Reason::GeneratedName))
         .or(reason_unless(!one_names_file(words), Reason::ToolFile))
-        .or(reason_unless(!may_share_file(normal), Reason::HostFile))
+        .or(reason_unless(!one_writes_file(words), Reason::HostFile))
         .or(reason_unless(!is_kept, Reason::KeptName))
         .or(reason_unless(!uses_open_file(asked, normal), Reason::OpenFile));
     Ok(reason)

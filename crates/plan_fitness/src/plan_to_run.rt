@@ -1,4 +1,4 @@
-//! What is asked of a plan, and whether it can be run.
+//! Whether a plan can be run, and why not.
 
 ghost use Rattle.std.specs.Prelude.{◌≡◌, IfOk, option_copied};
 ghost use Rattle.plan_fitness.specs.Fitness as spec;
@@ -9,7 +9,7 @@ use canonical_names::is_plain;
 use command_files::CommandFiles;
 use std::alloc::{AllocError, Global};
 
-/// What is asked of a plan.
+/// A plan, and what its call requires of it.
 #[derive(Drop)]
 pub struct PlanToRun<'a> {
     /// The path of the call's working directory.

@@ -25,7 +25,7 @@ use Rattle.schedule_orders.specs.Histories.{Moment, Tells, Runs, events_in, ran_
 use Rattle.schedule_orders.proofs.ClosedLemmas.{needed_through}
 use Rattle.schedule_orders.proofs.ListLemmas.{first_in, passed_at, EachOnce}
 
-accepted : (refused : Option Refused) → is_accepted refused ≡ true → refused ≡ None
+pub accepted : (refused : Option Refused) → is_accepted refused ≡ true → refused ≡ None
 accepted None e = refl
 accepted (Some r) e = absurd (false≢true e)
 

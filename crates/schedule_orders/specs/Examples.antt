@@ -1,5 +1,5 @@
 -- Small histories: which may happen, and which may not.
-use Rattle.std.specs.Prelude.{◌≡◌, ℕ, List, [], ◌∷◌, Bool, true, false, length, refl}
+use Rattle.std.specs.Prelude.{◌≡◌, ℕ, List, [], ◌∷◌, ◌++◌, Bool, true, false, ◌==◌, length, refl}
 use Rattle.schedules.specs.declared.command.AfterFailure.TheVariants.{GoOn}
 use Rattle.schedules.specs.declared.command.Outcome.TheVariants.{Success, Failure, Cancelled}
 use Rattle.schedules.specs.Graphs.{fresh}
@@ -11,6 +11,7 @@ use Rattle.schedule_orders.specs.Closed.{closed}
 use Rattle.schedule_orders.specs.Histories.{Moment, Tells, Runs, events_in, ran_in, may_happen}
 use Rattle.schedule_orders.specs.Plans.{all_records, all_needs, are_apart, all_apart}
 use Rattle.schedule_orders.specs.Products.{needs_of_parts, own_parts, as_a_whole}
+use Rattle.schedule_orders.specs.Withheld.{Act, Does, Gives, Finds, may_act, moments_of, readers_wait}
 
 -- Three commands of which the last needs the others, two at a time. The first one has two parts.
 abbrev pub happens : List Moment → Bool
@@ -58,6 +59,39 @@ of_others = record {
   no_such_part = refl;
   need_unmet = refl;
   ends_before_its_start = refl;
+}
+
+-- A writer, a head that begins beside it, and the rest, which needs both and waits for the writer's file.
+abbrev pub may_make : List Act → Bool
+may_make made = may_act (λ n. n == 2) (0 ∷ 1 ∷ 2 ∷ []) (fresh ([] ∷ [] ∷ (0 ∷ 1 ∷ []) ∷ []) (0 ∷ 0 ∷ 0 ∷ []) 2 GoOn) [] [] [] made
+
+abbrev pub up_to_its_start : List Act
+up_to_its_start =
+    Does (Tells (Started 0)) ∷ Does (Tells (Started 1)) ∷ Does (Runs 1) ∷ Does (Runs 0) ∷ Does (Tells (Ended 1 Success)) ∷ Does (Tells (Ended 0 Success)) ∷ Does (Tells (Started 2)) ∷ []
+
+abbrev pub given_its_file : List Act
+given_its_file = up_to_its_start ++ Gives 2 ∷ Finds 2 ∷ Does (Runs 2) ∷ Does (Tells (Ended 2 Success)) ∷ []
+
+pub record OfWithheldFiles : Type 0 where
+  pub may : may_make given_its_file ≡ true
+  pub waits : readers_wait [] given_its_file ≡ true
+  pub ran : ran_in (moments_of given_its_file) ≡ 1 ∷ 0 ∷ 2 ∷ []
+  pub given_before_its_start : may_make (Does (Tells (Started 1)) ∷ Gives 2 ∷ []) ≡ false
+  pub given_twice : may_make (up_to_its_start ++ Gives 2 ∷ Gives 2 ∷ []) ≡ false
+  pub goes_on_without_it : may_make (up_to_its_start ++ Gives 2 ∷ Does (Runs 2) ∷ []) ≡ false
+  pub goes_on_after_its_end : may_make (up_to_its_start ++ Gives 2 ∷ Finds 2 ∷ Does (Tells (Ended 2 Failure)) ∷ Does (Runs 2) ∷ []) ≡ false
+  pub finds_it_too_early : readers_wait [] (up_to_its_start ++ Finds 2 ∷ Gives 2 ∷ []) ≡ false
+
+pub of_withheld_files : OfWithheldFiles
+of_withheld_files = record {
+  may = refl;
+  waits = refl;
+  ran = refl;
+  given_before_its_start = refl;
+  given_twice = refl;
+  goes_on_without_it = refl;
+  goes_on_after_its_end = refl;
+  finds_it_too_early = refl;
 }
 
 -- the needs of needs, and those of parts

@@ -1,6 +1,8 @@
 //! Laws of what is left in files by commands that a schedule orders.
 
-ghost use Rattle.schedule_orders.specs.Examples.{OfOverlapping, OfStopped, OfOthers, OfNeeds, OfPlans};
+ghost use Rattle.schedule_orders.specs.Examples.{OfOverlapping, OfStopped, OfOthers, OfWithheldFiles, OfNeeds, OfPlans};
+ghost use Rattle.schedule_orders.specs.Needed as without;
+ghost use Rattle.schedule_orders.specs.Withheld.{MayHappen, GivesWhatWasWritten};
 ghost use Rattle.schedule_orders.specs.Plans.{PlanHolds, OthersSuffice, PlansHold};
 ghost use Rattle.schedule_orders.specs.Products.{EachAfterItsNeeds, BeginsAnOrder, LeavesTheirs, LeavesTheProducts};
 
@@ -21,6 +23,34 @@ pub fn products()
     ensures all { LeavesTheProducts }
 {}
 
+/// A command may begin before a file is there that it reads late: as another command, its head, which needs less and doesn't touch the file.
+///
+/// In a history of this kind the caller gives a command its file once the schedule has accepted the command's start, and the command's parts
+/// run once its process has found the file. There is one premise more than in `products`, about the kernel: a file that is withheld, or a pipe, is
+/// found only once it is given (`readers_wait`).
+///
+/// Then each part runs while its command runs, so all that `products` says holds of this history (`happens`). A command is given its file
+/// after all that it needs has run, and each file of its record holds then what it holds in the graph's own order: what its writers
+/// wrote (`gives`).
+pub fn withheld()
+    ensures happens { MayHappen }
+    ensures gives { GivesWhatWasWritten }
+{}
+
+/// No premise of `products` and `withheld` can be left out (`command_files::laws::orders_need` has the other one). What is left isn't always
+/// the same if commands don't stay within their records (`staying`), if some haven't succeeded (`success`), if parts don't run as the
+/// schedule is told (`happening`), if they are of no command (`commands`), or if an order leaves commands out (`order`). A
+/// part may run before its command if the caller does what it likes (`acting`), or the kernel lets readers go on (`waiting`).
+pub fn products_need()
+    ensures staying { without.WithoutStayingWithin → ⊥ }
+    ensures success { without.WithoutSuccess → ⊥ }
+    ensures happening { without.WithoutHappening → ⊥ }
+    ensures commands { without.WithoutCommands → ⊥ }
+    ensures order { without.WithoutOrder → ⊥ }
+    ensures acting { without.WithoutActing → ⊥ }
+    ensures waiting { without.WithoutWaiting → ⊥ }
+{}
+
 /// `products` holds of a plan, and of several plans in one graph.
 ///
 /// The needs of a plan order its commands as `products` asks (`one`), and it's enough that commands that aren't final stay within
@@ -37,6 +67,7 @@ pub fn worked_histories()
     ensures overlapping { OfOverlapping }
     ensures stopped { OfStopped }
     ensures others { OfOthers }
+    ensures withheld { OfWithheldFiles }
     ensures needs { OfNeeds }
     ensures plans { OfPlans }
 {}

@@ -18,3 +18,4 @@ pub use command::{AfterFailure, BadGraph, CommandState, Outcome, PlanStatus, Ref
 pub use graph::joined_needs;
 pub use kinds::{CommandKind, usual_weight};
 pub use schedule::Schedule;
+pub use telling::told;

@@ -5,8 +5,11 @@ ghost use Rattle.schedules.specs.Told as spec;
 
 use crate::command::{CommandState, PlanStatus, Told};
 
-/// Which outputs of the commands with the numbers from `first` up to `end`, without `end` itself, may be printed.
-pub(crate) fn told(states: &[CommandState], first: usize, end: usize) -> Told
+/// Which outputs of commands may be printed, given what has become of each: of those with the numbers from `first` up to `end`, without
+/// `end` itself.
+///
+/// [`Schedule::told`](crate::Schedule::told) answers it of a schedule's commands, and `laws::told` says what that is.
+pub fn told(states: &[CommandState], first: usize, end: usize) -> Told
     ensures { result ≡ spec.told states.now first end }
 {
     let mut next = first;

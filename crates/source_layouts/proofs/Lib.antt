@@ -1,2 +1,6 @@
+pub mod LinedLemmas
+pub mod PieceLemmas
 pub mod PlaceLemmas
+pub mod ReadingLemmas
 pub mod RemarkLemmas
+pub mod RunLemmas

@@ -9,16 +9,16 @@ use Rattle.source_layouts.specs.Bytes.{begins_word, is_word, may_be_letter, is_b
 use Rattle.source_layouts.specs.Reading.{Reading, beginning, read, step, step_in, start, grow, begins, begins_beside_words, most_brackets, end_line, in_word, in_number, in_directive, in_comment, comment_on, quoted, escaped, may_set_lines}
 use Rattle.source_layouts.specs.LayoutLaws.{TextsLeaveNothing}
 
-abbrev is_nil : List ℕ → Bool
+abbrev pub is_nil : List ℕ → Bool
 is_nil [] = true
 is_nil (c ∷ cs) = false
 
-nil_is : (l : List ℕ) → is_nil l ≡ true → l ≡ []
+pub nil_is : (l : List ℕ) → is_nil l ≡ true → l ≡ []
 nil_is [] is = refl
 nil_is (c ∷ cs) is = absurd (false≢true is)
 
 -- whether a reader has no bytes of another token than the one that it is in
-abbrev is_clean_in : State → Reading → Bool
+abbrev pub is_clean_in : State → Reading → Bool
 is_clean_in Word s = is_nil s.ends && not s.is_wide
 is_clean_in LineComment s = true
 is_clean_in Comment s = true
@@ -27,7 +27,7 @@ is_clean_in CommentSlash s = true
 is_clean_in Refused s = true
 is_clean_in _ s = is_nil s.token && (is_nil s.ends && not s.is_wide)
 
-abbrev IsClean : Reading → Type 0
+abbrev pub IsClean : Reading → Type 0
 IsClean s = is_clean_in s.state s ≡ true
 
 either : (b : Bool) (one other : Reading) → IsClean one → IsClean other → IsClean (cond b one other)
@@ -94,7 +94,7 @@ word_clean c s is =
     (either ((c == 34) && is_raw_prefix s.token) _ _ refl
     (either (may_be_letter c) _ _ is (begins_clean c (record s { token = [] }) is)))
 
-in_clean : (state : State) (c : ℕ) (s : Reading) → s.state ≡ state → is_clean_in state s ≡ true → IsClean (step_in state c s)
+pub in_clean : (state : State) (c : ℕ) (s : Reading) → s.state ≡ state → is_clean_in state s ≡ true → IsClean (step_in state c s)
 in_clean Between c s at is = begins_clean c s is
 in_clean Word c s at is = word_clean c s is
 in_clean OtherWord c s at is =

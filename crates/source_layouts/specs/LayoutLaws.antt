@@ -1,10 +1,11 @@
 -- What holds of the layouts of all texts.
-use Rattle.std.specs.Prelude.{ℕ, Bool, false, true, ◌≡◌, ◌==◌, ◌&&◌, not, List, [], ◌∷◌, ◌++◌, codes}
+use Rattle.std.specs.Prelude.{ℕ, Bool, false, true, ◌≡◌, ◌==◌, ◌&&◌, not, List, [], ◌∷◌, ◌++◌, Some, is_some, codes}
 use Rattle.std.specs.List.{list_all}
 use Rattle.std.specs.Int.{is_in_range}
 use Rattle.source_layouts.specs.declared.state.State.TheVariants.{Between}
 use Rattle.source_layouts.specs.Bytes.{is_blank, is_odd}
-use Rattle.source_layouts.specs.Reading.{Reading, beginning, read}
+use Rattle.source_layouts.specs.Pieces.{pieces}
+use Rattle.source_layouts.specs.Reading.{Reading, beginning, read, layout}
 
 -- where a reader is between two tokens
 pub record IsBetween (at : Reading) : Type 0 where
@@ -45,3 +46,17 @@ abbrev pub EmptyLinesDontCount : Type 0
 EmptyLinesDontCount =
     (at : Reading) (blanks rest : List ℕ) → at.state ≡ Between → at.is_lined ≡ false → at.is_empty ≡ true → at.has_blank ≡ false →
     list_all is_blank blanks ≡ true → read at (blanks ++ 10 ∷ rest) ≡ read at rest
+
+-- a text with a layout has a reading
+abbrev pub TextsHavePieces : Type 0
+TextsHavePieces = (is_lined : Bool) (text out : List ℕ) → layout is_lined text ≡ Some out → is_some (pieces is_lined text) ≡ true
+
+-- a layout has the pieces of its text: the tokens of what is no directive, and the directives, if lines count with their lines
+abbrev pub LayoutsHaveThePieces : Type 0
+LayoutsHaveThePieces = (is_lined : Bool) (text out : List ℕ) → layout is_lined text ≡ Some out → pieces is_lined out ≡ pieces is_lined text
+
+-- so texts of one layout have the same pieces
+abbrev pub SamePieces : Type 0
+SamePieces =
+    (is_lined : Bool) (first second out : List ℕ) → layout is_lined first ≡ Some out → layout is_lined second ≡ Some out →
+    pieces is_lined first ≡ pieces is_lined second

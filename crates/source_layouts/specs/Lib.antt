@@ -1,4 +1,5 @@
 pub mod Bytes
 pub mod Examples
 pub mod LayoutLaws
+pub mod Pieces
 pub mod Reading

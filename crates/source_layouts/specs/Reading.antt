@@ -1,7 +1,7 @@
 -- The layout of a source text: what of it a preprocessor may see but for comments, blanks and empty lines.
 --
--- Texts of one layout have the same tokens on the same lines but for lines without tokens, blanks between the same tokens, and the same
--- directives, byte for byte. If lines count, they have the same line ends too. A text that a preprocessor may read in another way has none: one
+-- Texts of one layout have the same tokens and the same directives, byte for byte; if lines count, on the same lines. `Pieces` defines both, and
+-- `LayoutLaws` has the law. A text that a preprocessor may read in another way has none: one
 -- with a raw string, a trigraph, a line that is joined to the next outside a directive, or an open literal. Nor has one with a comment of which
 -- a preprocessor may warn.
 use Rattle.std.specs.Prelude.{ℕ, ◌+◌, ◌-◌, Bool, true, false, not, ◌||◌, ◌&&◌, ◌==◌, if◌then◌else◌, List, [], ◌∷◌, ◌++◌, Option, Some, None, codes, nat_eq, nat_lt}
@@ -176,7 +176,8 @@ behind_slash c s =
     if c == 47 then begin_comment LineComment c s else
     if c == 42 then begin_comment Comment c s else begins c (start Between 47 s)
 
--- A comment is left out, but for its line ends if lines count. One with other bytes than ASCII counts by its text: a preprocessor warns of some.
+-- A comment is left out, but for its line ends if lines count. One with other bytes than ASCII counts by its text, since a preprocessor warns of
+-- some. A mark on each side tells its `//` from a `/` in front of it.
 abbrev pub end_comment : Reading → Reading
 end_comment s = record s {
   state = Between;
@@ -184,7 +185,7 @@ end_comment s = record s {
   token = [];
   ends = [];
   is_wide = false;
-  out = s.out ++ (if s.is_wide then s.token ++ 12 ∷ [] else s.ends);
+  out = s.out ++ (if s.is_wide then 12 ∷ (s.token ++ 12 ∷ []) else s.ends);
 }
 
 -- a byte of a comment

@@ -11,10 +11,20 @@ pub fn comments()
     ensures lines { spec.EmptyLinesDontCount }
 {}
 
+/// Texts of one layout have the same tokens of what is no directive, and the same directives, by the definition `pieces`: if lines count, on the same
+/// lines.
+pub fn readings()
+    ensures found { spec.TextsHavePieces }
+    ensures pieces { spec.LayoutsHaveThePieces }
+    ensures same { spec.SamePieces }
+{}
+
 /// Examples: texts with their layouts, and texts without one.
 pub fn worked_texts()
     ensures blanks { examples.BlanksAreLeftOut }
     ensures lines { examples.LinesCount }
     ensures texts { examples.TextsAreKept }
     ensures doubts { examples.DoubtsHaveNone }
+    ensures pieces { examples.PiecesAreRead }
+    ensures unread { examples.DoubtsAreNotRead }
 {}

@@ -1,7 +1,7 @@
 //! Layouts of source texts, for the keys of a cache.
 //!
-//! [`layout`] writes what of a text a preprocessor may see but for comments, blanks and empty lines. A preprocessor that reads a text in place of
-//! one with the same layout writes the same tokens, if nothing sees the numbers of lines.
+//! [`layout`] writes what of a text a preprocessor may see but for comments, blanks and empty lines. Texts of one layout have the same tokens and the
+//! same directives (`laws::readings`).
 #![tactic(auto)]
 
 mod bytes;

@@ -357,6 +357,7 @@ impl Reader {
         ensures { OnOk result (self.new ≡ spec.end_comment self.old) }
     {
         if self.is_wide {
+            self.out.push(12)?;
             self.out.extend_from_slice(self.token.as_slice())?;
             self.out.push(12)?;
         } else {

@@ -18,6 +18,8 @@ pub enum Error {
     NoDependency { of: String, name: String },
     /// `rustfmt` refuses the result.
     Format(String),
+    /// A folder of crates lacks some that the workspace needs, as cargo says.
+    LacksCrates { folder: PathBuf, said: String },
 }
 
 impl Error {
@@ -38,6 +40,11 @@ impl fmt::Display for Error {
                 "{of} needs {name}, which is no crate and has no stand-in"
             ),
             Error::Format(said) => write!(f, "rustfmt: {said}"),
+            Error::LacksCrates { folder, said } => write!(
+                f,
+                "{} lacks crates; `make vendor` fills vendor\n{said}",
+                folder.display()
+            ),
         }
     }
 }

@@ -13,6 +13,7 @@ mod ghost;
 mod imports;
 mod layout;
 mod manifest;
+mod origin;
 mod rewrites;
 mod signature;
 mod source;
@@ -24,7 +25,8 @@ use error::Error;
 use std::path::{Path, PathBuf};
 use std::process::ExitCode;
 
-const USAGE: &str = "usage: eraser [--drivers] [--unformatted] PROJECT WORKSPACE";
+const USAGE: &str =
+    "usage: eraser [--drivers] [--unformatted] [--remote] [--crates=FOLDER] PROJECT WORKSPACE";
 
 /// What the words of the call ask for.
 struct Call {
@@ -34,6 +36,10 @@ struct Call {
     drivers: bool,
     /// Whether rustfmt may lay out the result.
     formats: bool,
+    /// Whether the crate remote is a member, which needs more crates than the rest.
+    remote: bool,
+    /// The folder to take crates from, if one is given.
+    crates: Option<PathBuf>,
 }
 
 fn call(words: impl Iterator<Item = String>) -> Option<Call> {
@@ -46,25 +52,29 @@ fn call(words: impl Iterator<Item = String>) -> Option<Call> {
         workspace: PathBuf::from(workspace),
         drivers: false,
         formats: true,
+        remote: false,
+        crates: None,
     };
     for option in options {
         match option.as_str() {
             "--drivers" => call.drivers = true,
             "--unformatted" => call.formats = false,
-            _ => return None,
+            "--remote" => call.remote = true,
+            _ => call.crates = Some(PathBuf::from(option.strip_prefix("--crates=")?)),
         }
     }
     Some(call)
 }
 
 fn run(call: &Call) -> Result<(), Error> {
-    let mut found = workspace::workspace_of(&call.project, call.drivers)?;
+    let mut found = workspace::workspace_of(&call.project, call.drivers, call.remote)?;
     let scratch = scratch(&call.workspace);
     if call.formats && !found.tree.format(&found.roots, &scratch)? {
         eprintln!("eraser: there is no rustfmt, so some lines are longer than they should be");
     }
     std::fs::create_dir_all(&call.workspace).map_err(|it| Error::io(&call.workspace, it))?;
-    found.tree.write(&call.workspace)
+    found.tree.write(&call.workspace)?;
+    origin::settle(&call.project, &call.workspace, call.crates.as_deref())
 }
 
 // A folder beside the workspace.

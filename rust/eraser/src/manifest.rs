@@ -80,13 +80,16 @@ fn description(erased: &ErasedCrate) -> String {
         .replace('`', "")
 }
 
-/// The manifest of the workspace.
-pub fn workspace(version: &str, members: &[PathBuf]) -> String {
-    let members: String = members
-        .iter()
-        .map(|it| format!("    \"{}\",\n", it.display()))
-        .collect();
+/// The manifest of the workspace. Cargo builds the first `by_default` members unless it is told otherwise.
+pub fn workspace(version: &str, members: &[PathBuf], by_default: usize) -> String {
+    let lines = |members: &[PathBuf]| -> String {
+        let lines = members
+            .iter()
+            .map(|it| format!("    \"{}\",\n", it.display()));
+        lines.collect()
+    };
     include_str!("../templates/workspace.toml")
-        .replace("@MEMBERS@", &members)
+        .replace("@MEMBERS@", &lines(members))
+        .replace("@DEFAULT@", &lines(&members[..by_default]))
         .replace("@VERSION@", version)
 }

@@ -6,8 +6,8 @@ use std::fs;
 use std::path::{Path, PathBuf};
 use std::process::Command;
 
-/// What a workspace has of its own: cargo's, which isn't touched.
-const KEPT: [&str; 2] = ["target", "Cargo.lock"];
+/// What a workspace has of its own: cargo's, and crates of others.
+const KEPT: [&str; 4] = ["target", "Cargo.lock", ".cargo", "vendor"];
 /// What isn't copied from a folder that is written by hand.
 const LEFT: [&str; 2] = ["target", "Cargo.lock"];
 

@@ -8,30 +8,21 @@ use crate::tree::{Tree, names};
 use std::fs;
 use std::path::{Path, PathBuf};
 
-/// A crate that is written by hand: where it is in the project, and where it goes. Some projects lack some of them.
-struct ByHand {
-    from: &'static str,
-    to: &'static str,
-}
-
-const BY_HAND: [ByHand; 4] = [
-    ByHand {
-        from: "call",
-        to: "call",
-    },
-    ByHand {
-        from: "bindings/rust",
-        to: "zigrunk",
-    },
-    ByHand {
-        from: "capi",
-        to: "capi",
-    },
-    ByHand {
-        from: "driver",
-        to: "driver",
-    },
+/// The crates that are written by hand, by their folders in the project. Some projects lack some of them.
+const BY_HAND: [&str; 10] = [
+    "call",
+    "bindings/rust",
+    "capi",
+    "unix",
+    "machine",
+    "cache",
+    "runner",
+    "batch",
+    "report",
+    "driver",
 ];
+/// The crate that is a member only on request.
+const REMOTE: &str = "remote";
 
 /// Names the files of the record, and says what its columns are.
 const RECORD: &str = "# What went from each file of the proved sources: FILE, CLASS, and the bytes from START to END. A rewrite has its name.\n";
@@ -47,8 +38,8 @@ pub struct Workspace {
     record: String,
 }
 
-/// The workspace for the project at `root`. Test drivers are in it if `drivers` says so.
-pub fn workspace_of(root: &Path, drivers: bool) -> Result<Workspace, Error> {
+/// The workspace for the project at `root`. Test drivers are in it if `drivers` says so, and the crate remote if `remote` does.
+pub fn workspace_of(root: &Path, drivers: bool, remote: bool) -> Result<Workspace, Error> {
     let all = crates(root, drivers)?;
     let stand = root.join("rust/stand");
     let known = Known {
@@ -64,15 +55,27 @@ pub fn workspace_of(root: &Path, drivers: bool) -> Result<Workspace, Error> {
         found.add_copy(&stand.join(&name), &Path::new("stand").join(&name))?;
     }
     for one in BY_HAND {
-        found.add_copy(&root.join(one.from), Path::new(one.to))?;
+        found.add_copy(&root.join(one), &place(one))?;
+    }
+    let by_default = found.members.len();
+    if remote {
+        found.add_copy(&root.join(REMOTE), &place(REMOTE))?;
     }
     let version = root.join("VERSION");
     let version = fs::read_to_string(&version).map_err(|it| Error::io(&version, it))?;
-    found
-        .tree
-        .add("Cargo.toml", workspace(version.trim(), &found.members));
+    let manifest = workspace(version.trim(), &found.members, by_default);
+    found.tree.add("Cargo.toml", manifest);
     found.tree.add("erased.txt", found.record.as_str());
     Ok(found)
+}
+
+// Where a crate that is written by hand goes in the workspace.
+fn place(folder: &str) -> PathBuf {
+    PathBuf::from(if folder == "bindings/rust" {
+        "zigrunk"
+    } else {
+        folder
+    })
 }
 
 impl Workspace {

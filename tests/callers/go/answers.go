@@ -1,4 +1,5 @@
-// All that the Go layer says of the rows of misuses.txt, as answers.c prints it: `answers ROOM [text] < misuses.txt`.
+// All that the Go layer says of the rows of misuses.txt, as answers.c prints it: `answers ROOM [text] < misuses.txt`, or
+// `answers --call TMP NVCC WORD..`.
 package main
 
 import (
@@ -107,9 +108,68 @@ func printSchedule(plan *zigrunk.Plan) {
 	}
 }
 
+func printLine(of *zigrunk.Command) {
+	call := zigrunk.ToolLine{Tool: of.Tool, Directory: of.Directory, Words: of.Words[1:]}
+	line, err := call.Records()
+	if err != nil {
+		log.Fatal(err)
+	}
+	printTexts(" line", line.Input, line.CompilationFlag)
+	for _, output := range line.Outputs {
+		printTexts(" line", output.Key)
+	}
+	for _, output := range line.Outputs {
+		printTexts(" line", output.Path)
+	}
+	for _, texts := range [][]string{line.DependencyArgs, line.PreprocessorArgs, line.CommonArgs, line.ArchArgs, line.UnhashedArgs, line.ExtraDistFiles,
+		line.ExtraHashFiles} {
+		printTexts(" line", texts...)
+	}
+	fmt.Println(" line of", line.Language, line.ColorMode, one(line.DoubleDashInput), one(line.Outputs[0].Optional))
+	written, err := call.Written()
+	if err != nil {
+		log.Fatal(err)
+	}
+	printTexts(" written", written...)
+	key, err := zigrunk.CommandKey(of.Tool, of.Words, of.Environment, []string{of.Directory})
+	if err != nil {
+		log.Fatal(err)
+	}
+	printTexts(" own key", key)
+}
+
+func printTable(call *zigrunk.Call, own, first, second []byte, cwd string) error {
+	asked, err := zigrunk.Lookups(first, second, cwd, 0)
+	if err != nil {
+		log.Fatal(err)
+	}
+	for _, it := range asked {
+		printTexts("lookup", it.Program, it.Path)
+	}
+	programs := []zigrunk.FoundProgram{}
+	for _, it := range asked {
+		tried, err := zigrunk.Candidates(it, cwd)
+		if err != nil {
+			log.Fatal(err)
+		}
+		printTexts("candidate", tried...)
+		programs = append(programs, zigrunk.FoundProgram{Lookup: it, Found: tried[0]})
+	}
+	plan, err := call.PlanOf(own, first, second, programs, 0)
+	if err != nil {
+		return err
+	}
+	text, err := plan.Text("text")
+	printTexts("text", text)
+	return err
+}
+
 func printPlan(plan *zigrunk.Plan) {
 	for i := range plan.Commands {
 		printCommand(&plan.Commands[i])
+		if plan.Commands[i].Tool == zigrunk.Cicc {
+			printLine(&plan.Commands[i])
+		}
 		if key, files, err := plan.Key(i); err != nil {
 			printRefusal(err)
 		} else {
@@ -126,6 +186,16 @@ func printPlan(plan *zigrunk.Plan) {
 			printTexts(format, text)
 		}
 	}
+	renamed, err := zigrunk.Remap(plan.Commands[len(plan.Commands)-1].Words, nil)
+	if err != nil {
+		log.Fatal(err)
+	}
+	printTexts("renamed", renamed...)
+	headers, err := zigrunk.Headers([]byte("# 1 \"a.h\"\n# 2 \"k \\\"b\" 2\n# 3 \"a.h\"\n"))
+	if err != nil {
+		log.Fatal(err)
+	}
+	printTexts("header", headers...)
 	printSchedule(plan)
 }
 
@@ -136,11 +206,13 @@ func printRow(room string, row []string) error {
 		return err
 	}
 	printCall(call)
-	plan, err := call.PlanOf(content(room, row[7]), content(room, row[2]), content(room, row[3]), 0)
-	if err == nil {
-		printPlan(plan)
+	own, first, second := content(room, row[7]), content(room, row[2]), content(room, row[3])
+	plan, err := call.PlanOf(own, first, second, nil, 0)
+	if err != nil {
+		return err
 	}
-	return err
+	printPlan(plan)
+	return printTable(call, own, first, second, room+"/w")
 }
 
 func content(room, name string) []byte {
@@ -152,7 +224,7 @@ func content(room, name string) []byte {
 }
 
 func printPair(room string, row []string) error {
-	plan, err := zigrunk.PlanOf(content(room, row[2]), content(room, row[3]), room+"/w", room+"/t", "-c", nil, 0)
+	plan, err := zigrunk.PlanOf(content(room, row[2]), content(room, row[3]), room+"/w", room+"/t", "-c", nil, nil, 0)
 	if err != nil {
 		return err
 	}
@@ -161,7 +233,30 @@ func printPair(room string, row []string) error {
 	return err
 }
 
+func printMade(tmp string, words []string) error {
+	cwd, err := os.Getwd()
+	if err != nil {
+		log.Fatal(err)
+	}
+	call, err := zigrunk.NewCall(words[0], words[1:], os.Environ(), cwd, tmp)
+	if err != nil {
+		return err
+	}
+	printCall(call)
+	plan, err := call.Plan()
+	if err == nil {
+		printPlan(plan)
+	}
+	return err
+}
+
 func main() {
+	if len(os.Args) > 3 && os.Args[1] == "--call" {
+		if err := printMade(os.Args[2], os.Args[3:]); err != nil {
+			printRefusal(err)
+		}
+		return
+	}
 	print := printRow
 	if len(os.Args) > 2 {
 		print = printPair

@@ -7,7 +7,9 @@ use std::{env, fs, io};
 
 use zigrunk::schedule::{AfterFailure, Outcome, Schedule};
 use zigrunk::{
-    Call, Command, CommandTool, Disk, DropReason, DryRuns, Format, Missing, NvccCall, Plan, PlanCall, Run, Stage, plan, variables,
+    Call, Command, CommandTool, Disk, DropReason, DryRuns, Format, FoundProgram, KeyCall, LineCall, Missing, NvccCall, Plan,
+    PlanCall, Run, Stage, Tool, Variable, candidates, command_key, headers, line_records, line_words, lookups, plan, remap,
+    variables,
 };
 
 fn print_text(name: &str, text: impl AsRef<[u8]>) {
@@ -111,6 +113,45 @@ fn print_key(of: Command<'_>) {
     }
 }
 
+/// What the line of a cicc command says, how it is written back, and the key of such a command without a plan.
+fn print_line(of: Command<'_>) -> Result<(), Box<dyn Error>> {
+    let words: Vec<&str> = of.words().collect();
+    let call = LineCall { tool: Tool::Cicc, cwd: of.cwd().as_ref(), words: &words[1..], variables: &[] };
+    let line = line_records(&call)?;
+    print_texts(" line", [line.input(), line.compilation_flag()]);
+    print_texts(" line", line.outputs().map(|output| output.key));
+    print_texts(" line", line.outputs().map(|output| output.path));
+    for texts in [line.dependency_args(), line.preprocessor_args(), line.common_args(), line.arch_args(), line.unhashed_args()] {
+        print_texts(" line", texts);
+    }
+    print_texts(" line", line.extra_dist_files().chain(line.extra_hash_files()));
+    let [dashes, optional] =
+        [line.double_dash_input(), line.outputs().next().is_some_and(|output| output.is_optional)].map(u32::from);
+    println!(" line of {} {} {dashes} {optional}", line.language() as u32, line.color_mode() as u32);
+    print_texts(" written", line_words(&call)?.iter());
+    let variables: Vec<_> = of.variables().map(|(name, value)| Variable::new(name, value)).collect();
+    let key = KeyCall { tool: CommandTool::Cicc, words: &words, variables: &variables, roots: &[of.cwd().as_ref()] };
+    print_text(" own key", command_key(&key)?);
+    Ok(())
+}
+
+/// The look-ups of a call, the paths that each tries, and the plan if each finds the first.
+fn print_table(call: &Call, runs: &DryRuns, cwd: &Path) -> Result<(), Box<dyn Error>> {
+    let asked = lookups(runs.first(), runs.second(), cwd, None)?;
+    print_texts("lookup", asked.iter().flat_map(|it| [&it.program, &it.path]));
+    let mut programs = Vec::new();
+    for lookup in asked {
+        let tried = candidates(&lookup, cwd)?;
+        print_texts("candidate", tried.iter());
+        programs.push(FoundProgram { found: tried.get(0).map(String::from), lookup });
+    }
+    match call.plan_of(runs, &programs, None).and_then(|plan| plan.text(Format::Text)) {
+        Ok(text) => print_text("text", text),
+        Err(error) => print_refusal(&error),
+    }
+    Ok(())
+}
+
 /// Two slots, and the command that began first ends first.
 fn print_schedule(plan: &Plan) -> Result<(), Box<dyn Error>> {
     let mut schedule = Schedule::of_plans([plan], 2, AfterFailure::StartEarlier)?;
@@ -130,6 +171,9 @@ fn print_plan(plan: &Plan) -> Result<(), Box<dyn Error>> {
     for group in plan.groups() {
         for command in group.commands() {
             print_command(command, Some(group.stage()));
+            if command.tool() == Some(CommandTool::Cicc) {
+                print_line(command)?;
+            }
             print_key(command);
         }
     }
@@ -142,6 +186,12 @@ fn print_plan(plan: &Plan) -> Result<(), Box<dyn Error>> {
     }
     // (the crate takes no name of a format, so this is what the others say of one that isn't there)
     print!("refused 3 0 0\nmessage a\\20number\\20has\\20no\\20meaning\n");
+    if let Some(last) = plan.commands().next_back() {
+        let words: Vec<&str> = last.words().collect();
+        remap(&words, &[] as &[&str])?.iter().for_each(|word| print_text("renamed", word));
+    }
+    let output = b"# 1 \"a.h\"\n# 2 \"k \\\"b\" 2\n# 3 \"a.h\"\n";
+    headers(output)?.iter().for_each(|name| print_text("header", name));
     print_schedule(plan)
 }
 
@@ -155,7 +205,27 @@ fn print_pair(room: &Path, first: &[u8], second: &[u8]) {
     }
 }
 
+fn print_made(tmp: &str, nvcc: &str, words: &[String]) -> Result<(), Box<dyn Error>> {
+    let environment: Vec<_> = env::vars_os().collect();
+    let made = Call::new(&NvccCall::new(nvcc, words).at(&env::current_dir()?, tmp).variables(&variables(&environment)));
+    let planned = made.and_then(|call| {
+        print_call(&call);
+        call.plan()
+    });
+    match planned {
+        Ok(plan) => print_plan(&plan)?,
+        Err(error) => print_refusal(&error),
+    }
+    Ok(())
+}
+
 fn main() -> Result<(), Box<dyn Error>> {
+    let words: Vec<String> = env::args().skip(1).collect();
+    if let [mode, tmp, nvcc, words @ ..] = words.as_slice() {
+        if mode == "--call" {
+            return print_made(tmp, nvcc, words);
+        }
+    }
     let room = PathBuf::from(env::args_os().nth(1).ok_or("usage: answers ROOM")?);
     let environment: Vec<_> = env::vars_os().collect();
     for row in io::stdin().lines() {
@@ -179,8 +249,12 @@ fn main() -> Result<(), Box<dyn Error>> {
             }
         };
         print_call(&call);
-        match call.plan_of(&DryRuns::new(read(own)?, read(first)?, read(second)?), &Disk::default(), None) {
-            Ok(plan) => print_plan(&plan)?,
+        let runs = DryRuns::new(read(own)?, read(first)?, read(second)?);
+        match call.plan_of(&runs, &Disk::default(), None) {
+            Ok(plan) => {
+                print_plan(&plan)?;
+                print_table(&call, &runs, &cwd)?;
+            }
             Err(error) => print_refusal(&error),
         }
     }

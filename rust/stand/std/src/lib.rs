@@ -8,8 +8,8 @@
 //! map, the shared pointer and the start of a process are our own, because Rust's abort; what can abort on systems other than
 //! Linux says so.
 //!
-//! Neither this crate nor those beside it have dependencies: a clone builds with cargo alone and no network, and the crates of
-//! the same names take no allocator and abort too. `tests/stand_ins.sh` compares them all with Rattle's.
+//! Neither this crate nor those beside it have dependencies: the crates of the same names take no allocator and abort too.
+//! `tests/stand_ins.sh` compares them all with Rattle's.
 #![deny(unsafe_op_in_unsafe_fn)]
 #![warn(missing_docs)]
 

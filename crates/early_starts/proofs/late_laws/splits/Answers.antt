@@ -1,5 +1,5 @@
 use Rattle.early_starts.proofs.SplitLemmas.{ends-plan, compilers-words, assemblers-words, halves-touch}
-use Rattle.early_starts.proofs.LateNeedLemmas.{others-need-the-same, compiler-needs-those, assembler-needs-all}
+use Rattle.early_starts.proofs.LateNeedLemmas.{others-need-the-same, assembler-needs-all}
 use Rattle.early_starts.proofs.late_laws.splits.Goals as goal
 
 pub returns : goal.returns
@@ -9,6 +9,5 @@ returns c = record {
   assembler = assemblers-words;
   files = halves-touch;
   others = others-need-the-same;
-  before = compiler-needs-those;
   all = assembler-needs-all;
 }

@@ -1,0 +1,322 @@
+//! Whole calls: what an equal call has made and said is made and said again, without a dry run, if all that it read is as it was.
+//!
+//! A call's key leads to a manifest, the files that were read and the places where some were sought in vain. Their digests lead to what the
+//! call made.
+use crate::digest::{Digest, Hasher};
+use crate::manifest::Manifest;
+use crate::processor::instructions;
+use crate::source::words_of;
+use crate::store::Store;
+use crate::stored;
+use crate::system::may_write;
+use call::NvccLine;
+use machine::settings::{self, own_variable, own_variables};
+use machine::streams::{Said, write_all};
+use serde::{Deserialize, Serialize};
+use std::ffi::{OsStr, OsString};
+use std::fs::{self, File};
+use std::io::{self, ErrorKind, IsTerminal};
+use std::os::unix::ffi::OsStrExt;
+use std::path::{Path, PathBuf};
+
+/// Variables that nothing of what a call makes depends on, unless a profile of nvcc names one. All others count, since a profile may use any.
+const FREE_VARIABLES: [&str; 39] = [
+    "COLUMNS",
+    "DISPLAY",
+    "EDITOR",
+    "GCC_COLORS",
+    "HISTFILE",
+    "HISTSIZE",
+    "HOME",
+    "HOSTNAME",
+    "INVOCATION_ID",
+    "JOURNAL_STREAM",
+    "LESSCLOSE",
+    "LESSOPEN",
+    "LINES",
+    "LOGNAME",
+    "LS_COLORS",
+    "MAIL",
+    "MAKEFLAGS",
+    "MAKELEVEL",
+    "MAKEOVERRIDES",
+    "MAKE_TERMERR",
+    "MAKE_TERMOUT",
+    "MFLAGS",
+    "NINJA_STATUS",
+    "OLDPWD",
+    "PAGER",
+    "PS1",
+    "PWD",
+    "SHELL",
+    "SHLVL",
+    "STY",
+    "TERM",
+    "TERM_PROGRAM",
+    "TMPDIR",
+    "TMUX",
+    "TMUX_PANE",
+    "USER",
+    "VISUAL",
+    "WINDOWID",
+    "_",
+];
+/// The same for those that begin so.
+const FREE_BEGINNINGS: [&str; 9] = ["CCACHE_", "CMAKE_", "DBUS_", "GITHUB_", "SLURM_", "SSH_", "VSCODE_", "XDG_", "ZIGRUNK_"];
+
+fn is_free(name: &OsStr) -> bool {
+    let name = name.as_bytes();
+    FREE_VARIABLES.iter().any(|free| name == free.as_bytes()) || FREE_BEGINNINGS.iter().any(|begin| name.starts_with(begin.as_bytes()))
+}
+
+/// Whether a text has the name of such a variable: a profile of nvcc may use any.
+pub fn names_free_variable(text: &[u8]) -> bool {
+    words_of(text).any(|word| is_free(OsStr::from_bytes(word)))
+}
+
+/// A file that a call has made.
+#[derive(Clone, PartialEq, Eq, Debug, Serialize, Deserialize)]
+pub struct Product {
+    /// Its path, seen from the call's working directory.
+    #[serde(with = "stored::path")]
+    pub path: PathBuf,
+    /// Whether it takes the place of what was there.
+    pub is_new: bool,
+    /// What is in it.
+    #[serde(with = "serde_bytes")]
+    pub text: Vec<u8>,
+}
+
+/// What a call has made and said.
+#[derive(Clone, PartialEq, Eq, Debug, Default, Serialize, Deserialize)]
+pub struct Answer {
+    /// What it has put in places outside its directory.
+    pub products: Vec<Product>,
+    /// What it has said.
+    pub said: Said,
+    /// The kind of terminal for which its messages are.
+    pub terminal: Vec<u8>,
+}
+
+impl Answer {
+    fn is_silent(&self) -> bool {
+        self.said.iter().all(|(_, text)| text.is_empty())
+    }
+
+    /// Whether its messages would be the same now.
+    fn may_be_said(&self) -> bool {
+        self.is_silent() || self.terminal == terminal()
+    }
+}
+
+/// The keys under which a call may be: with no folder, and with its own.
+fn keys(line: &NvccLine, nvcc: &Path) -> [Digest; 2] {
+    let places = fs::canonicalize(&line.cwd).map(|real| [line.cwd.as_bytes(), b"\0", real.as_os_str().as_bytes()].concat());
+    let places = places.unwrap_or_else(|_| line.cwd.clone().into_bytes());
+    [&b""[..], &places].map(|folder| key(line, nvcc, folder, own_variables()))
+}
+
+/// The key of a call: the processor, its nvcc, its words and its variables, and its folder, with where that really is, if that counts.
+fn key(line: &NvccLine, nvcc: &Path, folder: &[u8], variables: impl Iterator<Item = (OsString, OsString)>) -> Digest {
+    let mut hasher = Hasher::default();
+    hasher.add(b"zigrunk call 7");
+    hasher.add(instructions().as_bytes());
+    hasher.add(folder);
+    hasher.add(nvcc.as_os_str().as_bytes());
+    hasher.update(&(line.words.len() as u64).to_le_bytes());
+    line.words.iter().for_each(|word| hasher.add(word.as_bytes()));
+    let mut variables: Vec<_> = variables.filter(|(name, _)| !is_free(name)).collect();
+    variables.sort();
+    for (name, value) in variables {
+        hasher.add(name.as_bytes());
+        hasher.add(value.as_bytes());
+    }
+    hasher.finish()
+}
+
+/// Whether calls are kept whole: unless `ZIGRUNK_CALLS` is no.
+pub fn is_on() -> bool {
+    settings::keeps_calls()
+}
+
+/// Makes what the store has of a whole call, and gives what it said. `None` if the call has to be made.
+pub fn serve(store: &Store, line: &NvccLine, nvcc: &Path) -> Option<Said> {
+    let cwd = Path::new(&line.cwd);
+    // Without a folder for temporary files nvcc fails.
+    let folder = own_variable("TMPDIR").filter(|folder| !folder.is_empty()).map(|folder| cwd.join(folder));
+    let has_room = folder.is_none_or(|folder| folder.is_dir() && may_write(&folder));
+    if has_room { keys(line, nvcc).iter().find_map(|key| serve_by(store, key, cwd)) } else { None }
+}
+
+/// What the store has of a call with this key, and what the call depends on now. Says too whether other sources have taken the place of some.
+fn found(store: &Store, key: &Digest, manifest: &Manifest, cwd: &Path) -> Option<(Answer, Manifest, bool)> {
+    let answer = |of: &Manifest| stored::of_bytes::<Answer>(&store.read(&of.digest(key))?);
+    let now = manifest.again(cwd)?;
+    if let Some(answer) = answer(&now) {
+        return answer.may_be_said().then_some((answer, now, false));
+    }
+    let now = manifest.alike(&now, cwd)?;
+    let answer = answer(manifest).filter(Answer::is_silent)?;
+    Some((answer, now, true))
+}
+
+fn serve_by(store: &Store, key: &Digest, cwd: &Path) -> Option<Said> {
+    let manifest: Manifest = stored::of_bytes(&store.read(key)?)?;
+    let (answer, now, is_alike) = found(store, key, &manifest, cwd)?;
+    // (what is to be written to may not be writable: then nothing else is made either)
+    let (made, written): (Vec<&Product>, Vec<&Product>) = answer.products.iter().partition(|product| product.is_new);
+    for product in written.into_iter().chain(made) {
+        put(product.is_new, &cwd.join(&product.path), &product.text).ok()?;
+    }
+    if is_alike {
+        let _ = write(store, key, &now, &answer);
+    } else if now.is_better_than(&manifest) {
+        let _ = store.write(key, &stored::to_bytes(&now));
+    }
+    Some(answer.said)
+}
+
+/// Keeps the answer of a call that depends on files as they are in a manifest.
+fn write(store: &Store, key: &Digest, manifest: &Manifest, answer: &Answer) -> io::Result<()> {
+    store.write(&manifest.digest(key), &stored::to_bytes(answer)).and_then(|()| store.write(key, &stored::to_bytes(manifest)))
+}
+
+/// Keeps what a call has made, if the store can be written.
+pub fn keep(store: &Store, line: &NvccLine, nvcc: &Path, folder_counts: bool, manifest: &Manifest, answer: &Answer) {
+    let key = keys(line, nvcc)[usize::from(folder_counts)];
+    let _ = write(store, &key, manifest, answer);
+}
+
+/// Variables by which messages differ, and those that count on a terminal alone.
+const MESSAGES: [&str; 3] = ["GCC_COLORS", "GCC_EXTRA_DIAGNOSTIC_OUTPUT", "LANGUAGE"];
+const ON_TERMINALS: [&str; 6] = ["TERM", "COLUMNS", "GCC_URLS", "TERM_URLS", "NOCOLOR", "NO_COLOR"];
+
+/// What messages depend on beside what they say: the kind of terminal, and variables. Nothing if they don't go to one, and none is set.
+pub fn terminal() -> Vec<u8> {
+    let is_terminal = io::stderr().is_terminal();
+    let names = MESSAGES.iter().chain(ON_TERMINALS.iter().filter(|_| is_terminal));
+    let values: Vec<Vec<u8>> = names.map(|name| own_variable(name).unwrap_or_default().as_bytes().to_vec()).collect();
+    if is_terminal || values.iter().any(|value| !value.is_empty()) { values.join(&b'\n') } else { Vec::new() }
+}
+
+/// Puts a file in its place as a tool does: a compiler makes a new one, unless what is there is empty. The others write to what is there.
+pub fn put(is_new: bool, path: &Path, text: &[u8]) -> io::Result<()> {
+    match fs::symlink_metadata(path) {
+        Ok(status) if !status.is_file() => return Err(ErrorKind::AlreadyExists.into()),
+        Ok(status) if is_new && status.len() > 0 => fs::remove_file(path)?,
+        _ => {}
+    }
+    // What can't be opened stays, as with a tool.
+    let file = File::create(path)?;
+    write_all(&file, text).inspect_err(|_| drop(fs::remove_file(path)))
+}
+
+#[cfg(test)]
+mod tests {
+    use super::*;
+    use crate::manifest::{Form, Lacking, Seen, Vain};
+    use crate::test_folder::TestFolder;
+    use std::fs;
+
+    fn line(words: &str, cwd: &str) -> NvccLine {
+        NvccLine { cwd: cwd.into(), nvcc: "nvcc".into(), words: words.split(' ').map(String::from).collect(), variables: Vec::new() }
+    }
+
+    fn key_of(words: &str, folder: Option<&str>, nvcc: &str, variables: &[(&str, &str)]) -> Digest {
+        let variables = variables.iter().map(|(name, value)| (name.into(), value.into()));
+        key(&line(words, "/w"), Path::new(nvcc), folder.unwrap_or_default().as_bytes(), variables)
+    }
+
+    #[test]
+    fn words_variables_and_the_compiler_count() {
+        let usual = key_of("-c k.cu", None, "/b/nvcc", &[("A", "1"), ("PATH", "/bin")]);
+        let same = [("PATH", "/bin"), ("TERM", "xterm"), ("A", "1"), ("ZIGRUNK_LOG", "x"), ("XDG_RUNTIME_DIR", "/run")];
+        assert_eq!(key_of("-c k.cu", None, "/b/nvcc", &same), usual);
+        let others = [
+            key_of("-c k.cu -O2", None, "/b/nvcc", &[("A", "1"), ("PATH", "/bin")]),
+            key_of("-c j.cu", None, "/b/nvcc", &[("A", "1"), ("PATH", "/bin")]),
+            key_of("-c k.cu", Some("/w"), "/b/nvcc", &[("A", "1"), ("PATH", "/bin")]),
+            key_of("-c k.cu", None, "/c/nvcc", &[("A", "1"), ("PATH", "/bin")]),
+            key_of("-c k.cu", None, "/b/nvcc", &[("A", "2"), ("PATH", "/bin")]),
+            key_of("-c k.cu", None, "/b/nvcc", &[("A", "1"), ("PATH", "/bin"), ("INCLUDES", "-I/x")]),
+        ];
+        assert!(others.iter().all(|other| *other != usual));
+    }
+
+    #[test]
+    fn a_profile_may_name_a_variable_that_is_free() {
+        for text in ["INCLUDES += \"-I$(HOME)/inc\"", "$(CMAKE_PREFIX_PATH)", "$(ZIGRUNK_LOG)", "%:getenv(USER /inc)"] {
+            assert!(names_free_variable(text.as_bytes()), "{text}");
+        }
+        let usual = "TOP = $(_HERE_)/..\nPATH += $(CICC_PATH):$(_HERE_):\nINCLUDES += \"-I$(TOP)/$(_TARGET_DIR_)/include\" $(_SPACE_)\n";
+        assert!(!names_free_variable(usual.as_bytes()));
+    }
+
+    fn answer() -> Answer {
+        let product = |path: &str, is_new: bool| Product { path: path.into(), is_new, text: path.into() };
+        Answer { products: vec![product("k.o", true), product("k.d", false)], said: vec![(true, b"warns".to_vec())], terminal: terminal() }
+    }
+
+    #[test]
+    fn answers_are_read_back() {
+        let bytes = stored::to_bytes(&answer());
+        assert_eq!(stored::of_bytes(&bytes), Some(answer()));
+        for size in 0..bytes.len() {
+            assert_eq!(stored::of_bytes::<Answer>(&bytes[..size]), None, "{size}");
+        }
+        assert!(answer().may_be_said() && !Answer { terminal: b"other".to_vec(), ..answer() }.may_be_said());
+        assert!(Answer { terminal: b"other".to_vec(), said: Vec::new(), ..answer() }.may_be_said());
+    }
+
+    #[test]
+    fn a_kept_call_is_served_while_all_is_as_it_was() {
+        let room = TestFolder::new();
+        let (store, line, nvcc) = (Store::new(room.join("store"), 1 << 20), line("-c k.cu", room.to_str().unwrap()), Path::new("/b/nvcc"));
+        let keep = |text: &str, folder_counts: bool| {
+            fs::write(room.join("k.cu"), text).unwrap();
+            let vain = Vain::now(Path::new(""), vec![Lacking { name: b"a.h".to_vec(), may_be_folder: true }], &room).unwrap();
+            let files = vec![Seen::now(Path::new("k.cu"), &room).unwrap()];
+            let manifest = Manifest { files, vain: vec![vain], ..Manifest::default() };
+            super::keep(&store, &line, nvcc, folder_counts, &manifest, &Answer { said: vec![(false, text.into())], ..answer() });
+        };
+        let served = || serve(&store, &line, nvcc).map(|said| String::from_utf8(said[0].1.clone()).unwrap());
+        keep("one", false);
+        assert_eq!((served(), fs::read_to_string(room.join("k.d")).unwrap()), (Some("one".into()), "k.d".into()));
+        fs::write(room.join("k.cu"), "two").unwrap();
+        assert_eq!(served(), None);
+        keep("two", true);
+        assert_eq!(served().as_deref(), Some("two"), "by its folder");
+        fs::write(room.join("k.cu"), "one").unwrap();
+        assert_eq!(served().as_deref(), Some("one"), "as it was before");
+        fs::remove_file(room.join("k.o")).unwrap();
+        assert!(served().is_some() && room.join("k.o").exists());
+        fs::write(room.join("a.h"), "").unwrap();
+        assert_eq!(served(), None);
+    }
+
+    #[test]
+    fn a_silent_call_is_served_while_its_source_has_the_same_layout() {
+        let room = TestFolder::new();
+        let (store, line, nvcc) = (Store::new(room.join("store"), 1 << 20), line("-c k.cu", room.to_str().unwrap()), Path::new("/b/nvcc"));
+        let put = |text: &str| fs::write(room.join("k.cu"), text).unwrap();
+        let keep = |said: &[u8]| {
+            put("int a;\n");
+            let (seen, text) = Seen::with_text(Path::new("k.cu"), &room).unwrap();
+            let files = vec![Seen { form: Form::of_source(&text), ..seen }];
+            let manifest = Manifest { files, defines: Some(Vec::new()), ..Manifest::default() };
+            super::keep(&store, &line, nvcc, false, &manifest, &Answer { said: vec![(true, said.to_vec())], ..answer() });
+        };
+        let served = || serve(&store, &line, nvcc).is_some();
+        keep(b"");
+        for (text, wanted) in [("// x\n\nint a;\n", true), ("int b;\n", false), ("int a; // y\n", true), ("int a;\n", true)] {
+            put(text);
+            assert_eq!(served(), wanted, "{text}");
+        }
+        assert_eq!(store.content().entries, 4, "a manifest, and an answer for each text that was served");
+        store.clear().unwrap();
+        keep(b"warns");
+        assert!(served());
+        put("// x\n\nint a;\n");
+        assert!(!served(), "a message may name lines");
+    }
+}

@@ -1,0 +1,291 @@
+//! What preprocessed text says of files beside it.
+use machine::bytes::{contains, find, pairs};
+use std::collections::BTreeSet;
+
+/// By these an assembler reads further files.
+const DIRECTIVES: [&[u8]; 2] = [b"incbin", b".include"];
+/// What may hide a directive: the assembler's macros, its comments, and a mode in which directives have no dot.
+const HIDING: [&[u8]; 4] = [b".macro", b".irp", b".mri", b"/*"];
+/// What a compiler's line begins with that is a string alone.
+const STRINGS: [&[u8]; 2] = [b"\t.string\t\"", b"\t.ascii\t\""];
+/// What a preprocessor writes behind the `#` of a line, beside line markers.
+const PASSED: [&[u8]; 2] = [b"pragma ", b"ident "];
+
+/// The words by which a text sees its lines.
+const LINE_WORDS: [&[u8]; 5] = [b"__LINE__", b"__builtin_LINE", b"__builtin_FILE", b"__builtin_COLUMN", b"source_location"];
+
+/// A text in small letters without what may stand between the parts of a directive.
+fn joined(text: &[u8]) -> Vec<u8> {
+    let parts = text.iter().filter(|byte| !matches!(byte, b'"' | b'\\' | b' ' | b'\t' | b'\n'));
+    parts.map(u8::to_ascii_lowercase).collect()
+}
+
+/// Whether a line of assembler text is a string alone, with each quote in it behind a backslash.
+fn is_string(line: &[u8]) -> bool {
+    let inside = STRINGS.iter().find_map(|begin| line.strip_prefix(*begin)?.strip_suffix(b"\""));
+    let is_quoted = |inside: &[u8]| inside.iter().rev().take_while(|&&byte| byte == b'\\').count() % 2 == 1;
+    inside.is_some_and(|inside| !is_quoted(inside) && pairs(inside, b'"', b'"', 0).all(|quote| is_quoted(&inside[..quote])))
+}
+
+/// Whether an assembler that reads this text may read a file beside one that it's known to include once.
+pub fn assembler_reads_more(text: &[u8], included: Option<&str>) -> bool {
+    let own = included.map(|file| format!(".include \"{file}\""));
+    let begin = own.as_ref().map(|own| find(text, own.as_bytes()));
+    let parts = match (own, begin) {
+        (Some(own), Some(Some(begin))) => [&text[..begin], &text[begin + own.len()..]],
+        (Some(_), _) => return true,
+        (None, _) => [text, b""],
+    };
+    let others = parts.map(|part| part.split(|&byte| byte == b'\n').filter(|line| !is_string(line)).map(joined).collect::<Vec<_>>().concat());
+    others.iter().any(|text| DIRECTIVES.iter().chain(&HIDING).any(|word| contains(text, word)))
+}
+
+/// Whether nothing but blanks, or a comment's end, stands between a place and the begin of its line.
+fn begins_line(text: &[u8], place: usize) -> bool {
+    let is_blank = |byte: &u8| matches!(byte, b' ' | b'\t' | b'\r' | 0x0b | 0x0c | 0);
+    let before = text[..place].iter().rposition(|byte| !is_blank(byte)).map_or(&b""[..], |last| &text[..=last]);
+    before.is_empty() || before.ends_with(b"\n") || before.ends_with(b"*/")
+}
+
+/// Whether a line of a preprocessed text may be a directive to the front end that reads it, which then may include a file. A preprocessor leaves
+/// line markers and pragmas, and puts a blank before a `#` that a macro stood for.
+pub fn has_directive(text: &[u8]) -> bool {
+    let is_passed = |place: usize| {
+        let rest = &text[place + 1..];
+        let is_marker = rest.first() == Some(&b' ') && rest.get(1).is_some_and(u8::is_ascii_digit);
+        (place == 0 || text[place - 1] == b'\n') && (is_marker || PASSED.iter().any(|word| rest.starts_with(word)))
+    };
+    let signs = pairs(text, b'#', b'#', 0).filter(|&place| !is_passed(place));
+    signs.chain(pairs(text, b'%', b':', 1)).chain(pairs(text, b'?', b'=', 2)).any(|place| begins_line(text, place))
+}
+
+/// The line markers of a text, each with its place.
+fn markers(text: &[u8]) -> impl Iterator<Item = (usize, &[u8])> {
+    let begins = pairs(text, b'#', b' ', 1).filter(|&place| place == 0 || text[place - 1] == b'\n');
+    let lines = begins.map(|place| (place, text[place..].split(|&byte| byte == b'\n').next().unwrap_or_default()));
+    lines.filter(|(_, line)| line.get(2).is_some_and(u8::is_ascii_digit))
+}
+
+/// Whether a line marker has a flag right behind its name: 1 enters a file, 2 returns to one.
+fn has_flag(marker: &[u8], flag: &[u8]) -> bool {
+    marker.iter().rposition(|&byte| byte == b'"').is_some_and(|end| marker[end + 1..].starts_with(flag))
+}
+
+/// The files that a preprocessor has entered, by its text's line markers. `None` if a name is quoted in a way that may mean another.
+pub fn files_entered(text: &[u8]) -> Option<BTreeSet<&[u8]>> {
+    let entering = markers(text).map(|(_, marker)| marker).filter(|marker| has_flag(marker, b" 1"));
+    let names: BTreeSet<&[u8]> = entering.filter_map(between_quotes).collect();
+    names.iter().all(|name| !name.contains(&b'\\')).then(|| names.into_iter().filter(|name| !name.starts_with(b"<")).collect())
+}
+
+/// The parts of a preprocessed text: each file that the main one includes begins another, at the line marker that enters it.
+pub fn parts_of(text: &[u8]) -> Vec<&[u8]> {
+    let (mut parts, mut begin, mut depth) = (Vec::new(), 0, 0_usize);
+    for (place, marker) in markers(text) {
+        if has_flag(marker, b" 1") {
+            if depth == 0 {
+                parts.push(&text[begin..place]);
+                begin = place;
+            }
+            depth += 1;
+        } else if has_flag(marker, b" 2") {
+            depth = depth.saturating_sub(1);
+        }
+    }
+    parts.push(&text[begin..]);
+    parts
+}
+
+/// Whether a text has what `__DATE__`, `__TIME__` or `__TIMESTAMP__` may have become: a time of day, or a year at the end of a string, be that in
+/// another.
+pub fn tells_time(text: &[u8]) -> bool {
+    let is_digit = |place: usize| text.get(place).is_some_and(u8::is_ascii_digit);
+    let are_digits = |begin: usize, count: usize| (begin..begin + count).all(is_digit);
+    let is_time = |place: usize| place >= 2 && are_digits(place - 2, 2) && are_digits(place + 1, 2);
+    let is_year = |place: usize| place >= 8 && are_digits(place - 4, 4) && is_digit(place - 6) && text[place - 8] == b' ';
+    let years = |quote| pairs(text, b' ', quote, 5).any(|place| is_year(place + 5));
+    pairs(text, b':', b':', 3).any(is_time) || years(b'"') || years(b'\\')
+}
+
+/// Whether a text sees its lines, as its definition says, which is only asked where one of the words is for which it looks.
+pub fn sees_lines(text: &[u8]) -> bool {
+    let sees = |word: &&[u8]| find(text, word).is_some_and(|begin| token_texts::sees_lines(&text[begin..begin + word.len()]));
+    LINE_WORDS.iter().any(sees)
+}
+
+/// The files of a text's line markers that messages name.
+pub fn shown_files<'a>(text: &'a [u8], messages: &[u8]) -> BTreeSet<&'a [u8]> {
+    if messages.is_empty() {
+        return BTreeSet::new();
+    }
+    let name = |line: &'a [u8]| between_quotes(line.strip_prefix(b"# ")?).filter(|name| !name.is_empty() && !name.starts_with(b"<"));
+    let names: BTreeSet<&[u8]> = text.split(|&byte| byte == b'\n').filter_map(name).collect();
+    names.into_iter().filter(|name| contains(messages, name)).collect()
+}
+
+fn between_quotes(line: &[u8]) -> Option<&[u8]> {
+    let begin = line.iter().position(|&byte| byte == b'"')? + 1;
+    let end = line.iter().rposition(|&byte| byte == b'"')?;
+    line.get(begin..end)
+}
+
+/// Whether a text has eight hexadecimal digits, as nvcc writes a sum.
+fn is_sum(text: &str) -> bool {
+    text.len() == 8 && text.bytes().all(|byte| byte.is_ascii_hexdigit())
+}
+
+/// Whether a module id is the same each time: the sum of a path, the length of a file's name, that name, and a name that the source defines or
+/// its sum. If the source defines no external name, a sum and the number of a process stand for it.
+pub fn is_stable_id(id: &[u8]) -> bool {
+    let parts = || {
+        let (path, rest) = std::str::from_utf8(id).ok()?.trim_end().strip_prefix('_')?.split_once('_')?;
+        let (length, rest) = rest.split_once('_')?;
+        Some((path, rest.split_at_checked(length.parse().ok()?)?.1.strip_prefix('_')?))
+    };
+    let is_process = |name: &str| {
+        let parts = name.split_once('_');
+        parts.is_some_and(|(sum, number)| is_sum(sum) && number.bytes().all(|byte| byte.is_ascii_digit()))
+    };
+    parts().is_some_and(|(path, name)| is_sum(path) && !name.is_empty() && !is_process(name))
+}
+
+#[cfg(test)]
+mod tests {
+    use super::*;
+
+    #[test]
+    fn directives_of_an_assembler_are_found() {
+        let cases = [
+            ("\t.text\n#APP\n\tnop\n#NO_APP\n", false),
+            ("\t.incbin \"data\"\n", true),
+            ("\tnop; .INCBIN \"data\"\n", true),
+            ("\t.inc/**/bin \"data\"\n", true),
+            ("\t.include \"x\"\n", true),
+            ("\t.macro m x\n\t.inc\\x \"data\"\n\t.endm\n\tm bin\n", true),
+            ("\t.irp x,bin\n\t.inc\\x \"data\"\n\t.endr\n", true),
+            ("\t.mri 1\n include data\n", true),
+            ("\t.ident\t\"a\"\n\t.data\n\t.incbin \"data.bin\"\n", true),
+            ("\t.string\t\".include \\\"x\\\" /* \"\n\t.ascii\t\"a\\\\\"\n", false),
+            ("\t.string\t\"a\"; .incbin \"data\"\n", true),
+            ("\t.string\t\"a\\\\\"; .incbin \\\"data\"\n", true),
+            ("\t.string\t\".incbin\\\"\n", true),
+            ("\t.string \".incbin\"\n", true),
+        ];
+        for (text, wanted) in cases {
+            assert_eq!(assembler_reads_more(text.as_bytes(), None), wanted, "{text}");
+        }
+    }
+
+    #[test]
+    fn what_a_macro_has_become_may_be_a_directive() {
+        let cases = [
+            ("# 1 \"k.cu\"\n# 1 \"a.h\" 1\n#pragma once\n#ident \"x\"\nint a;\n", false),
+            ("# 1 \"k.cu\"\n # include \"/x.h\"\n", true),
+            (" # 1 \"k.cu\"\n", true),
+            ("#include \"/x.h\"\n", true),
+            ("#  1 \"k.cu\"\n", true),
+            ("int a;\n\t\x0b #if x\n", true),
+            ("/* x */ # include \"/x.h\"\n", true),
+            ("%:include \"/x.h\"\n", true),
+            ("\n  ??=include \"/x.h\"\n", true),
+            ("int a = 5 % b; int c<:2:>; char* s = \"#\"; f(#); g(%:);\n", false),
+            ("int a = x ? ?= 1 : 2;\n", false),
+            ("", false),
+        ];
+        for (text, wanted) in cases {
+            assert_eq!(has_directive(text.as_bytes()), wanted, "{text}");
+        }
+    }
+
+    #[test]
+    fn an_assembler_may_include_one_file() {
+        let cases = [
+            ("\t.text\n\t.include \"/t/f.s\"\n", false),
+            ("\t.text\n", true),
+            ("\t.include \"/t/f.s\"\n\t.include \"/t/f.s\"\n", true),
+            ("\t.include \"/t/f.s\"\n\t.InC/**/bin \"data\"\n", true),
+            ("\t.include \"/t/f.s\"\n\t.incbin \"data\"\n", true),
+            ("\t.MACRO m x\n\t.include \"/t/f.s\"\n", true),
+            ("\t.include \"/t/other.s\"\n", true),
+            ("\t.include \"/t/f.s\"\n\t.string \"include\"\n", false),
+        ];
+        for (text, wanted) in cases {
+            assert_eq!(assembler_reads_more(text.as_bytes(), Some("/t/f.s")), wanted, "{text}");
+        }
+    }
+
+    #[test]
+    fn messages_show_files() {
+        let text = b"# 1 \"k.cu\"\n# 1 \"<built-in>\"\n# 5 \"a b.h\" 1 3\n#pragma x\n# 2 \"other.h\"\n";
+        let shown: Vec<&[u8]> = shown_files(text, b"k.cu:3: x\nIn file included from a b.h:2").into_iter().collect();
+        assert_eq!(shown, [&b"a b.h"[..], b"k.cu"]);
+        assert!(shown_files(text, b"").is_empty());
+    }
+
+    #[test]
+    fn markers_say_what_was_entered() {
+        let text =
+            b"# 0 \"k.cu\"\n# 1 \"a.h\" 1\n# 1 \"/usr/b.h\" 1 3 4\n# 12 \"a.h\" 2\n# 5 \"c.y\"\n# 1 \"<command-line>\" 1\n#pragma x 1\nint a;\n";
+        assert_eq!(files_entered(text).unwrap().into_iter().collect::<Vec<_>>(), [&b"/usr/b.h"[..], b"a.h"]);
+        assert_eq!(files_entered(b"# 1 \"a\\\\b.h\" 1\n"), None);
+    }
+
+    #[test]
+    fn what_the_main_file_includes_is_a_part() {
+        let parts =
+            ["# 0 \"k.cu\"\n", "# 1 \"a.h\" 1\n# 1 \"b.h\" 1 3\n# 2 \"a.h\" 2\n# 5 \"k.cu\" 2\nint a;\n# 9 \"k.cu\"\n", "# 1 \"c.h\" 1 3 4\nint c;"];
+        assert_eq!(parts_of(parts.concat().as_bytes()), parts.map(str::as_bytes));
+        assert_eq!(parts_of(parts[1].as_bytes()), [b"", parts[1].as_bytes()]);
+        assert_eq!((parts_of(b""), parts_of(b" # 1 \"a.h\" 1\n")), (vec![&b""[..]], vec![&b" # 1 \"a.h\" 1\n"[..]]));
+    }
+
+    #[test]
+    fn dates_and_times_are_seen() {
+        let cases = [
+            ("const char* s = \"12:34:56\";", true),
+            ("\"Nov  8 2026\"", true),
+            ("\"built \\\"Nov  8 2026\\\"\"", true),
+            ("\"Sat Nov 28 09:21:06 2026\"", true),
+            ("std::vector<int> a; b ? 12:34; \"1:23:45\" \"copyright 2026\" 2026", false),
+            ("", false),
+            ("12:34:", true),
+            ("2:34:56", false),
+            ("12:34", false),
+        ];
+        for (text, wanted) in cases {
+            assert_eq!(tells_time(text.as_bytes()), wanted, "{text}");
+        }
+    }
+
+    #[test]
+    fn a_text_sees_its_lines_by_some_words() {
+        let words =
+            ["__LINE__", "__builtin_LINE", "__builtin_FILE", "__builtin_COLUMN", "source_location", "__builtin_LIN", "__LINE_", "source_locatio"];
+        for word in words {
+            for text in [format!("int __builtin_abs {word}"), format!("__builtin_{word}(x)"), format!("a__LINE{word}")] {
+                assert_eq!(sees_lines(text.as_bytes()), token_texts::sees_lines(text.as_bytes()), "{text}");
+            }
+        }
+        assert!(LINE_WORDS.iter().all(|word| token_texts::sees_lines(word)));
+    }
+
+    #[test]
+    fn ids_with_a_process_are_not_stable() {
+        let cases = [
+            ("_0ab662b8_4_k_cu_1d3c70b5", true),
+            ("_0ab662b8_7_k_12_cu_1d3c70b5\n", true),
+            ("_edf60b65_4_k_cu__Z4filev", true),
+            ("_edf60b65_4_k_cu_run_5", true),
+            ("_9f1b1dc8_4_s_cu_778e0101_7547", false),
+            ("_9f1b1dc8_4_s_cu_778e0101_", false),
+            ("9f1b1dc8_4_s_cu_f", false),
+            ("_9f1b1dc8_4_s_cu_", false),
+            ("_9f1b1dc8_99_s_cu_778e0101", false),
+            ("made", false),
+            ("", false),
+        ];
+        for (id, wanted) in cases {
+            assert_eq!(is_stable_id(id.as_bytes()), wanted, "{id}");
+        }
+    }
+}

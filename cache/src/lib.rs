@@ -1,0 +1,35 @@
+//! The cache of commands: what a command of the same tool, words and inputs has made and said before is made and said again.
+#![forbid(unsafe_code)]
+
+mod ahead;
+pub mod calls;
+pub mod counts;
+pub mod digest;
+mod entry;
+mod host_text;
+mod includes;
+mod key;
+mod libraries;
+mod lines;
+mod manifest;
+mod marked;
+pub mod observed;
+pub mod observer;
+pub mod place;
+mod processor;
+pub mod program;
+mod recipe;
+mod searches;
+mod session;
+mod source;
+mod stamps;
+mod store;
+mod stored;
+pub mod tool;
+mod words;
+
+pub use session::{Finished, Session};
+
+use unix as system;
+#[cfg(test)]
+use unix::{forked, test_folder};

@@ -1,0 +1,537 @@
+//! What a whole call depends on: the files that were read for it, and the places where some were sought in vain.
+//!
+//! A file counts by its contents. It isn't read again if its stamp is the one it had, and if it had been as it is for a while when it was
+//! read. A folder's stamp says in the same way that nothing has appeared in it.
+//!
+//! A source whose layout is as it was may stand for what it was, if the call can't see the difference.
+use crate::digest::{Digest, Hasher};
+use crate::lines::{Macros, definitions_in, without_definitions};
+use crate::source::{layout_of, words_of};
+use crate::stamps::Stamp;
+use crate::store::digest_of;
+use crate::stored;
+use machine::streams::{content, content_of};
+use serde::{Deserialize, Serialize};
+use std::ffi::OsStr;
+use std::fs::{self, File, Metadata};
+use std::io::ErrorKind;
+use std::os::unix::ffi::OsStrExt;
+use std::os::unix::fs::MetadataExt;
+use std::path::{Path, PathBuf};
+
+/// The layouts of a source.
+#[derive(Clone, PartialEq, Eq, Debug, Serialize, Deserialize)]
+pub struct Layouts {
+    /// That with its lines.
+    lined: Digest,
+    /// That without, if it has one.
+    free: Option<Digest>,
+    /// Whether its lines are known not to count.
+    is_free: bool,
+}
+
+/// What a file is to a call.
+#[derive(Clone, PartialEq, Eq, Debug, Serialize, Deserialize)]
+pub enum Form {
+    /// No text that a preprocessor reads.
+    Other,
+    /// A text of which each byte counts.
+    Text,
+    Source(Layouts),
+    /// A file that counts by the time of its last change, too.
+    Dated,
+    /// A program that counts by where it is, too: by that it finds others.
+    Placed(#[serde(with = "stored::path")] PathBuf),
+}
+
+impl Form {
+    /// That of a source.
+    pub fn of_source(text: &[u8]) -> Form {
+        let digest = |is_lined: bool| layout_of(text, is_lined).map(|layout| Digest::of(layout.as_slice()));
+        digest(true).map_or(Form::Text, |lined| Form::Source(Layouts { lined, free: digest(false), is_free: false }))
+    }
+}
+
+/// A file that was read.
+#[derive(Clone, PartialEq, Eq, Debug, Serialize, Deserialize)]
+pub struct Seen {
+    /// Its path, seen from the call's working directory.
+    #[serde(with = "stored::path")]
+    pub path: PathBuf,
+    pub digest: Digest,
+    /// Unless it had only just been changed.
+    pub stamp: Option<Stamp>,
+    pub form: Form,
+}
+
+impl Seen {
+    /// A file as it is now. `None` if it isn't a plain file that can be read.
+    pub fn now(path: &Path, cwd: &Path) -> Option<Seen> {
+        let mut file = File::open(cwd.join(path)).ok()?;
+        let status = file.metadata().ok().filter(Metadata::is_file)?;
+        let digest = digest_of(&mut file).ok()?;
+        Some(Seen { path: path.to_owned(), digest, stamp: Stamp::settled(&cwd.join(path), &status), form: Form::Other })
+    }
+
+    /// The same, if the time of its last change counts, too.
+    pub fn dated(path: &Path, cwd: &Path) -> Option<Seen> {
+        let seen = Seen::now(path, cwd)?;
+        let status = fs::metadata(cwd.join(path)).ok()?;
+        let mut hasher = Hasher::default();
+        hasher.update(&seen.digest.0);
+        for part in [status.mtime(), status.mtime_nsec()] {
+            hasher.update(&part.to_le_bytes());
+        }
+        Some(Seen { digest: hasher.finish(), form: Form::Dated, ..seen })
+    }
+
+    /// The same, with its text.
+    pub fn with_text(path: &Path, cwd: &Path) -> Option<(Seen, Vec<u8>)> {
+        let file = File::open(cwd.join(path)).ok()?;
+        let status = file.metadata().ok().filter(Metadata::is_file)?;
+        let text = content(&file).ok()?;
+        Some((Seen { path: path.to_owned(), digest: Digest::of(&text), stamp: Stamp::settled(&cwd.join(path), &status), form: Form::Text }, text))
+    }
+
+    /// The same file as it is now.
+    fn again(&self, cwd: &Path) -> Option<Seen> {
+        let status = fs::metadata(cwd.join(&self.path)).ok()?;
+        let place = if let Form::Placed(_) = self.form { Some(Form::Placed(fs::canonicalize(cwd.join(&self.path)).ok()?)) } else { None };
+        let is_in_place = place.as_ref().is_none_or(|place| *place == self.form);
+        if is_in_place && self.stamp.is_some_and(|stamp| stamp == Stamp::of(&status)) {
+            let is_for_all = status.mode() & 0o444 == 0o444;
+            return (is_for_all || File::open(cwd.join(&self.path)).is_ok()).then(|| self.clone());
+        }
+        if let Some(form) = place {
+            return Some(Seen { form, ..Seen::now(&self.path, cwd)? });
+        }
+        match self.form {
+            Form::Other | Form::Text | Form::Placed(_) => return Some(Seen { form: self.form.clone(), ..Seen::now(&self.path, cwd)? }),
+            Form::Dated => return Seen::dated(&self.path, cwd),
+            Form::Source(_) => {}
+        }
+        let (now, text) = Seen::with_text(&self.path, cwd)?;
+        let form = if now.digest == self.digest { self.form.clone() } else { Form::of_source(&text) };
+        Some(Seen { form, ..now })
+    }
+
+    /// The layouts of a source.
+    fn layouts(&self) -> Option<&Layouts> {
+        if let Form::Source(layouts) = &self.form { Some(layouts) } else { None }
+    }
+}
+
+/// Where a path leads, seen from a working directory as the path is.
+pub fn real_place(path: &Path, cwd: &Path) -> Option<PathBuf> {
+    let real = fs::canonicalize(cwd.join(path)).ok()?;
+    let own = if path.is_absolute() { None } else { Some(fs::canonicalize(cwd).ok()?) };
+    Some(own.and_then(|own| real.strip_prefix(own).ok().map(Path::to_owned)).unwrap_or(real))
+}
+
+/// A name that wasn't in a folder.
+#[derive(Clone, PartialEq, Eq, Debug, PartialOrd, Ord, Serialize, Deserialize)]
+pub struct Lacking {
+    #[serde(with = "serde_bytes")]
+    pub name: Vec<u8>,
+    /// Whether a folder may have the name.
+    pub may_be_folder: bool,
+}
+
+/// A folder in which names were sought in vain.
+#[derive(Clone, PartialEq, Eq, Debug, Serialize, Deserialize)]
+pub struct Vain {
+    /// Its path, seen from the call's working directory.
+    #[serde(with = "stored::path")]
+    pub folder: PathBuf,
+    pub lacks: Vec<Lacking>,
+    /// Unless it had only just been changed.
+    pub stamp: Option<Stamp>,
+}
+
+impl Vain {
+    /// A folder that lacks some names, as it is now. It has no stamp if one of the names is a link's: what that leads to may come elsewhere.
+    pub fn now(folder: &Path, lacks: Vec<Lacking>, cwd: &Path) -> Option<Vain> {
+        let status = fs::metadata(cwd.join(folder)).ok()?;
+        let path = |lacking: &Lacking| cwd.join(folder).join(OsStr::from_bytes(&lacking.name));
+        let is_free = |lacking: &Lacking| match fs::metadata(path(lacking)) {
+            Ok(found) => lacking.may_be_folder && found.is_dir(),
+            Err(error) => matches!(error.kind(), ErrorKind::NotFound | ErrorKind::NotADirectory),
+        };
+        let is_link = |lacking: &Lacking| fs::symlink_metadata(path(lacking)).is_ok_and(|found| found.is_symlink());
+        let stamp = Stamp::settled(&cwd.join(folder), &status).filter(|_| !lacks.iter().any(is_link));
+        lacks.iter().all(is_free).then(|| Vain { folder: folder.to_owned(), lacks, stamp })
+    }
+
+    /// The same folder as it is now. `None` if it has one of the names.
+    fn again(&self, cwd: &Path) -> Option<Vain> {
+        let status = fs::metadata(cwd.join(&self.folder)).ok()?;
+        // (all may look into most folders)
+        let may_look = status.mode() & 0o111 == 0o111;
+        let is_same = may_look && self.stamp.is_some_and(|stamp| stamp == Stamp::of(&status));
+        if is_same { Some(self.clone()) } else { Vain::now(&self.folder, self.lacks.clone(), cwd) }
+    }
+}
+
+/// What a whole call depends on.
+#[derive(Clone, PartialEq, Eq, Debug, Default, Serialize, Deserialize)]
+pub struct Manifest {
+    pub files: Vec<Seen>,
+    pub vain: Vec<Vain>,
+    /// Paths, and where they lead: folders may be one, and gcc may name what a link leads to.
+    #[serde(with = "stored::pairs")]
+    pub places: Vec<(PathBuf, PathBuf)>,
+    /// What the command lines of preprocessors define, if a source may stand for another one of its layout.
+    pub defines: Option<Vec<Vec<u8>>>,
+}
+
+impl Manifest {
+    /// How many files and folders had only just been changed.
+    fn fresh(&self) -> usize {
+        let stamps = self.files.iter().map(|seen| seen.stamp).chain(self.vain.iter().map(|vain| vain.stamp));
+        stamps.filter(Option::is_none).count()
+    }
+
+    /// Whether it says more of the same than an earlier one, so that less has to be read.
+    pub fn is_better_than(&self, earlier: &Manifest) -> bool {
+        self != earlier && self.fresh() <= earlier.fresh()
+    }
+
+    /// The same as it is now, seen from a working directory. `None` if the call would find another file, or not find one.
+    pub fn again(&self, cwd: &Path) -> Option<Manifest> {
+        let files = self.files.iter().map(|seen| seen.again(cwd)).collect::<Option<_>>()?;
+        let vain = self.vain.iter().map(|vain| vain.again(cwd)).collect::<Option<_>>()?;
+        let places = self.places.iter().map(|(path, _)| Some((path.clone(), real_place(path, cwd)?))).collect::<Option<_>>()?;
+        Some(Manifest { files, vain, places, defines: self.defines.clone() })
+    }
+
+    /// The same as it is now, if what has changed of it doesn't count: sources of which the layouts are as they were.
+    pub fn alike(&self, now: &Manifest, cwd: &Path) -> Option<Manifest> {
+        let defines = self.defines.as_ref().filter(|_| self.places == now.places)?;
+        let mut alike = now.clone();
+        let mut unsure = Vec::new();
+        for (place, (earlier, seen)) in self.files.iter().zip(&mut alike.files).enumerate() {
+            if matches!(earlier.form, Form::Placed(_)) && earlier.form != seen.form {
+                return None;
+            }
+            if earlier.digest == seen.digest {
+                continue;
+            }
+            let (before, after) = (earlier.layouts()?, seen.layouts()?);
+            let is_lined = before.lined == after.lined;
+            if !is_lined && (before.free.is_none() || before.free != after.free) || self.has_copy_of(place, seen) {
+                return None;
+            }
+            unsure.extend((!is_lined && !before.is_free).then_some(place));
+            seen.form = Form::Source(Layouts { is_free: before.is_free || !is_lined, ..after.clone() });
+        }
+        let is_free = unsure.is_empty() || !alike.may_see_lines(&unsure, defines, cwd)?;
+        is_free.then_some(alike)
+    }
+
+    /// Whether another file has the content that a file has had, or has now: gcc leaves out a copy of a file that is to be read only once.
+    fn has_copy_of(&self, place: usize, now: &Seen) -> bool {
+        let is_copy = |seen: &Seen| seen.digest == now.digest || seen.digest == self.files[place].digest;
+        self.files.iter().enumerate().any(|(other, seen)| other != place && is_copy(seen))
+    }
+
+    /// Whether the lines of some sources may count. `None` if that isn't known.
+    fn may_see_lines(&self, places: &[usize], defines: &[Vec<u8>], cwd: &Path) -> Option<bool> {
+        let files = self.files.iter().filter(|seen| !matches!(seen.form, Form::Other | Form::Placed(_)));
+        let texts: Vec<Vec<u8>> = files.map(|seen| content_of(&cwd.join(&seen.path)).ok()).collect::<Option<_>>()?;
+        let definitions = texts.iter().map(|text| definitions_in(text)).collect::<Option<Vec<_>>>()?;
+        let mut macros = Macros::default();
+        definitions.iter().try_for_each(|text| macros.read(text))?;
+        for definition in defines {
+            macros.define(definition);
+        }
+        let sees = |place: &usize| {
+            let layout = layout_of(&content_of(&cwd.join(&self.files[*place].path)).ok()?, false)?;
+            let uses = without_definitions(layout.as_slice());
+            Some(macros.see_lines(words_of(&uses)))
+        };
+        places.iter().map(sees).collect::<Option<Vec<bool>>>().map(|sees| sees.contains(&true))
+    }
+
+    /// The digest of what counts, beside a call's own key.
+    pub fn digest(&self, call: &Digest) -> Digest {
+        let mut hasher = Hasher::default();
+        hasher.add(b"zigrunk result 2");
+        hasher.update(&call.0);
+        hasher.update(&(self.files.len() as u64).to_le_bytes());
+        for seen in &self.files {
+            hasher.add(seen.path.as_os_str().as_bytes());
+            hasher.update(&seen.digest.0);
+            if let Form::Placed(place) = &seen.form {
+                hasher.add(place.as_os_str().as_bytes());
+            }
+        }
+        for vain in &self.vain {
+            hasher.add(vain.folder.as_os_str().as_bytes());
+            hasher.update(&(vain.lacks.len() as u64).to_le_bytes());
+            vain.lacks.iter().for_each(|lacking| hasher.add(&lacking.name));
+        }
+        hasher.update(&(self.places.len() as u64).to_le_bytes());
+        for path in self.places.iter().flat_map(|(path, real)| [path, real]) {
+            hasher.add(path.as_os_str().as_bytes());
+        }
+        hasher.finish()
+    }
+}
+
+#[cfg(test)]
+mod tests {
+    use super::*;
+    use crate::stamps::is_older;
+    use crate::stored::{of_bytes, to_bytes};
+    use crate::test_folder::TestFolder;
+    use std::time::{Duration, SystemTime};
+
+    /// A folder for a test, which goes with it.
+    struct Scratch(TestFolder);
+
+    impl Scratch {
+        fn new() -> Scratch {
+            let path = TestFolder::new();
+            fs::create_dir_all(path.join("inc")).unwrap();
+            fs::write(path.join("k.cu"), "one").unwrap();
+            std::os::unix::fs::symlink("inc", path.join("way")).unwrap();
+            Scratch(path)
+        }
+
+        fn manifest(&self) -> Manifest {
+            let lacks = vec![Lacking { name: b"a.h".to_vec(), may_be_folder: true }, Lacking { name: b"sub".to_vec(), may_be_folder: false }];
+            let vain = Vain::now(Path::new("inc"), lacks, &self.0).unwrap();
+            let places = [("inc", "inc"), ("way", "inc")].map(|(path, real)| (path.into(), real.into())).to_vec();
+            Manifest { files: vec![Seen::now(Path::new("k.cu"), &self.0).unwrap()], vain: vec![vain], places, defines: None }
+        }
+
+        fn again(&self, manifest: &Manifest) -> Option<Digest> {
+            manifest.again(&self.0).map(|now| now.digest(&Digest::of(b"call")))
+        }
+    }
+
+    #[test]
+    fn manifests_are_read_back() {
+        let scratch = Scratch::new();
+        let mut manifest = scratch.manifest();
+        manifest.files[0].stamp = Some(Stamp([[1; 8], [2; 8], [3; 8], [4; 8], [5; 8], [6; 8], [255; 8]]));
+        manifest.defines = Some(vec![b"A=1".to_vec(), Vec::new()]);
+        manifest.files.push(Seen { form: Form::Dated, ..manifest.files[0].clone() });
+        manifest.files.push(Seen { form: Form::Placed("/b/gcc".into()), ..manifest.files[0].clone() });
+        for text in ["int a;\n", "f(\n", "??"] {
+            manifest.files.push(Seen { form: Form::of_source(text.as_bytes()), ..manifest.files[0].clone() });
+        }
+        let bytes = to_bytes(&manifest);
+        assert_eq!(of_bytes(&bytes), Some(manifest));
+        for size in 0..bytes.len() {
+            assert_eq!(of_bytes::<Manifest>(&bytes[..size]), None, "{size}");
+        }
+        assert_eq!(of_bytes::<Manifest>(&[&bytes[..], &[0]].concat()), None);
+    }
+
+    #[test]
+    fn the_contents_of_files_count() {
+        let scratch = Scratch::new();
+        let manifest = scratch.manifest();
+        let first = manifest.digest(&Digest::of(b"call"));
+        assert_eq!(scratch.again(&manifest), Some(first));
+        assert_ne!(manifest.digest(&Digest::of(b"another")), first);
+        fs::write(scratch.0.join("k.cu"), "two").unwrap();
+        assert!(scratch.again(&manifest).is_some_and(|now| now != first), "the same size, and no stamp yet");
+        fs::write(scratch.0.join("k.cu"), "one").unwrap();
+        assert_eq!(scratch.again(&manifest), Some(first));
+        fs::remove_file(scratch.0.join("k.cu")).unwrap();
+        assert_eq!(scratch.again(&manifest), None);
+        fs::create_dir(scratch.0.join("k.cu")).unwrap();
+        assert_eq!(scratch.again(&manifest), None);
+    }
+
+    #[test]
+    fn where_paths_lead_counts() {
+        let scratch = Scratch::new();
+        let manifest = Manifest { vain: Vec::new(), defines: Some(Vec::new()), ..scratch.manifest() };
+        let first = scratch.again(&manifest);
+        assert!(first.is_some());
+        let lead = |to: &str| {
+            fs::remove_file(scratch.0.join("way")).unwrap();
+            std::os::unix::fs::symlink(to, scratch.0.join("way")).unwrap();
+        };
+        fs::create_dir(scratch.0.join("other")).unwrap();
+        lead("other");
+        let now = manifest.again(&scratch.0).unwrap();
+        assert_ne!(scratch.again(&manifest), first);
+        assert_eq!((manifest.alike(&now, &scratch.0), scratch.again(&now)), (None, scratch.again(&manifest)));
+        lead("missing");
+        assert_eq!(scratch.again(&manifest), None);
+        lead("inc");
+        assert_eq!((scratch.again(&manifest), scratch.again(&now)), (first, first));
+    }
+
+    #[test]
+    fn the_place_of_a_program_counts() {
+        let scratch = Scratch::new();
+        let own = |name: &str| scratch.0.join(name);
+        for name in ["one", "two"] {
+            fs::create_dir(own(name)).unwrap();
+            fs::hard_link(own("k.cu"), own(name).join("gcc")).unwrap();
+        }
+        std::os::unix::fs::symlink("one", own("link")).unwrap();
+        let place = |folder: &str| Form::Placed(fs::canonicalize(own(folder)).unwrap().join("gcc"));
+        let seen = Seen { form: place("one"), ..Seen::now(Path::new("link/gcc"), &scratch.0).unwrap() };
+        let stamp = Some(Stamp::of(&fs::metadata(own("link/gcc")).unwrap()));
+        let manifest = Manifest { files: vec![Seen { stamp, ..seen }], ..Manifest::default() };
+        let first = scratch.again(&manifest);
+        assert_eq!(first, Some(manifest.digest(&Digest::of(b"call"))));
+        fs::remove_file(own("link")).unwrap();
+        std::os::unix::fs::symlink("two", own("link")).unwrap();
+        let now = manifest.again(&scratch.0).unwrap();
+        assert_eq!((&now.files[0].form, now.files[0].digest), (&place("two"), manifest.files[0].digest));
+        assert_ne!(scratch.again(&manifest), first);
+        let manifest = Manifest { defines: Some(Vec::new()), ..manifest };
+        assert_eq!(manifest.alike(&now, &scratch.0), None);
+    }
+
+    #[test]
+    fn times_count_if_that_is_asked_for() {
+        let scratch = Scratch::new();
+        let manifest = Manifest { files: vec![Seen::dated(Path::new("k.cu"), &scratch.0).unwrap()], ..Manifest::default() };
+        let first = manifest.digest(&Digest::of(b"call"));
+        assert_eq!(scratch.again(&manifest), Some(first));
+        let file = File::options().write(true).open(scratch.0.join("k.cu")).unwrap();
+        let own = file.metadata().unwrap().modified().unwrap();
+        for part in [Duration::from_secs(1), Duration::from_nanos(1)] {
+            file.set_modified(own - part).unwrap();
+            assert!(scratch.again(&manifest).is_some_and(|now| now != first), "{part:?}");
+        }
+        file.set_modified(own).unwrap();
+        assert_eq!(scratch.again(&manifest), Some(first));
+        fs::write(scratch.0.join("k.cu"), "two").unwrap();
+        file.set_modified(own).unwrap();
+        assert!(scratch.again(&manifest).is_some_and(|now| now != first), "its contents count too");
+    }
+
+    #[test]
+    fn a_stamp_stands_for_contents() {
+        let scratch = Scratch::new();
+        let mut manifest = scratch.manifest();
+        assert_eq!((manifest.files[0].stamp, manifest.vain[0].stamp), (None, None), "they are fresh");
+        let first = manifest.digest(&Digest::of(b"call"));
+        manifest.files[0].stamp = Some(Stamp::of(&fs::metadata(scratch.0.join("k.cu")).unwrap()));
+        manifest.files[0].digest = Digest::of(b"as it was");
+        assert!(scratch.again(&manifest).is_some_and(|now| now != first), "it isn't read");
+        let time = fs::metadata(scratch.0.join("k.cu")).unwrap().modified().unwrap();
+        fs::write(scratch.0.join("k.cu"), "two").unwrap();
+        fs::write(scratch.0.join("k.cu"), "one").unwrap();
+        File::options().write(true).open(scratch.0.join("k.cu")).unwrap().set_modified(time).unwrap();
+        let now = manifest.again(&scratch.0).unwrap();
+        assert_eq!(now.files[0].digest, Digest::of(b"one"), "its size and time are the same, but not its stamp");
+    }
+
+    /// What stands for a call once a source of it, which includes a header, has become another.
+    fn alike(scratch: &Scratch, header: &str, texts: [&str; 2], defines: &str) -> Option<Manifest> {
+        let put = |text: &str| fs::write(scratch.0.join("k.cu"), text).unwrap();
+        fs::write(scratch.0.join("inc/a.h"), header).unwrap();
+        put(texts[0]);
+        let seen = |name: &str| Seen::with_text(Path::new(name), &scratch.0).unwrap();
+        let (source, text) = seen("k.cu");
+        let files = vec![Seen { form: Form::of_source(&text), ..source }, seen("inc/a.h").0];
+        let manifest = Manifest { files, defines: Some(vec![defines.into()]), ..Manifest::default() };
+        put(texts[1]);
+        let now = manifest.again(&scratch.0).unwrap();
+        let again = manifest.alike(&now, &scratch.0);
+        assert!(again.as_ref().is_none_or(|again| again.digest(&Digest::of(b"call")) == now.digest(&Digest::of(b"call"))));
+        assert!(Manifest { defines: None, ..manifest.clone() }.alike(&now, &scratch.0).is_none());
+        again
+    }
+
+    #[test]
+    fn a_source_of_the_same_layout_stands_for_another() {
+        let scratch = Scratch::new();
+        let is_alike = |header: &str, texts: [&str; 2], defines: &str| alike(&scratch, header, texts, defines).is_some();
+        let header = "#define check(x) fail(x, __LINE__)\n#define SIZE 64\n";
+        let cases = [
+            (["int a; // one\n", "int a;   // other\n"], true),
+            (["int a;\n", "// a line\nint a;\n"], true),
+            (["int a = SIZE;\n", "\n int a = SIZE;\n"], true),
+            (["check(a); // one\n", "check(a); /* other */\n"], true),
+            (["check(a);\n", "\ncheck(a);\n"], false),
+            (["#define here check(1)\n", "\n#define here check(1)\n"], true),
+            (["#define here check(1)\nhere\n", "\n#define here check(1)\nhere\n"], false),
+            (["__LINE__", "/* x\n*/ __LINE__"], false),
+            (["int a;\n", "int b;\n"], false),
+            (["f(\n#if 1\n#endif\n)\n", "\nf(\n#if 1\n#endif\n)\n"], false),
+            (["int a;\n", "int a; // \\\n"], false),
+        ];
+        for (texts, wanted) in cases {
+            assert_eq!(is_alike(header, texts, "A=1"), wanted, "{texts:?}");
+        }
+        let lines = ["A(1)\n", "\nA(1)\n"];
+        assert_eq!(["A=check", "A=SIZE"].map(|defines| is_alike(header, lines, defines)), [false, true]);
+        assert!(!is_alike("??=define A __LINE__\n", lines, ""), "a header in which definitions may hide");
+        assert!(is_alike("int a; // one", ["int a;", "int a; // two"], "") && !is_alike("int a;", ["int a;", "int a; // two"], ""), "a copy");
+        assert!(!is_alike("int a; // two", ["int a;", "int a; // two"], ""), "a copy now");
+    }
+
+    #[test]
+    fn lines_that_do_not_count_are_known_the_next_time() {
+        let scratch = Scratch::new();
+        let manifest = alike(&scratch, "#define A 1\n", ["A\n", "\nA\n"], "").unwrap();
+        assert!(manifest.files[0].layouts().unwrap().is_free);
+        fs::write(scratch.0.join("inc/a.h"), "").unwrap();
+        let now = manifest.again(&scratch.0).unwrap();
+        assert_eq!(manifest.alike(&now, &scratch.0), None, "a header has changed of which each byte counts");
+        fs::write(scratch.0.join("inc/a.h"), "#define A 1\n").unwrap();
+        fs::write(scratch.0.join("k.cu"), "\n\n\nA\n").unwrap();
+        let now = manifest.again(&scratch.0).unwrap();
+        assert!(manifest.alike(&now, &scratch.0).is_some_and(|again| again.files[0].layouts().unwrap().is_free));
+        assert_eq!(alike(&scratch, "", ["A // x\n", "A\n"], "").map(|again| again.files[0].layouts().unwrap().is_free), Some(false));
+    }
+
+    #[test]
+    fn what_is_settled_has_a_stamp() {
+        let own = Seen::now(Path::new("/bin/sh"), Path::new("/")).unwrap();
+        assert!(own.stamp.is_some() && Vain::now(Path::new("/bin"), Vec::new(), Path::new("/")).unwrap().stamp.is_some());
+        let status = fs::metadata("/bin/sh").unwrap();
+        let future = SystemTime::now() + Duration::from_secs(1000);
+        assert!(is_older(&status, future, Duration::from_secs(900)) && !is_older(&status, SystemTime::UNIX_EPOCH, Duration::ZERO));
+        let better = Manifest { files: vec![own.clone()], ..Manifest::default() };
+        let worse = Manifest { files: vec![Seen { stamp: None, ..own }], ..Manifest::default() };
+        assert!(better.is_better_than(&worse) && !worse.is_better_than(&better) && !better.is_better_than(&better));
+    }
+
+    #[test]
+    fn a_name_that_appears_is_noticed() {
+        let scratch = Scratch::new();
+        let manifest = scratch.manifest();
+        let after = |name: &str, is_folder: bool| {
+            let path = scratch.0.join("inc").join(name);
+            if is_folder {
+                fs::create_dir(&path).unwrap();
+            } else {
+                fs::write(&path, "").unwrap();
+            }
+            let is_free = manifest.again(&scratch.0).is_some();
+            if is_folder {
+                fs::remove_dir(&path).unwrap();
+            } else {
+                fs::remove_file(&path).unwrap();
+            }
+            is_free
+        };
+        let cases = [("b.h", false, true), ("a.h", false, false), ("a.h", true, true), ("sub", true, false), ("sub", false, false)];
+        for (name, is_folder, wanted) in cases {
+            assert_eq!(after(name, is_folder), wanted, "{name} {is_folder}");
+        }
+        // A link that leads nowhere yet: nothing appears in its own folder when what it leads to does.
+        std::os::unix::fs::symlink("../far.h", scratch.0.join("inc/a.h")).unwrap();
+        let vain = manifest.again(&scratch.0).unwrap().vain.remove(0);
+        assert_eq!((&vain.lacks, vain.stamp), (&manifest.vain[0].lacks, None));
+        fs::create_dir(scratch.0.join("far.h")).unwrap();
+        assert!(manifest.again(&scratch.0).is_some(), "a folder may have the name");
+        fs::remove_dir(scratch.0.join("far.h")).unwrap();
+        fs::write(scratch.0.join("far.h"), "").unwrap();
+        assert_eq!(manifest.again(&scratch.0), None);
+        fs::remove_dir_all(scratch.0.join("inc")).unwrap();
+        assert_eq!(manifest.again(&scratch.0), None, "the folder is gone");
+    }
+}

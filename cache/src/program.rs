@@ -1,0 +1,111 @@
+//! `zigrunk cache`: shows and clears the cache.
+use crate::counts;
+use crate::observer;
+use crate::place::{self, shown};
+use crate::store::Store;
+use machine::nearest::{question, shown as excerpt};
+use machine::places::working_directory;
+use machine::settings::{Settings, bytes_of};
+use machine::streams::{complain, say};
+use std::ffi::OsString;
+
+const USAGE: &str = "usage: zigrunk cache stats|clear|limit [SIZE]|observe FILE COMMAND..";
+
+/// The words that it knows.
+const WORDS: [&str; 4] = ["stats", "clear", "limit", "observe"];
+
+fn tell(text: &str) -> i32 {
+    i32::from(say(1, text.as_bytes()).is_err())
+}
+
+fn wrong(complaint: &str) -> i32 {
+    complain(&format!("zigrunk cache: {complaint}"));
+    1
+}
+
+fn misuse(complaint: &str) -> i32 {
+    complain(&format!("zigrunk cache: {complaint}\n{USAGE}"));
+    2
+}
+
+fn stats(store: &Store, limit: u64) -> i32 {
+    let (content, counts) = (store.content(), counts::of(store.folder()));
+    let share = (counts.hits * 100).checked_div(counts.hits + counts.misses);
+    let share = share.map(|share| format!(" ({share} %)")).unwrap_or_default();
+    tell(&format!(
+        "folder: {}\nentries: {}\nsize: {}\nlimit: {}\nhits: {}{share}\nmisses: {}\nwhole calls: {}\n",
+        store.folder().display(),
+        content.entries,
+        shown(content.bytes),
+        shown(limit),
+        counts.hits,
+        counts.misses,
+        counts.calls,
+    ))
+}
+
+fn clear(store: &Store) -> i32 {
+    counts::clear(store.folder());
+    store.clear().map_or_else(|error| wrong(&format!("cannot clear {}: {error}", store.folder().display())), |()| 0)
+}
+
+/// Keeps a limit now: the usual one, or another.
+fn limit(store: &Store, usual: u64, size: Option<&str>) -> i32 {
+    let Some(limit) = size.map_or(Some(usual), bytes_of) else { return wrong("a size has digits, and K, M, G or T") };
+    Store::new(store.folder().to_owned(), limit).tidy_all();
+    0
+}
+
+/// Acts by the words behind the program's name. Says its status.
+pub fn run(words: &[OsString]) -> i32 {
+    let words: Vec<&str> = words.iter().map(|word| word.to_str().unwrap_or_default()).collect();
+    if let ["-h" | "--help"] = words[..] {
+        return tell(&format!("{USAGE}\n"));
+    }
+    if let ["observe", file, command @ ..] = &words[..] {
+        if !command.is_empty() {
+            return observer::run(file, command);
+        }
+    }
+    let settings = match Settings::of_environment() {
+        Ok(settings) => settings,
+        Err(complaint) => {
+            wrong(&complaint);
+            return 2;
+        }
+    };
+    let usual = place::limit(&settings);
+    let Some(store) = place::asked_or_users(&settings, &working_directory().unwrap_or_default()) else {
+        return wrong("there is no folder: set ZIGRUNK_CACHE");
+    };
+    match words[..] {
+        ["stats"] => stats(&store, usual),
+        ["clear"] => clear(&store),
+        ["limit"] => limit(&store, usual, None),
+        ["limit", size] => limit(&store, usual, Some(size)),
+        [] => misuse("a word is missing"),
+        ["limit", _, word, ..] | ["stats" | "clear", word, ..] => misuse(&format!("unexpected word {}", excerpt(word.as_ref()))),
+        [word, ..] => misuse(&format!("unknown word {}{}", excerpt(word.as_ref()), question(word, WORDS))),
+    }
+}
+
+#[cfg(test)]
+mod tests {
+    use super::*;
+    use crate::forked::{close, in_own_process};
+    use crate::test_folder::TestFolder;
+    use std::fs::{self, File};
+
+    #[test]
+    fn a_size_that_is_none_is_said() {
+        in_own_process(|| {
+            let folder = TestFolder::new();
+            let path = folder.join("said");
+            // The next file gets the number of standard error.
+            close(2);
+            let _errors = File::create(&path).unwrap();
+            assert_eq!(limit(&Store::new("/missing".into(), 1), 1, Some("9x")), 1);
+            assert_eq!(fs::read_to_string(&path).unwrap(), "zigrunk cache: a size has digits, and K, M, G or T\n");
+        });
+    }
+}

@@ -1,0 +1,581 @@
+//! The cache during a call.
+mod again;
+mod direct;
+mod whole;
+
+use crate::{counts, host_text, key, recipe, stored};
+use direct::Direct;
+pub use whole::Finished;
+
+use crate::ahead::Known;
+use crate::calls::{Product, put, terminal};
+use crate::digest::{Digest, Hasher};
+use crate::entry::{Entry, Made};
+use crate::host_text::assembler_reads_more;
+use crate::key::{Part, Text};
+use crate::marked::{Marked, has_symbol};
+use crate::observer::{Observer, Subject};
+use crate::recipe::{Output, Recipe, Role, path_of};
+use crate::stamps::Moment;
+use crate::store::Store;
+use crate::tool::{Kind, Run, Tools};
+use machine::bytes::contains;
+use machine::clock::now;
+use machine::jobs::{Ended, Job};
+use machine::planned::PlannedCommand;
+use machine::streams::{called, complain, content_of};
+use machine::task::{Done, Step, Task};
+use std::collections::BTreeMap;
+use std::fs;
+use std::io::{self, ErrorKind};
+use std::mem;
+use std::os::unix::ffi::OsStrExt;
+use std::os::unix::fs::MetadataExt;
+use std::path::{Path, PathBuf};
+use unix::{Status, Watch};
+
+/// The keys of a command.
+#[derive(Clone, PartialEq, Eq, Debug)]
+struct Keys {
+    texts: Digest,
+    tokens: Option<Digest>,
+    /// What says in the store that it has an entry of such texts, whatever the command reads late.
+    marks: Vec<Digest>,
+    /// What counts beside the texts.
+    start: Digest,
+}
+
+/// Its keys but for what it reads late: by texts, and by tokens. With what counts beside the texts.
+#[derive(Clone, Debug)]
+struct Parts(Part, Option<Part>, Digest);
+
+impl Parts {
+    /// The keys of a command that reads these texts.
+    fn keys(&self, recipe: &Recipe, texts: &[Text]) -> Keys {
+        let has_late = texts.iter().any(|text| text.role == Role::Late);
+        let marks = if has_late { self.marks().collect() } else { Vec::new() };
+        Keys { texts: self.0.key(recipe, texts), tokens: self.1.as_ref().map(|part| part.key(recipe, texts)), marks, start: self.2 }
+    }
+
+    fn marks(&self) -> impl Iterator<Item = Digest> {
+        [Some(&self.0), self.1.as_ref()].into_iter().flatten().map(Part::mark)
+    }
+}
+
+/// What becomes of a task.
+#[derive(Clone, Debug)]
+enum State {
+    /// It runs as it is.
+    Own,
+    /// It is to be looked up.
+    Fresh,
+    /// What it reads is preprocessed.
+    Asked,
+    /// The cache has nothing for it, and it has begun before all is there that it reads. With its text.
+    Begun(Box<Parts>, Vec<u8>),
+    /// Nothing was found under its keys, and it runs, or its first step.
+    Missed(Keys, Vec<u8>),
+    /// Its first step has ended so, and the second runs. It's kept if there are keys.
+    Compiled(Option<(Keys, Vec<u8>)>, Ended),
+    /// It has run, and the cache has what it made.
+    Kept,
+    Hit,
+}
+
+/// A task that may be served.
+struct Candidate {
+    recipe: Recipe,
+    state: State,
+    hit: Option<bool>,
+    /// How it's looked up without a preprocessor, if it is a compile.
+    direct: Direct,
+}
+
+/// The cache during a call.
+pub struct Session<'a> {
+    store: &'a Store,
+    tools: Tools,
+    tmp: &'a str,
+    candidates: BTreeMap<usize, Candidate>,
+    terminal: Vec<u8>,
+    /// What tells which names come into the folder in which the commands run: a library there would be theirs.
+    watch: Option<Watch>,
+    /// When it began, in seconds, and by the clock.
+    begun: f64,
+    started: Moment,
+    /// Whether the user knows that nothing can be written.
+    has_complained: bool,
+    /// What the call's commands have put in places outside its directory.
+    products: Vec<Product>,
+    /// Whether what a command made may have the lines of an earlier source, as what cudafe++ and cicc write for the host compiler has.
+    has_other_lines: bool,
+    /// The call's own preprocessors, each with its text, until more of that is known.
+    preprocessors: Vec<(usize, Job, PathBuf)>,
+    known: Known,
+    /// What observes the call's commands, if they are to be observed.
+    observer: Option<Observer>,
+}
+
+/// The modes that a new file gets.
+fn new_modes() -> Option<u32> {
+    let status = fs::read_to_string("/proc/self/status").ok()?;
+    let mask = status.lines().find_map(|line| line.strip_prefix("Umask:"))?;
+    Some(0o666 & !u32::from_str_radix(mask.trim(), 8).ok()?)
+}
+
+/// What was taken from the cache.
+struct Taken {
+    ended: Ended,
+    products: Vec<Product>,
+}
+
+impl Recipe {
+    /// Puts an output in its place. Gives it, if that is outside the call's directory.
+    fn put(&self, output: &Output, text: Vec<u8>) -> io::Result<Option<Product>> {
+        let is_new = self.kind == Kind::Host;
+        put(is_new, &output.path, &text)?;
+        Ok((output.path != output.written_to).then(|| Product { path: output.path.clone(), is_new, text }))
+    }
+}
+
+/// Whether a directory's path, or its own name, is in a text.
+fn names(text: &[u8], directory: &str) -> bool {
+    let own = directory.rsplit('/').next().unwrap_or_default();
+    contains(text, own.as_bytes())
+}
+
+impl<'a> Session<'a> {
+    /// The cache for the tasks of a call's commands, whose files go to `tmp`. Tasks that aren't commands are left out.
+    pub fn new(store: &'a Store, tmp: &'a str, commands: &[PlannedCommand], tasks: &[Task]) -> Session<'a> {
+        let of_plan = tasks.iter().enumerate().filter_map(|(number, task)| Some((number, &commands[task.command?], &task.job)));
+        let candidate = |(number, recipe)| (number, Candidate { recipe, state: State::Fresh, hit: None, direct: Direct::default() });
+        let candidates: BTreeMap<usize, Candidate> = recipe::recipes(of_plan, tmp).into_iter().map(candidate).collect();
+        let preprocessor = |(number, task): (usize, &Task)| {
+            let text = commands.get(task.command?).filter(|command| command.preprocesses)?.writes.first()?;
+            Some((number, task.job.clone(), PathBuf::from(text)))
+        };
+        // (before the moment at which all is to be as it will be)
+        let watch = tasks.first().and_then(|task| Watch::new(Path::new(&task.job.folder)).ok());
+        Session {
+            store,
+            tools: Tools::new(store),
+            tmp,
+            candidates,
+            terminal: terminal(),
+            watch,
+            begun: now(),
+            started: Moment::now(),
+            has_complained: false,
+            products: Vec::new(),
+            has_other_lines: false,
+            preprocessors: tasks.iter().enumerate().filter_map(preprocessor).collect(),
+            known: Known::default(),
+            observer: None,
+        }
+    }
+
+    /// The job in the place of one that is about to start for a task, if what that does is to be observed.
+    pub fn observing(&mut self, task: usize, job: &Job) -> Option<Job> {
+        self.observer.as_mut()?.observing(Subject::Task(task), job).ok()
+    }
+
+    /// What to do with a task that may start.
+    pub fn first(&mut self, task: usize) -> Step {
+        let waits = |candidate: &&mut Candidate| matches!(candidate.state, State::Fresh | State::Begun(..));
+        let Some(candidate) = self.candidates.get_mut(&task).filter(waits) else { return Step::Own };
+        let recipe = &candidate.recipe;
+        // A new file takes each product's place, so nothing may be there but a plain file.
+        let is_plain = |output: &Output| fs::symlink_metadata(&output.path).map_or(true, |status| status.is_file());
+        if !recipe.outputs.iter().all(is_plain) {
+            candidate.state = State::Own;
+            return Step::Own;
+        }
+        let now = now();
+        if let Some((job, _)) = &recipe.question {
+            let preprocesses = job.clone();
+            if let Some(taken) = self.take_directly(task, (now, now)) {
+                return self.hit(task, taken);
+            }
+            self.set(task, State::Asked, None);
+            return Step::Instead(preprocesses);
+        }
+        self.look_up(task, (now, now))
+    }
+
+    /// What to do with a task whose process, which was started in place of its own, has ended.
+    pub fn next(&mut self, task: usize, ended: Ended) -> Step {
+        let Some(candidate) = self.candidates.get_mut(&task) else { return Step::Ended(ended) };
+        match mem::replace(&mut candidate.state, State::Own) {
+            State::Asked if ended.is_silent_success() => self.look_up(task, ended.times),
+            State::Missed(keys, text) if candidate.recipe.steps.is_some() => self.compiled(task, keys, text, ended),
+            State::Missed(keys, text) => self.ran(task, Some((&keys, &text)), ended),
+            // If an assembler alone says something, it names another file than the command would.
+            State::Compiled(kept, compiled) if ended.is_silent_success() => {
+                let kept = kept.as_ref().map(|(keys, text)| (keys, text.as_slice()));
+                self.ran(task, kept, Ended { times: (compiled.times.0, ended.times.1), ..compiled })
+            }
+            _ => self.runs_alone(task),
+        }
+    }
+
+    /// What to do with a task whose first step has ended: it's kept only if the assembler reads no other file.
+    fn compiled(&mut self, task: usize, keys: Keys, text: Vec<u8>, ended: Ended) -> Step {
+        let steps = self.candidates.get(&task).and_then(|candidate| candidate.recipe.steps.as_ref()).filter(|_| ended.status.succeeded());
+        let Some((steps, assembled)) = steps.and_then(|steps| Some((steps, content_of(&steps.text).ok()?))) else { return self.runs_alone(task) };
+        let job = steps.assemble.clone();
+        let kept = (!assembler_reads_more(&assembled, None)).then_some((keys, text));
+        self.set(task, State::Compiled(kept, ended), None);
+        Step::Instead(job)
+    }
+
+    /// Whether a task, which reads a file late, may begin before that is there: if the cache has nothing for it, whatever will be in the file.
+    pub fn may_begin_early(&mut self, task: usize) -> bool {
+        let Some(candidate) = self.candidates.get(&task) else { return true };
+        if !matches!(candidate.state, State::Fresh) || candidate.recipe.has_products() {
+            return false;
+        }
+        let Some((parts, text)) = self.parts(task) else {
+            self.set(task, State::Own, None);
+            return true;
+        };
+        let is_new = parts.marks().all(|mark| self.store.read(&mark).is_none());
+        if is_new {
+            self.set(task, State::Begun(Box::new(parts), text), Some(false));
+        }
+        is_new
+    }
+
+    /// Hears that all is there that a task reads which has begun early. Says whether it wants to hear how its process ends.
+    pub fn caught_up(&mut self, task: usize) -> bool {
+        let begun = |candidate: &&mut Candidate| matches!(candidate.state, State::Begun(..));
+        let Some(candidate) = self.candidates.get_mut(&task).filter(begun) else { return false };
+        let State::Begun(parts, text) = mem::replace(&mut candidate.state, State::Own) else { return false };
+        let recipe = &candidate.recipe;
+        let late = recipe.reads.iter().filter(|file| recipe.role_of(file) == Role::Late);
+        let late: Option<Vec<Text>> = late.map(|file| Some(Text { role: Role::Late, content: content_of(file).ok()? })).collect();
+        let state = late.map_or(State::Own, |late| State::Missed(parts.keys(recipe, &late), text));
+        self.set(task, state, None);
+        true
+    }
+
+    /// Whether the cache had what a task makes, if it was looked up.
+    pub fn had(&self, task: usize) -> Option<bool> {
+        self.candidates.get(&task)?.hit
+    }
+
+    /// Notes how many commands the cache had.
+    pub fn end(&self) {
+        let count = |hit| self.candidates.values().filter(|candidate| candidate.hit == Some(hit)).count() as u64;
+        counts::add(self.store.folder(), counts::Counts { hits: count(true), misses: count(false), calls: 0 });
+    }
+
+    fn set(&mut self, task: usize, state: State, hit: Option<bool>) {
+        if let Some(candidate) = self.candidates.get_mut(&task) {
+            candidate.state = state;
+            candidate.hit = hit.or(candidate.hit);
+        }
+    }
+
+    fn runs_alone(&mut self, task: usize) -> Step {
+        self.set(task, State::Own, None);
+        Step::Own
+    }
+
+    /// Whether a command that read other lines than those of the sources may have said something of them, given what has become of the tasks.
+    pub fn misnames_lines(&self, tasks: &[Task], done: &[Done]) -> bool {
+        let compiles =
+            |task: &Task| !task.preprocesses && task.job.words.first().is_none_or(|program| Kind::of(program).is_none_or(|kind| kind == Kind::Host));
+        let speaks = |(task, done): (&Task, &Done)| compiles(task) && !done.ended.as_ref().is_none_or(Ended::is_silent_success);
+        self.has_other_lines && tasks.iter().zip(done).any(speaks)
+    }
+
+    /// The texts that a task reads, without those that it reads late if they aren't there yet. `None` if they aren't known. The first one
+    /// has its line markers. Of a compile of the user's own source all files that it names are among them: gcc looks at comments and blanks
+    /// before it warns.
+    fn texts(recipe: &Recipe, has_late: bool) -> Option<Vec<Text>> {
+        let preprocessed = recipe.question.iter().map(|(_, file)| (file, Role::Preprocessed));
+        let own = recipe.reads.iter().map(|file| (file, recipe.role_of(file))).filter(|(_, role)| has_late || *role != Role::Late);
+        let text = |(file, role): (&PathBuf, Role)| Some(Text { role, content: fs::read(file).ok()? });
+        let mut texts: Vec<Text> = preprocessed.chain(own).map(text).collect::<Option<_>>()?;
+        if recipe.has_own_source {
+            let names: Vec<Vec<u8>> = host_text::files_entered(&texts.first()?.content)?.into_iter().map(<[u8]>::to_vec).collect();
+            let entered = names.iter().map(|name| Some(Text { role: Role::Source, content: fs::read(path_of(recipe, name)).ok()? }));
+            texts.extend(entered.collect::<Option<Vec<_>>>()?);
+        }
+        let is_known = texts.first().is_some_and(|text| !recipe.reads_more(&text.content));
+        is_known.then_some(texts)
+    }
+
+    /// A task's keys but for what it reads late, which isn't there yet, and the first text that it reads.
+    fn parts(&mut self, task: usize) -> Option<(Parts, Vec<u8>)> {
+        let (start, texts) = self.asked(task, false)?;
+        let recipe = &self.candidates.get(&task)?.recipe;
+        let beside = start.clone().finish();
+        let parts = Parts(Part::by_texts(start.clone(), recipe, &texts)?, Part::by_tokens(start, recipe, &texts, self.store), beside);
+        Some((parts, texts.into_iter().next()?.content))
+    }
+
+    /// What counts of a task beside the texts that it reads.
+    fn start(&mut self, task: usize) -> Option<Hasher> {
+        let recipe = &self.candidates.get(&task)?.recipe;
+        let environment = recipe.environment();
+        let tool = self.tools.identity(&Run::of(recipe.kind, &recipe.job, &environment)?)?;
+        key::start_of(recipe, &tool, &environment)
+    }
+
+    /// The same, and these texts.
+    fn asked(&mut self, task: usize, has_late: bool) -> Option<(Hasher, Vec<Text>)> {
+        let start = self.start(task)?;
+        Some((start, Session::texts(&self.candidates.get(&task)?.recipe, has_late)?))
+    }
+
+    fn look_up(&mut self, task: usize, times: (f64, f64)) -> Step {
+        let Some((start, texts)) = self.asked(task, true) else { return self.runs_alone(task) };
+        let Some(candidate) = self.candidates.get(&task) else { return Step::Own };
+        let recipe = &candidate.recipe;
+        let Some(by_texts) = Part::by_texts(start.clone(), recipe, &texts) else { return self.runs_alone(task) };
+        let key = by_texts.key(recipe, &texts);
+        if let Some(taken) = self.entry(&key).and_then(|entry| self.take(recipe, &entry, times)) {
+            self.found(task, key);
+            return self.hit(task, taken);
+        }
+        let beside = start.clone().finish();
+        let keys = Parts(by_texts, Part::by_tokens(start, recipe, &texts, self.store), beside).keys(recipe, &texts);
+        if let Some(taken) = keys.tokens.and_then(|key| self.take_other(recipe, &key, times)) {
+            self.has_other_lines = true;
+            return self.hit(task, taken);
+        }
+        let job = recipe.steps.as_ref().map_or(&recipe.job, |steps| &steps.compile).clone();
+        let text = texts.into_iter().next().map(|text| text.content).unwrap_or_default();
+        self.set(task, State::Missed(keys, text), Some(false));
+        Step::Instead(job)
+    }
+
+    fn entry(&self, key: &Digest) -> Option<Entry> {
+        self.store.read(key).and_then(|bytes| stored::of_bytes(&bytes))
+    }
+
+    fn hit(&mut self, task: usize, taken: Taken) -> Step {
+        self.set(task, State::Hit, Some(true));
+        self.products.extend(taken.products);
+        Step::Ended(taken.ended)
+    }
+
+    /// The same for a command with the same tokens, if that said nothing.
+    fn take_other(&self, recipe: &Recipe, tokens: &Digest, times: (f64, f64)) -> Option<Taken> {
+        let other = Digest(self.store.read(tokens)?.try_into().ok()?);
+        let entry = self.entry(&other).filter(|entry| !entry.speaks())?;
+        self.take(recipe, &entry, times)
+    }
+
+    /// Makes and says what an entry has. `None` if it doesn't fit, or can't be made here.
+    fn take(&self, recipe: &Recipe, entry: &Entry, times: (f64, f64)) -> Option<Taken> {
+        let is_shown = |(name, digest): &(Vec<u8>, Digest)| shown_file(recipe, name).is_some_and(|now| now == *digest);
+        let may_say = || entry.terminal == self.terminal && entry.shown.iter().all(is_shown);
+        if recipe.outputs.len() != entry.outputs.len() || (entry.speaks() && !may_say()) {
+            return None;
+        }
+        let (directory, mut products) = (self.tmp.as_bytes(), Vec::new());
+        for (output, text) in recipe.outputs.iter().zip(&entry.outputs) {
+            match text {
+                Made::File(text) => products.extend(recipe.put(output, recipe.named(text.filled(directory))).ok()?),
+                Made::Nothing if output.path.exists() => return None,
+                Made::Nothing => {}
+            }
+        }
+        let status = Status { code: 0, signal: None, dumped: false };
+        let ended = Ended { status, out: entry.out.filled(directory), errors: entry.errors.filled(directory), times };
+        Some(Taken { ended, products })
+    }
+
+    /// What to do with a task that has run, with the keys under which it's kept and its first text.
+    fn ran(&mut self, task: usize, kept: Option<(&Keys, &[u8])>, ended: Ended) -> Step {
+        let Some(candidate) = self.candidates.get(&task) else { return Step::Ended(ended) };
+        let recipe = &candidate.recipe;
+        let moved = || recipe.outputs.iter().filter(|output| output.path != output.written_to);
+        let speaks_of = |file: &Path| [&ended.out, &ended.errors].iter().any(|text| contains(text, file.as_os_str().as_bytes()));
+        let shows_where = moved().any(|output| speaks_of(&output.written_to) || has_own_name(output));
+        let may_move = !recipe.has_products() || (ended.status.succeeded() && !shows_where);
+        let put = |output: &Output| recipe.put(output, content_of(&output.written_to).ok()?).ok()?;
+        let Some(products) = may_move.then(|| moved().map(put).collect::<Option<Vec<_>>>()).flatten() else { return self.runs_alone(task) };
+        let entry = |(keys, text): (&Keys, &[u8])| Some((keys.clone(), self.entry_of(recipe, text, &ended)?));
+        if let Some((keys, entry)) = kept.filter(|_| ended.status.succeeded()).and_then(entry) {
+            if self.is_as_it_was(task, &keys, kept.map_or(&[][..], |(_, text)| text)) {
+                self.keep(&keys, &entry);
+                self.set(task, State::Kept, None);
+                self.found(task, keys.texts);
+            }
+        }
+        self.products.extend(products);
+        Step::Ended(ended)
+    }
+
+    /// Keeps an entry by its texts. One without messages is found by its tokens too. Says once that the store can't be written.
+    fn keep(&mut self, keys: &Keys, entry: &Entry) {
+        let tokens = keys.tokens.filter(|_| !entry.speaks());
+        let lead = || keys.marks.iter().chain(&tokens).try_for_each(|key| self.store.write(key, &keys.texts.0));
+        let written = self.store.write(&keys.texts, &stored::to_bytes(&entry)).and_then(|()| lead());
+        if let (Err(error), false) = (written, self.has_complained) {
+            self.has_complained = true;
+            complain(&format!("{}: cannot write to the cache {}: {error}", called(), self.store.folder().display()));
+        }
+    }
+
+    /// A file that messages name, if it hasn't changed since a preprocessor may have read it.
+    fn shown(&self, recipe: &Recipe, name: &[u8]) -> Option<(Vec<u8>, Digest)> {
+        let changed = fs::metadata(path_of(recipe, name)).ok()?.modified().ok()?;
+        let is_old = changed.elapsed().is_ok_and(|age| age.as_secs_f64() > now() - self.begun);
+        Some((name.to_vec(), shown_file(recipe, name).filter(|_| is_old)?))
+    }
+
+    /// The entry of a task that has run, if it may have one.
+    fn entry_of(&self, recipe: &Recipe, text: &[u8], ended: &Ended) -> Option<Entry> {
+        let modes = new_modes()?;
+        let outputs = recipe.outputs.iter().map(|output| made(recipe, output, modes)).collect::<Option<_>>()?;
+        let directory = recipe.directory.as_bytes();
+        let messages = [&ended.out[..], &ended.errors].concat();
+        let (out, errors) = (Marked::of(&ended.out, directory), Marked::of(&ended.errors, directory));
+        let is_named = [&out, &errors].iter().any(|text| text.0.iter().any(|part| names(part, &recipe.directory)));
+        let is_named = is_named || recipe.stem.as_ref().is_some_and(|stem| contains(&messages, stem.as_bytes()));
+        // If an assembler alone says something, nvcc makes the call.
+        let is_odd = recipe.included.is_some() && !messages.is_empty();
+        let shown = host_text::shown_files(text, &messages).into_iter().map(|name| self.shown(recipe, name));
+        let shown = shown.collect::<Option<_>>()?;
+        let terminal = if messages.is_empty() { Vec::new() } else { self.terminal.clone() };
+        (!is_named && !is_odd).then_some(Entry { outputs, out, errors, shown, terminal })
+    }
+}
+
+/// What an entry has of an output. `None` if it can't have that: only text may name the call's directory, as that of cudafe++, cicc and a compiler.
+fn made(recipe: &Recipe, output: &Output, modes: u32) -> Option<Made> {
+    let found = fs::symlink_metadata(&output.written_to);
+    let is_missing = found.as_ref().is_err_and(|error| error.kind() == ErrorKind::NotFound);
+    if is_missing && output.is_optional {
+        return Some(Made::Nothing);
+    }
+    let status = found.ok().filter(fs::Metadata::is_file)?;
+    let text = content_of(&output.written_to).ok()?;
+    let is_id = output.path.extension().is_some_and(|extension| extension == "module_id");
+    if status.mode() & 0o7777 != modes || is_id && !host_text::is_stable_id(&text) {
+        return None;
+    }
+    let marked = Marked::of(&recipe.unnamed(&text)?, recipe.directory.as_bytes());
+    let is_binary = recipe.kind == Kind::Ptxas || recipe.assembles || text.contains(&0);
+    let is_named = !recipe.directory.is_empty() && marked.0.iter().any(|part| names(part, &recipe.directory));
+    let has_symbol = recipe.stem.as_ref().is_some_and(|stem| has_symbol(&text, stem.as_bytes()));
+    if is_named || has_symbol || (is_binary && marked.has_marks()) {
+        return None;
+    }
+    Some(Made::File(marked))
+}
+
+/// The digest of a file that messages name.
+fn shown_file(recipe: &Recipe, name: &[u8]) -> Option<Digest> {
+    content_of(&path_of(recipe, name)).ok().map(|text| Digest::of(&text))
+}
+
+/// Whether a product has the name of its file in it, which isn't its own yet.
+fn has_own_name(output: &Output) -> bool {
+    let name = output.written_to.file_name().unwrap_or_default().as_bytes();
+    content_of(&output.written_to).is_ok_and(|text| contains(&text, name))
+}
+
+#[cfg(test)]
+mod tests {
+    use super::*;
+    use crate::test_folder::TestFolder;
+    use std::env;
+    use std::os::unix::fs::symlink;
+
+    #[test]
+    fn products_come_where_a_tool_puts_them() {
+        let folder = TestFolder::new();
+        let [file, other, link] = ["file", "other", "link"].map(|name| folder.join(name));
+        put(true, &file, b"one").unwrap();
+        fs::hard_link(&file, &other).unwrap();
+        put(false, &file, b"two").unwrap();
+        assert_eq!(fs::read(&other).unwrap(), b"two", "it writes to what is there");
+        put(true, &file, b"three").unwrap();
+        assert_eq!([&file, &other].map(|path| fs::read(path).unwrap()), [&b"three"[..], b"two"], "it makes a new one");
+        fs::write(&other, "").unwrap();
+        fs::hard_link(&other, folder.join("empty")).unwrap();
+        put(true, &folder.join("empty"), b"two").unwrap();
+        assert_eq!(fs::read(&other).unwrap(), b"two", "binutils leave an empty file the one that it is");
+        symlink(&other, &link).unwrap();
+        for is_new in [true, false] {
+            assert_eq!(put(is_new, &link, b"four").unwrap_err().kind(), ErrorKind::AlreadyExists);
+        }
+        assert_eq!((fs::read(&other).unwrap(), fs::read_link(&link).unwrap()), (b"two".to_vec(), other), "what is no plain file stays");
+        assert!(put(true, &folder.join("missing/file"), b"five").is_err());
+    }
+
+    fn store() -> Store {
+        Store::new(env::temp_dir().join(format!("no-entries-{}", std::process::id())), 1 << 20)
+    }
+
+    /// A command that reads these files, and writes none.
+    fn recipe(kind: Kind, reads: Vec<PathBuf>) -> Recipe {
+        Recipe {
+            kind,
+            counted: Vec::new(),
+            job: Job::default(),
+            reads,
+            outputs: Vec::new(),
+            directory: "/t".into(),
+            lines_count: false,
+            question: None,
+            assembles: false,
+            steps: None,
+            included: None,
+            stem: None,
+            has_own_source: false,
+        }
+    }
+
+    #[test]
+    fn what_begins_early_has_the_keys_of_what_begins_late() {
+        let folder = TestFolder::new();
+        let recipe = recipe(Kind::Cicc, ["k.ii", "k.module_id"].map(|name| folder.join(name)).to_vec());
+        let parts = |has_late: bool| {
+            let texts = Session::texts(&recipe, has_late).unwrap();
+            let by_texts = Part::by_texts(Hasher::default(), &recipe, &texts).unwrap();
+            (Parts(by_texts, Part::by_tokens(Hasher::default(), &recipe, &texts, &store()), Digest::of(b"")), texts)
+        };
+        fs::write(&recipe.reads[0], "int one;\n").unwrap();
+        let (early, texts) = parts(false);
+        fs::write(&recipe.reads[1], "an id").unwrap();
+        let (store, state) = (store(), State::Begun(Box::new(early), texts[0].content.clone()));
+        let mut session = Session::new(&store, "/t", &[], &[]);
+        session.candidates.insert(7, Candidate { recipe: recipe.clone(), state, hit: None, direct: Direct::default() });
+        assert!(session.caught_up(7) && !session.caught_up(7) && !session.caught_up(8));
+        let State::Missed(keys, text) = &session.candidates[&7].state else { panic!("it runs, and is to be kept") };
+        let (late, texts) = parts(true);
+        assert_eq!((keys, text, keys.marks.len()), (&late.keys(&recipe, &texts), &texts[0].content, 2));
+    }
+
+    #[test]
+    fn what_names_the_calls_directory_is_no_entry() {
+        let folder = TestFolder::new();
+        let path = folder.join("k.ptx");
+        let output = Output { path: path.clone(), is_optional: false, written_to: path.clone() };
+        let has_entry = |text: &str, directory: &str| {
+            fs::write(&path, text).unwrap();
+            made(&Recipe { directory: directory.into(), ..recipe(Kind::Cicc, Vec::new()) }, &output, new_modes().unwrap()).is_some()
+        };
+        assert!(has_entry("in /t/call.7/k.cu", "/t/call.7"), "a mark has the path's place");
+        assert!(!has_entry("in call.7", "/t/call.7") && has_entry("in call.7", "/t/call.8"));
+    }
+
+    #[test]
+    fn only_messages_are_for_a_kind_of_terminal() {
+        let store = store();
+        let session = Session { terminal: b"xterm".to_vec(), ..Session::new(&store, "/t", &[], &[]) };
+        let recipe = recipe(Kind::Host, Vec::new());
+        let terminal_of = |errors: &str| {
+            let status = Status { code: 0, signal: None, dumped: false };
+            let ended = Ended { status, out: Vec::new(), errors: errors.as_bytes().to_vec(), times: (0.0, 1.0) };
+            session.entry_of(&recipe, b"", &ended).unwrap().terminal
+        };
+        assert_eq!([terminal_of(""), terminal_of("warns\n")], [&b""[..], b"xterm"]);
+    }
+}

@@ -1,0 +1,4 @@
+pub mod HalfLemmas
+pub mod HeadLemmas
+pub mod PartLemmas
+pub mod RecordLemmas

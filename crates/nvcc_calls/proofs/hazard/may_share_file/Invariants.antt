@@ -1,7 +1,0 @@
-use Rattle.std.proofs.Common.{◌≡◌, map, string_bytes, drop}
-use Rattle.std.specs.List.{list_any}
-use Rattle.nvcc_calls.specs.Hazards.{writes_file}
-use Rattle.nvcc_calls.proofs.hazard.may_share_file.Given as goal
-
-abbrev pub invariant-loop-word : goal.invariant-loop-word
-invariant-loop-word l = list_any writes_file (map string_bytes (drop l.word-index l.word-items)) ≡ list_any writes_file l.call.words

@@ -1,0 +1,455 @@
+//! What the environment says to the driver: the one place that reads variables, and knows which values those
+//! of `ZIGRUNK_..` may have.
+use call::compiler::Caller;
+use std::env;
+use std::ffi::{OsStr, OsString};
+use std::fs;
+use std::os::unix::ffi::OsStrExt;
+use std::path::PathBuf;
+
+/// The cache of commands that is asked for.
+#[derive(Clone, PartialEq, Eq, Debug, Default)]
+pub enum AskedCache {
+    /// No cache.
+    #[default]
+    None,
+    /// The user's own.
+    Users,
+    /// The one in a folder, whose path may be relative.
+    Folder(PathBuf),
+}
+
+/// What commands wait for, though they can begin without it.
+#[derive(Clone, Copy, PartialEq, Eq, Debug, Default)]
+pub struct Waits {
+    /// Each for the end of all that it needs.
+    pub for_needs: bool,
+    /// The last host compile for the fatbin.
+    pub for_fatbin: bool,
+}
+
+/// The variables `ZIGRUNK_..` and `TMPDIR`.
+#[derive(Clone, PartialEq, Eq, Debug, Default)]
+pub struct Settings {
+    /// nvcc's name or path.
+    pub nvcc: OsString,
+    /// The cache of commands.
+    pub cache: AskedCache,
+    /// How many bytes the cache may have, if that is set.
+    pub cache_size: Option<u64>,
+    /// The cache that runs cacheable commands: a program and its words, or nothing.
+    pub launcher: Vec<String>,
+    /// Which commands the launcher runs, if not those that the plan says.
+    pub launched: Vec<String>,
+    /// What runs each command: a program and its words, or nothing.
+    pub runner: Vec<String>,
+    /// Whether commands go by servers of the Remote Execution API.
+    pub has_remote: bool,
+    /// Whether they fail if none is of help.
+    pub needs_remote: bool,
+    /// How many commands of a call or a batch run at once, if that is set.
+    pub jobs: Option<usize>,
+    /// How many commands of all the user's calls run at once, if that is set; 0 for no limit.
+    pub slots: Option<usize>,
+    /// The directory that other machines share.
+    pub shared: Option<PathBuf>,
+    /// The directory for temporary files.
+    pub temporary: PathBuf,
+    /// The file that gets a line for each call.
+    pub log: Option<PathBuf>,
+    /// Whether to say why nvcc makes a call.
+    pub explains: bool,
+    /// What commands wait for.
+    pub waits: Waits,
+    /// The nvccs through which this call came.
+    pub inside: OsString,
+}
+
+/// What looks a variable up by its name.
+type Lookup<'a> = &'a dyn Fn(&str) -> Option<OsString>;
+
+/// A value that a variable can't have.
+fn refused(name: &str, value: &OsStr, allowed: &str) -> String {
+    format!("{name}={}: expected {allowed}", value.to_string_lossy())
+}
+
+/// What a variable's value means, if it has one.
+/// Errors: the value, and what is allowed.
+fn read<T>(
+    of: Lookup<'_>,
+    name: &str,
+    meaning: impl Fn(&str) -> Option<T>,
+    allowed: &str,
+) -> Result<Option<T>, String> {
+    let Some(value) = of(name) else { return Ok(None) };
+    value.to_str().and_then(meaning).map(Some).ok_or_else(|| refused(name, &value, allowed))
+}
+
+/// Whether a text says yes or no, in any case.
+fn truth(text: &str) -> Option<bool> {
+    match text.to_ascii_lowercase().as_str() {
+        "1" | "true" | "on" | "yes" => Some(true),
+        "0" | "false" | "off" | "no" => Some(false),
+        _ => None,
+    }
+}
+
+/// The same of a variable, or `usual` if it has no value.
+fn switch(of: Lookup<'_>, name: &str, usual: bool) -> Result<bool, String> {
+    Ok(read(of, name, truth, "yes or no (or 1, 0, true, false, on, off)")?.unwrap_or(usual))
+}
+
+/// The number that a text is, if it has only digits.
+fn number(text: &str) -> Option<usize> {
+    let digits = !text.is_empty() && text.bytes().all(|byte| byte.is_ascii_digit());
+    digits.then(|| text.parse().unwrap_or(usize::MAX))
+}
+
+/// How many bytes a text such as `500M` means: digits, and a letter K, M, G or T for powers of 1024. Bytes
+/// without one.
+pub fn bytes_of(text: &str) -> Option<u64> {
+    let digits = text.trim_end_matches(|letter: char| letter.is_ascii_alphabetic());
+    let shift = match text[digits.len()..].to_ascii_uppercase().as_str() {
+        "" => 0,
+        "K" => 10,
+        "M" => 20,
+        "G" => 30,
+        "T" => 40,
+        _ => return None,
+    };
+    let is_number = !digits.is_empty() && digits.bytes().all(|byte| byte.is_ascii_digit());
+    digits.parse::<u64>().ok().filter(|_| is_number)?.checked_mul(1 << shift)
+}
+
+/// The cache that `ZIGRUNK_CACHE` asks for. A name without a slash would be a folder in each working
+/// directory: a mistyped `yes`.
+fn cache(of: Lookup<'_>) -> Result<AskedCache, String> {
+    let name = "ZIGRUNK_CACHE";
+    let Some(value) = of(name) else { return Ok(AskedCache::None) };
+    match value.to_str().and_then(truth) {
+        Some(true) => Ok(AskedCache::Users),
+        Some(false) => Ok(AskedCache::None),
+        None if value.as_bytes().contains(&b'/') => Ok(AskedCache::Folder(value.into())),
+        None => Err(refused(name, &value, "yes, no, or a folder's path with a slash, such as ./cache")),
+    }
+}
+
+/// A variable's words, as a shell cuts it at its blanks.
+fn words(of: Lookup<'_>, name: &str) -> Vec<String> {
+    let value = of(name).unwrap_or_default();
+    value.to_string_lossy().split_whitespace().map(String::from).collect()
+}
+
+/// A variable of this process, also if it is empty: what isn't for us, but counts for us as it does for make,
+/// a shell or a compiler.
+pub fn own_variable(name: impl AsRef<OsStr>) -> Option<OsString> {
+    env::var_os(name)
+}
+
+/// The same as a text. Nothing if it isn't UTF-8.
+pub fn own_text(name: &str) -> Option<String> {
+    env::var(name).ok()
+}
+
+/// All variables of this process: tools get them, so they are in keys.
+pub fn own_variables() -> impl Iterator<Item = (OsString, OsString)> {
+    env::vars_os()
+}
+
+/// A variable of this process, unless it is empty.
+fn variable(name: &str) -> Option<OsString> {
+    env::var_os(name).filter(|value| !value.is_empty())
+}
+
+/// This machine's name, for messages and marks: `ZIGRUNK_NODE`, or Slurm's name of it, or its own.
+pub fn machine_name() -> String {
+    let given = ["ZIGRUNK_NODE", "SLURMD_NODENAME"].into_iter().find_map(variable);
+    let own = || fs::read_to_string("/proc/sys/kernel/hostname").unwrap_or_default().trim().to_owned();
+    given.map_or_else(own, |name| name.to_string_lossy().into_owned())
+}
+
+/// Whether the cache keeps whole calls, by a variable that `Settings` has found good.
+pub fn keeps_calls() -> bool {
+    switch(&variable, "ZIGRUNK_CALLS", true).unwrap_or(true)
+}
+
+impl Settings {
+    /// Those of this process.
+    /// Errors: the first variable with a value that it can't have, the value, and what is allowed.
+    pub fn of_environment() -> Result<Settings, String> {
+        Settings::of(&variable)
+    }
+
+    fn of(of: Lookup<'_>) -> Result<Settings, String> {
+        switch(of, "ZIGRUNK_CALLS", true)?;
+        Ok(Settings {
+            nvcc: of("ZIGRUNK_NVCC").unwrap_or_else(|| "nvcc".into()),
+            cache: cache(of)?,
+            cache_size: read(
+                of,
+                "ZIGRUNK_CACHE_SIZE",
+                bytes_of,
+                "a number of bytes, or one with K, M, G or T, such as 5G",
+            )?,
+            launcher: words(of, "ZIGRUNK_LAUNCHER"),
+            launched: words(of, "ZIGRUNK_LAUNCHED"),
+            runner: words(of, "ZIGRUNK_RUNNER"),
+            has_remote: of("ZIGRUNK_REMOTE").is_some(),
+            needs_remote: !switch(of, "ZIGRUNK_REMOTE_FALLBACK", true)?,
+            jobs: read(of, "ZIGRUNK_JOBS", number, "a number of commands, such as 8")?
+                .filter(|&jobs| jobs > 0),
+            slots: read(of, "ZIGRUNK_SLOTS", number, "a number of commands, such as 8, or 0 for no limit")?,
+            shared: of("ZIGRUNK_TMP").map(PathBuf::from),
+            temporary: of("TMPDIR").map_or_else(|| "/tmp".into(), PathBuf::from),
+            log: of("ZIGRUNK_LOG").map(PathBuf::from),
+            explains: switch(of, "ZIGRUNK_EXPLAIN", false)?,
+            waits: Waits {
+                for_needs: !switch(of, "ZIGRUNK_EARLY", true)?,
+                for_fatbin: !switch(of, "ZIGRUNK_LATE", true)?,
+            },
+            inside: of("ZIGRUNK_INSIDE").unwrap_or_default(),
+        })
+    }
+
+    /// Whether this process's machine runs the commands, as far as it knows.
+    pub fn runs_here(&self) -> bool {
+        self.runner.is_empty() && !self.has_remote
+    }
+
+    /// Whether commands of a call may begin before all that they need has ended. A launcher and a runner get
+    /// the plan's own commands.
+    pub fn begins_early(&self) -> bool {
+        !self.waits.for_needs && self.launcher.is_empty() && self.runs_here()
+    }
+
+    /// What decides which nvcc a call means, given the name by which this program was started.
+    pub fn caller<'a>(&'a self, own_name: &'a OsStr) -> Caller<'a> {
+        Caller { nvcc: &self.nvcc, inside: &self.inside, own_name }
+    }
+
+    /// The directory below which the files of plans are.
+    pub fn plans(&self) -> &PathBuf {
+        self.shared.as_ref().unwrap_or(&self.temporary)
+    }
+
+    /// The directory for temporary files of a command, if it isn't the call's own. sccache may start its
+    /// server, whose directory has to stay, and whose socket there needs a short path. A runner may take a
+    /// command to a machine on which `TMPDIR` is a disk of its own.
+    pub fn scratch(&self) -> Option<&PathBuf> {
+        let cache_server = self.launcher.iter().any(|word| word.contains("sccache"));
+        let elsewhere = self.shared.is_some() && !self.runs_here();
+        (elsewhere || cache_server).then_some(&self.temporary)
+    }
+}
+
+#[cfg(test)]
+mod tests {
+    use super::*;
+    use crate::forked::{in_own_process, set_variable};
+
+    #[test]
+    fn numbers_have_digits_only() {
+        let cases = [
+            ("0", Some(0)),
+            ("00", Some(0)),
+            ("8", Some(8)),
+            ("", None),
+            ("+1", None),
+            ("8 ", None),
+            ("some", None),
+        ];
+        for (text, wanted) in cases {
+            assert_eq!(number(text), wanted, "{text}");
+        }
+        assert_eq!(number("99999999999999999999999"), Some(usize::MAX));
+    }
+
+    #[test]
+    fn sizes_have_letters() {
+        let cases = [
+            ("0", Some(0)),
+            ("500", Some(500)),
+            ("2k", Some(2048)),
+            ("3M", Some(3 << 20)),
+            ("5G", Some(5 << 30)),
+            ("1T", Some(1 << 40)),
+            ("", None),
+            ("G", None),
+            ("5X", None),
+            ("-1", None),
+            ("+1", None),
+            ("1.5G", None),
+            ("5GB", None),
+            ("99999999999999999999", None),
+            ("99999999T", None),
+        ];
+        for (text, wanted) in cases {
+            assert_eq!(bytes_of(text), wanted, "{text}");
+        }
+    }
+
+    const VARIABLES: [(&str, &str); 18] = [
+        ("ZIGRUNK_NVCC", "/c/nvcc"),
+        ("ZIGRUNK_CACHE", "./c"),
+        ("ZIGRUNK_CACHE_SIZE", "2K"),
+        ("ZIGRUNK_LAUNCHER", " ccache  -v "),
+        ("ZIGRUNK_LAUNCHED", "cicc"),
+        ("ZIGRUNK_RUNNER", "step.sh"),
+        ("ZIGRUNK_JOBS", "5"),
+        ("ZIGRUNK_SLOTS", "3"),
+        ("ZIGRUNK_TMP", "/shared"),
+        ("TMPDIR", "/t"),
+        ("ZIGRUNK_LOG", "log"),
+        ("ZIGRUNK_EXPLAIN", "1"),
+        ("ZIGRUNK_EARLY", "0"),
+        ("ZIGRUNK_LATE", "off"),
+        ("ZIGRUNK_CALLS", "no"),
+        ("ZIGRUNK_REMOTE", "grpc://a:1"),
+        ("ZIGRUNK_REMOTE_FALLBACK", "no"),
+        ("ZIGRUNK_INSIDE", "/a:/b"),
+    ];
+
+    #[test]
+    fn each_variable_has_its_setting() {
+        let wanted = Settings {
+            nvcc: "/c/nvcc".into(),
+            cache: AskedCache::Folder("./c".into()),
+            cache_size: Some(2048),
+            launcher: vec!["ccache".into(), "-v".into()],
+            launched: vec!["cicc".into()],
+            runner: vec!["step.sh".into()],
+            has_remote: true,
+            needs_remote: true,
+            jobs: Some(5),
+            slots: Some(3),
+            shared: Some("/shared".into()),
+            temporary: "/t".into(),
+            log: Some("log".into()),
+            explains: true,
+            waits: Waits { for_needs: true, for_fatbin: true },
+            inside: "/a:/b".into(),
+        };
+        let none = Settings { nvcc: "nvcc".into(), temporary: "/tmp".into(), ..Settings::default() };
+        in_own_process(|| {
+            for (name, value) in VARIABLES {
+                set_variable(name, value);
+            }
+            assert_eq!((Settings::of_environment(), keeps_calls()), (Ok(wanted), false));
+            for (name, _) in VARIABLES {
+                set_variable(name, "");
+            }
+            assert_eq!(
+                (Settings::of_environment(), keeps_calls()),
+                (Ok(none), true),
+                "one that is empty is none"
+            );
+        });
+    }
+
+    #[test]
+    fn a_machine_has_the_name_that_it_is_given() {
+        in_own_process(|| {
+            let own = std::process::Command::new("uname").arg("-n").output().unwrap().stdout;
+            let mut names = Vec::new();
+            for (of_slurm, given) in [("", ""), ("n1", ""), ("n1", "n2"), ("", "n3")] {
+                set_variable("SLURMD_NODENAME", of_slurm);
+                set_variable("ZIGRUNK_NODE", given);
+                names.push(machine_name());
+            }
+            assert_eq!(names, [String::from_utf8(own).unwrap().trim(), "n1", "n2", "n3"]);
+        });
+    }
+
+    /// The settings if one variable has a value, and all others have none.
+    fn with(name: &str, value: &OsStr) -> Result<Settings, String> {
+        Settings::of(&|asked| (asked == name).then(|| value.to_owned()))
+    }
+
+    #[test]
+    fn a_value_that_a_variable_cannot_have_is_an_error() {
+        let cases = [
+            (
+                "ZIGRUNK_CACHE",
+                "yes, no, or a folder's path with a slash, such as ./cache",
+                "cache ja y 2 01 yes. -",
+            ),
+            (
+                "ZIGRUNK_CACHE_SIZE",
+                "a number of bytes, or one with K, M, G or T, such as 5G",
+                "5x -1 G 1.5G 5GB 99999999T yes",
+            ),
+            ("ZIGRUNK_JOBS", "a number of commands, such as 8", "abc -1 +1 1.5 0x10 3k yes"),
+            ("ZIGRUNK_SLOTS", "a number of commands, such as 8, or 0 for no limit", "some -1 +1 1.5 3k no"),
+            ("ZIGRUNK_EXPLAIN", "yes or no (or 1, 0, true, false, on, off)", "please 2 -1 y n enable"),
+            ("ZIGRUNK_EARLY", "yes or no (or 1, 0, true, false, on, off)", "never 00"),
+            ("ZIGRUNK_LATE", "yes or no (or 1, 0, true, false, on, off)", "never 00"),
+            ("ZIGRUNK_CALLS", "yes or no (or 1, 0, true, false, on, off)", "never 00"),
+        ];
+        for (name, allowed, values) in cases {
+            for value in values.split(' ') {
+                assert_eq!(with(name, value.as_ref()), Err(format!("{name}={value}: expected {allowed}")));
+            }
+            let odd = OsStr::from_bytes(b"1\xff");
+            assert_eq!(with(name, odd), Err(format!("{name}=1\u{fffd}: expected {allowed}")), "no UTF-8");
+        }
+    }
+
+    #[test]
+    fn yes_and_no_have_several_words() {
+        for (words, wanted) in [("1 true on yes YES True oN", true), ("0 false off no NO False oFF", false)] {
+            for word in words.split(' ') {
+                let of = |name: &str| with(name, word.as_ref()).unwrap();
+                let found = [
+                    of("ZIGRUNK_EXPLAIN").explains,
+                    !of("ZIGRUNK_EARLY").waits.for_needs,
+                    !of("ZIGRUNK_LATE").waits.for_fatbin,
+                ];
+                assert_eq!(found, [wanted; 3], "{word}");
+                assert_eq!(
+                    of("ZIGRUNK_CACHE").cache,
+                    if wanted { AskedCache::Users } else { AskedCache::None },
+                    "{word}"
+                );
+            }
+        }
+    }
+
+    #[test]
+    fn a_path_of_a_cache_has_a_slash() {
+        for path in ["/c", "./c", "c/", "a/b", "yes/", "./1"] {
+            assert_eq!(
+                with("ZIGRUNK_CACHE", path.as_ref()).map(|it| it.cache),
+                Ok(AskedCache::Folder(path.into())),
+                "{path}"
+            );
+        }
+        let odd = OsStr::from_bytes(b"/\xff");
+        assert_eq!(with("ZIGRUNK_CACHE", odd).map(|it| it.cache), Ok(AskedCache::Folder(odd.into())));
+    }
+
+    #[test]
+    fn no_jobs_are_no_number_and_no_slots_no_limit() {
+        for (text, jobs, slots) in [("0", None, Some(0)), ("00", None, Some(0)), ("07", Some(7), Some(7))] {
+            assert_eq!(with("ZIGRUNK_JOBS", text.as_ref()).map(|it| it.jobs), Ok(jobs), "{text}");
+            assert_eq!(with("ZIGRUNK_SLOTS", text.as_ref()).map(|it| it.slots), Ok(slots), "{text}");
+        }
+    }
+
+    #[test]
+    fn scratch_is_the_callers_for_a_cache_server_and_other_machines() {
+        let mut settings = Settings { temporary: "/t".into(), ..Settings::default() };
+        assert_eq!(settings.scratch(), None);
+        settings.launcher = vec!["/b/sccache".into()];
+        assert_eq!(settings.scratch(), Some(&PathBuf::from("/t")));
+        settings.launcher = vec!["cache".into()];
+        assert_eq!(settings.scratch(), None);
+        settings.shared = Some("/shared".into());
+        assert_eq!(
+            (settings.scratch(), settings.plans()),
+            (None, &PathBuf::from("/shared")),
+            "commands run here"
+        );
+        settings.runner = vec!["step.sh".into()];
+        assert_eq!(settings.scratch(), Some(&PathBuf::from("/t")));
+    }
+}

@@ -1,0 +1,179 @@
+//! A connection to a server, and the calls that it takes.
+use crate::api::bytestream::byte_stream_client::ByteStreamClient;
+use crate::api::v2::action_cache_client::ActionCacheClient;
+use crate::api::v2::capabilities_client::CapabilitiesClient;
+use crate::api::v2::content_addressable_storage_client::ContentAddressableStorageClient;
+use crate::api::v2::execution_client::ExecutionClient;
+use crate::api::v2::{GetCapabilitiesRequest, ServerCapabilities, compressor, digest_function};
+use crate::failure::{Failure, is_transient, with_causes};
+use crate::settings::{Server, Settings};
+use std::fs;
+use std::future::Future;
+use std::path::Path;
+use std::time::Duration;
+use tokio::time::{sleep, timeout};
+use tonic::metadata::{Ascii, MetadataValue};
+use tonic::transport::{Certificate, Channel, ClientTlsConfig, Endpoint, Identity};
+use tonic::{Request, Response, Status};
+
+/// How long a server may take to be reached, and to answer a call. One that is too slow isn't asked once more: a build would crawl.
+const REACHING: Duration = Duration::from_secs(5);
+const ANSWERING: Duration = Duration::from_secs(30);
+/// How often a call is made that a server doesn't answer for a passing reason, and the pause before the second time, which doubles.
+const TRIES: u32 = 3;
+const PAUSE: Duration = Duration::from_millis(100);
+
+/// How many bytes of contents a message has at most: that of gRPC's own limit, 4 MiB, without room for the rest.
+const MOST_IN_MESSAGE: usize = (4 << 20) - (64 << 10);
+
+/// What a server can do.
+#[derive(Clone, Copy, PartialEq, Eq, Debug)]
+pub struct Abilities {
+    /// Whether it runs actions, and takes results of others.
+    pub executes: bool,
+    pub takes_results: bool,
+    /// How many bytes of contents a message may have.
+    pub most_in_message: usize,
+    /// Whether contents may come compressed by zstd.
+    pub has_zstd: bool,
+}
+
+impl Abilities {
+    fn of(capabilities: &ServerCapabilities) -> Result<Abilities, Failure> {
+        let cache = capabilities.cache_capabilities.clone().unwrap_or_default();
+        if !cache.digest_functions.is_empty() && !cache.digest_functions.contains(&(digest_function::Value::Sha256 as i32)) {
+            return Err(Failure::NoDigests);
+        }
+        let most = usize::try_from(cache.max_batch_total_size_bytes).ok().filter(|&most| most > 0);
+        Ok(Abilities {
+            executes: capabilities.execution_capabilities.as_ref().is_some_and(|execution| execution.exec_enabled),
+            takes_results: cache.action_cache_update_capabilities.is_some_and(|update| update.update_enabled),
+            most_in_message: most.unwrap_or(MOST_IN_MESSAGE).min(MOST_IN_MESSAGE),
+            has_zstd: cache.supported_compressors.contains(&(compressor::Value::Zstd as i32)),
+        })
+    }
+}
+
+/// A server that is reached.
+pub struct Connection {
+    pub name: String,
+    pub instance: String,
+    pub abilities: Abilities,
+    channel: Channel,
+    bearer: Option<MetadataValue<Ascii>>,
+    /// How many bytes of contents went there and came from there.
+    pub sent: u64,
+    pub received: u64,
+}
+
+fn read(path: &Path) -> Result<Vec<u8>, Failure> {
+    fs::read(path).map_err(|error| Failure::Disk(path.to_owned(), error))
+}
+
+/// How TLS goes with a server.
+fn tls(settings: &Settings) -> Result<ClientTlsConfig, Failure> {
+    let tls = match &settings.authority {
+        Some(authority) => ClientTlsConfig::new().ca_certificate(Certificate::from_pem(read(authority)?)),
+        None => ClientTlsConfig::new().with_native_roots(),
+    };
+    Ok(match &settings.identity {
+        Some((certificate, key)) => tls.identity(Identity::from_pem(read(certificate)?, read(key)?)),
+        None => tls,
+    })
+}
+
+/// What a call says of this user.
+fn bearer(settings: &Settings) -> Result<Option<MetadataValue<Ascii>>, Failure> {
+    let Some(file) = &settings.token else { return Ok(None) };
+    let token = String::from_utf8(read(file)?).ok();
+    let value = token.and_then(|token| format!("Bearer {}", token.trim()).parse().ok());
+    value.map(Some).ok_or_else(|| Failure::Denied(format!("{} has no token", file.display())))
+}
+
+fn endpoint(server: &Server, settings: &Settings) -> Result<Endpoint, Failure> {
+    let scheme = if server.is_secure { "https" } else { "http" };
+    let endpoint = Endpoint::from_shared(format!("{scheme}://{}", server.authority)).map_err(|error| Failure::Unreachable(with_causes(&error)))?;
+    let endpoint = endpoint.connect_timeout(REACHING).tcp_nodelay(true);
+    if !server.is_secure {
+        return Ok(endpoint);
+    }
+    endpoint.tls_config(tls(settings)?).map_err(|error| Failure::Certificate(with_causes(&error)))
+}
+
+/// Why a server wasn't reached, by what the connection says.
+fn unreached(why: String) -> Failure {
+    let is_of_tls = ["certificate", "tls", "handshake", "alert"].iter().any(|word| why.to_ascii_lowercase().contains(word));
+    if is_of_tls { Failure::Certificate(why) } else { Failure::Unreachable(why) }
+}
+
+impl Connection {
+    /// Reaches a server, and asks what it can do.
+    pub async fn open(server: &Server, settings: &Settings) -> Result<Connection, Failure> {
+        let (endpoint, bearer) = (endpoint(server, settings)?, bearer(settings)?);
+        let reached = timeout(REACHING, endpoint.connect()).await;
+        let channel = reached.map_err(|_| Failure::Unreachable("no answer in time".into()))?.map_err(|error| unreached(with_causes(&error)))?;
+        let abilities = Abilities { executes: false, takes_results: false, most_in_message: MOST_IN_MESSAGE, has_zstd: false };
+        let (name, instance) = (server.name.clone(), settings.instance.clone());
+        let mut connection = Connection { name, instance, abilities, channel, bearer, sent: 0, received: 0 };
+        let capabilities = connection.capabilities().await.map_err(|failure| match failure {
+            // (a server that doesn't take this user's certificate says so after the handshake)
+            Failure::Unreachable(why) => unreached(why),
+            other => other,
+        })?;
+        connection.abilities = Abilities::of(&capabilities)?;
+        Ok(connection)
+    }
+
+    async fn capabilities(&self) -> Result<ServerCapabilities, Failure> {
+        let ask = || async {
+            CapabilitiesClient::new(self.channel.clone())
+                .get_capabilities(self.request(GetCapabilitiesRequest { instance_name: self.instance.clone() }))
+                .await
+        };
+        self.call(ask).await
+    }
+
+    /// Whether the server still answers.
+    pub async fn is_alive(&self) -> bool {
+        matches!(timeout(2 * REACHING, self.capabilities()).await, Ok(Ok(_)))
+    }
+
+    /// A message with what a server wants to know of this user.
+    pub fn request<T>(&self, message: T) -> Request<T> {
+        let mut request = Request::new(message);
+        if let Some(bearer) = &self.bearer {
+            request.metadata_mut().insert("authorization", bearer.clone());
+        }
+        request
+    }
+
+    /// Makes a call until it is answered, or not for a passing reason, or too often.
+    pub async fn call<T, F: Future<Output = Result<Response<T>, Status>>>(&self, mut call: impl FnMut() -> F) -> Result<T, Failure> {
+        let mut tried = 1;
+        loop {
+            let answer = timeout(ANSWERING, call()).await;
+            match answer.map_err(|_| Failure::Unreachable("no answer in time".into()))? {
+                Ok(answer) => return Ok(answer.into_inner()),
+                Err(status) if tried < TRIES && is_transient(status.code()) => sleep(PAUSE * 2u32.pow(tried - 1)).await,
+                Err(status) => return Err(status.into()),
+            }
+            tried += 1;
+        }
+    }
+
+    pub fn actions(&self) -> ActionCacheClient<Channel> {
+        ActionCacheClient::new(self.channel.clone())
+    }
+
+    pub fn contents(&self) -> ContentAddressableStorageClient<Channel> {
+        ContentAddressableStorageClient::new(self.channel.clone())
+    }
+
+    pub fn streams(&self) -> ByteStreamClient<Channel> {
+        ByteStreamClient::new(self.channel.clone())
+    }
+
+    pub fn execution(&self) -> ExecutionClient<Channel> {
+        ExecutionClient::new(self.channel.clone())
+    }
+}

@@ -1,0 +1,203 @@
+#!/usr/bin/env bash
+# Tests of commands by servers of the Remote Execution API: the tests of the crate, with a server in their own process, and calls with real nvcc, if
+# that is here. Their objects have to be those that the driver makes alone. Prints a line for each case that fails, and last
+# 'N passed, M failed'; the status is 1 if one failed.
+#
+#   tests/remote.sh               by the server of the crate's tests
+#   tests/remote.sh --buildbox    by Debian sid's buildbox, which it downloads (120 MB), and lets it die by the numbers of SEED, DEATHS times
+#
+# ONLY=TEXT runs the cases whose names have this text. BIN=FOLDER has the programs, so that none is built. It is skipped if the crates of others aren't there: make vendor REMOTE=yes fetches them.
+cd "$(dirname "$0")/.." || exit 1
+. tests/lib.sh
+require 'remote execution' cargo gcc openssl python3
+unset "${!ZIGRUNK@}"
+crates=${XDG_CACHE_HOME:-$HOME/.cache}/zigrunk/crates/registry
+[ -n "${BIN-}" ] || compgen -G "$crates/tonic-*" > /dev/null ||
+    skip_all 'remote execution' 'there are no crates for it; make vendor REMOTE=yes fetches them'
+server=
+trap '[ -z "$server" ] || kill -KILL "$server" 2> /dev/null; rm -rf "$scratch"' EXIT
+workspace=$PWD/out/remote
+bin=${BIN:-$workspace/target/debug}
+
+# build: driver, client and the tests' server, in a workspace of their own.
+build() {
+    cargo run --quiet --manifest-path rust/Cargo.toml -p eraser -- --unformatted --remote "--crates=$crates" . "$workspace" &&
+        (cd "$workspace" && cargo build --quiet -p zigrunk-driver -p zigrunk-remote --features zigrunk-remote/server --bins --examples) &&
+        ln -sf zigrunk-driver "$bin/zigrunk-nvcc"
+}
+
+# (what it prints would hide the last line)
+own_tests() { (cd "$workspace" && cargo test --quiet -p zigrunk-remote --features server); }
+
+boxes=''
+[ "${1-}" != --buildbox ] || boxes=$(tests/remote/buildbox.sh out/buildbox) || exit 1
+[ -n "${BIN-}" ] || build > "$scratch/built" 2>&1 || { tail -n 30 "$scratch/built"; count build 'it failed'; summary; exit 1; }
+[ -n "$boxes${BIN-}" ] || check 'tests of the crate' own_tests
+command -v nvcc > /dev/null || { skip 'calls by a server' 'nvcc is not on the path'; summary; exit; }
+
+# start: a server, whose address is $address.
+start() {
+    if [ -n "$boxes" ]; then
+        address=grpc://127.0.0.1:50571
+        "$boxes/buildbox-casd" --buildbox-run="$boxes/buildbox-run-hosttools" --jobs=2 --bind=127.0.0.1:50571 "$scratch/storage" > "$scratch/casd" 2>&1 &
+        server=$!
+        disown
+        for _ in {1..100}; do
+            ZIGRUNK_REMOTE=$address "$bin/zigrunk-remote" --check > "$scratch/checked" 2>&1 && return
+            sleep 0.1
+        done
+        cat "$scratch/checked"
+        return 1
+    fi
+    rm -f "$scratch/held" && mkfifo "$scratch/held"
+    "$bin/examples/server" < "$scratch/held" > "$scratch/address" &
+    server=$!
+    disown
+    exec 3> "$scratch/held"
+    until [ -s "$scratch/address" ]; do sleep 0.05; done
+    address=$(cat "$scratch/address")
+}
+
+# source NUMBER: a source of its own.
+source_of() {
+    cat << END_OF_SOURCE
+__global__ void k$1(float *a, const float *b, int n) { int i = blockIdx.x * blockDim.x + threadIdx.x; if (i < n) a[i] += b[i] * $1; }
+int main() { k$1<<<1, 32>>>(nullptr, nullptr, 0); return 0; }
+END_OF_SOURCE
+}
+
+targets=(-gencode 'arch=compute_80,code=sm_80' -gencode 'arch=compute_90,code=sm_90')
+
+shell=(remote)
+# case_of NAME: begins a case, in a folder with a source that no other case has.
+case_of() {
+    is_wanted "$1" || return 1
+    number=$((${number-0} + 1)) room=$scratch/room
+    begin "$1"
+    source_of "$number" > k.cu
+}
+
+# call OUTPUT [NAME=VALUE..] WORD..: a call by the driver, to an object.
+call() {
+    local output=$1 settings=()
+    shift
+    while [[ ${1-} == *=* && $1 != -* ]]; do settings+=("$1") && shift; done
+    rm -f "$room/log" "$output"
+    env TMPDIR="$room/tmp" ZIGRUNK_LOG="$room/log" "${settings[@]}" "$bin/zigrunk-nvcc" "${targets[@]}" "$@" -c k.cu -o "$output" > out 2> err
+    status=$?
+}
+
+# ways: how the last call's commands came to their ends, and how often, with the bytes that were sent.
+ways() {
+    python3 - "$room/log" << 'END_OF_PROGRAM'
+import collections, json, sys
+notes = [command["remote"] for line in open(sys.argv[1]) for command in json.loads(line)["commands"] if "remote" in command]
+print(*(f"{way} {count}" for way, count in sorted(collections.Counter(note["way"] for note in notes).items())), "sent", sum(note["sent"] for note in notes))
+END_OF_PROGRAM
+}
+
+alike() { cmp -s "$1" "$2" || problems+="  $1 and $2 differ"$'\n'; }
+device_code() { objcopy -O binary -j .nv_fatbin "$1" "$1.device"; }
+
+start || { count 'a server' 'it did not start'; summary; exit 1; }
+
+if case_of 'what one machine made another finds'; then
+    call alone.o
+    nvcc "${targets[@]}" -c k.cu -o nvcc.o
+    call first.o "ZIGRUNK_REMOTE=$address"
+    same 'status and words' "$status $(cat err)" '0 '
+    same 'first ways' "$(ways | sed 's/ sent.*//')" 'kept 6'
+    mkdir "$room/elsewhere"
+    call second.o "ZIGRUNK_REMOTE=$address" "TMPDIR=$room/elsewhere" HOME=/nowhere
+    same 'second ways' "$(ways)" 'found 6 sent 0'
+    alike alone.o first.o && alike alone.o second.o
+    for object in nvcc second; do device_code "$object.o"; done
+    alike nvcc.o.device second.o.device
+    end_case
+fi
+
+if case_of 'a server runs commands'; then
+    call alone.o
+    call run.o "ZIGRUNK_REMOTE=$address" ZIGRUNK_REMOTE_USE=run
+    same 'status and words' "$status $(cat err)" '0 '
+    same ways "$(ways | sed 's/ sent.*//')" 'ran 6'
+    alike alone.o run.o
+    call again.o "ZIGRUNK_REMOTE=$address"
+    same 'ways of the cache' "$(ways)" 'found 6 sent 0'
+    alike alone.o again.o
+    end_case
+fi
+
+if case_of 'where names reach the code nothing is sent'; then
+    call alone.o -lineinfo
+    call lines.o "ZIGRUNK_REMOTE=$address" -lineinfo
+    same 'status and words' "$status $(cat err)" '0 '
+    same ways "$(ways | grep -o 'own [0-9]*')" 'own 4'
+    alike alone.o lines.o
+    end_case
+fi
+
+if case_of 'errors are those of here'; then
+    echo '__global__ void k() { unknown(); }' > k.cu
+    call alone.o
+    wanted="$status $(cat err)"
+    for use in cache run; do
+        call broken.o "ZIGRUNK_REMOTE=$address" "ZIGRUNK_REMOTE_USE=$use"
+        same "status and words with $use" "$status $(grep -v '^zigrunk-nvcc: a command ran here: .* it failed there' err)" "$wanted"
+    done
+    end_case
+fi
+
+if case_of 'without a server commands run here'; then
+    call alone.o
+    call lone.o ZIGRUNK_REMOTE=grpc://127.0.0.1:1
+    same status "$status" 0
+    same 'words' "$(grep -c 'a command ran here: .*cannot be reached' err) $(wc -l < err)" '1 1'
+    alike alone.o lone.o
+    call none.o ZIGRUNK_REMOTE=grpc://127.0.0.1:1 ZIGRUNK_REMOTE_FALLBACK=no
+    same 'status without falling back' "$status $(ls none.o 2> /dev/null)" '125 '
+    call bad.o ZIGRUNK_REMOTE=http://a
+    same 'status with a bad address' "$status $(grep -c 'expected grpc://HOST:PORT' err)" '2 1'
+    end_case
+fi
+
+# befall HOW: what befalls a server.
+befall() {
+    case $1 in
+    0) kill -KILL "$server" ;;
+    1) kill -STOP "$server" && sleep 3 && kill -CONT "$server" ;;
+    2) find "$scratch/storage/cas/objects" -type f -delete ;;
+    3) find "$scratch/storage" -path '*/ac/*' -type f -delete ;;
+    4) pkill -KILL -P "$server" ;;
+    5) kill -KILL "$call" ;;
+    esac
+} 2> /dev/null
+
+if [ -n "$boxes" ]; then
+    RANDOM=${SEED:-1}
+    for death in $(seq "${DEATHS:-12}"); do
+        case_of "death $death of seed ${SEED:-1}" || continue
+        call alone.o
+        use=$([ $((RANDOM % 3)) = 0 ] && echo cache || echo run) how=$((RANDOM % 6)) wait=$((RANDOM % 15))
+        same "status alone" "$status" 0
+        (call dead.o "ZIGRUNK_REMOTE=$address" "ZIGRUNK_REMOTE_USE=$use"; echo "$status" > "$room/status") 2> /dev/null &
+        of_call=$!
+        sleep "$((wait / 10)).$((wait % 10))"
+        call=$(pgrep -f "^$bin/zigrunk-nvcc .*-o dead.o" | head -n 1)
+        befall "$how"
+        wait "$of_call"
+        if [ "$how" = 5 ]; then
+            call dead.o "ZIGRUNK_REMOTE=$address" "ZIGRUNK_REMOTE_USE=$use"
+        else
+            status=$(cat "$room/status")
+        fi
+        same "status with $use, $how after 0.1 s times $wait" "$status" 0
+        alike alone.o dead.o
+        kill -0 "$server" 2> /dev/null || start || break
+        call again.o "ZIGRUNK_REMOTE=$address" ZIGRUNK_REMOTE_FALLBACK=no
+        same "status by the server that is there again" "$status" 0
+        alike alone.o again.o
+        end_case
+    done
+fi
+summary
