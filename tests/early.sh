@@ -7,7 +7,6 @@ cd "$(dirname "$0")/.." || exit 1
 . tests/lib.sh
 require 'commands that begin early' nvcc python3
 wrapper=${DRIVER_BIN:-$PWD/out/rust/target/release}/zigrunk-nvcc
-tests=$PWD/tests
 unset NVCC_PREPEND_FLAGS NVCC_APPEND_FLAGS MAKEFLAGS ZIGRUNK_RUNNER ZIGRUNK_LAUNCHER ZIGRUNK_TMP ZIGRUNK_EARLY ZIGRUNK_LATE
 
 cp tests/small/cuda_runtime.h "$scratch"
@@ -129,10 +128,6 @@ if command -v strace > "$scratch/strace"; then
 else
     skip 'reads that are interrupted' 'there is no strace'
 fi
-
-# A reader that the kernel lets go on is heard of, and the stub file takes no patience.
-problem=$("$tests/faults/patience.py" --trials "${PATIENCE_TRIALS-4}" "$wrapper" 2>&1) && problem=''
-count 'a kernel that loses its patience' "$problem"
 
 same 'what begins early in some call' "$(printf '%s\n' "${!all_early[@]}" | sort | paste -sd ' ')" '-E -S cicc'
 

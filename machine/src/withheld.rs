@@ -114,11 +114,11 @@ mod tests {
     }
 
     #[test]
+    #[ignore = "it changes a setting of the whole machine, so nothing else may run: tests/patience.sh"]
     fn a_reader_that_had_to_go_on_is_heard_of() {
         let folder = TestFolder::new();
         let path = folder.join("file");
         let mut withheld = Withheld::new(&path).unwrap();
-        // (as short as others still use)
         let Some(_patience) = Patience::set(SHORTEST) else {
             eprintln!("skipped: only root may say how patient the kernel is");
             return;

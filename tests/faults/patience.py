@@ -11,6 +11,7 @@ The last line is 'N passed, M failed'.
 """
 import argparse
 import shutil
+import signal
 import sys
 import tempfile
 import time
@@ -87,6 +88,8 @@ def main() -> int:
     if not may_be_set() or not shutil.which("cc"):
         print("the kernel's patience: skipped, only root may change it, and it takes a C compiler\n0 passed, 0 failed, 1 skipped")
         return 0
+    # (an end by a signal puts the kernel's patience back, too)
+    signal.signal(signal.SIGTERM, lambda *_: sys.exit(1))
     failed = 0
     with tempfile.TemporaryDirectory(prefix="patience.") as folder:
         room = Room(args.driver.resolve(), Path(folder))
