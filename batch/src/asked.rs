@@ -30,7 +30,10 @@ pub struct BatchCall {
 /// An nvcc line, with all variables that count.
 pub fn line_of(cwd: String, nvcc: String, words: Vec<String>) -> NvccLine {
     let variable = |name: &str| Some((name.to_owned(), own_text(name)?));
-    let variables = ["NVCC_PREPEND_FLAGS", "NVCC_APPEND_FLAGS", "ZIGRUNK_JOBS"].into_iter().filter_map(variable).collect();
+    let variables = ["NVCC_PREPEND_FLAGS", "NVCC_APPEND_FLAGS", "ZIGRUNK_JOBS"]
+        .into_iter()
+        .filter_map(variable)
+        .collect();
     NvccLine { cwd, nvcc, words, variables }
 }
 

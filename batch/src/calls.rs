@@ -61,16 +61,27 @@ pub fn products_of(call: &BatchCall) -> Vec<Product> {
 
 /// Makes a call, unless an earlier batch made it and nothing has changed.
 pub fn make(call: &BatchCall, context: &Context, turns: &mut Turns<Made>) -> Made {
-    let mut making = Making { call, context, turns, begun: SystemTime::now(), made: Made::default(), reads: Reads::Unknown, is_random: false };
+    let mut making = Making {
+        call,
+        context,
+        turns,
+        begun: SystemTime::now(),
+        made: Made::default(),
+        reads: Reads::Unknown,
+        is_random: false,
+    };
     if !Path::new(&call.folder).is_dir() {
         making.made.complain(&format!("zigrunk batch: no folder {}", call.folder));
         making.made.status = 2;
         return making.made;
     }
     let products = products_of(call);
-    let described = context.records.as_ref().and_then(|records| records.describe(call, &products, &context.settings));
+    let described =
+        context.records.as_ref().and_then(|records| records.describe(call, &products, &context.settings));
     let records = context.records.as_ref();
-    let is_made = || context.is_part && records.is_some_and(|records| records.missing(call, &context.settings).is_none());
+    let is_made = || {
+        context.is_part && records.is_some_and(|records| records.missing(call, &context.settings).is_none())
+    };
     if described.as_ref().is_some_and(Described::is_current) || is_made() {
         return making.made;
     }
@@ -118,12 +129,24 @@ impl Making<'_> {
     /// Runs a command that isn't split.
     fn whole(&mut self, words: &[String]) -> Result<(), Signalled> {
         let given = [("TMPDIR", self.context.scratch.as_ref()), ("PWD", Some(&self.call.folder))];
-        let variables = given.into_iter().filter_map(|(name, value)| Some((name.to_owned(), Some(value?.clone())))).collect();
-        let job = Job { words: [&self.context.settings.runner[..], words].concat(), folder: self.call.folder.clone(), variables, ..Job::default() };
+        let variables = given
+            .into_iter()
+            .filter_map(|(name, value)| Some((name.to_owned(), Some(value?.clone()))))
+            .collect();
+        let job = Job {
+            words: [&self.context.settings.runner[..], words].concat(),
+            folder: self.call.folder.clone(),
+            variables,
+            ..Job::default()
+        };
         match self.job(job) {
             Ok(ended) => {
                 self.made.status = ended.status.code;
-                self.made.said.extend([(false, ended.out), (true, ended.errors), (true, tasks::words_of_death(ended.status).into_bytes())]);
+                self.made.said.extend([
+                    (false, ended.out),
+                    (true, ended.errors),
+                    (true, tasks::words_of_death(ended.status).into_bytes()),
+                ]);
             }
             Err(Stop::Signal(_)) => return Err(Signalled),
             Err(Stop::ByNvcc(reason)) => {
@@ -142,14 +165,15 @@ impl Making<'_> {
     /// Makes a call of nvcc: split, or whole.
     fn nvcc(&mut self, words: &[OsString]) -> Result<(), Signalled> {
         let begun = now();
-        let (compiler, words) = match compiler::compiler(&self.context.settings.caller("zigrunk-nvcc".as_ref()), words) {
-            Ok(found) => found,
-            Err(complaint) => {
-                self.made.complain(&format!("zigrunk-nvcc: {complaint}"));
-                self.made.status = 127;
-                return Ok(());
-            }
-        };
+        let (compiler, words) =
+            match compiler::compiler(&self.context.settings.caller("zigrunk-nvcc".as_ref()), words) {
+                Ok(found) => found,
+                Err(complaint) => {
+                    self.made.complain(&format!("zigrunk-nvcc: {complaint}"));
+                    self.made.status = 127;
+                    return Ok(());
+                }
+            };
         self.turns.give("ZIGRUNK_INSIDE", &compiler.inside.to_string_lossy());
         let texts: Vec<String> = words.iter().map(|word| word.to_string_lossy().into_owned()).collect();
         let named = [vec![compiler.name.to_string_lossy().into_owned()], texts.clone()].concat();
@@ -172,7 +196,18 @@ impl Making<'_> {
             let reason = reason.as_ref();
             let hint = reason.map_or(self.is_random.then_some(NAME_HINT), Reason::hint);
             let Outcome { commands, counted, .. } = &outcome;
-            log::append(file, &LoggedCall { begun, status: self.made.status, reason, hint, commands, counted: *counted, words: &words });
+            log::append(
+                file,
+                &LoggedCall {
+                    begun,
+                    status: self.made.status,
+                    reason,
+                    hint,
+                    commands,
+                    counted: *counted,
+                    words: &words,
+                },
+            );
         }
         Ok(())
     }
@@ -201,7 +236,8 @@ impl Making<'_> {
         let split = split::Call { settings, line, folder, at_once: *at_once, refusals };
         let call = split.read()?;
         let mut said = Said::new();
-        let outcome = split.run(self.turns, &call, &mut |is_error, text| said.push((is_error, text.to_vec())))?;
+        let outcome =
+            split.run(self.turns, &call, &mut |is_error, text| said.push((is_error, text.to_vec())))?;
         self.made.status = outcome.status;
         self.made.said.append(&mut said);
         if self.context.records.is_some() {
@@ -213,12 +249,16 @@ impl Making<'_> {
         Ok(outcome)
     }
 
-    /// Checks that the products of a call are there, which ended with 0. A disk that machines share may be late.
+    /// Checks that the products of a call are there, which ended with 0. A disk that machines share may be
+    /// late.
     fn check_products(&mut self, products: &[Product]) {
         for pause in ["1", "2", ""] {
             let Some(late) = products.iter().find(|product| !product.is_new()) else { return };
             if pause.is_empty() || self.context.settings.runs_here() {
-                self.made.complain(&format!("zigrunk batch: no new {}, though the call ended with 0", late.path.display()));
+                self.made.complain(&format!(
+                    "zigrunk batch: no new {}, though the call ended with 0",
+                    late.path.display()
+                ));
                 self.made.status = 1;
                 return;
             }
@@ -264,7 +304,8 @@ mod tests {
             let nvcc = self.path("nvcc");
             fs::write(&nvcc, "").unwrap();
             fs::set_permissions(&nvcc, PermissionsExt::from_mode(0o755)).unwrap();
-            let settings = Settings { nvcc: nvcc.into(), temporary: self.0.to_owned(), ..Settings::default() };
+            let settings =
+                Settings { nvcc: nvcc.into(), temporary: self.0.to_owned(), ..Settings::default() };
             let temporary = self.0.to_owned();
             Context {
                 settings,
@@ -288,7 +329,8 @@ mod tests {
         Ended { status, out: out.into(), errors: errors.into(), times: (1.0, 2.0) }
     }
 
-    /// Makes a call whose jobs end so, or by a signal that ends the batch. Says what became of it, and its jobs.
+    /// Makes a call whose jobs end so, or by a signal that ends the batch. Says what became of it, and its
+    /// jobs.
     fn made(call: BatchCall, context: Context, end: impl Fn(&Job) -> Option<Ended>) -> (Made, Vec<Job>) {
         let context = Arc::new(context);
         let mut maker = Maker::begin(move |turns| make(&call, &context, turns)).unwrap();
@@ -302,7 +344,8 @@ mod tests {
                 }
                 Step::Wait(wish) if wish.wants => maker.tell(Event::Slot),
                 Step::Wait(_) => {
-                    let ended = running.pop_front().and_then(|(number, job)| Some(Event::Ended(number, end(&job)?)));
+                    let ended =
+                        running.pop_front().and_then(|(number, job)| Some(Event::Ended(number, end(&job)?)));
                     maker.tell(ended.unwrap_or(Event::Signal(TERM)));
                 }
                 Step::End(made) => return (made.unwrap(), jobs),
@@ -313,7 +356,11 @@ mod tests {
     /// What was said, each text behind `!` if it's for standard error.
     fn said(made: &Made) -> String {
         let texts = made.said.iter().filter(|(_, text)| !text.is_empty());
-        texts.map(|(is_error, text)| if *is_error { "!" } else { "" }.to_owned() + &String::from_utf8_lossy(text)).collect()
+        texts
+            .map(|(is_error, text)| {
+                if *is_error { "!" } else { "" }.to_owned() + &String::from_utf8_lossy(text)
+            })
+            .collect()
     }
 
     #[test]
@@ -321,8 +368,13 @@ mod tests {
         let room = Room(TestFolder::new());
         let mut context = room.context();
         (context.settings.runner, context.scratch) = (words("step -n"), Some("/scratch".into()));
-        let (made, jobs) = self::made(room.call(Asked::Program(words("make all"))), context, |_| Some(ended(139, "out\n", "err\n")));
-        assert_eq!((made.status, said(&made), made.cancelled), (139, "out\n!err\n!Segmentation fault\n".into(), false));
+        let (made, jobs) = self::made(room.call(Asked::Program(words("make all"))), context, |_| {
+            Some(ended(139, "out\n", "err\n"))
+        });
+        assert_eq!(
+            (made.status, said(&made), made.cancelled),
+            (139, "out\n!err\n!Segmentation fault\n".into(), false)
+        );
         let variable = |name: &str, value: &str| (name.to_owned(), Some(value.to_owned()));
         let wanted = Job {
             words: words("step -n make all"),
@@ -331,9 +383,13 @@ mod tests {
             ..Job::default()
         };
         assert_eq!(jobs, [wanted]);
-        let (made, jobs) = self::made(room.call(Asked::Shell("a | b".into())), room.context(), |_| Some(ended(0, "", "")));
+        let (made, jobs) =
+            self::made(room.call(Asked::Shell("a | b".into())), room.context(), |_| Some(ended(0, "", "")));
         assert_eq!((made.status, said(&made)), (0, String::new()));
-        assert_eq!((jobs[0].words.join(" "), &jobs[0].variables), ("sh -c a | b".into(), &vec![variable("PWD", &room.path(""))]));
+        assert_eq!(
+            (jobs[0].words.join(" "), &jobs[0].variables),
+            ("sh -c a | b".into(), &vec![variable("PWD", &room.path(""))])
+        );
     }
 
     #[test]
@@ -341,13 +397,20 @@ mod tests {
         let room = Room(TestFolder::new());
         let call = BatchCall { folder: "/missing".into(), ..room.call(Asked::Program(words("make"))) };
         let (made, jobs) = self::made(call, room.context(), |_| None);
-        assert_eq!((made.status, said(&made), jobs.len()), (2, "!zigrunk batch: no folder /missing\n".into(), 0));
+        assert_eq!(
+            (made.status, said(&made), jobs.len()),
+            (2, "!zigrunk batch: no folder /missing\n".into(), 0)
+        );
     }
 
     #[test]
     fn a_signal_cancels_a_call() {
         let room = Room(TestFolder::new());
-        for asked in [Asked::Program(words("make")), Asked::Nvcc(words("-c k.cu -o k.o")), Asked::Nvcc(words("--version"))] {
+        for asked in [
+            Asked::Program(words("make")),
+            Asked::Nvcc(words("-c k.cu -o k.o")),
+            Asked::Nvcc(words("--version")),
+        ] {
             let (made, _) = self::made(room.call(asked), room.context(), |_| None);
             assert_eq!((made.cancelled, said(&made)), (true, String::new()));
         }
@@ -365,7 +428,10 @@ mod tests {
                 Step::End(made) => break made.unwrap(),
             }
         };
-        assert_eq!((made.status, said(&made)), (1, "!zigrunk batch: no process for a command: out of memory\n".into()));
+        assert_eq!(
+            (made.status, said(&made)),
+            (1, "!zigrunk batch: no process for a command: out of memory\n".into())
+        );
     }
 
     #[test]
@@ -380,7 +446,11 @@ mod tests {
         assert_eq!((made.status, said(&made)), (0, String::new()));
         let missing = format!("!zigrunk batch: no new {}, though the call ended with 0\n", room.path("a.o"));
         let (made, jobs) = self::made(compiler(), room.context(), |_| Some(ended(0, "", "")));
-        assert_eq!((made.status, said(&made), jobs.len()), (1, missing.clone(), 1), "the old one doesn't count");
+        assert_eq!(
+            (made.status, said(&made), jobs.len()),
+            (1, missing.clone(), 1),
+            "the old one doesn't count"
+        );
         assert_eq!(self::made(compiler(), room.context(), |_| Some(ended(3, "", ""))).0.status, 3);
         // Another machine's may come later.
         let elsewhere = || {
@@ -390,11 +460,17 @@ mod tests {
         };
         let (made, jobs) = self::made(compiler(), elsewhere(), |_| Some(ended(0, "", "")));
         let lines: Vec<String> = jobs.iter().map(|job| job.words.join(" ")).collect();
-        assert_eq!((made.status, said(&made), lines), (1, missing, vec!["env g++ -c a.cc -o a.o".into(), "sleep 1".into(), "sleep 2".into()]));
+        assert_eq!(
+            (made.status, said(&made), lines),
+            (1, missing, vec!["env g++ -c a.cc -o a.o".into(), "sleep 1".into(), "sleep 2".into()])
+        );
         fs::remove_file(room.path("a.o")).unwrap();
-        let (made, jobs) = self::made(compiler(), elsewhere(), |job| if job.words[0] == "sleep" { writes(job) } else { Some(ended(0, "", "")) });
+        let (made, jobs) = self::made(compiler(), elsewhere(), |job| {
+            if job.words[0] == "sleep" { writes(job) } else { Some(ended(0, "", "")) }
+        });
         assert_eq!((made.status, said(&made), jobs.len()), (0, String::new(), 2));
-        let (made, _) = self::made(compiler(), elsewhere(), |job| (job.words[0] != "sleep").then(|| ended(0, "", "")));
+        let (made, _) =
+            self::made(compiler(), elsewhere(), |job| (job.words[0] != "sleep").then(|| ended(0, "", "")));
         assert!(made.cancelled);
     }
 
@@ -413,14 +489,25 @@ mod tests {
         assert_eq!((made.status, said(&made)), (4, "!nvcc: no\n".into()));
         let last = jobs.last().unwrap();
         assert_eq!(last.words, words(&format!("{} -c k.cu -o k.o", room.path("nvcc"))));
-        assert!(last.variables.contains(&("ZIGRUNK_INSIDE".into(), Some(format!(":{}:", room.path("nvcc"))))), "{:?}", last.variables);
+        assert!(
+            last.variables.contains(&("ZIGRUNK_INSIDE".into(), Some(format!(":{}:", room.path("nvcc"))))),
+            "{:?}",
+            last.variables
+        );
         let (log, mut context) = (room.path("log"), room.context());
         (context.settings.explains, context.settings.log) = (true, Some(log.clone().into()));
         let (made, _) = self::made(call(), context, end);
         let text = said(&made);
-        let reason = text.strip_prefix("!zigrunk-nvcc: nvcc itself: ").and_then(|rest| rest.strip_suffix("\n!nvcc: no\n"));
+        let reason = text
+            .strip_prefix("!zigrunk-nvcc: nvcc itself: ")
+            .and_then(|rest| rest.strip_suffix("\n!nvcc: no\n"));
         let log = fs::read_to_string(log).unwrap();
-        assert!(reason.is_some_and(|reason| log.contains(reason)) && log.lines().count() == 1 && log.contains("\"status\":4"), "{text}{log}");
+        assert!(
+            reason.is_some_and(|reason| log.contains(reason))
+                && log.lines().count() == 1
+                && log.contains("\"status\":4"),
+            "{text}{log}"
+        );
     }
 
     #[test]
@@ -437,11 +524,18 @@ mod tests {
         assert_eq!(lines(few), (reason, vec!["nvcc-13.0 -c k.cu -o k.o".into()]));
         let mut inside = room.context();
         (inside.settings.inside, inside.settings.explains) = (":/other:".into(), true);
-        assert_eq!(lines(inside), (String::new(), vec!["nvcc-13.0 -c k.cu -o k.o".into()]), "who is called by an nvcc says nothing");
+        assert_eq!(
+            lines(inside),
+            (String::new(), vec!["nvcc-13.0 -c k.cu -o k.o".into()]),
+            "who is called by an nvcc says nothing"
+        );
         let mut lacking = room.context();
         lacking.temporary = "/missing".into();
         lacking.settings.explains = true;
-        assert_eq!(lines(lacking).0, format!("!zigrunk-nvcc: nvcc itself: {}\n", Reason::NoTemporaryDirectory));
+        assert_eq!(
+            lines(lacking).0,
+            format!("!zigrunk-nvcc: nvcc itself: {}\n", Reason::NoTemporaryDirectory)
+        );
     }
 
     #[test]
@@ -452,16 +546,25 @@ mod tests {
             context.settings.nvcc = env::current_exe().unwrap().into();
             set_variable("PATH", "/missing");
             let (made, jobs) = self::made(room.call(Asked::Nvcc(words("-c k.cu"))), context, |_| None);
-            assert!(made.status == 127 && said(&made).ends_with(" is zigrunk-nvcc itself, and PATH has no other nvcc\n") && jobs.is_empty());
+            assert!(
+                made.status == 127
+                    && said(&made).ends_with(" is zigrunk-nvcc itself, and PATH has no other nvcc\n")
+                    && jobs.is_empty()
+            );
         });
     }
 
     #[test]
     fn calls_have_the_products_that_their_words_name() {
         let room = Room(TestFolder::new());
-        let paths = |asked: Asked| products_of(&room.call(asked)).into_iter().map(|product| product.path).collect::<Vec<_>>();
+        let paths = |asked: Asked| {
+            products_of(&room.call(asked)).into_iter().map(|product| product.path).collect::<Vec<_>>()
+        };
         assert_eq!(paths(Asked::Nvcc(words("-c k.cu -o sub/k.o"))), [PathBuf::from(room.path("sub/k.o"))]);
         assert_eq!(paths(Asked::Compiler(words("g++ -c a.cc -o /a.o"))), [PathBuf::from("/a.o")]);
-        assert!(paths(Asked::Program(words("g++ -c a.cc -o a.o"))).is_empty() && paths(Asked::Shell("g++ -o a.o".into())).is_empty());
+        assert!(
+            paths(Asked::Program(words("g++ -c a.cc -o a.o"))).is_empty()
+                && paths(Asked::Shell("g++ -o a.o".into())).is_empty()
+        );
     }
 }

@@ -38,7 +38,11 @@ struct Written {
 /// Errors: why the text isn't one.
 pub fn entries(text: &[u8]) -> Result<Vec<DatabaseEntry>, String> {
     let entries: Vec<Written> = serde_json::from_slice(text).map_err(|error| error.to_string())?;
-    entries.into_iter().enumerate().map(|(at, one)| entry(one).map_err(|reason| format!("entry {}: {reason}", at + 1))).collect()
+    entries
+        .into_iter()
+        .enumerate()
+        .map(|(at, one)| entry(one).map_err(|reason| format!("entry {}: {reason}", at + 1)))
+        .collect()
 }
 
 fn entry(written: Written) -> Result<DatabaseEntry, &'static str> {
@@ -55,8 +59,8 @@ fn entry(written: Written) -> Result<DatabaseEntry, &'static str> {
     Ok(DatabaseEntry { file, directory, words })
 }
 
-/// The words of a command, in which only quotes, backslashes and comments count. Each byte is a character of its own here, so a command
-/// needn't be UTF-8.
+/// The words of a command, in which only quotes, backslashes and comments count. Each byte is a character of
+/// its own here, so a command needn't be UTF-8.
 fn split(command: &[u8]) -> Option<Vec<Vec<u8>>> {
     let text: String = command.iter().copied().map(char::from).collect();
     let split = texts::shell::split(Global, &text).ok()??;
@@ -76,16 +80,30 @@ mod tests {
     #[test]
     fn entries_have_words() {
         let cases: [(&str, &[&str]); 5] = [
-            (r#""command": "nvcc -c \"a b.cu\" '-DQ=*;x' -DA=\\\"q\\\" -o a.o""#, &["nvcc", "-c", "a b.cu", "-DQ=*;x", "-DA=\"q\"", "-o", "a.o"]),
-            (r#""arguments": ["nvcc", "-DT=two\nlines", "$X", ""], "command": "x""#, &["nvcc", "-DT=two\nlines", "$X", ""]),
-            (r#""command": "if A=b *.cu a#b $HOME `x` \"$Y\" a;b\n c""#, &["if", "A=b", "*.cu", "a#b", "$HOME", "`x`", "$Y", "a;b", "c"]),
+            (
+                r#""command": "nvcc -c \"a b.cu\" '-DQ=*;x' -DA=\\\"q\\\" -o a.o""#,
+                &["nvcc", "-c", "a b.cu", "-DQ=*;x", "-DA=\"q\"", "-o", "a.o"],
+            ),
+            (
+                r#""arguments": ["nvcc", "-DT=two\nlines", "$X", ""], "command": "x""#,
+                &["nvcc", "-DT=two\nlines", "$X", ""],
+            ),
+            (
+                r#""command": "if A=b *.cu a#b $HOME `x` \"$Y\" a;b\n c""#,
+                &["if", "A=b", "*.cu", "a#b", "$HOME", "`x`", "$Y", "a;b", "c"],
+            ),
             (r#""command": "a \"b\\c\\\"\" 'd\\'""#, &["a", "b\\c\"", "d\\"]),
             (r#""command": "!x ~ {a} (b)""#, &["!x", "~", "{a}", "(b)"]),
         ];
         for (members, wanted) in cases {
-            assert_eq!(words_of(&format!(r#"[{{"directory": "/d", "file": "f.cu", {members}}}]"#)), wanted, "{members}");
+            assert_eq!(
+                words_of(&format!(r#"[{{"directory": "/d", "file": "f.cu", {members}}}]"#)),
+                wanted,
+                "{members}"
+            );
         }
-        let found = entries(b"[{\"directory\": \"d\", \"file\": \"a\xff\", \"command\": \"nvcc -DA=\xff\"}]").unwrap();
+        let found = entries(b"[{\"directory\": \"d\", \"file\": \"a\xff\", \"command\": \"nvcc -DA=\xff\"}]")
+            .unwrap();
         assert_eq!(
             (found[0].file.as_slice(), found[0].words[1].as_slice(), found[0].directory.as_slice()),
             (&b"a\xff"[..], &b"-DA=\xff"[..], &b"d"[..])
@@ -99,10 +117,19 @@ mod tests {
             ("{}", "invalid type: map, expected a sequence at line 1 column 0"),
             ("[1]", "invalid type: integer `1`, expected an entry at line 1 column 2"),
             ("[{}]", "entry 1: it has no command"),
-            (r#"[{"directory": "/", "file": "x", "command": "nvcc '"}]"#, "entry 1: its command has a quote without an end"),
-            (r#"[{"directory": "/", "file": "x", "arguments": [1]}]"#, "invalid type: integer `1`, expected byte array at line 1 column 48"),
+            (
+                r#"[{"directory": "/", "file": "x", "command": "nvcc '"}]"#,
+                "entry 1: its command has a quote without an end",
+            ),
+            (
+                r#"[{"directory": "/", "file": "x", "arguments": [1]}]"#,
+                "invalid type: integer `1`, expected byte array at line 1 column 48",
+            ),
             (r#"[{"directory": "/", "file": "x", "arguments": []}]"#, "entry 1: its command is empty"),
-            (r#"[{"directory": "/", "file": "x", "command": "a"}, {"file": "x", "command": "a"}]"#, "entry 2: it has no directory"),
+            (
+                r#"[{"directory": "/", "file": "x", "command": "a"}, {"file": "x", "command": "a"}]"#,
+                "entry 2: it has no directory",
+            ),
             (r#"[{"directory": "/", "command": "a"}]"#, "entry 1: it has no file"),
         ];
         for (text, wanted) in cases {
@@ -113,6 +140,8 @@ mod tests {
     #[test]
     fn kinds_of_lists_are_told_apart() {
         assert!(is_database(b"\t\r\n [") && !is_database(b"nvcc [") && !is_database(b"{"));
-        assert!(is_object(b" { \"file\": 1}") && is_object(b"{}") && !is_object(b"{ nvcc; }") && !is_object(b"["));
+        assert!(
+            is_object(b" { \"file\": 1}") && is_object(b"{}") && !is_object(b"{ nvcc; }") && !is_object(b"[")
+        );
     }
 }

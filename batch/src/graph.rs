@@ -1,5 +1,6 @@
-//! The calls of a batch on one machine. The proved schedule says which call may begin next and which may be told. A call begins only if no
-//! call before it has a job to start: so few calls are under way at once, and the first commands run while later calls are planned.
+//! The calls of a batch on one machine. The proved schedule says which call may begin next and which may be
+//! told. A call begins only if no call before it has a job to start: so few calls are under way at once, and
+//! the first commands run while later calls are planned.
 use super::calls::Made;
 use super::progress::{Count, Progress};
 use super::turns::{Maker, Step, Wish};
@@ -62,7 +63,8 @@ struct Running {
     has_slot: bool,
 }
 
-/// A job for which there was no process, until another has ended. Its call waits to hear of it, and hears of its jobs that end meanwhile later.
+/// A job for which there was no process, until another has ended. Its call waits to hear of it, and hears of
+/// its jobs that end meanwhile later.
 struct Held {
     call: usize,
     number: usize,
@@ -106,7 +108,13 @@ fn schedule_of(count: usize, at_once: usize) -> Result<Schedule, BadGraph> {
 
 impl<'a, M: Machine, C: Calls, W: Write> Graph<'a, M, C, W> {
     /// A batch of so many calls. `None` if there is no memory for it.
-    pub fn new(machine: &'a mut M, calls: &'a mut C, count: usize, limits: Limits, progress: Progress<W>) -> Option<Graph<'a, M, C, W>> {
+    pub fn new(
+        machine: &'a mut M,
+        calls: &'a mut C,
+        count: usize,
+        limits: Limits,
+        progress: Progress<W>,
+    ) -> Option<Graph<'a, M, C, W>> {
         let schedule = schedule_of(count, limits.at_once.max(1)).ok()?;
         let made = std::iter::repeat_with(|| None).take(count).collect();
         let count = Count { calls: count, ..Count::default() };
@@ -160,7 +168,8 @@ impl<'a, M: Machine, C: Calls, W: Write> Graph<'a, M, C, W> {
         if self.is_stopped() && self.running.iter().all(Option::is_none) {
             self.cancel(TERM);
         }
-        self.active.is_empty() && (self.is_stopped() || self.outcomes.signal.is_some() || self.schedule.over())
+        self.active.is_empty()
+            && (self.is_stopped() || self.outcomes.signal.is_some() || self.schedule.over())
     }
 
     fn may_plan(&self) -> bool {
@@ -179,10 +188,13 @@ impl<'a, M: Machine, C: Calls, W: Write> Graph<'a, M, C, W> {
         let has_room = slots_used < self.limits.at_once && !self.is_full;
         has_room
             && !self.is_stopped()
-            && (!self.held.is_empty() || self.wanting().is_some() || (self.may_plan() && (self.unbegun.is_some() || self.schedule.next().is_some())))
+            && (!self.held.is_empty()
+                || self.wanting().is_some()
+                || (self.may_plan() && (self.unbegun.is_some() || self.schedule.next().is_some())))
     }
 
-    /// Uses a slot: for a job that waits for a process, for the first call that has one, or for the next call.
+    /// Uses a slot: for a job that waits for a process, for the first call that has one, or for the next
+    /// call.
     fn take_slot(&mut self) {
         if let Some(Held { call, number, job, ends }) = self.held.pop_front() {
             if let Some(at) = self.place(call).filter(|&at| self.start(at, number, job)) {
@@ -206,10 +218,15 @@ impl<'a, M: Machine, C: Calls, W: Write> Graph<'a, M, C, W> {
                 self.active.push(Active { call, maker, wish: Wish::default(), running: 0 });
                 self.go_on(self.active.len() - 1);
             }
-            Err(_) if self.running.iter().any(Option::is_some) => (self.unbegun, self.is_full) = (Some(call), true),
+            Err(_) if self.running.iter().any(Option::is_some) => {
+                (self.unbegun, self.is_full) = (Some(call), true);
+            }
             Err(error) => {
                 let text = format!("zigrunk batch: no thread for a call: {error}\n");
-                self.ended(call, Made { status: 1, said: vec![(true, text.into_bytes())], ..Made::default() });
+                self.ended(
+                    call,
+                    Made { status: 1, said: vec![(true, text.into_bytes())], ..Made::default() },
+                );
             }
         }
     }
@@ -241,12 +258,17 @@ impl<'a, M: Machine, C: Calls, W: Write> Graph<'a, M, C, W> {
         }
     }
 
-    /// Starts a job of a call, and says so to the call. If there is no process for it, the call waits until another job has ended.
+    /// Starts a job of a call, and says so to the call. If there is no process for it, the call waits until
+    /// another job has ended.
     fn start(&mut self, at: usize, number: usize, job: Job) -> bool {
         let place = self.running.iter().position(Option::is_none).unwrap_or(self.running.len());
         let call = self.active[at].call;
         let is_stopped = self.outcomes.signal.is_some();
-        match if is_stopped { Err(std::io::ErrorKind::Interrupted.into()) } else { self.machine.start(place, &job) } {
+        match if is_stopped {
+            Err(std::io::ErrorKind::Interrupted.into())
+        } else {
+            self.machine.start(place, &job)
+        } {
             Ok(()) => {
                 self.running.resize_with(self.running.len().max(place + 1), || None);
                 self.running[place] = Some(Running { call, number, has_slot: !job.shares_slot });
@@ -302,7 +324,11 @@ impl<'a, M: Machine, C: Calls, W: Write> Graph<'a, M, C, W> {
         self.count.ended += usize::from(!made.cancelled);
         self.count.failed += usize::from(failed);
         self.made[call] = (!made.cancelled).then_some(made);
-        self.progress.update(&self.count, &self.calls.name(call), failed || self.count.ended == self.count.calls);
+        self.progress.update(
+            &self.count,
+            &self.calls.name(call),
+            failed || self.count.ended == self.count.calls,
+        );
     }
 
     /// Tells of the calls whose turn it is in the list.
@@ -411,7 +437,10 @@ mod tests {
         }
 
         fn next(&mut self) -> Event {
-            if let Some((_, number)) = self.signal.take_if(|(count, _)| self.log.iter().filter(|line| line.starts_with('+')).count() >= *count) {
+            if let Some((_, number)) = self
+                .signal
+                .take_if(|(count, _)| self.log.iter().filter(|line| line.starts_with('+')).count() >= *count)
+            {
                 return Event::Signal(number);
             }
             if self.is_lost && !self.running.is_empty() {
@@ -484,7 +513,10 @@ mod tests {
                 if panics {
                     let job = Job { words: vec!["x".into(), "0".into()], ..Job::default() };
                     turns.want(true);
-                    assert!(!matches!(turns.next(), Event::Slot) || turns.start(0, &job).is_err(), "as the test wants");
+                    assert!(
+                        !matches!(turns.next(), Event::Slot) || turns.start(0, &job).is_err(),
+                        "as the test wants"
+                    );
                 }
                 if is_planned {
                     turns.plans(true);
@@ -498,8 +530,14 @@ mod tests {
                     ..Task::default()
                 };
                 let tasks: Vec<Task> = commands.iter().enumerate().map(task).collect();
-                let Ok(done) = run::run(turns, &mut NoRule, &tasks, 9) else { return Made { cancelled: true, ..Made::default() } };
-                let status = done.iter().filter_map(|done| done.ended.as_ref()).map(|ended| ended.status.code).find(|&code| code != 0);
+                let Ok(done) = run::run(turns, &mut NoRule, &tasks, 9) else {
+                    return Made { cancelled: true, ..Made::default() };
+                };
+                let status = done
+                    .iter()
+                    .filter_map(|done| done.ended.as_ref())
+                    .map(|ended| ended.status.code)
+                    .find(|&code| code != 0);
                 let said = done.into_iter().filter_map(|done: Done| Some((false, done.ended?.out))).collect();
                 Made { status: status.unwrap_or(0), said, ..Made::default() }
             })
@@ -512,22 +550,36 @@ mod tests {
     }
 
     /// What comes of calls: what the machine did, what is told, and the outcomes.
-    fn run_all(machine: &mut Fake, calls: &[&[(&'static str, i32)]], at_once: usize, failures: Option<usize>) -> (String, String, Outcomes) {
+    fn run_all(
+        machine: &mut Fake,
+        calls: &[&[(&'static str, i32)]],
+        at_once: usize,
+        failures: Option<usize>,
+    ) -> (String, String, Outcomes) {
         let chains = Chains { calls: calls.iter().map(|call| call.to_vec()).collect(), ..Chains::default() };
         run_chains(machine, chains, at_once, failures)
     }
 
-    fn run_chains(machine: &mut Fake, mut chains: Chains, at_once: usize, failures: Option<usize>) -> (String, String, Outcomes) {
+    fn run_chains(
+        machine: &mut Fake,
+        mut chains: Chains,
+        at_once: usize,
+        failures: Option<usize>,
+    ) -> (String, String, Outcomes) {
         let count = chains.calls.len();
         let limits = Limits { at_once, planned_at_once: at_once, failures };
-        let outcomes = Graph::new(machine, &mut chains, count, limits, Progress::new(Form::Silent, io::sink())).unwrap().run();
+        let outcomes =
+            Graph::new(machine, &mut chains, count, limits, Progress::new(Form::Silent, io::sink()))
+                .unwrap()
+                .run();
         (machine.log.join(" "), chains.told.join(" "), outcomes)
     }
 
     #[test]
     fn calls_run_side_by_side_and_are_told_in_order() {
         let mut machine = Fake::default();
-        let (log, told, outcomes) = run_all(&mut machine, &[&[("a", 0), ("b", 0)], &[("c", 0)], &[("d", 0)]], 2, None);
+        let (log, told, outcomes) =
+            run_all(&mut machine, &[&[("a", 0), ("b", 0)], &[("c", 0)], &[("d", 0)]], 2, None);
         assert_eq!((log.as_str(), told.as_str()), ("+a +c -a +b -c +d -b -d", "0:0:ab 1:0:c 2:0:d"));
         assert_eq!((outcomes, machine.most_at_once), (Outcomes::default(), 2));
     }
@@ -535,7 +587,8 @@ mod tests {
     #[test]
     fn a_later_call_begins_only_if_earlier_ones_have_nothing_to_start() {
         let mut machine = Fake::default();
-        let (log, _, _) = run_all(&mut machine, &[&[("a", 0), ("b", 0)], &[("c", 0), ("d", 0)], &[("e", 0)]], 1, None);
+        let (log, _, _) =
+            run_all(&mut machine, &[&[("a", 0), ("b", 0)], &[("c", 0), ("d", 0)], &[("e", 0)]], 1, None);
         assert_eq!(log, "+a -a +b -b +c -c +d -d +e -e");
     }
 
@@ -546,7 +599,10 @@ mod tests {
         assert_eq!((log.as_str(), told.as_str()), ("+a -a +c -c +d -d", "0:7:a 1:0:c 2:5:d"));
         assert_eq!(outcomes, Outcomes { status: 7, ..Outcomes::default() });
         let (log, told, outcomes) = run_all(&mut Fake::default(), &calls, 1, Some(1));
-        assert_eq!((log.as_str(), told.as_str(), outcomes), ("+a -a", "0:7:a", Outcomes { status: 7, left: 2, ..Outcomes::default() }));
+        assert_eq!(
+            (log.as_str(), told.as_str(), outcomes),
+            ("+a -a", "0:7:a", Outcomes { status: 7, left: 2, ..Outcomes::default() })
+        );
     }
 
     #[test]
@@ -554,20 +610,25 @@ mod tests {
         let calls: [&[(&str, i32)]; 4] = [&[("a", 0), ("x", 0)], &[("b", 6)], &[("c", 0)], &[("d", 0)]];
         let (log, told, outcomes) = run_all(&mut Fake::default(), &calls, 3, Some(1));
         assert_eq!(log, "+a +b +c -a +x -b -c -x");
-        assert_eq!((told.as_str(), outcomes), ("0:0:ax 1:6:b 2:0:c", Outcomes { status: 6, left: 1, ..Outcomes::default() }));
+        assert_eq!(
+            (told.as_str(), outcomes),
+            ("0:0:ax 1:6:b 2:0:c", Outcomes { status: 6, left: 1, ..Outcomes::default() })
+        );
     }
 
     #[test]
     fn a_signal_ends_all_calls() {
         let mut machine = Fake { signal: Some((2, INT)), ..Fake::default() };
-        let (log, told, outcomes) = run_all(&mut machine, &[&[("a", 0), ("b", 0)], &[("c", 0)], &[("d", 0)]], 2, None);
+        let (log, told, outcomes) =
+            run_all(&mut machine, &[&[("a", 0), ("b", 0)], &[("c", 0)], &[("d", 0)]], 2, None);
         assert_eq!((log.as_str(), told.as_str(), outcomes.signal), ("+a +c signal 2", "", Some(INT)));
     }
 
     #[test]
     fn a_job_without_a_process_waits_for_one() {
         let mut machine = Fake { most: Some(1), ..Fake::default() };
-        let (log, told, _) = run_all(&mut machine, &[&[("a", 0), ("b", 0)], &[("c", 0)], &[("d", 0)]], 3, None);
+        let (log, told, _) =
+            run_all(&mut machine, &[&[("a", 0), ("b", 0)], &[("c", 0)], &[("d", 0)]], 3, None);
         assert_eq!((machine.most_at_once, told.as_str()), (1, "0:0:ab 1:0:c 2:0:d"), "{log}");
     }
 
@@ -575,10 +636,17 @@ mod tests {
     fn a_call_that_waits_for_a_process_hears_later_of_jobs_that_end() {
         for most in 1..4 {
             let mut machine = Fake { most: Some(most), ..Fake::default() };
-            let chains =
-                Chains { calls: vec![vec![("a", 0), ("b", 0), ("c", 0)], vec![("d", 0), ("e", 0)]], side_by_side: true, ..Chains::default() };
+            let chains = Chains {
+                calls: vec![vec![("a", 0), ("b", 0), ("c", 0)], vec![("d", 0), ("e", 0)]],
+                side_by_side: true,
+                ..Chains::default()
+            };
             let (log, told, outcomes) = run_chains(&mut machine, chains, 9, None);
-            assert_eq!((told.as_str(), machine.most_at_once, outcomes), ("0:0:abc 1:0:de", most, Outcomes::default()), "{log}");
+            assert_eq!(
+                (told.as_str(), machine.most_at_once, outcomes),
+                ("0:0:abc 1:0:de", most, Outcomes::default()),
+                "{log}"
+            );
         }
     }
 
@@ -591,7 +659,10 @@ mod tests {
         assert_eq!(outcomes, Outcomes::default());
         let chains = Chains { calls: calls(), without_thread: Cell::new((0, 1)), ..Chains::default() };
         let (_, told, outcomes) = run_chains(&mut Fake::default(), chains, 2, None);
-        assert_eq!((told.split('\n').next(), outcomes.status), (Some("0:1:zigrunk batch: no thread for a call: operation would block"), 1));
+        assert_eq!(
+            (told.split('\n').next(), outcomes.status),
+            (Some("0:1:zigrunk batch: no thread for a call: operation would block"), 1)
+        );
     }
 
     #[test]
@@ -599,25 +670,43 @@ mod tests {
         let (mut machine, mut said) = (Fake::default(), Vec::new());
         let mut chains = Chains { calls: vec![vec![("", 0)]], ..Chains::default() };
         let limits = Limits { at_once: 1, planned_at_once: 1, failures: None };
-        let outcomes = Graph::new(&mut machine, &mut chains, 1, limits, Progress::new(Form::Terminal, &mut said)).unwrap().run();
+        let outcomes =
+            Graph::new(&mut machine, &mut chains, 1, limits, Progress::new(Form::Terminal, &mut said))
+                .unwrap()
+                .run();
         let text = String::from_utf8(said).unwrap();
-        assert!(outcomes == Outcomes::default() && text.contains("1 of 1 calls") && text.ends_with("\r\x1b[K"), "{text:?}");
+        assert!(
+            outcomes == Outcomes::default() && text.contains("1 of 1 calls") && text.ends_with("\r\x1b[K"),
+            "{text:?}"
+        );
     }
 
     #[test]
     fn so_many_calls_are_planned_at_once() {
         let planned = |planned_at_once| {
             let (mut machine, mut said) = (Fake::default(), Vec::new());
-            let mut chains = Chains { calls: vec![vec![("a", 0)], vec![("b", 0)], vec![("c", 0)]], are_planned: true, ..Chains::default() };
+            let mut chains = Chains {
+                calls: vec![vec![("a", 0)], vec![("b", 0)], vec![("c", 0)]],
+                are_planned: true,
+                ..Chains::default()
+            };
             let limits = Limits { at_once: 4, planned_at_once, failures: None };
-            let outcomes = Graph::new(&mut machine, &mut chains, 3, limits, Progress::new(Form::Lines, &mut said)).unwrap().run();
+            let outcomes =
+                Graph::new(&mut machine, &mut chains, 3, limits, Progress::new(Form::Lines, &mut said))
+                    .unwrap()
+                    .run();
             let said = String::from_utf8(said).unwrap();
             // (it says how many a second, too, if it took a second)
-            let is_last = |line: &str| line.starts_with("zigrunk batch: 3 of 3 calls, 3 commands") && line.ends_with(": 2");
+            let is_last = |line: &str| {
+                line.starts_with("zigrunk batch: 3 of 3 calls, 3 commands") && line.ends_with(": 2")
+            };
             assert!(outcomes == Outcomes::default() && said.lines().last().is_some_and(is_last), "{said}");
             machine.log.join(" ")
         };
-        assert_eq!([1, 2].map(planned), ["+p -p +a +p -a -p +b +p -b -p +c -c", "+p +p -p +a +p -p +b -a -p +c -b -c"]);
+        assert_eq!(
+            [1, 2].map(planned),
+            ["+p -p +a +p -a -p +b +p -b -p +c -c", "+p +p -p +a +p -p +b -a -p +c -b -c"]
+        );
     }
 
     #[test]
@@ -625,7 +714,10 @@ mod tests {
         let calls = || vec![vec![("a", 0)], vec![("b", 0)], vec![("c", 0)]];
         let chains = Chains { calls: calls(), panics: Some(1), ..Chains::default() };
         let (log, told, outcomes) = run_chains(&mut Fake::default(), chains, 2, None);
-        assert_eq!((log.as_str(), told.as_str(), outcomes.status), ("+a +x -a +c -x -c", "0:0:a 1:1: 2:0:c", 1));
+        assert_eq!(
+            (log.as_str(), told.as_str(), outcomes.status),
+            ("+a +x -a +c -x -c", "0:0:a 1:1: 2:0:c", 1)
+        );
     }
 
     #[test]

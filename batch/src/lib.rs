@@ -58,7 +58,10 @@ struct List {
 fn asked(words: Vec<String>, settings: &Settings) -> Asked {
     let first = words.first().map(String::as_str).unwrap_or_default();
     let name = first.rsplit('/').next().unwrap_or_default();
-    let stem = name.rsplit_once('-').filter(|(_, version)| version.starts_with(|digit: char| digit.is_ascii_digit())).map_or(name, |(stem, _)| stem);
+    let stem = name
+        .rsplit_once('-')
+        .filter(|(_, version)| version.starts_with(|digit: char| digit.is_ascii_digit()))
+        .map_or(name, |(stem, _)| stem);
     if name == "zigrunk-nvcc" {
         Asked::Nvcc(words[1..].to_vec())
     } else if name == "zigrunk" && words.get(1).is_some_and(|word| word == "nvcc") {
@@ -81,12 +84,20 @@ fn encoded(bytes: &[u8]) -> String {
 /// What words ask for. A shell runs those that aren't UTF-8.
 fn asked_by(words: &[Vec<u8>], settings: &Settings) -> Asked {
     let texts: Option<Vec<String>> = words.iter().map(|word| String::from_utf8(word.clone()).ok()).collect();
-    texts.map_or_else(|| Asked::Shell(words.iter().map(|word| encoded(word)).collect::<Vec<_>>().join(" ")), |texts| asked(texts, settings))
+    texts.map_or_else(
+        || Asked::Shell(words.iter().map(|word| encoded(word)).collect::<Vec<_>>().join(" ")),
+        |texts| asked(texts, settings),
+    )
 }
 
 /// The calls that a text lists.
 /// Errors: why the text is no `compile_commands.json`, if it begins as one.
-fn calls_of(text: &[u8], folder: &Path, cwd: &Path, settings: &Settings) -> Result<(Vec<BatchCall>, &'static str), String> {
+fn calls_of(
+    text: &[u8],
+    folder: &Path,
+    cwd: &Path,
+    settings: &Settings,
+) -> Result<(Vec<BatchCall>, &'static str), String> {
     let cwd = cwd.to_string_lossy();
     if databases::is_object(text) {
         return Err("it is a JSON object, not an array".into());
@@ -96,16 +107,26 @@ fn calls_of(text: &[u8], folder: &Path, cwd: &Path, settings: &Settings) -> Resu
         let call = |call: lists::ListedCall| {
             let asked = match call.asks {
                 Listed::Words(words) => asked_by(&words, settings),
-                Listed::Whole => Asked::Shell(String::from_utf8(call.line.clone()).unwrap_or_else(|_| format!("eval {}", encoded(&call.line)))),
+                Listed::Whole => Asked::Shell(
+                    String::from_utf8(call.line.clone())
+                        .unwrap_or_else(|_| format!("eval {}", encoded(&call.line))),
+                ),
             };
-            BatchCall { number: call.number, name: String::from_utf8_lossy(&call.line).trim().to_owned(), folder: cwd.to_string(), asked }
+            BatchCall {
+                number: call.number,
+                name: String::from_utf8_lossy(&call.line).trim().to_owned(),
+                folder: cwd.to_string(),
+                asked,
+            }
         };
         return Ok((lists::calls(text, &variable).into_iter().map(call).collect(), "line"));
     }
     let call = |(at, entry): (usize, databases::DatabaseEntry)| BatchCall {
         number: at + 1,
         name: String::from_utf8_lossy(&entry.file).into_owned(),
-        folder: absolute(&folder.join(OsStr::from_bytes(&entry.directory)), folder).to_string_lossy().into_owned(),
+        folder: absolute(&folder.join(OsStr::from_bytes(&entry.directory)), folder)
+            .to_string_lossy()
+            .into_owned(),
         asked: asked_by(&entry.words, settings),
     };
     Ok((databases::entries(text)?.into_iter().enumerate().map(call).collect(), "entry"))
@@ -117,12 +138,18 @@ fn list(name: Option<&OsString>, settings: &Settings) -> Result<List, String> {
     let cwd = working_directory().ok_or("there is no working directory")?;
     let mut text = Vec::new();
     let (read, shown) = match name {
-        Some(name) => (fs::File::open(name).and_then(|mut file| file.read_to_end(&mut text)), name.to_string_lossy().into_owned()),
+        Some(name) => (
+            fs::File::open(name).and_then(|mut file| file.read_to_end(&mut text)),
+            name.to_string_lossy().into_owned(),
+        ),
         None => (io::stdin().read_to_end(&mut text), "standard input".to_owned()),
     };
     read.map_err(|_| format!("cannot read {shown}"))?;
-    let folder = name.and_then(|name| Path::new(name).parent()).map_or_else(|| cwd.clone(), |above| absolute(&cwd.join(above), &cwd));
-    let (calls, unit) = calls_of(&text, &folder, &cwd, settings).map_err(|reason| format!("{shown} is no compile_commands.json: {reason}"))?;
+    let folder = name
+        .and_then(|name| Path::new(name).parent())
+        .map_or_else(|| cwd.clone(), |above| absolute(&cwd.join(above), &cwd));
+    let (calls, unit) = calls_of(&text, &folder, &cwd, settings)
+        .map_err(|reason| format!("{shown} is no compile_commands.json: {reason}"))?;
     Ok(List { calls, unit, folder })
 }
 
@@ -133,7 +160,11 @@ fn made_twice(list: &List) -> Option<String> {
         for product in calls::products_of(call) {
             if let Some(first) = makers.insert(product.path.clone(), call.number) {
                 let units = if list.unit == "entry" { "entries" } else { "lines" };
-                return Some(format!("{units} {first} and {} make one file: {}", call.number, product.path.display()));
+                return Some(format!(
+                    "{units} {first} and {} make one file: {}",
+                    call.number,
+                    product.path.display()
+                ));
             }
         }
     }
@@ -164,14 +195,19 @@ impl Calls for Told<'_> {
         }
         if made.status != 0 {
             let call = &self.calls[call];
-            complain(&format!("zigrunk batch: {} {}: exit status {}: {}", self.list.unit, call.number, made.status, call.name));
+            complain(&format!(
+                "zigrunk batch: {} {}: exit status {}: {}",
+                self.list.unit, call.number, made.status, call.name
+            ));
         }
     }
 }
 
 /// This machine, for a batch with this directory.
 fn machine(settings: &Settings, folder: &Rc<CallFolder>) -> Result<Host, String> {
-    let environment = Environment::own().with("ZIGRUNK_INSIDE", &settings.inside).with("ZIGRUNK_BATCH", folder.path().as_os_str());
+    let environment = Environment::own()
+        .with("ZIGRUNK_INSIDE", &settings.inside)
+        .with("ZIGRUNK_BATCH", folder.path().as_os_str());
     let host = Host::of_process(settings, Make::of_environment(), environment, Rc::clone(folder));
     host.map_err(|lacks| format!("no {lacks} for the batch"))
 }
@@ -189,7 +225,8 @@ fn take_part(list: &mut List, part: Option<Part>) {
     list.calls.retain(|_| place.next().is_some_and(|place| part.is_none_or(|part| part.has(place))));
 }
 
-/// Prints the calls of a list that are missing, each with why. Says the status: that of the first one that failed, or else 1.
+/// Prints the calls of a list that are missing, each with why. Says the status: that of the first one that
+/// failed, or else 1.
 /// Errors: why the list can't be read, or its calls can't be made side by side.
 fn tell_missing(options: &Options, settings: &Settings) -> Result<Ended, String> {
     let mut list = list(options.list.as_ref(), settings)?;
@@ -198,8 +235,12 @@ fn tell_missing(options: &Options, settings: &Settings) -> Result<Ended, String>
         return Err(twice);
     }
     let records = Records::at(list.folder.join(records::FOLDER));
-    let missing: Vec<(&BatchCall, Missing)> = list.calls.iter().filter_map(|call| Some((call, records.missing(call, settings)?))).collect();
-    let lines: Vec<String> = missing.iter().map(|(call, why)| format!("{} {}: {}: {}\n", list.unit, call.number, why.reason(), call.name)).collect();
+    let missing: Vec<(&BatchCall, Missing)> =
+        list.calls.iter().filter_map(|call| Some((call, records.missing(call, settings)?))).collect();
+    let lines: Vec<String> = missing
+        .iter()
+        .map(|(call, why)| format!("{} {}: {}: {}\n", list.unit, call.number, why.reason(), call.name))
+        .collect();
     say(1, lines.concat().as_bytes()).map_err(|error| format!("cannot write to standard output: {error}"))?;
     let failed = missing.iter().find(|(_, why)| matches!(why, Missing::Failed(_)));
     Ok(Ended::Status(failed.or(missing.first()).map_or(0, |(_, why)| why.status())))
@@ -226,7 +267,9 @@ fn make(options: &Options, settings: &Settings) -> Result<Ended, String> {
     }
     let records = (options.incremental || options.part.is_some()).then(|| records_of(&list)).transpose()?;
     let temporary = absolute(settings.plans(), &working_directory().unwrap_or_default());
-    let folder = Rc::new(CallFolder::take(&temporary, "batch").map_err(|error| format!("no temporary directory: {error}"))?);
+    let folder = Rc::new(
+        CallFolder::take(&temporary, "batch").map_err(|error| format!("no temporary directory: {error}"))?,
+    );
     folder.tell_if_taken(&temporary);
     let scratch = settings.shared.is_none().then(|| folder.path().join("tmp"));
     let made = scratch.as_ref().map_or(Ok(()), fs::create_dir).map_err(|error| error.to_string());
@@ -263,11 +306,18 @@ fn form(options: &Options) -> Form {
 }
 
 /// Makes calls on a machine.
-fn run(host: &mut Host, mut list: List, context: Context, limits: Limits, form: Form) -> Result<Outcomes, String> {
+fn run(
+    host: &mut Host,
+    mut list: List,
+    context: Context,
+    limits: Limits,
+    form: Form,
+) -> Result<Outcomes, String> {
     let calls: Vec<Arc<BatchCall>> = std::mem::take(&mut list.calls).into_iter().map(Arc::new).collect();
     let count = calls.len();
     let mut told = Told { list: &list, calls, context: Arc::new(context) };
-    let graph = Graph::new(host, &mut told, count, limits, Progress::new(form, io::stderr())).ok_or("out of memory")?;
+    let graph = Graph::new(host, &mut told, count, limits, Progress::new(form, io::stderr()))
+        .ok_or("out of memory")?;
     Ok(graph.run())
 }
 
@@ -293,8 +343,9 @@ fn end_of(outcomes: Outcomes) -> Ended {
     Ended::Status(outcomes.status)
 }
 
-/// Has the compiler make a call, unless a batch with `--incremental` made it in this directory and all its files are as they were. Then
-/// this writes the dependency file alone, which a build asks for beyond the words of its `compile_commands.json`.
+/// Has the compiler make a call, unless a batch with `--incremental` made it in this directory and all its
+/// files are as they were. Then this writes the dependency file alone, which a build asks for beyond the
+/// words of its `compile_commands.json`.
 fn unless_made(words: &[OsString], settings: &Settings) -> i32 {
     let texts: Option<Vec<String>> = words.iter().map(|word| word.to_str().map(String::from)).collect();
     if texts.and_then(|texts| made_before(&texts, settings)).is_some() {
@@ -311,8 +362,12 @@ fn unless_made(words: &[OsString], settings: &Settings) -> i32 {
 fn made_before(words: &[String], settings: &Settings) -> Option<()> {
     let cwd = working_directory()?;
     let records = Records::at(cwd.join(records::FOLDER));
-    let call =
-        |words: Vec<String>| BatchCall { number: 1, name: String::new(), folder: cwd.to_string_lossy().into_owned(), asked: asked(words, settings) };
+    let call = |words: Vec<String>| BatchCall {
+        number: 1,
+        name: String::new(),
+        folder: cwd.to_string_lossy().into_owned(),
+        asked: asked(words, settings),
+    };
     let with_rule = call(words.to_vec());
     let products = calls::products_of(&with_rule);
     let target = products::outputs(&words_of(&with_rule.asked)?).into_iter().next()?;
@@ -345,8 +400,8 @@ fn with_settings(run: impl FnOnce(Settings) -> i32) -> i32 {
     )
 }
 
-/// Makes the calls of the list that these words name. Says the exit status: that of the first call in the list that failed, 1 if the list
-/// can't be made, 2 for wrong usage or a bad setting.
+/// Makes the calls of the list that these words name. Says the exit status: that of the first call in the
+/// list that failed, 1 if the list can't be made, 2 for wrong usage or a bad setting.
 pub fn main(words: &[OsString]) -> i32 {
     let print = |text: String| i32::from(say(1, text.as_bytes()).is_err());
     match options::parse(words) {
@@ -401,7 +456,10 @@ mod tests {
     #[test]
     fn a_list_that_cannot_be_read_is_none() {
         for name in ["/", "/missing"] {
-            assert_eq!(list(Some(&name.into()), &Settings::default()).err(), Some(format!("cannot read {name}")));
+            assert_eq!(
+                list(Some(&name.into()), &Settings::default()).err(),
+                Some(format!("cannot read {name}"))
+            );
         }
     }
 
@@ -418,9 +476,11 @@ mod tests {
     #[test]
     fn lists_and_databases_give_calls() {
         let settings = Settings { nvcc: "nvcc".into(), ..Settings::default() };
-        let (calls, unit) = calls_of(b"\n -c a.cu\na; b\n\xff x", Path::new("/far"), Path::new("/usr"), &settings).unwrap();
+        let (calls, unit) =
+            calls_of(b"\n -c a.cu\na; b\n\xff x", Path::new("/far"), Path::new("/usr"), &settings).unwrap();
         assert_eq!(unit, "line");
-        let found: Vec<(usize, &str, &Asked)> = calls.iter().map(|call| (call.number, call.name.as_str(), &call.asked)).collect();
+        let found: Vec<(usize, &str, &Asked)> =
+            calls.iter().map(|call| (call.number, call.name.as_str(), &call.asked)).collect();
         let (nvcc, shell) = (Asked::Nvcc(vec!["-c".into(), "a.cu".into()]), Asked::Shell("a; b".into()));
         let odd = Asked::Shell("\"$(printf '\\377')\" \"$(printf '\\170')\"".into());
         assert_eq!(found, [(2, "-c a.cu", &nvcc), (3, "a; b", &shell), (4, "\u{fffd} x", &odd)]);
@@ -432,6 +492,9 @@ mod tests {
         )
         .unwrap();
         assert_eq!((unit, calls[0].folder.as_str(), calls[1].folder.as_str()), ("entry", "/usr/bin", "/b"));
-        assert_eq!(calls_of(b"{}", Path::new("/"), Path::new("/"), &settings), Err("it is a JSON object, not an array".into()));
+        assert_eq!(
+            calls_of(b"{}", Path::new("/"), Path::new("/"), &settings),
+            Err("it is a JSON object, not an array".into())
+        );
     }
 }

@@ -21,19 +21,23 @@ pub struct ListedCall {
 /// The words with which a line begins that is more than a command.
 const RESERVED: [&[u8]; 7] = [b"!", b"{", b"if", b"for", b"while", b"until", b"case"];
 
-/// The calls of a list. Empty lines and those that begin with `#` have none. `variable` gives the values of the shell's variables.
+/// The calls of a list. Empty lines and those that begin with `#` have none. `variable` gives the values of
+/// the shell's variables.
 pub fn calls(text: &[u8], variable: &dyn Fn(&[u8]) -> Option<Vec<u8>>) -> Vec<ListedCall> {
-    let lines = text.split(|&byte| byte == b'\n').map(|line| line.strip_suffix(b"\r").unwrap_or(line)).enumerate();
-    let has_call = |line: &[u8]| line.iter().find(|byte| !byte.is_ascii_whitespace()).is_some_and(|&byte| byte != b'#');
+    let lines =
+        text.split(|&byte| byte == b'\n').map(|line| line.strip_suffix(b"\r").unwrap_or(line)).enumerate();
+    let has_call =
+        |line: &[u8]| line.iter().find(|byte| !byte.is_ascii_whitespace()).is_some_and(|&byte| byte != b'#');
     let call = |(at, line): (usize, &[u8])| {
-        let asks = words(line, variable).filter(|words| !words.is_empty()).map_or(Listed::Whole, Listed::Words);
+        let asks =
+            words(line, variable).filter(|words| !words.is_empty()).map_or(Listed::Whole, Listed::Words);
         has_call(line).then(|| ListedCall { number: at + 1, line: line.to_vec(), asks })
     };
     lines.filter_map(call).collect()
 }
 
-/// The words of a command, as a shell in a folder without fitting files reads them. `None` if that takes more than quotes and plain
-/// variables: an operator, a substitution, a pattern, or a quote without an end.
+/// The words of a command, as a shell in a folder without fitting files reads them. `None` if that takes more
+/// than quotes and plain variables: an operator, a substitution, a pattern, or a quote without an end.
 pub fn words(line: &[u8], variable: &dyn Fn(&[u8]) -> Option<Vec<u8>>) -> Option<Vec<Vec<u8>>> {
     let begin = line.iter().position(|byte| !is_blank(*byte)).unwrap_or(line.len());
     let first = line[begin..].split(|&byte| is_blank(byte)).next().unwrap_or_default();
@@ -142,13 +146,17 @@ impl Reader<'_> {
         Some(())
     }
 
-    /// The value of the variable whose name follows a dollar, as `NAME` or `{NAME}`. Without a name, it is the dollar itself.
+    /// The value of the variable whose name follows a dollar, as `NAME` or `{NAME}`. Without a name, it is
+    /// the dollar itself.
     fn value(&mut self) -> Option<Vec<u8>> {
         let rest = &self.line[self.at..];
         let braced = rest.first() == Some(&b'{');
         let name = &rest[usize::from(braced)..];
         let name = &name[..name_size(name)];
-        let is_plain = matches!(rest.first(), None | Some(b' ' | b'\t' | b'"' | b'/' | b'.' | b',' | b':' | b'=' | b'%' | b'+' | b'\\'));
+        let is_plain = matches!(
+            rest.first(),
+            None | Some(b' ' | b'\t' | b'"' | b'/' | b'.' | b',' | b':' | b'=' | b'%' | b'+' | b'\\')
+        );
         if name.is_empty() {
             return (!braced && is_plain).then(|| b"$".to_vec());
         }
@@ -198,10 +206,19 @@ mod tests {
             ("a=~ b~", &["a=~", "b~"]),
             ("", &[]),
         ];
-        for (line, wanted) in cases.into_iter().filter(|(line, _)| !line.starts_with("cost=") && !line.starts_with("a=")) {
-            assert_eq!(read(line).as_deref(), Some(wanted.iter().map(|word| (*word).to_owned()).collect::<Vec<_>>().as_slice()), "{line}");
+        for (line, wanted) in
+            cases.into_iter().filter(|(line, _)| !line.starts_with("cost=") && !line.starts_with("a="))
+        {
+            assert_eq!(
+                read(line).as_deref(),
+                Some(wanted.iter().map(|word| (*word).to_owned()).collect::<Vec<_>>().as_slice()),
+                "{line}"
+            );
         }
-        assert_eq!(read("echo cost=$ \"5$\" a=$HOME"), Some(["echo", "cost=$", "5$", "a=/h", "o"].map(String::from).to_vec()));
+        assert_eq!(
+            read("echo cost=$ \"5$\" a=$HOME"),
+            Some(["echo", "cost=$", "5$", "a=/h", "o"].map(String::from).to_vec())
+        );
     }
 
     #[test]
@@ -244,8 +261,19 @@ mod tests {
     #[test]
     fn lines_have_numbers() {
         let calls = calls(b"# no\n\n \t\nnvcc -c a.cu\r\n  # no\na && b\n\t$EMPTY\nlast", &value);
-        let found: Vec<(usize, &[u8], bool)> = calls.iter().map(|call| (call.number, call.line.as_slice(), call.asks == Listed::Whole)).collect();
-        assert_eq!(found, [(4, &b"nvcc -c a.cu"[..], false), (6, b"a && b", true), (7, b"\t$EMPTY", true), (8, b"last", false)]);
+        let found: Vec<(usize, &[u8], bool)> = calls
+            .iter()
+            .map(|call| (call.number, call.line.as_slice(), call.asks == Listed::Whole))
+            .collect();
+        assert_eq!(
+            found,
+            [
+                (4, &b"nvcc -c a.cu"[..], false),
+                (6, b"a && b", true),
+                (7, b"\t$EMPTY", true),
+                (8, b"last", false)
+            ]
+        );
     }
 
     #[test]

@@ -1,5 +1,6 @@
-//! Marks of calls that have ended, beside the records: on which machines a call failed, or that it succeeded though nobody knows what it read. By
-//! them and the records anyone who sees the folder knows which calls of a list are missing, and why.
+//! Marks of calls that have ended, beside the records: on which machines a call failed, or that it succeeded
+//! though nobody knows what it read. By them and the records anyone who sees the folder knows which calls of
+//! a list are missing, and why.
 use super::asked::{Asked, BatchCall, words_of};
 use super::calls::products_of;
 use super::records::{Records, digest};
@@ -67,12 +68,17 @@ impl Records {
             Asked::Program(words) => words.clone(),
             asked => words_of(asked).unwrap_or_default(),
         };
-        self.path().join(format!("{:016x}.ended", digest([call.folder.as_str(), &words.join("\0")].join("\0").as_bytes())))
+        self.path().join(format!(
+            "{:016x}.ended",
+            digest([call.folder.as_str(), &words.join("\0")].join("\0").as_bytes())
+        ))
     }
 
     /// How a call has ended, the latest end last.
     fn marks(&self, call: &BatchCall) -> Vec<Mark> {
-        content_of(&self.marks_file(call)).map(|text| marks_of(&String::from_utf8_lossy(&text))).unwrap_or_default()
+        content_of(&self.marks_file(call))
+            .map(|text| marks_of(&String::from_utf8_lossy(&text)))
+            .unwrap_or_default()
     }
 
     /// Notes that a call has ended on this machine.
@@ -154,7 +160,8 @@ mod tests {
     fn a_call_is_missing_without_its_product() {
         let folder = TestFolder::new();
         let (records, settings) = (Records::open(folder.join("records")).unwrap(), Settings::default());
-        let compiler = call(&folder, Asked::Compiler(["g++", "-c", "a.cc", "-o", "a.o"].map(String::from).into()));
+        let compiler =
+            call(&folder, Asked::Compiler(["g++", "-c", "a.cc", "-o", "a.o"].map(String::from).into()));
         let product = fs::canonicalize(&*folder).unwrap().join("a.o");
         let mut reasons = Vec::new();
         let mut look = || reasons.push(records.missing(&compiler, &settings).map(|missing| missing.reason()));
@@ -166,6 +173,14 @@ mod tests {
         fs::remove_file(&product).unwrap();
         look();
         let shown = product.display();
-        assert_eq!(reasons, [Some(format!("no {shown}")), Some(format!("{shown} isn't up to date")), None, Some(format!("no {shown}"))]);
+        assert_eq!(
+            reasons,
+            [
+                Some(format!("no {shown}")),
+                Some(format!("{shown} isn't up to date")),
+                None,
+                Some(format!("no {shown}"))
+            ]
+        );
     }
 }

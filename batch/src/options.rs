@@ -4,7 +4,8 @@ use lexopt::{Error, Parser};
 use machine::nearest::{unexpected, value};
 use std::ffi::OsString;
 
-pub const USAGE: &str = "usage: zigrunk batch [-j N] [-k N] [--progress] [--incremental] [--part I/N] [--missing] [FILE]";
+pub const USAGE: &str =
+    "usage: zigrunk batch [-j N] [-k N] [--progress] [--incremental] [--part I/N] [--missing] [FILE]";
 
 pub const HELP: &str = "
 Makes the calls of a list, split into their commands, side by side.
@@ -71,12 +72,14 @@ impl Part {
 
 /// A number from 1, without zeros in front.
 pub fn positive(text: &str) -> Option<usize> {
-    let is_number = !text.is_empty() && !text.starts_with('0') && text.bytes().all(|byte| byte.is_ascii_digit());
+    let is_number =
+        !text.is_empty() && !text.starts_with('0') && text.bytes().all(|byte| byte.is_ascii_digit());
     is_number.then(|| text.parse().unwrap_or(usize::MAX))
 }
 
 /// What a name of a long option may be meant to be.
-const OPTIONS: [&str; 7] = ["--progress", "--incremental", "--part", "--missing", "--unless-made", "--version", "--help"];
+const OPTIONS: [&str; 7] =
+    ["--progress", "--incremental", "--part", "--missing", "--unless-made", "--version", "--help"];
 
 /// The number of `-j` or `-k`; none for `-k 0`.
 fn number(words: &mut Parser, option: &str) -> Result<Option<usize>, Error> {
@@ -108,7 +111,9 @@ pub fn parse(words: &[OsString]) -> Result<Wanted, Error> {
             }
             Short('j') => options.jobs = number(&mut words, "-j")?,
             Short('k') => options.failures = number(&mut words, "-k")?,
-            Value(list) if has_list => return Err(format!("one list at a time, not {} too", list.to_string_lossy()).into()),
+            Value(list) if has_list => {
+                return Err(format!("one list at a time, not {} too", list.to_string_lossy()).into());
+            }
             Value(list) => {
                 has_list = true;
                 options.list = Some(list).filter(|list| list != "-");
@@ -127,13 +132,20 @@ mod tests {
     use super::*;
 
     fn read(line: &str) -> Result<Wanted, String> {
-        parse(&line.split_whitespace().map(OsString::from).collect::<Vec<_>>()).map_err(|error| error.to_string())
+        parse(&line.split_whitespace().map(OsString::from).collect::<Vec<_>>())
+            .map_err(|error| error.to_string())
     }
 
     #[test]
     fn words_are_read() {
-        let batch =
-            |jobs, failures, list: Option<&str>| Ok(Wanted::Batch(Options { jobs, failures, list: list.map(OsString::from), ..Options::default() }));
+        let batch = |jobs, failures, list: Option<&str>| {
+            Ok(Wanted::Batch(Options {
+                jobs,
+                failures,
+                list: list.map(OsString::from),
+                ..Options::default()
+            }))
+        };
         for (line, wanted) in [
             ("", batch(None, None, None)),
             ("-", batch(None, None, None)),
@@ -148,7 +160,12 @@ mod tests {
         }
         assert_eq!(
             read("--progress --incremental a"),
-            Ok(Wanted::Batch(Options { progress: true, incremental: true, list: Some("a".into()), ..Options::default() }))
+            Ok(Wanted::Batch(Options {
+                progress: true,
+                incremental: true,
+                list: Some("a".into()),
+                ..Options::default()
+            }))
         );
     }
 
@@ -170,7 +187,8 @@ mod tests {
         }
         let of = |first| (0..7).filter(|&place| Part { first, parts: 3 }.has(place)).collect::<Vec<_>>();
         assert_eq!([of(1), of(2), of(3)], [vec![0, 3, 6], vec![1, 4], vec![2, 5]]);
-        let wanted = Options { part: part(2, 3), missing: true, list: Some("a".into()), ..Options::default() };
+        let wanted =
+            Options { part: part(2, 3), missing: true, list: Some("a".into()), ..Options::default() };
         for line in ["--part 2/3 --missing a", "a --missing --part=2/3"] {
             assert_eq!(read(line), Ok(Wanted::Batch(wanted.clone())), "{line}");
         }

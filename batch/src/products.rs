@@ -1,4 +1,5 @@
-//! The files that a call of a compiler makes. A runner may lose a call and end with 0, so a product counts only if it is there and new.
+//! The files that a call of a compiler makes. A runner may lose a call and end with 0, so a product counts
+//! only if it is there and new.
 use std::fs::{self, Metadata};
 use std::os::unix::fs::MetadataExt;
 use std::path::{Path, PathBuf};
@@ -15,12 +16,15 @@ pub struct Product {
 }
 
 fn identity(path: &Path) -> Option<Identity> {
-    let of = |file: Metadata| (file.ino(), file.size(), file.mtime(), file.mtime_nsec(), file.ctime(), file.ctime_nsec());
+    let of = |file: Metadata| {
+        (file.ino(), file.size(), file.mtime(), file.mtime_nsec(), file.ctime(), file.ctime_nsec())
+    };
     fs::metadata(path).ok().map(of)
 }
 
 impl Product {
-    /// A file as words in a folder name it, as it is before the call. `None` for a device or a pipe, which stays as it is.
+    /// A file as words in a folder name it, as it is before the call. `None` for a device or a pipe, which
+    /// stays as it is.
     pub fn new(name: &str, folder: &Path) -> Option<Product> {
         let path = folder.join(name);
         if fs::metadata(&path).is_ok_and(|file| !file.is_file()) {
@@ -42,7 +46,8 @@ impl Product {
         now.is_some() && now != self.before
     }
 
-    /// Has this machine ask again what is there, if a disk that machines share is late: by a file beside the product, and by opening it.
+    /// Has this machine ask again what is there, if a disk that machines share is late: by a file beside the
+    /// product, and by opening it.
     pub fn look_again(&self) {
         let beside = self.path.with_file_name(format!(".zigrunk.{}", std::process::id()));
         drop(fs::File::create(&beside));
@@ -84,15 +89,25 @@ impl<'a> Named<'a> {
         match (word, option) {
             (_, Some(("-o" | "--output-file", value))) => self.output = value,
             (_, Some(("-odir" | "--output-directory", value))) => self.folder = value,
-            ("-c" | "--compile" | "-dc" | "--device-c" | "-dw" | "--device-w", _) => self.suffix = ".o".into(),
-            ("-ptx" | "--ptx" | "-cubin" | "--cubin" | "-fatbin" | "--fatbin", _) => self.suffix = format!(".{}", word.trim_start_matches('-')),
-            ("--dryrun" | "-dryrun" | "--help" | "-h" | "--version" | "-V" | "--clean-targets" | "-clean" | "-fsyntax-only" | "-###", _) => {
+            ("-c" | "--compile" | "-dc" | "--device-c" | "-dw" | "--device-w", _) => {
+                self.suffix = ".o".into();
+            }
+            ("-ptx" | "--ptx" | "-cubin" | "--cubin" | "-fatbin" | "--fatbin", _) => {
+                self.suffix = format!(".{}", word.trim_start_matches('-'));
+            }
+            (
+                "--dryrun" | "-dryrun" | "--help" | "-h" | "--version" | "-V" | "--clean-targets" | "-clean"
+                | "-fsyntax-only" | "-###",
+                _,
+            ) => {
                 self.is_none = true;
             }
             ("-E" | "--preprocess" | "-M" | "-MM" | "-x" | "--x", _) => self.is_odd = true,
             _ if word.starts_with("--generate-") && word.ends_with("dependencies") => self.is_odd = true,
             _ if word.starts_with('-') => {}
-            _ if [".cu", ".c", ".cc", ".cpp", ".cxx"].iter().any(|suffix| word.ends_with(suffix)) => self.sources.push(word),
+            _ if [".cu", ".c", ".cc", ".cpp", ".cxx"].iter().any(|suffix| word.ends_with(suffix)) => {
+                self.sources.push(word);
+            }
             _ => {}
         }
     }
@@ -106,7 +121,8 @@ impl<'a> Named<'a> {
     }
 }
 
-/// The files that the words of a compiler call name, if the call makes some. Without `-o` they have the sources' names.
+/// The files that the words of a compiler call name, if the call makes some. Without `-o` they have the
+/// sources' names.
 pub fn outputs(words: &[String]) -> Vec<String> {
     let mut named = Named::default();
     let mut before = "";
@@ -119,7 +135,9 @@ pub fn outputs(words: &[String]) -> Vec<String> {
     }
     match &named {
         Named { is_none: true, .. } => Vec::new(),
-        Named { output: "", is_odd: false, suffix, .. } if !suffix.is_empty() => named.sources.iter().map(|source| named.product(source)).collect(),
+        Named { output: "", is_odd: false, suffix, .. } if !suffix.is_empty() => {
+            named.sources.iter().map(|source| named.product(source)).collect()
+        }
         Named { output: "", .. } => Vec::new(),
         Named { output, .. } => vec![(*output).to_owned()],
     }

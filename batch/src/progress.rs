@@ -41,7 +41,10 @@ fn line(count: &Count, seconds: f64, name: &str) -> String {
     let failed = if count.failed > 0 { format!(", {} failed", count.failed) } else { String::new() };
     let commands = f64::from(u32::try_from(count.commands).unwrap_or(u32::MAX));
     let rate = if seconds >= 1.0 { format!(", {:.1} a second", commands / seconds) } else { String::new() };
-    format!("zigrunk batch: {} of {} calls{failed}, {} commands{rate}: {name}", count.ended, count.calls, count.commands)
+    format!(
+        "zigrunk batch: {} of {} calls{failed}, {} commands{rate}: {name}",
+        count.ended, count.calls, count.commands
+    )
 }
 
 impl<W: Write> Progress<W> {
@@ -90,8 +93,14 @@ mod tests {
 
     #[test]
     fn lines_say_how_far_it_is() {
-        assert_eq!(line(&count(), 4.0, "a.cu"), "zigrunk batch: 2 of 5 calls, 1 failed, 12 commands, 3.0 a second: a.cu");
-        assert_eq!(line(&Count { failed: 0, ..count() }, 0.5, "a.cu"), "zigrunk batch: 2 of 5 calls, 12 commands: a.cu");
+        assert_eq!(
+            line(&count(), 4.0, "a.cu"),
+            "zigrunk batch: 2 of 5 calls, 1 failed, 12 commands, 3.0 a second: a.cu"
+        );
+        assert_eq!(
+            line(&Count { failed: 0, ..count() }, 0.5, "a.cu"),
+            "zigrunk batch: 2 of 5 calls, 12 commands: a.cu"
+        );
     }
 
     #[test]
@@ -117,6 +126,9 @@ mod tests {
         progress.clear();
         progress.clear();
         let said = String::from_utf8(to).unwrap();
-        assert!(said.starts_with("\r\x1b[Kzigrunk") && said.ends_with("x\r\x1b[K") && said.len() == 4 + WIDTH + 4, "{said}");
+        assert!(
+            said.starts_with("\r\x1b[Kzigrunk") && said.ends_with("x\r\x1b[K") && said.len() == 4 + WIDTH + 4,
+            "{said}"
+        );
     }
 }

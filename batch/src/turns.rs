@@ -1,5 +1,5 @@
-//! Calls that take turns. Each is made by a thread of its own, of which one goes on at a time. So a call of a batch takes the same steps as
-//! a call alone, and one process starts all commands.
+//! Calls that take turns. Each is made by a thread of its own, of which one goes on at a time. So a call of a
+//! batch takes the same steps as a call alone, and one process starts all commands.
 use machine::clock;
 use machine::jobs::{Early, Event, Job, Machine};
 use std::io;
@@ -117,7 +117,13 @@ impl<T: Send + 'static> Maker<T> {
     pub fn begin(make: impl FnOnce(&mut Turns<T>) -> T + Send + 'static) -> io::Result<Maker<T>> {
         let ((to_batch, steps), (answers, to_call)) = (channel(), channel());
         let thread = Builder::new().spawn(move || {
-            let mut turns = Turns { steps: to_batch, answers: to_call, wish: Wish::default(), running: 0, given: Vec::new() };
+            let mut turns = Turns {
+                steps: to_batch,
+                answers: to_call,
+                wish: Wish::default(),
+                running: 0,
+                given: Vec::new(),
+            };
             let end = make(&mut turns);
             // Without a batch nobody asks for the end.
             let _ = turns.steps.send(Step::End(Some(end)));
@@ -153,7 +159,12 @@ mod tests {
     use machine::jobs::Ended;
 
     fn ended() -> Ended {
-        Ended { status: Status { code: 7, signal: None, dumped: false }, out: b"out".to_vec(), errors: Vec::new(), times: (1.0, 2.0) }
+        Ended {
+            status: Status { code: 7, signal: None, dumped: false },
+            out: b"out".to_vec(),
+            errors: Vec::new(),
+            times: (1.0, 2.0),
+        }
     }
 
     #[test]

@@ -1,4 +1,5 @@
-//! The tests' server as a program: `server`, which prints its address and runs until it is ended. Not for use: it takes anyone.
+//! The tests' server as a program: `server`, which prints its address and runs until it is ended. Not for
+//! use: it takes anyone.
 #[path = "../tests/fake/mod.rs"]
 #[allow(dead_code)]
 mod fake;

@@ -1,4 +1,5 @@
-//! A command as an action: all that what it makes depends on, with its files under names that no machine's paths show.
+//! A command as an action: all that what it makes depends on, with its files under names that no machine's
+//! paths show.
 use crate::api::v2::command::EnvironmentVariable;
 use crate::api::v2::platform::Property;
 use crate::api::v2::{self, Digest, Directory, DirectoryNode, FileNode, Platform};
@@ -17,7 +18,8 @@ pub const TOOL: &str = "zigrunk-tool";
 
 /// A variable without which a tool doesn't find its parts; their contents count in the tool's digest.
 const PLACE_OF_PARTS: &[u8] = b"NVVMIR_LIBRARY_DIR";
-/// The working directory, which counts only where names of files reach what a command makes. No such command is an action.
+/// The working directory, which counts only where names of files reach what a command makes. No such command
+/// is an action.
 const WORKING_DIRECTORY: &[u8] = b"PWD";
 
 /// A file that a command may write.
@@ -74,7 +76,8 @@ pub fn tool_of(program: &str) -> Option<Program> {
 /// The name of a file below a root.
 fn name_of<'a>(path: &'a str, root: &str) -> Option<&'a str> {
     let name = path.strip_prefix(root)?.strip_prefix('/')?;
-    let is_plain = !name.is_empty() && name.split('/').all(|part| !part.is_empty() && part != "." && part != "..");
+    let is_plain =
+        !name.is_empty() && name.split('/').all(|part| !part.is_empty() && part != "." && part != "..");
     is_plain.then_some(name)
 }
 
@@ -85,11 +88,17 @@ fn renamed(word: &str, root: &str) -> Option<String> {
 }
 
 /// The variables that a tool sees, as far as an environment sets them.
-fn seen<'a>(tool: Program, environment: &'a [(Vec<u8>, Vec<u8>)]) -> Result<Vec<(&'a [u8], &'a [u8])>, AllocError> {
-    let given: Vec<(&[u8], &[u8])> = environment.iter().map(|(name, value)| (name.as_slice(), value.as_slice())).collect();
-    let others: Vec<(&[u8], &[u8])> = given.iter().copied().filter(|(name, _)| *name != WORKING_DIRECTORY).collect();
+fn seen<'a>(
+    tool: Program,
+    environment: &'a [(Vec<u8>, Vec<u8>)],
+) -> Result<Vec<(&'a [u8], &'a [u8])>, AllocError> {
+    let given: Vec<(&[u8], &[u8])> =
+        environment.iter().map(|(name, value)| (name.as_slice(), value.as_slice())).collect();
+    let others: Vec<(&[u8], &[u8])> =
+        given.iter().copied().filter(|(name, _)| *name != WORKING_DIRECTORY).collect();
     let read = tool_variables(Global, tool, &others)?;
-    let place = given.iter().copied().filter(|(name, _)| matches!(tool, Program::Cicc) && *name == PLACE_OF_PARTS);
+    let place =
+        given.iter().copied().filter(|(name, _)| matches!(tool, Program::Cicc) && *name == PLACE_OF_PARTS);
     let mut all: Vec<(&[u8], &[u8])> = read.as_slice().iter().copied().chain(place).collect();
     all.sort_unstable();
     Ok(all)
@@ -112,7 +121,11 @@ impl<'a> Folder<'a> {
 
     /// Its message; those of the folders in it go to `blobs`, too.
     fn message(&self, blobs: &mut Vec<Blob>) -> Blob {
-        let file = |(name, digest): (&&str, &Digest)| FileNode { name: (*name).to_owned(), digest: Some(digest.clone()), is_executable: false };
+        let file = |(name, digest): (&&str, &Digest)| FileNode {
+            name: (*name).to_owned(),
+            digest: Some(digest.clone()),
+            is_executable: false,
+        };
         let files = self.files.iter().map(file).collect();
         let mut directories = Vec::new();
         for (name, folder) in &self.folders {
@@ -129,8 +142,10 @@ impl<'a> Folder<'a> {
 fn inputs_of(command: &Command) -> Result<BTreeMap<&str, Blob>, Unfit> {
     let mut inputs = BTreeMap::new();
     for path in &command.reads {
-        let name = name_of(path, &command.root).ok_or(Unfit::Command("it reads a file outside the call's directory"))?;
-        inputs.insert(name, Blob::of_file(Path::new(path)).map_err(|error| Unfit::Input(path.clone(), error))?);
+        let name = name_of(path, &command.root)
+            .ok_or(Unfit::Command("it reads a file outside the call's directory"))?;
+        inputs
+            .insert(name, Blob::of_file(Path::new(path)).map_err(|error| Unfit::Input(path.clone(), error))?);
     }
     Ok(inputs)
 }
@@ -138,7 +153,8 @@ fn inputs_of(command: &Command) -> Result<BTreeMap<&str, Blob>, Unfit> {
 /// The files that a command may write, in the order of their names.
 fn outputs_of(command: &Command) -> Result<Vec<Output>, Unfit> {
     let output = |path: &String, is_certain| {
-        let name = name_of(path, &command.root).ok_or(Unfit::Command("it writes a file outside the call's directory"))?;
+        let name = name_of(path, &command.root)
+            .ok_or(Unfit::Command("it writes a file outside the call's directory"))?;
         Ok((name.to_owned(), Output { name: name.to_owned(), path: path.clone(), is_certain }))
     };
     let possible = command.may_write.iter().map(|path| output(path, false));
@@ -156,20 +172,43 @@ fn key_of(
     outputs: &[Output],
 ) -> Result<Vec<u8>, Unfit> {
     let words: Vec<&[u8]> = command.words.iter().map(String::as_bytes).collect();
-    let paths: Vec<(String, &str)> = inputs.iter().map(|(name, blob)| (format!("{}/{name}", command.root), blob.digest.hash.as_str())).collect();
-    let inputs: Vec<(&[u8], &[u8])> = paths.iter().map(|(path, hash)| (path.as_bytes(), hash.as_bytes())).collect();
+    let paths: Vec<(String, &str)> = inputs
+        .iter()
+        .map(|(name, blob)| (format!("{}/{name}", command.root), blob.digest.hash.as_str()))
+        .collect();
+    let inputs: Vec<(&[u8], &[u8])> =
+        paths.iter().map(|(path, hash)| (path.as_bytes(), hash.as_bytes())).collect();
     let outputs: Vec<&[u8]> = outputs.iter().map(|output| output.path.as_bytes()).collect();
     let (words, inputs, outputs) = (words.as_slice(), inputs.as_slice(), outputs.as_slice());
-    let action = command_keys::Action { tool: command.tool.as_bytes(), words, variables, cwd: command.cwd.as_bytes(), inputs, outputs };
+    let action = command_keys::Action {
+        tool: command.tool.as_bytes(),
+        words,
+        variables,
+        cwd: command.cwd.as_bytes(),
+        inputs,
+        outputs,
+    };
     let key = action_key(Global, tool, &action, &[command.root.as_bytes()])?;
-    key.map(|key| key.as_slice().to_vec()).ok_or(Unfit::Command("what it makes may depend on more than its words and files"))
+    key.map(|key| key.as_slice().to_vec())
+        .ok_or(Unfit::Command("what it makes may depend on more than its words and files"))
 }
 
 /// The message of a command.
-fn message_of(command: &Command, variables: &[(&[u8], &[u8])], outputs: &[Output], platform: &Platform) -> Result<v2::Command, Unfit> {
-    let text = |bytes: &[u8]| String::from_utf8(bytes.to_vec()).map_err(|_| Unfit::Command("a variable isn't UTF-8"));
-    let variable = |(name, value): &(&[u8], &[u8])| Ok(EnvironmentVariable { name: text(name)?, value: text(value)? });
-    let word = |word: &String| renamed(word, &command.root).ok_or(Unfit::Command("a word has the call's directory, not a file in it"));
+fn message_of(
+    command: &Command,
+    variables: &[(&[u8], &[u8])],
+    outputs: &[Output],
+    platform: &Platform,
+) -> Result<v2::Command, Unfit> {
+    let text = |bytes: &[u8]| {
+        String::from_utf8(bytes.to_vec()).map_err(|_| Unfit::Command("a variable isn't UTF-8"))
+    };
+    let variable =
+        |(name, value): &(&[u8], &[u8])| Ok(EnvironmentVariable { name: text(name)?, value: text(value)? });
+    let word = |word: &String| {
+        renamed(word, &command.root)
+            .ok_or(Unfit::Command("a word has the call's directory, not a file in it"))
+    };
     let words = command.words.iter().map(word).collect::<Result<Vec<_>, _>>()?;
     let output_paths: Vec<String> = outputs.iter().map(|output| output.name.clone()).collect();
     Ok(v2::Command {
@@ -190,10 +229,15 @@ fn platform_of(command: &Command, others: &[(String, String)]) -> Platform {
     Platform { properties: properties.into_iter().map(|(name, value)| Property { name, value }).collect() }
 }
 
-/// A command as an action, in this environment, for workers with these properties. Commands that differ only in their roots are one action, and any others are different ones:
-/// the digest of the command's key is in it.
+/// A command as an action, in this environment, for workers with these properties. Commands that differ only
+/// in their roots are one action, and any others are different ones: the digest of the command's key is in
+/// it.
 /// Errors: why it is none.
-pub fn action_of(command: &Command, environment: &[(Vec<u8>, Vec<u8>)], properties: &[(String, String)]) -> Result<Action, Unfit> {
+pub fn action_of(
+    command: &Command,
+    environment: &[(Vec<u8>, Vec<u8>)],
+    properties: &[(String, String)],
+) -> Result<Action, Unfit> {
     let tool = tool_of(&command.program)
         .filter(|_| command.program.starts_with('/'))
         .ok_or(Unfit::Command("its program is none of nvcc's tools, or its path is relative"))?;
@@ -242,7 +286,8 @@ mod tests {
         }
 
         fn command(&self) -> Command {
-            let words = ["-arch=sm_80", "-m64", &self.path("k.ptx"), "-o", &self.path("k.cubin")].map(String::from);
+            let words =
+                ["-arch=sm_80", "-m64", &self.path("k.ptx"), "-o", &self.path("k.cubin")].map(String::from);
             Command {
                 program: "/n/ptxas".into(),
                 words: words.to_vec(),
@@ -267,17 +312,34 @@ mod tests {
     #[test]
     fn an_action_has_names_in_place_of_paths() {
         let scratch = Scratch::new();
-        let action = action_of(&scratch.command(), &environment(&[("HOME", "/h"), ("LD_PRELOAD", "/l.so"), ("PWD", "/w")]), &[]).unwrap();
+        let action = action_of(
+            &scratch.command(),
+            &environment(&[("HOME", "/h"), ("LD_PRELOAD", "/l.so"), ("PWD", "/w")]),
+            &[],
+        )
+        .unwrap();
         let content = |blob: &Blob| blob.bytes().unwrap();
         let [root, input, command, own] = action.blobs.as_slice() else { panic!("{:?}", action.blobs) };
         let message = v2::Command::decode(content(command).as_slice()).unwrap();
         assert_eq!(message.arguments, ["/n/ptxas", "-arch=sm_80", "-m64", "k.ptx", "-o", "k.cubin"]);
-        assert_eq!(message.environment_variables, [EnvironmentVariable { name: "LD_PRELOAD".into(), value: "/l.so".into() }]);
-        assert_eq!((message.output_paths, content(input)), (vec!["k.cubin".to_owned()], b".version 8.0".to_vec()));
+        assert_eq!(
+            message.environment_variables,
+            [EnvironmentVariable { name: "LD_PRELOAD".into(), value: "/l.so".into() }]
+        );
+        assert_eq!(
+            (message.output_paths, content(input)),
+            (vec!["k.cubin".to_owned()], b".version 8.0".to_vec())
+        );
         let folder = Directory::decode(content(root).as_slice()).unwrap();
-        assert_eq!(folder.files, [FileNode { name: "k.ptx".into(), digest: Some(input.digest.clone()), is_executable: false }]);
+        assert_eq!(
+            folder.files,
+            [FileNode { name: "k.ptx".into(), digest: Some(input.digest.clone()), is_executable: false }]
+        );
         let message = v2::Action::decode(content(own).as_slice()).unwrap();
-        assert_eq!((message.command_digest.as_ref(), message.input_root_digest.as_ref()), (Some(&command.digest), Some(&root.digest)));
+        assert_eq!(
+            (message.command_digest.as_ref(), message.input_root_digest.as_ref()),
+            (Some(&command.digest), Some(&root.digest))
+        );
         assert_eq!((message.salt.len(), &action.digest), (32, &own.digest));
         let output = Output { name: "k.cubin".into(), path: scratch.path("k.cubin"), is_certain: true };
         assert_eq!(action.outputs, [output]);
@@ -287,7 +349,10 @@ mod tests {
     fn commands_that_differ_in_their_roots_are_one_action() {
         let (one, other) = (Scratch::new(), Scratch::new());
         assert_eq!(digest(&one.command(), &[]), digest(&other.command(), &[("HOME", "/h"), ("PWD", "/w")]));
-        assert_eq!(digest(&one.command(), &[]), digest(&Command { cwd: "/other".into(), ..other.command() }, &[]));
+        assert_eq!(
+            digest(&one.command(), &[]),
+            digest(&Command { cwd: "/other".into(), ..other.command() }, &[])
+        );
     }
 
     #[test]
@@ -310,14 +375,20 @@ mod tests {
         fs::write(scratch.path("k.ptx"), ".version 8.1").unwrap();
         digests.push(digest(&command, &[]));
         assert!(digests.iter().all(|other| *other != one), "{digests:?}");
-        assert!(matches!(action_of(&Command { reads: relative, ..command }, &[], &[]), Err(Unfit::Command(_))));
+        assert!(matches!(
+            action_of(&Command { reads: relative, ..command }, &[], &[]),
+            Err(Unfit::Command(_))
+        ));
     }
 
     #[test]
     fn what_may_not_be_shared_is_no_action() {
         let scratch = Scratch::new();
         let command = scratch.command();
-        let with_word = |word: &str| Command { words: [command.words.clone(), vec![word.to_owned()]].concat(), ..command.clone() };
+        let with_word = |word: &str| Command {
+            words: [command.words.clone(), vec![word.to_owned()]].concat(),
+            ..command.clone()
+        };
         let cases = [
             Command { program: "/n/gcc".into(), ..command.clone() },
             Command { program: "ptxas".into(), ..command.clone() },
@@ -340,9 +411,15 @@ mod tests {
         let scratch = Scratch::new();
         fs::create_dir(scratch.path("a")).unwrap();
         fs::write(scratch.path("a/b"), "").unwrap();
-        let command = Command { reads: [scratch.command().reads, vec![scratch.path("a/b")]].concat(), ..scratch.command() };
+        let command = Command {
+            reads: [scratch.command().reads, vec![scratch.path("a/b")]].concat(),
+            ..scratch.command()
+        };
         let action = action_of(&command, &[], &[]).unwrap();
         let root = Directory::decode(action.blobs[1].bytes().unwrap().as_slice()).unwrap();
-        assert_eq!(root.directories, [DirectoryNode { name: "a".into(), digest: Some(action.blobs[0].digest.clone()) }]);
+        assert_eq!(
+            root.directories,
+            [DirectoryNode { name: "a".into(), digest: Some(action.blobs[0].digest.clone()) }]
+        );
     }
 }

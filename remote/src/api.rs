@@ -1,4 +1,5 @@
-//! The messages of the Remote Execution API, their clients, and with the feature `server` their servers, written from `proto`.
+//! The messages of the Remote Execution API, their clients, and with the feature `server` their servers,
+//! written from `proto`.
 #![allow(clippy::pedantic)]
 
 pub mod build {

@@ -16,14 +16,17 @@ use tonic::metadata::{Ascii, MetadataValue};
 use tonic::transport::{Certificate, Channel, ClientTlsConfig, Endpoint, Identity};
 use tonic::{Request, Response, Status};
 
-/// How long a server may take to be reached, and to answer a call. One that is too slow isn't asked once more: a build would crawl.
+/// How long a server may take to be reached, and to answer a call. One that is too slow isn't asked once
+/// more: a build would crawl.
 const REACHING: Duration = Duration::from_secs(5);
 const ANSWERING: Duration = Duration::from_secs(30);
-/// How often a call is made that a server doesn't answer for a passing reason, and the pause before the second time, which doubles.
+/// How often a call is made that a server doesn't answer for a passing reason, and the pause before the
+/// second time, which doubles.
 const TRIES: u32 = 3;
 const PAUSE: Duration = Duration::from_millis(100);
 
-/// How many bytes of contents a message has at most: that of gRPC's own limit, 4 MiB, without room for the rest.
+/// How many bytes of contents a message has at most: that of gRPC's own limit, 4 MiB, without room for the
+/// rest.
 const MOST_IN_MESSAGE: usize = (4 << 20) - (64 << 10);
 
 /// What a server can do.
@@ -41,12 +44,17 @@ pub struct Abilities {
 impl Abilities {
     fn of(capabilities: &ServerCapabilities) -> Result<Abilities, Failure> {
         let cache = capabilities.cache_capabilities.clone().unwrap_or_default();
-        if !cache.digest_functions.is_empty() && !cache.digest_functions.contains(&(digest_function::Value::Sha256 as i32)) {
+        if !cache.digest_functions.is_empty()
+            && !cache.digest_functions.contains(&(digest_function::Value::Sha256 as i32))
+        {
             return Err(Failure::NoDigests);
         }
         let most = usize::try_from(cache.max_batch_total_size_bytes).ok().filter(|&most| most > 0);
         Ok(Abilities {
-            executes: capabilities.execution_capabilities.as_ref().is_some_and(|execution| execution.exec_enabled),
+            executes: capabilities
+                .execution_capabilities
+                .as_ref()
+                .is_some_and(|execution| execution.exec_enabled),
             takes_results: cache.action_cache_update_capabilities.is_some_and(|update| update.update_enabled),
             most_in_message: most.unwrap_or(MOST_IN_MESSAGE).min(MOST_IN_MESSAGE),
             has_zstd: cache.supported_compressors.contains(&(compressor::Value::Zstd as i32)),
@@ -92,7 +100,8 @@ fn bearer(settings: &Settings) -> Result<Option<MetadataValue<Ascii>>, Failure> 
 
 fn endpoint(server: &Server, settings: &Settings) -> Result<Endpoint, Failure> {
     let scheme = if server.is_secure { "https" } else { "http" };
-    let endpoint = Endpoint::from_shared(format!("{scheme}://{}", server.authority)).map_err(|error| Failure::Unreachable(with_causes(&error)))?;
+    let endpoint = Endpoint::from_shared(format!("{scheme}://{}", server.authority))
+        .map_err(|error| Failure::Unreachable(with_causes(&error)))?;
     let endpoint = endpoint.connect_timeout(REACHING).tcp_nodelay(true);
     if !server.is_secure {
         return Ok(endpoint);
@@ -102,7 +111,9 @@ fn endpoint(server: &Server, settings: &Settings) -> Result<Endpoint, Failure> {
 
 /// Why a server wasn't reached, by what the connection says.
 fn unreached(why: String) -> Failure {
-    let is_of_tls = ["certificate", "tls", "handshake", "alert"].iter().any(|word| why.to_ascii_lowercase().contains(word));
+    let is_of_tls = ["certificate", "tls", "handshake", "alert"]
+        .iter()
+        .any(|word| why.to_ascii_lowercase().contains(word));
     if is_of_tls { Failure::Certificate(why) } else { Failure::Unreachable(why) }
 }
 
@@ -111,8 +122,15 @@ impl Connection {
     pub async fn open(server: &Server, settings: &Settings) -> Result<Connection, Failure> {
         let (endpoint, bearer) = (endpoint(server, settings)?, bearer(settings)?);
         let reached = timeout(REACHING, endpoint.connect()).await;
-        let channel = reached.map_err(|_| Failure::Unreachable("no answer in time".into()))?.map_err(|error| unreached(with_causes(&error)))?;
-        let abilities = Abilities { executes: false, takes_results: false, most_in_message: MOST_IN_MESSAGE, has_zstd: false };
+        let channel = reached
+            .map_err(|_| Failure::Unreachable("no answer in time".into()))?
+            .map_err(|error| unreached(with_causes(&error)))?;
+        let abilities = Abilities {
+            executes: false,
+            takes_results: false,
+            most_in_message: MOST_IN_MESSAGE,
+            has_zstd: false,
+        };
         let (name, instance) = (server.name.clone(), settings.instance.clone());
         let mut connection = Connection { name, instance, abilities, channel, bearer, sent: 0, received: 0 };
         let capabilities = connection.capabilities().await.map_err(|failure| match failure {
@@ -127,7 +145,9 @@ impl Connection {
     async fn capabilities(&self) -> Result<ServerCapabilities, Failure> {
         let ask = || async {
             CapabilitiesClient::new(self.channel.clone())
-                .get_capabilities(self.request(GetCapabilitiesRequest { instance_name: self.instance.clone() }))
+                .get_capabilities(
+                    self.request(GetCapabilitiesRequest { instance_name: self.instance.clone() }),
+                )
                 .await
         };
         self.call(ask).await
@@ -148,13 +168,18 @@ impl Connection {
     }
 
     /// Makes a call until it is answered, or not for a passing reason, or too often.
-    pub async fn call<T, F: Future<Output = Result<Response<T>, Status>>>(&self, mut call: impl FnMut() -> F) -> Result<T, Failure> {
+    pub async fn call<T, F: Future<Output = Result<Response<T>, Status>>>(
+        &self,
+        mut call: impl FnMut() -> F,
+    ) -> Result<T, Failure> {
         let mut tried = 1;
         loop {
             let answer = timeout(ANSWERING, call()).await;
             match answer.map_err(|_| Failure::Unreachable("no answer in time".into()))? {
                 Ok(answer) => return Ok(answer.into_inner()),
-                Err(status) if tried < TRIES && is_transient(status.code()) => sleep(PAUSE * 2u32.pow(tried - 1)).await,
+                Err(status) if tried < TRIES && is_transient(status.code()) => {
+                    sleep(PAUSE * 2u32.pow(tried - 1)).await
+                }
                 Err(status) => return Err(status.into()),
             }
             tried += 1;

@@ -111,7 +111,10 @@ mod tests {
             let folder = tempfile::tempdir().unwrap();
             let file = folder.path().join("content");
             std::fs::write(&file, content).unwrap();
-            assert_eq!((digest_of(content.as_bytes()), digest_of_file(&file).unwrap()), (wanted.clone(), wanted));
+            assert_eq!(
+                (digest_of(content.as_bytes()), digest_of_file(&file).unwrap()),
+                (wanted.clone(), wanted)
+            );
         }
         assert!(digest_of_file(Path::new("/no/file")).is_err());
     }

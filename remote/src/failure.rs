@@ -36,7 +36,15 @@ pub enum Failure {
 /// Whether a server that answers so may answer otherwise a moment later.
 #[must_use]
 pub fn is_transient(code: Code) -> bool {
-    matches!(code, Code::Unavailable | Code::Aborted | Code::Internal | Code::Unknown | Code::Cancelled | Code::DeadlineExceeded)
+    matches!(
+        code,
+        Code::Unavailable
+            | Code::Aborted
+            | Code::Internal
+            | Code::Unknown
+            | Code::Cancelled
+            | Code::DeadlineExceeded
+    )
 }
 
 /// All that an error says, with its causes.
@@ -62,20 +70,36 @@ impl From<Status> for Failure {
 impl Display for Failure {
     fn fmt(&self, to: &mut Formatter<'_>) -> fmt::Result {
         match self {
-            Failure::Unreachable(why) => write!(to, "cannot be reached ({why}); is it running, and is its address in ZIGRUNK_REMOTE right?"),
+            Failure::Unreachable(why) => write!(
+                to,
+                "cannot be reached ({why}); is it running, and is its address in ZIGRUNK_REMOTE right?"
+            ),
             Failure::Certificate(why) => write!(
                 to,
                 "no certificate that both take ({why}); ZIGRUNK_REMOTE_CA names the authority of the server's, ZIGRUNK_REMOTE_CERTIFICATE and \
                  ZIGRUNK_REMOTE_KEY your own"
             ),
             Failure::Denied(why) => {
-                write!(to, "access denied ({why}); ask for a new token, and put it into the file that ZIGRUNK_REMOTE_TOKEN names")
+                write!(
+                    to,
+                    "access denied ({why}); ask for a new token, and put it into the file that ZIGRUNK_REMOTE_TOKEN names"
+                )
             }
-            Failure::NoExecution => write!(to, "it runs no actions; set ZIGRUNK_REMOTE_USE=cache, or name a server that does"),
-            Failure::NoDigests => write!(to, "it doesn't take SHA-256, by which contents are named here; name another server"),
-            Failure::Full(why) => write!(to, "its storage is full, or a limit is reached ({why}); ask for more room"),
-            Failure::Evicted(digest) => write!(to, "it no longer has the content {}; its storage may be too small", shown(digest)),
-            Failure::Mismatch(digest) => write!(to, "it sent another content than {}; tell whoever runs it", shown(digest)),
+            Failure::NoExecution => {
+                write!(to, "it runs no actions; set ZIGRUNK_REMOTE_USE=cache, or name a server that does")
+            }
+            Failure::NoDigests => {
+                write!(to, "it doesn't take SHA-256, by which contents are named here; name another server")
+            }
+            Failure::Full(why) => {
+                write!(to, "its storage is full, or a limit is reached ({why}); ask for more room")
+            }
+            Failure::Evicted(digest) => {
+                write!(to, "it no longer has the content {}; its storage may be too small", shown(digest))
+            }
+            Failure::Mismatch(digest) => {
+                write!(to, "it sent another content than {}; tell whoever runs it", shown(digest))
+            }
             Failure::Odd(what) => write!(to, "{what}; tell whoever runs it"),
             Failure::Refused(status) => write!(to, "it refuses: {} ({:?})", status.message(), status.code()),
             Failure::Disk(path, error) => write!(to, "{}: {error}", path.display()),

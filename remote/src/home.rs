@@ -12,13 +12,19 @@ pub fn become_it(command: &Command) -> io::Error {
     process::Command::new(&command.program).args(&command.words).exec()
 }
 
-/// Runs an action's words, the program first, to their end, in the directory where its files are: as a server would, so that it makes the same.
-/// Gives its status, and what it said to standard output and standard error.
-/// An error if it can't be started.
+/// Runs an action's words, the program first, to their end, in the directory where its files are: as a server
+/// would, so that it makes the same. Gives its status, and what it said to standard output and standard
+/// error. An error if it can't be started.
 pub fn run(words: &[String], root: &str) -> io::Result<(i32, Vec<u8>, Vec<u8>)> {
     let [program, words @ ..] = words else { return Err(io::ErrorKind::InvalidInput.into()) };
     let mut process = process::Command::new(program);
-    process.args(words).current_dir(root).env("PWD", root).stdin(Stdio::null()).stdout(Stdio::piped()).stderr(Stdio::piped());
+    process
+        .args(words)
+        .current_dir(root)
+        .env("PWD", root)
+        .stdin(Stdio::null())
+        .stdout(Stdio::piped())
+        .stderr(Stdio::piped());
     let said = process.output()?;
     Ok((code_of(said.status), said.stdout, said.stderr))
 }

@@ -1,4 +1,5 @@
-//! Runs a command as an action of a Remote Execution API v2 server, or takes what it made from the server's cache.
+//! Runs a command as an action of a Remote Execution API v2 server, or takes what it made from the server's
+//! cache.
 pub mod action;
 pub mod api;
 pub mod connection;

@@ -50,7 +50,8 @@ mod tests {
 
     #[test]
     fn a_note_is_one_line() {
-        let note = Note { way: Way::Home, server: String::new(), sent: 0, received: 7, reason: "a\nb".into() };
+        let note =
+            Note { way: Way::Home, server: String::new(), sent: 0, received: 7, reason: "a\nb".into() };
         assert_eq!(note.to_string(), "home - 0 7 a b\n");
     }
 }

@@ -42,16 +42,29 @@ fn file_of<'a>(output: &Output, result: &'a ActionResult) -> Option<Option<&'a O
 }
 
 impl Made {
-    /// Gets what a result says that an action made. `None` if it is no result of this action: it lacks an output.
-    pub async fn fetch(connection: &mut Connection, action: &Action, result: &ActionResult) -> Result<Option<Made>, Failure> {
+    /// Gets what a result says that an action made. `None` if it is no result of this action: it lacks an
+    /// output.
+    pub async fn fetch(
+        connection: &mut Connection,
+        action: &Action,
+        result: &ActionResult,
+    ) -> Result<Option<Made>, Failure> {
         let is_success = result.exit_code == 0;
-        let outputs: Option<Vec<_>> = action.outputs.iter().filter(|_| is_success).map(|output| Some((output, file_of(output, result)?))).collect();
+        let outputs: Option<Vec<_>> = action
+            .outputs
+            .iter()
+            .filter(|_| is_success)
+            .map(|output| Some((output, file_of(output, result)?)))
+            .collect();
         let Some(outputs) = outputs else { return Ok(None) };
-        let files: Vec<(&Output, &OutputFile)> = outputs.into_iter().filter_map(|(output, file)| Some((output, file?))).collect();
+        let files: Vec<(&Output, &OutputFile)> =
+            outputs.into_iter().filter_map(|(output, file)| Some((output, file?))).collect();
         let said = [(&result.stdout_raw, &result.stdout_digest), (&result.stderr_raw, &result.stderr_digest)];
         let said = said.map(|(raw, digest)| Source::of(raw, digest.as_ref()));
         let file_digests = files.iter().map(|(_, file)| file.digest.clone().unwrap_or_default());
-        let said_digests = said.iter().filter_map(|source| if let Source::There(digest) = source { Some(digest.clone()) } else { None });
+        let said_digests = said.iter().filter_map(|source| {
+            if let Source::There(digest) = source { Some(digest.clone()) } else { None }
+        });
         let digests: Vec<Digest> = file_digests.chain(said_digests).collect();
         let mut contents = connection.fetch(&digests).await?.into_iter();
         let files = files.iter().map(|(output, _)| output.path.clone()).zip(contents.by_ref()).collect();
@@ -64,7 +77,9 @@ impl Made {
 
     /// Puts the files in their places, as the command would.
     pub fn put(&self) -> Result<(), Failure> {
-        self.files.iter().try_for_each(|(path, content)| fs::write(path, content).map_err(|error| Failure::Disk(path.into(), error)))
+        self.files.iter().try_for_each(|(path, content)| {
+            fs::write(path, content).map_err(|error| Failure::Disk(path.into(), error))
+        })
     }
 
     /// Says what the command said.
@@ -77,10 +92,15 @@ impl Made {
     }
 }
 
-/// What a command that ran here has made, as a result with its contents. `None` if it may be shared with nobody: it lacks an output, or a text
-/// of it has the path of the command's root.
-/// An error if a file can't be read.
-pub fn result_of(action: &Action, root: &str, out: &[u8], errors: &[u8]) -> Result<Option<(ActionResult, Vec<Blob>)>, Failure> {
+/// What a command that ran here has made, as a result with its contents. `None` if it may be shared with
+/// nobody: it lacks an output, or a text of it has the path of the command's root. An error if a file can't
+/// be read.
+pub fn result_of(
+    action: &Action,
+    root: &str,
+    out: &[u8],
+    errors: &[u8],
+) -> Result<Option<(ActionResult, Vec<Blob>)>, Failure> {
     let (mut result, mut blobs) = (ActionResult::default(), Vec::new());
     for output in &action.outputs {
         let content = match fs::read(&output.path) {
@@ -89,13 +109,18 @@ pub fn result_of(action: &Action, root: &str, out: &[u8], errors: &[u8]) -> Resu
             Err(error) => return Err(Failure::Disk(output.path.clone().into(), error)),
         };
         let blob = Blob::of(content);
-        result.output_files.push(OutputFile { path: output.name.clone(), digest: Some(blob.digest.clone()), ..OutputFile::default() });
+        result.output_files.push(OutputFile {
+            path: output.name.clone(),
+            digest: Some(blob.digest.clone()),
+            ..OutputFile::default()
+        });
         blobs.push(blob);
     }
     (result.stdout_raw, result.stdout_digest) = said(out, &mut blobs);
     (result.stderr_raw, result.stderr_digest) = said(errors, &mut blobs);
     let shows_root = |text: &[u8]| text.windows(root.len()).any(|part| part == root.as_bytes());
-    let is_shared = blobs.iter().map(Blob::bytes).all(|content| content.is_ok_and(|content| !shows_root(&content)));
+    let is_shared =
+        blobs.iter().map(Blob::bytes).all(|content| content.is_ok_and(|content| !shows_root(&content)));
     Ok((is_shared && !shows_root(out) && !shows_root(errors)).then_some((result, blobs)))
 }
 
@@ -119,7 +144,12 @@ mod tests {
             path: folder.join(name).to_str().unwrap().to_owned(),
             is_certain: *is_certain,
         };
-        Action { digest: Digest::default(), blobs: Vec::new(), outputs: names.iter().map(output).collect(), words: Vec::new() }
+        Action {
+            digest: Digest::default(),
+            blobs: Vec::new(),
+            outputs: names.iter().map(output).collect(),
+            words: Vec::new(),
+        }
     }
 
     #[test]
@@ -130,8 +160,14 @@ mod tests {
         let long = vec![b'x'; MOST_SAID + 1];
         let (result, blobs) = result_of(&action, "/t", b"short", &long).unwrap().unwrap();
         let names: Vec<&str> = result.output_files.iter().map(|file| file.path.as_str()).collect();
-        assert_eq!((names, result.stdout_raw.as_slice(), result.stdout_digest), (vec!["k.ptx"], b"short".as_slice(), None));
-        assert_eq!((result.stderr_raw, result.stderr_digest, blobs.len()), (Vec::new(), Some(Blob::of(long).digest), 2));
+        assert_eq!(
+            (names, result.stdout_raw.as_slice(), result.stdout_digest),
+            (vec!["k.ptx"], b"short".as_slice(), None)
+        );
+        assert_eq!(
+            (result.stderr_raw, result.stderr_digest, blobs.len()),
+            (Vec::new(), Some(Blob::of(long).digest), 2)
+        );
     }
 
     #[test]

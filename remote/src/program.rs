@@ -53,7 +53,8 @@ impl Job<'_> {
     }
 
     fn note_unreached(&self, server: &Server) {
-        let file = self.unreached().and_then(|file| OpenOptions::new().append(true).create(true).open(file).ok());
+        let file =
+            self.unreached().and_then(|file| OpenOptions::new().append(true).create(true).open(file).ok());
         // (without it the next command tries in vain)
         let _ = file.map(|mut file| writeln!(file, "{}", server.name));
     }
@@ -63,7 +64,10 @@ impl Job<'_> {
     async fn asked(&self) -> Result<(Answer, Connection), String> {
         let down = self.down();
         let mut reason = "no server was reached a moment ago".to_owned();
-        for server in in_order(&self.settings.servers, self.action).into_iter().filter(|server| !down.contains(&server.name)) {
+        for server in in_order(&self.settings.servers, self.action)
+            .into_iter()
+            .filter(|server| !down.contains(&server.name))
+        {
             match remote::ask(server, self.settings, self.action).await {
                 Ok(answered) => return Ok(answered),
                 Err(failure) => {
@@ -77,7 +81,8 @@ impl Job<'_> {
         Err(reason)
     }
 
-    /// Runs the command here, and has the server keep what it makes. One that fails runs again as it is, for its own messages.
+    /// Runs the command here, and has the server keep what it makes. One that fails runs again as it is, for
+    /// its own messages.
     async fn run_and_keep(&self, mut connection: Connection) -> i32 {
         let (words, root) = (self.action.words.clone(), self.command.root.clone());
         let ran = tokio::task::spawn_blocking(move || home::run(&words, &root)).await;
@@ -117,10 +122,12 @@ impl Job<'_> {
         become_it(self.command)
     }
 
-    /// Takes what a server gave. A command that failed there runs here again, for its own messages; whatever made it fail may be the worker's.
+    /// Takes what a server gave. A command that failed there runs here again, for its own messages; whatever
+    /// made it fail may be the worker's.
     fn take(&self, made: &Made, way: Way, connection: &Connection) -> i32 {
         if made.status != 0 && self.settings.falls_back {
-            return self.become_it(&format!("{}: it failed there with status {}", connection.name, made.status));
+            return self
+                .become_it(&format!("{}: it failed there with status {}", connection.name, made.status));
         }
         if let Err(failure) = made.put() {
             return self.become_it(&failure.to_string());
@@ -139,7 +146,8 @@ impl Job<'_> {
 }
 
 fn note(way: Way, connection: Option<&Connection>, reason: String) -> Note {
-    let (server, sent, received) = connection.map_or((String::new(), 0, 0), |it| (it.name.clone(), it.sent, it.received));
+    let (server, sent, received) =
+        connection.map_or((String::new(), 0, 0), |it| (it.name.clone(), it.sent, it.received));
     Note { way, server, sent, received, reason }
 }
 

@@ -1,7 +1,10 @@
 //! A command by a server: what its cache has, or what comes of running it there.
 use crate::action::Action;
 use crate::api::longrunning::{Operation, operation};
-use crate::api::v2::{ActionResult, ExecuteRequest, ExecuteResponse, GetActionResultRequest, UpdateActionResultRequest, WaitExecutionRequest};
+use crate::api::v2::{
+    ActionResult, ExecuteRequest, ExecuteResponse, GetActionResultRequest, UpdateActionResultRequest,
+    WaitExecutionRequest,
+};
 use crate::connection::Connection;
 use crate::digest::{Blob, digest_of};
 use crate::failure::{Failure, is_transient};
@@ -27,16 +30,22 @@ pub enum Answer {
     Missed,
 }
 
-/// The servers in the order in which an action asks them. Each server has its share of actions, and the same ones from all machines.
+/// The servers in the order in which an action asks them. Each server has its share of actions, and the same
+/// ones from all machines.
 #[must_use]
 pub fn in_order<'a>(servers: &'a [Server], action: &Action) -> Vec<&'a Server> {
     let mut servers: Vec<&Server> = servers.iter().collect();
-    servers.sort_by_key(|server| digest_of(format!("{} {}", server.name, action.digest.hash).as_bytes()).hash);
+    servers
+        .sort_by_key(|server| digest_of(format!("{} {}", server.name, action.digest.hash).as_bytes()).hash);
     servers
 }
 
 /// Asks a server for what an action makes. With the connection, whose counts say how much went over it.
-pub async fn ask(server: &Server, settings: &Settings, action: &Action) -> Result<(Answer, Connection), Failure> {
+pub async fn ask(
+    server: &Server,
+    settings: &Settings,
+    action: &Action,
+) -> Result<(Answer, Connection), Failure> {
     let mut connection = Connection::open(server, settings).await?;
     let found = found(&mut connection, action).await?;
     if let Some(made) = found {
@@ -80,10 +89,20 @@ impl Connection {
         }
     }
 
-    /// Has the server keep what an action made here. Its contents go first: a result whose contents nobody has is worth nothing.
-    pub async fn keep(&mut self, action: &Action, result: ActionResult, contents: &[Blob]) -> Result<(), Failure> {
+    /// Has the server keep what an action made here. Its contents go first: a result whose contents nobody
+    /// has is worth nothing.
+    pub async fn keep(
+        &mut self,
+        action: &Action,
+        result: ActionResult,
+        contents: &[Blob],
+    ) -> Result<(), Failure> {
         // (the action's own messages are there for people who look a result up)
-        let blobs: Vec<Blob> = contents.iter().chain(action.blobs.iter().filter(|blob| blob.path().as_os_str().is_empty())).cloned().collect();
+        let blobs: Vec<Blob> = contents
+            .iter()
+            .chain(action.blobs.iter().filter(|blob| blob.path().as_os_str().is_empty()))
+            .cloned()
+            .collect();
         self.send(&blobs).await?;
         let message = UpdateActionResultRequest {
             instance_name: self.instance.clone(),
@@ -94,7 +113,8 @@ impl Connection {
         self.call(ask).await.map(|_| ())
     }
 
-    /// What comes of running an action at the server. If it lacks an input once more, or a part of what it has made, it gets all again, once.
+    /// What comes of running an action at the server. If it lacks an input once more, or a part of what it
+    /// has made, it gets all again, once.
     async fn executed(&mut self, action: &Action) -> Result<Made, Failure> {
         match self.try_executed(action).await {
             Err(Failure::Evicted(_)) => self.try_executed(action).await,
@@ -112,7 +132,8 @@ impl Connection {
             Code::FailedPrecondition | Code::NotFound => return Err(Failure::Evicted(action.digest.clone())),
             code => return Err(Status::new(code, status.message).into()),
         }
-        let result = response.result.ok_or_else(|| Failure::Odd("it ran an action and has no result".into()))?;
+        let result =
+            response.result.ok_or_else(|| Failure::Odd("it ran an action and has no result".into()))?;
         let made = Made::fetch(self, action, &result).await?;
         made.ok_or_else(|| Failure::Odd("it ran an action, and an output is missing".into()))
     }
@@ -124,7 +145,9 @@ impl Connection {
             match self.followed(action, &mut name).await {
                 Ok(response) => return Ok(response),
                 Err(status) if status.code() == Code::Unimplemented => return Err(Failure::NoExecution),
-                Err(status) if tried < TRIES && (is_transient(status.code()) || status.code() == Code::NotFound) => {
+                Err(status)
+                    if tried < TRIES && (is_transient(status.code()) || status.code() == Code::NotFound) =>
+                {
                     if status.code() == Code::NotFound {
                         // It has forgotten the execution, as one that was started anew has.
                         name = None;
@@ -140,11 +163,17 @@ impl Connection {
     async fn stream(&self, action: &Action, name: Option<&String>) -> Result<Streaming<Operation>, Status> {
         let mut execution = self.execution();
         let answer = match name {
-            Some(name) => execution.wait_execution(self.request(WaitExecutionRequest { name: name.clone() })).await,
+            Some(name) => {
+                execution.wait_execution(self.request(WaitExecutionRequest { name: name.clone() })).await
+            }
             None => {
                 let action_digest = Some(action.digest.clone());
                 // (the cache was asked before, and may have what it can't give)
-                let message = ExecuteRequest { instance_name: self.instance.clone(), skip_cache_lookup: true, action_digest };
+                let message = ExecuteRequest {
+                    instance_name: self.instance.clone(),
+                    skip_cache_lookup: true,
+                    action_digest,
+                };
                 execution.execute(self.request(message)).await
             }
         };
@@ -161,7 +190,9 @@ impl Connection {
                 Err(_) if self.is_alive().await => continue,
                 Err(_) => return Err(Status::unavailable("the server no longer answers")),
             };
-            let Some(operation) = next else { return Err(Status::unavailable("the execution's stream has no end")) };
+            let Some(operation) = next else {
+                return Err(Status::unavailable("the execution's stream has no end"));
+            };
             if !operation.name.is_empty() {
                 *name = Some(operation.name.clone());
             }
@@ -176,9 +207,8 @@ impl Connection {
 fn response_of(operation: Operation) -> Result<ExecuteResponse, Status> {
     match operation.result {
         Some(operation::Result::Error(error)) => Err(Status::new(Code::from(error.code), error.message)),
-        Some(operation::Result::Response(response)) => {
-            ExecuteResponse::decode(response.value.as_slice()).map_err(|_| Status::data_loss("an execution's response can't be read"))
-        }
+        Some(operation::Result::Response(response)) => ExecuteResponse::decode(response.value.as_slice())
+            .map_err(|_| Status::data_loss("an execution's response can't be read")),
         None => Err(Status::data_loss("an execution has no response")),
     }
 }
@@ -193,11 +223,19 @@ mod tests {
         let server = |name: &str| Server { name: name.into(), authority: String::new(), is_secure: false };
         let servers = ["a", "b", "c"].map(server);
         let first = |hash: usize| {
-            let action =
-                Action { digest: Digest { hash: hash.to_string(), size_bytes: 0 }, blobs: Vec::new(), outputs: Vec::new(), words: Vec::new() };
+            let action = Action {
+                digest: Digest { hash: hash.to_string(), size_bytes: 0 },
+                blobs: Vec::new(),
+                outputs: Vec::new(),
+                words: Vec::new(),
+            };
             let mut turned = servers.clone();
             turned.rotate_left(hash % 3);
-            assert_eq!(in_order(&turned, &action), in_order(&servers, &action), "whatever the order is in which a user has them");
+            assert_eq!(
+                in_order(&turned, &action),
+                in_order(&servers, &action),
+                "whatever the order is in which a user has them"
+            );
             in_order(&servers, &action)[0].name.clone()
         };
         let firsts: Vec<String> = (0..300).map(first).collect();

@@ -78,7 +78,8 @@ impl Connection {
 
     /// Which of these contents the server lacks.
     async fn missing(&self, blobs: &[Blob]) -> Result<BTreeSet<String>, Failure> {
-        let digests: BTreeMap<&str, Digest> = blobs.iter().map(|blob| (blob.digest.hash.as_str(), blob.digest.clone())).collect();
+        let digests: BTreeMap<&str, Digest> =
+            blobs.iter().map(|blob| (blob.digest.hash.as_str(), blob.digest.clone())).collect();
         let blob_digests: Vec<Digest> = digests.into_values().collect();
         let message = FindMissingBlobsRequest { instance_name: self.instance.clone(), blob_digests };
         let ask = || async { self.contents().find_missing_blobs(self.request(message.clone())).await };
@@ -90,7 +91,8 @@ impl Connection {
     pub async fn send(&mut self, blobs: &[Blob]) -> Result<(), Failure> {
         let mut missing = self.missing(blobs).await?;
         let lacking: Vec<&Blob> = blobs.iter().filter(|blob| missing.remove(&blob.digest.hash)).collect();
-        let (small, large): (Vec<&Blob>, Vec<&Blob>) = lacking.into_iter().partition(|blob| self.fits_message(&blob.digest));
+        let (small, large): (Vec<&Blob>, Vec<&Blob>) =
+            lacking.into_iter().partition(|blob| self.fits_message(&blob.digest));
         for message in in_messages(small, self.abilities.most_in_message, |blob| blob.size()) {
             self.send_message(&message).await?;
         }
@@ -145,9 +147,12 @@ impl Connection {
     /// Gets contents, each checked by its digest, in the order given.
     pub async fn fetch(&mut self, digests: &[Digest]) -> Result<Vec<Vec<u8>>, Failure> {
         let mut contents: BTreeMap<String, Vec<u8>> = BTreeMap::new();
-        let wanted: BTreeMap<&str, &Digest> = digests.iter().map(|digest| (digest.hash.as_str(), digest)).collect();
-        let wanted: Vec<Digest> = wanted.into_values().filter(|digest| digest.size_bytes > 0).cloned().collect();
-        let (small, large): (Vec<Digest>, Vec<Digest>) = wanted.into_iter().partition(|digest| self.fits_message(digest));
+        let wanted: BTreeMap<&str, &Digest> =
+            digests.iter().map(|digest| (digest.hash.as_str(), digest)).collect();
+        let wanted: Vec<Digest> =
+            wanted.into_values().filter(|digest| digest.size_bytes > 0).cloned().collect();
+        let (small, large): (Vec<Digest>, Vec<Digest>) =
+            wanted.into_iter().partition(|digest| self.fits_message(digest));
         for message in in_messages(small, self.abilities.most_in_message, size_of) {
             contents.extend(self.fetch_message(message).await?);
         }
@@ -156,12 +161,17 @@ impl Connection {
             contents.insert(digest.hash, content);
         }
         self.received += contents.values().map(|content| content.len() as u64).sum::<u64>();
-        let content = |digest: &Digest| fitting(digest, contents.get(&digest.hash).cloned().unwrap_or_default());
+        let content =
+            |digest: &Digest| fitting(digest, contents.get(&digest.hash).cloned().unwrap_or_default());
         digests.iter().map(content).collect()
     }
 
     async fn fetch_message(&self, digests: Vec<Digest>) -> Result<BTreeMap<String, Vec<u8>>, Failure> {
-        let message = BatchReadBlobsRequest { instance_name: self.instance.clone(), digests, acceptable_compressors: Vec::new() };
+        let message = BatchReadBlobsRequest {
+            instance_name: self.instance.clone(),
+            digests,
+            acceptable_compressors: Vec::new(),
+        };
         let ask = || async { self.contents().batch_read_blobs(self.request(message.clone())).await };
         let answer = self.call(ask).await?;
         let content = |response: crate::api::v2::batch_read_blobs_response::Response| {
@@ -177,7 +187,9 @@ impl Connection {
         loop {
             match self.try_fetch_stream(digest).await {
                 Ok(content) => return Ok(content),
-                Err(status) if status.code() == Code::NotFound => return Err(Failure::Evicted(digest.clone())),
+                Err(status) if status.code() == Code::NotFound => {
+                    return Err(Failure::Evicted(digest.clone()));
+                }
                 Err(status) if tried < TRIES && is_transient(status.code()) => sleep(PAUSE * tried).await,
                 Err(status) => return Err(status.into()),
             }
@@ -189,7 +201,8 @@ impl Connection {
         let silent = |_| Status::deadline_exceeded("no answer in time");
         let message = ReadRequest { resource_name: self.resource("", digest), read_offset: 0, read_limit: 0 };
         let mut streams = self.streams();
-        let mut parts = timeout(SILENCE, streams.read(self.request(message))).await.map_err(silent)??.into_inner();
+        let mut parts =
+            timeout(SILENCE, streams.read(self.request(message))).await.map_err(silent)??.into_inner();
         let mut content = Vec::new();
         while let Some(part) = timeout(SILENCE, parts.message()).await.map_err(silent)?? {
             content.extend(part.data);

@@ -73,7 +73,9 @@ pub fn read(words: &[String]) -> Result<Asked, String> {
             [] => return Err("expected -- and a program".into()),
         }
     }
-    let lacking = [("--cwd", &command.cwd), ("--root", &command.root), ("--tool", &command.tool)].into_iter().find(|(_, value)| value.is_empty());
+    let lacking = [("--cwd", &command.cwd), ("--root", &command.root), ("--tool", &command.tool)]
+        .into_iter()
+        .find(|(_, value)| value.is_empty());
     match lacking {
         Some((option, _)) => Err(format!("{option} is missing")),
         None => Ok(Asked::Command(Box::new(command))),

@@ -10,9 +10,9 @@ use std::thread;
 use tempfile::TempDir;
 use tonic::transport::{Certificate, Identity, ServerTlsConfig};
 
-/// A stand-in for ptxas: it changes its input to upper case, and says something. It notes each of its runs in a folder.
-const TOOL: &str =
-    "#!/bin/sh\ncase $3 in *bad*) echo failed >&2; exit 3;; esac\n: > \"${0%/*}/ran-$$\"\ntr a-z A-Z < \"$3\" > \"$5\"\necho said\necho warned >&2\n";
+/// A stand-in for ptxas: it changes its input to upper case, and says something. It notes each of its runs in
+/// a folder.
+const TOOL: &str = "#!/bin/sh\ncase $3 in *bad*) echo failed >&2; exit 3;; esac\n: > \"${0%/*}/ran-$$\"\ntr a-z A-Z < \"$3\" > \"$5\"\necho said\necho warned >&2\n";
 
 /// A call's directory, and a tool.
 struct Call {
@@ -62,7 +62,10 @@ impl Call {
 
     /// How often the tool ran, here or at the server.
     fn runs(&self) -> usize {
-        fs::read_dir(self.tools.path()).unwrap().filter(|file| file.as_ref().unwrap().file_name().to_str().unwrap().starts_with("ran")).count()
+        fs::read_dir(self.tools.path())
+            .unwrap()
+            .filter(|file| file.as_ref().unwrap().file_name().to_str().unwrap().starts_with("ran"))
+            .count()
     }
 
     fn command(&self, input: &str, variables: &[(&str, &str)]) -> Output {
@@ -70,7 +73,9 @@ impl Call {
         let root = self.root.path().to_str().unwrap();
         command.args(["--cwd", "/", "--root", root, "--tool", "digest", "--note", &self.path("note")]);
         command.args(["--read", &self.path(input), "--write", &self.path("k.cubin"), "--"]).arg(self.tool());
-        command.args(["-arch=sm_80", "-m64", &self.path(input), "-o", &self.path("k.cubin")]).envs(variables.iter().copied());
+        command
+            .args(["-arch=sm_80", "-m64", &self.path(input), "-o", &self.path("k.cubin")])
+            .envs(variables.iter().copied());
         command.output().unwrap()
     }
 
@@ -112,7 +117,11 @@ fn what_one_call_made_another_finds() {
     let name = name(&server);
     assert!(call.runs_well(&name, "cache").starts_with(&format!("kept {name} ")));
     let call = call.again();
-    assert_eq!((call.runs_well(&name, "cache"), call.runs()), (format!("found {name} 0 9 \n"), 1), "nothing is sent");
+    assert_eq!(
+        (call.runs_well(&name, "cache"), call.runs()),
+        (format!("found {name} 0 9 \n"), 1),
+        "nothing is sent"
+    );
     call.reads("k.ptx", b"another text");
     assert!(call.runs_well(&name, "cache").starts_with("kept "));
 }
@@ -154,7 +163,8 @@ fn refused(state: State, usage: &str) -> String {
     let name = name(&server);
     let note = call.runs_well(&name, usage);
     assert!(note.starts_with("home ") || note.starts_with("kept "), "{note}");
-    let variables = [("ZIGRUNK_REMOTE", name.as_str()), ("ZIGRUNK_REMOTE_USE", usage), ("ZIGRUNK_REMOTE_FALLBACK", "no")];
+    let variables =
+        [("ZIGRUNK_REMOTE", name.as_str()), ("ZIGRUNK_REMOTE_USE", usage), ("ZIGRUNK_REMOTE_FALLBACK", "no")];
     let came = call.again().came("k.ptx", &variables);
     if came.status == Some(0) { note } else { came.errors }
 }
@@ -207,14 +217,29 @@ fn what_is_spoilt_or_gone_counts_as_nothing() {
     assert!(call.runs_well(&name(&server), "cache").starts_with("kept "));
     assert!(call.runs_well(&name(&server), "cache").starts_with("found "));
     server.state().results.values_mut().for_each(|result| result.output_files.clear());
-    assert!(call.runs_well(&name(&server), "cache").starts_with("kept "), "a result without an output is none");
+    assert!(
+        call.runs_well(&name(&server), "cache").starts_with("kept "),
+        "a result without an output is none"
+    );
 }
 
 #[test]
 fn commands_that_are_no_actions_go_to_no_server() {
     let (server, call) = (Fake::new(State::default()), Call::new());
     let output = Command::new(env!("CARGO_BIN_EXE_zigrunk-remote"))
-        .args(["--cwd", "/", "--root", "/t", "--tool", "d", "--note", &call.path("note"), "--", "/bin/echo", "a b"])
+        .args([
+            "--cwd",
+            "/",
+            "--root",
+            "/t",
+            "--tool",
+            "d",
+            "--note",
+            &call.path("note"),
+            "--",
+            "/bin/echo",
+            "a b",
+        ])
         .env("ZIGRUNK_REMOTE", name(&server))
         .output()
         .unwrap();
@@ -236,7 +261,10 @@ impl Certificates {
         fs::write(certificates.path("config"), CONFIG).unwrap();
         for (authority, holders) in [("ca", &["server", "user"][..]), ("other", &["stranger"])] {
             certificates.request(authority, &["-extensions", "authority"]);
-            let (signer, key) = (certificates.path(&format!("{authority}.pem")), certificates.path(&format!("{authority}.key")));
+            let (signer, key) = (
+                certificates.path(&format!("{authority}.pem")),
+                certificates.path(&format!("{authority}.key")),
+            );
             for holder in holders {
                 certificates.request(holder, &["-extensions", "holder", "-CA", &signer, "-CAkey", &key]);
             }
@@ -250,7 +278,19 @@ impl Certificates {
 
     fn request(&self, name: &str, words: &[&str]) {
         let (certificate, key) = (self.path(&format!("{name}.pem")), self.path(&format!("{name}.key")));
-        let kind = ["req", "-x509", "-subj", "/CN=name", "-newkey", "ec", "-pkeyopt", "ec_paramgen_curve:P-256", "-nodes", "-days", "2"];
+        let kind = [
+            "req",
+            "-x509",
+            "-subj",
+            "/CN=name",
+            "-newkey",
+            "ec",
+            "-pkeyopt",
+            "ec_paramgen_curve:P-256",
+            "-nodes",
+            "-days",
+            "2",
+        ];
         let places = ["-config", &self.path("config"), "-out", &certificate, "-keyout", &key];
         let made = Command::new("openssl").args(kind).args(places).args(words).output().unwrap();
         assert!(made.status.success(), "{}", String::from_utf8_lossy(&made.stderr));
@@ -260,17 +300,28 @@ impl Certificates {
     fn server(&self, state: State) -> Fake {
         let read = |name: &str| fs::read(self.path(name)).unwrap();
         let identity = Identity::from_pem(read("server.pem"), read("server.key"));
-        Fake::with_tls(state, Some(ServerTlsConfig::new().identity(identity).client_ca_root(Certificate::from_pem(read("ca.pem")))))
+        Fake::with_tls(
+            state,
+            Some(
+                ServerTlsConfig::new()
+                    .identity(identity)
+                    .client_ca_root(Certificate::from_pem(read("ca.pem"))),
+            ),
+        )
     }
 
-    /// How a command goes by a server, given whom it trusts, whose certificate it shows, and its token. It says why it went by none.
+    /// How a command goes by a server, given whom it trusts, whose certificate it shows, and its token. It
+    /// says why it went by none.
     fn note(&self, server: &Fake, authority: &str, user: Option<&str>, token: Option<&str>) -> String {
         let (call, server) = (Call::new(), format!("grpcs://{}", server.address));
-        let [authority, token_file] = [format!("{authority}.pem"), "token".into()].map(|name: String| self.path(&name));
-        let identity = user.map(|user| [self.path(&format!("{user}.pem")), self.path(&format!("{user}.key"))]);
+        let [authority, token_file] =
+            [format!("{authority}.pem"), "token".into()].map(|name: String| self.path(&name));
+        let identity =
+            user.map(|user| [self.path(&format!("{user}.pem")), self.path(&format!("{user}.key"))]);
         let mut variables = vec![("ZIGRUNK_REMOTE", server.as_str()), ("ZIGRUNK_REMOTE_CA", &authority)];
         if let Some([certificate, key]) = &identity {
-            variables.extend([("ZIGRUNK_REMOTE_CERTIFICATE", certificate.as_str()), ("ZIGRUNK_REMOTE_KEY", key)]);
+            variables
+                .extend([("ZIGRUNK_REMOTE_CERTIFICATE", certificate.as_str()), ("ZIGRUNK_REMOTE_KEY", key)]);
         }
         if let Some(token) = token {
             fs::write(&token_file, format!("{token}\n")).unwrap();
@@ -286,8 +337,13 @@ impl Certificates {
 fn nothing_goes_to_or_from_a_stranger() {
     let certificates = Certificates::new();
     let server = certificates.server(State { token: Some("secret".into()), ..State::default() });
-    let note = |authority: &str, user: Option<&str>, token| certificates.note(&server, authority, user, token);
-    for (authority, user, wanted) in [("other", Some("user"), "certificate"), ("ca", None, "certificate"), ("ca", Some("stranger"), "certificate")] {
+    let note =
+        |authority: &str, user: Option<&str>, token| certificates.note(&server, authority, user, token);
+    for (authority, user, wanted) in [
+        ("other", Some("user"), "certificate"),
+        ("ca", None, "certificate"),
+        ("ca", Some("stranger"), "certificate"),
+    ] {
         let said = note(authority, user, Some("secret"));
         assert!(said.starts_with("home ") && said.contains(wanted), "{said}");
         assert!(server.state().calls.is_empty(), "{authority} {user:?}");

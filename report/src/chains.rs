@@ -1,4 +1,5 @@
-//! What can't be faster with more slots: the longest chain of a call's commands. And what zigrunk itself took of a call.
+//! What can't be faster with more slots: the longest chain of a call's commands. And what zigrunk itself took
+//! of a call.
 use super::log::sum;
 use super::log_lines::{Call, Command};
 
@@ -7,7 +8,8 @@ use super::log_lines::{Call, Command};
 pub struct Link {
     /// Its number in the call.
     pub command: usize,
-    /// The seconds that count: of a command that began before the one in front of it had ended, only the rest.
+    /// The seconds that count: of a command that began before the one in front of it had ended, only the
+    /// rest.
     pub seconds: f64,
 }
 
@@ -21,21 +23,28 @@ struct Best {
     before: Option<usize>,
 }
 
-/// The best chain that ends with the command of a number, given those of earlier ones. `None` if the log doesn't say what it needs.
+/// The best chain that ends with the command of a number, given those of earlier ones. `None` if the log
+/// doesn't say what it needs.
 fn best(command: &Command, number: usize, earlier: &[Best]) -> Option<Best> {
     let behind = |&need: &usize| {
         let before = earlier.get(need)?;
         let (seconds, end) = (command.seconds_after(before.end), before.end.max(command.end));
-        Some(Best { length: before.length + seconds, end, link: Link { command: number, seconds }, before: Some(need) })
+        Some(Best {
+            length: before.length + seconds,
+            end,
+            link: Link { command: number, seconds },
+            before: Some(need),
+        })
     };
     let seconds = command.seconds();
-    let alone = Best { length: seconds, end: command.end, link: Link { command: number, seconds }, before: None };
+    let alone =
+        Best { length: seconds, end: command.end, link: Link { command: number, seconds }, before: None };
     let chains = command.needs.as_ref()?.iter().filter_map(behind);
     Some(chains.fold(alone, |best, chain| if chain.length >= best.length { chain } else { best }))
 }
 
-/// A call's longest chain of commands that wait for each other, in order, if the log says what each command needs. It takes no longer than
-/// the call.
+/// A call's longest chain of commands that wait for each other, in order, if the log says what each command
+/// needs. It takes no longer than the call.
 pub fn longest_chain(call: &Call) -> Option<Vec<Link>> {
     let mut chains: Vec<Best> = Vec::with_capacity(call.commands.len());
     for (number, command) in call.commands.iter().enumerate() {
@@ -56,7 +65,8 @@ pub fn seconds_of(chain: &[Link]) -> f64 {
     sum(chain.iter().map(|link| link.seconds))
 }
 
-/// The seconds of a call in which no command of it ran or waited for a slot: nvcc's dry runs, the plan, and the end. `None` if nvcc made it.
+/// The seconds of a call in which no command of it ran or waited for a slot: nvcc's dry runs, the plan, and
+/// the end. `None` if nvcc made it.
 pub fn own_seconds(call: &Call) -> Option<f64> {
     if call.reason.is_some() {
         return None;
@@ -102,7 +112,12 @@ mod tests {
 
     #[test]
     fn the_longest_chain_follows_needs() {
-        let made = call(&[(1.0, 1.0, 2.0, &[]), (1.0, 1.0, 4.0, &[]), (2.0, 2.0, 6.0, &[0]), (6.0, 6.0, 7.0, &[1, 2])]);
+        let made = call(&[
+            (1.0, 1.0, 2.0, &[]),
+            (1.0, 1.0, 4.0, &[]),
+            (2.0, 2.0, 6.0, &[0]),
+            (6.0, 6.0, 7.0, &[1, 2]),
+        ]);
         let chain = longest_chain(&made).unwrap();
         assert_eq!((numbers(&chain), seconds_of(&chain)), (vec![0, 2, 3], 6.0));
         assert_eq!(longest_chain(&call(&[])), Some(vec![]));
@@ -138,7 +153,10 @@ mod tests {
 
     #[test]
     fn zigrunk_takes_what_no_command_does() {
-        assert_eq!(own_seconds(&call(&[(1.0, 2.0, 4.0, &[]), (3.0, 3.0, 6.0, &[]), (7.0, 7.0, 9.5, &[])])), Some(1.0 + 1.0 + 0.5));
+        assert_eq!(
+            own_seconds(&call(&[(1.0, 2.0, 4.0, &[]), (3.0, 3.0, 6.0, &[]), (7.0, 7.0, 9.5, &[])])),
+            Some(1.0 + 1.0 + 0.5)
+        );
         assert_eq!(own_seconds(&call(&[])), Some(10.0));
         assert_eq!(own_seconds(&Call { reason: Some("it links".into()), ..call(&[]) }), None);
     }

@@ -65,19 +65,25 @@ fn plain(error: &io::Error) -> String {
 fn report(asked: &Asked) -> Result<(), String> {
     let mut log = Log::default();
     for path in &asked.logs {
-        let text = fs::read(path).map_err(|error| format!("cannot read {}: {}", path.display(), plain(&error)))?;
+        let text =
+            fs::read(path).map_err(|error| format!("cannot read {}: {}", path.display(), plain(&error)))?;
         if !log.add(&text) {
-            return Err(format!("{} is no log of ZIGRUNK_LOG: none of its lines is an entry", path.display()));
+            return Err(format!(
+                "{} is no log of ZIGRUNK_LOG: none of its lines is an entry",
+                path.display()
+            ));
         }
     }
     let made = [(&asked.trace, trace::trace as fn(&Log) -> String), (&asked.html, page::page)];
     for (path, text) in made.iter().filter_map(|(path, make)| Some((path.as_ref()?, make(&log)))) {
-        fs::write(path, text).map_err(|error| format!("cannot write {}: {}", path.display(), plain(&error)))?;
+        fs::write(path, text)
+            .map_err(|error| format!("cannot write {}: {}", path.display(), plain(&error)))?;
     }
     say(1, summary::summary(&log).as_bytes()).map_err(|error| format!("cannot write: {}", plain(&error)))
 }
 
-/// Reports on the logs that these words name. Says the exit status: 1 if a file can't be read or written or is no log, 2 for wrong usage.
+/// Reports on the logs that these words name. Says the exit status: 1 if a file can't be read or written or
+/// is no log, 2 for wrong usage.
 pub fn run(words: &[OsString]) -> i32 {
     let asked = match asked(words) {
         Ok(Some(asked)) => asked,
@@ -107,17 +113,21 @@ mod tests {
     fn words_are_read() {
         let words = |line: &str| line.split_whitespace().map(OsString::from).collect::<Vec<_>>();
         let read = |line: &str| asked(&words(line)).map_err(|error| error.to_string());
-        let wanted = Asked { logs: vec!["a".into(), "--b".into()], trace: Some("t".into()), html: Some("h".into()) };
+        let wanted =
+            Asked { logs: vec!["a".into(), "--b".into()], trace: Some("t".into()), html: Some("h".into()) };
         assert_eq!(read("--trace t a --html=h -- --b"), Ok(Some(wanted)));
         assert_eq!(read("a --help"), Ok(None));
-        for (line, complaint) in [("", "a log is missing"), ("-x a", "unexpected option -x"), ("a --html", "--html needs a file")] {
+        for (line, complaint) in
+            [("", "a log is missing"), ("-x a", "unexpected option -x"), ("a --html", "--html needs a file")]
+        {
             assert_eq!(read(line), Err(complaint.into()), "{line}");
         }
     }
 
     #[test]
     fn hits_are_those_of_commands_or_what_the_cache_counted() {
-        let call = |counted: &str| format!(r#"{{"begin":1,"end":2,"status":0,{counted}"commands":[],"words":[]}}"#);
+        let call =
+            |counted: &str| format!(r#"{{"begin":1,"end":2,"status":0,{counted}"commands":[],"words":[]}}"#);
         let mut log = Log::default();
         log.add(call("").as_bytes());
         assert_eq!(log.hits(), None);
@@ -134,7 +144,10 @@ mod tests {
             let mut log = Log::default();
             log.add(&SMALL.as_bytes()[..size]);
             assert!(log.bad <= 1 && summary::summary(&log).starts_with("calls: "), "{size} bytes");
-            assert!(page::page(&log).ends_with("</html>\n") && trace::trace(&log).ends_with('}'), "{size} bytes");
+            assert!(
+                page::page(&log).ends_with("</html>\n") && trace::trace(&log).ends_with('}'),
+                "{size} bytes"
+            );
         }
     }
 }

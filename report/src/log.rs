@@ -56,8 +56,9 @@ impl Log {
         reasons
     }
 
-    /// How many hits and misses the cache had: by the commands of which the log says it, or else by what the cache counted for all its
-    /// callers between the first of these calls and the last. `None` if the log doesn't say it.
+    /// How many hits and misses the cache had: by the commands of which the log says it, or else by what the
+    /// cache counted for all its callers between the first of these calls and the last. `None` if the log
+    /// doesn't say it.
     pub fn hits(&self) -> Option<(f64, f64)> {
         let hits: Vec<bool> = self.commands().filter_map(|(command, _)| command.hit).collect();
         if !hits.is_empty() {
@@ -84,7 +85,11 @@ impl Log {
 
 /// A part of a whole in words.
 pub fn share(part: usize, whole: usize) -> String {
-    if whole == 0 { format!("{part} of 0") } else { format!("{part} of {whole} ({:.0} %)", 100.0 * number(part) / number(whole)) }
+    if whole == 0 {
+        format!("{part} of 0")
+    } else {
+        format!("{part} of {whole} ({:.0} %)", 100.0 * number(part) / number(whole))
+    }
 }
 
 /// A sum of seconds; of none, std's own is -0.
@@ -105,7 +110,10 @@ mod tests {
     #[test]
     fn a_log_is_what_its_lines_say() {
         let log = small();
-        assert_eq!((log.calls.len(), log.hints.as_slice(), log.bad, log.split(), log.span()), (4, &["do this".to_owned()][..], 1, 2, (10.0, 16.0)));
+        assert_eq!(
+            (log.calls.len(), log.hints.as_slice(), log.bad, log.split(), log.span()),
+            (4, &["do this".to_owned()][..], 1, 2, (10.0, 16.0))
+        );
         assert_eq!(log.reasons(), [("a dry run fails", 1), ("it links", 1)]);
     }
 }

@@ -24,7 +24,8 @@ pub struct Call {
     #[serde(default = "truth")]
     pub compiles: bool,
     pub commands: Vec<Command>,
-    /// The hits and misses that the cache had counted, for all its callers, before and after, if the log says so.
+    /// The hits and misses that the cache had counted, for all its callers, before and after, if the log says
+    /// so.
     pub counted: Option<[f64; 4]>,
     /// nvcc and its words.
     pub words: Vec<String>,
@@ -50,7 +51,10 @@ impl Call {
     /// The file that it compiles: the last of its words with a source's suffix.
     pub fn source(&self) -> &str {
         let suffixes = ["cu", "c", "cc", "cpp", "cxx", "ptx", "ii", "gpu"];
-        let is_source = |word: &&String| word.rsplit_once('.').is_some_and(|(_, suffix)| suffixes.contains(&suffix)) && !word.starts_with('-');
+        let is_source = |word: &&String| {
+            word.rsplit_once('.').is_some_and(|(_, suffix)| suffixes.contains(&suffix))
+                && !word.starts_with('-')
+        };
         self.words.iter().rev().find(is_source).map_or("no source", String::as_str)
     }
 
@@ -95,10 +99,19 @@ mod tests {
     #[test]
     fn entries_are_read() {
         let Some(Entry::Call(call)) = entry(WHOLE.as_bytes()) else { panic!("no call") };
-        assert_eq!((call.begin, call.seconds(), call.status, call.reason.as_deref()), (10.0, 4.5, 2, Some("it links")));
-        assert_eq!((call.words, call.counted), (vec!["nvcc".to_owned(), "a\"b".into()], Some([1.0, 2.0, 3.0, 4.0])));
+        assert_eq!(
+            (call.begin, call.seconds(), call.status, call.reason.as_deref()),
+            (10.0, 4.5, 2, Some("it links"))
+        );
+        assert_eq!(
+            (call.words, call.counted),
+            (vec!["nvcc".to_owned(), "a\"b".into()], Some([1.0, 2.0, 3.0, 4.0]))
+        );
         let [first, second] = call.commands.as_slice() else { panic!("two commands") };
-        assert_eq!((first.kind.as_str(), first.waited(), first.seconds(), first.hit, first.needs.clone()), ("gcc -E", 0.5, 1.0, None, None));
+        assert_eq!(
+            (first.kind.as_str(), first.waited(), first.seconds(), first.hit, first.needs.clone()),
+            ("gcc -E", 0.5, 1.0, None, None)
+        );
         assert_eq!((second.status, second.hit, second.needs.clone()), (1, Some(true), Some(vec![0])));
         assert_eq!(entry(br#"{"hint":"do this"}"#), Some(Entry::Hint { hint: "do this".into() }));
         assert_eq!(entry(b"{\"hint\":\"\xff\"}"), Some(Entry::Hint { hint: "\u{fffd}".into() }));
@@ -112,7 +125,9 @@ mod tests {
         for part in ["\"begin\":10.0,", "\"status\":2,", "\"kind\":\"gcc -E\",", "\"asked\":10.0,"] {
             assert_eq!(entry(WHOLE.replacen(part, "", 1).as_bytes()), None, "without {part}");
         }
-        for (old, new) in [("10.0", "\"10.0\""), ("\"it links\"", "1"), ("[\"nvcc\"", "[1"), ("\"gcc -E\"", "null")] {
+        for (old, new) in
+            [("10.0", "\"10.0\""), ("\"it links\"", "1"), ("[\"nvcc\"", "[1"), ("\"gcc -E\"", "null")]
+        {
             assert_eq!(entry(WHOLE.replacen(old, new, 1).as_bytes()), None, "{new} in place of {old}");
         }
         assert_eq!(entry(br#"{"hint":1}"#), None);

@@ -42,7 +42,12 @@ fn write_all(text: &mut String, log: &Log) -> std::fmt::Result {
         writeln!(text, "  hint: {hint}")?;
     }
     if let Some((hits, misses)) = log.hits() {
-        writeln!(text, "hits: {hits} of {} ({:.0} %)", hits + misses, 100.0 * hits / (hits + misses).max(1.0))?;
+        writeln!(
+            text,
+            "hits: {hits} of {} ({:.0} %)",
+            hits + misses,
+            100.0 * hits / (hits + misses).max(1.0)
+        )?;
     }
     if log.commands().next().is_some() {
         write_commands(text, log)?;
@@ -146,7 +151,10 @@ commands that ran at once, on average: 1.0
         }
         let text = summary(&log);
         let lines: Vec<&str> = text.lines().take(13).collect();
-        assert_eq!((lines[0], lines[1], lines[10]), ("calls: 13, failed: 12", "  status 1: nvcc 1.cu", "  status 10: nvcc 10.cu"));
+        assert_eq!(
+            (lines[0], lines[1], lines[10]),
+            ("calls: 13, failed: 12", "  status 1: nvcc 1.cu", "  status 10: nvcc 10.cu")
+        );
         assert_eq!(lines[11..], ["  and 2 more", "split: 0 of 13 (0 %)"]);
     }
 

@@ -25,8 +25,15 @@ pub enum Phase {
 }
 
 impl Phase {
-    pub const ALL: [Phase; 7] =
-        [Phase::Preprocess, Phase::HostFront, Phase::DeviceFront, Phase::Assemble, Phase::Join, Phase::HostCompile, Phase::Whole];
+    pub const ALL: [Phase; 7] = [
+        Phase::Preprocess,
+        Phase::HostFront,
+        Phase::DeviceFront,
+        Phase::Assemble,
+        Phase::Join,
+        Phase::HostCompile,
+        Phase::Whole,
+    ];
 
     /// That of a command's kind.
     pub fn of(kind: &str) -> Phase {
@@ -43,7 +50,8 @@ impl Phase {
     }
 
     pub fn name(self) -> &'static str {
-        ["preprocess", "cudafe++", "cicc", "ptxas", "fatbinary", "host compile", "nvcc, others"][self as usize]
+        ["preprocess", "cudafe++", "cicc", "ptxas", "fatbinary", "host compile", "nvcc, others"]
+            [self as usize]
     }
 }
 
@@ -87,7 +95,14 @@ pub fn bars(log: &Log) -> Vec<Bar<'_>> {
         status: command.status,
     });
     let whole = log.calls.iter().filter(|call| call.commands.is_empty());
-    let of_nvcc = whole.map(|call| Bar { row: 0, kind: "nvcc", call, begin: call.begin, end: call.end, status: call.status });
+    let of_nvcc = whole.map(|call| Bar {
+        row: 0,
+        kind: "nvcc",
+        call,
+        begin: call.begin,
+        end: call.end,
+        status: call.status,
+    });
     let mut bars: Vec<Bar<'_>> = of_commands.chain(of_nvcc).collect();
     bars.sort_by(|one, other| one.begin.total_cmp(&other.begin));
     let mut ends: Vec<f64> = Vec::new();
@@ -115,7 +130,8 @@ struct Drawn {
 impl Drawn {
     fn new(bar: &Bar<'_>, begin: f64, scale: f64) -> Drawn {
         let from = (bar.begin - begin) * scale;
-        let title = format!("{:.2} s  {}  of  {}", bar.seconds(), bar.kind, super::summary::words_of(bar.call, 160));
+        let title =
+            format!("{:.2} s  {}  of  {}", bar.seconds(), bar.kind, super::summary::words_of(bar.call, 160));
         let mut drawn = Drawn {
             from,
             to: from + bar.seconds() * scale,
@@ -146,7 +162,10 @@ impl Drawn {
 
     /// The phase that took most of it.
     fn phase(&self) -> usize {
-        (0..self.seconds.len()).rev().max_by(|&one, &other| self.seconds[one].total_cmp(&self.seconds[other])).unwrap_or_default()
+        (0..self.seconds.len())
+            .rev()
+            .max_by(|&one, &other| self.seconds[one].total_cmp(&self.seconds[other]))
+            .unwrap_or_default()
     }
 }
 
@@ -182,7 +201,10 @@ pub fn drawing(log: &Log, escaped: fn(&str) -> String) -> String {
     let rows = bars.iter().map(|bar| bar.row + 1).max().unwrap_or_default();
     let height = (HEIGHT / number(rows.max(1))).clamp(1.0, HIGHEST_ROW);
     let bottom = height * number(rows);
-    let mut svg = format!("<svg class=\"time\" viewBox=\"0 0 {WIDTH} {:.0}\" role=\"img\" aria-label=\"commands in time\">\n", bottom + 22.0);
+    let mut svg = format!(
+        "<svg class=\"time\" viewBox=\"0 0 {WIDTH} {:.0}\" role=\"img\" aria-label=\"commands in time\">\n",
+        bottom + 22.0
+    );
     let mut at = 0.0;
     while at <= seconds {
         let x = at / seconds * WIDTH;
@@ -245,8 +267,18 @@ mod tests {
     #[test]
     fn bars_that_overlap_have_different_rows() {
         let log = small();
-        let rows: Vec<(usize, &str, f64)> = bars(&log).iter().map(|bar| (bar.row, bar.kind, bar.begin)).collect();
-        assert_eq!(rows, [(0, "gcc -E", 10.5), (0, "cicc compute_90", 12.0), (1, "cicc compute_80", 12.0), (0, "nvcc", 15.0), (1, "nvcc", 15.0)]);
+        let rows: Vec<(usize, &str, f64)> =
+            bars(&log).iter().map(|bar| (bar.row, bar.kind, bar.begin)).collect();
+        assert_eq!(
+            rows,
+            [
+                (0, "gcc -E", 10.5),
+                (0, "cicc compute_90", 12.0),
+                (1, "cicc compute_80", 12.0),
+                (0, "nvcc", 15.0),
+                (1, "nvcc", 15.0)
+            ]
+        );
     }
 
     #[test]
@@ -254,7 +286,13 @@ mod tests {
         let mut log = Log::default();
         for number in 0..20_000 {
             let begin = f64::from(number) / 100.0;
-            log.add(format!(r#"{{"begin":{begin},"end":{},"status":0,"reason":"x","commands":[],"words":[]}}"#, begin + 0.02).as_bytes());
+            log.add(
+                format!(
+                    r#"{{"begin":{begin},"end":{},"status":0,"reason":"x","commands":[],"words":[]}}"#,
+                    begin + 0.02
+                )
+                .as_bytes(),
+            );
         }
         let svg = drawing(&log, str::to_owned);
         assert!(svg.matches("<rect").count() < 3000 && svg.contains(" commands</title>"));
@@ -264,13 +302,20 @@ mod tests {
     fn a_short_command_shows_in_a_long_log() {
         let mut log = Log::default();
         for (begin, end) in [(0.0, 1000.0), (500.0, 500.001)] {
-            log.add(format!(r#"{{"begin":{begin},"end":{end},"status":0,"reason":"x","commands":[],"words":[]}}"#).as_bytes());
+            log.add(
+                format!(
+                    r#"{{"begin":{begin},"end":{end},"status":0,"reason":"x","commands":[],"words":[]}}"#
+                )
+                .as_bytes(),
+            );
         }
         let svg = drawing(&log, str::to_owned);
         let attribute = |name: &str| {
             svg.split("<rect")
                 .skip(1)
-                .map(|bar| bar.split(&format!(" {name}=\"")).nth(1).unwrap().split('"').next().unwrap().to_owned())
+                .map(|bar| {
+                    bar.split(&format!(" {name}=\"")).nth(1).unwrap().split('"').next().unwrap().to_owned()
+                })
                 .collect::<Vec<_>>()
         };
         assert_eq!(attribute("width").last().map(String::as_str), Some("0.4"), "{svg}");
@@ -280,13 +325,31 @@ mod tests {
     #[test]
     fn narrow_bars_have_the_phase_that_took_most_or_the_first_one() {
         let log = small();
-        let bar = |kind: &'static str, begin: f64, end: f64| Bar { row: 0, kind, call: &log.calls[0], begin, end, status: 0 };
+        let bar = |kind: &'static str, begin: f64, end: f64| Bar {
+            row: 0,
+            kind,
+            call: &log.calls[0],
+            begin,
+            end,
+            status: 0,
+        };
         let phase = |last: f64| {
-            let drawn = drawn(vec![bar("cicc compute_80", 0.0, 2.0), bar("ptxas sm_80", 2.0, 3.0), bar("ptxas sm_90", 3.0, last)], 0.0, 0.01);
+            let drawn = drawn(
+                vec![
+                    bar("cicc compute_80", 0.0, 2.0),
+                    bar("ptxas sm_80", 2.0, 3.0),
+                    bar("ptxas sm_90", 3.0, last),
+                ],
+                0.0,
+                0.01,
+            );
             assert_eq!((drawn.len(), drawn[0].title.as_str()), (1, "3 commands"));
             drawn[0].phase()
         };
-        assert_eq!([3.5, 4.0, 4.5].map(phase), [Phase::DeviceFront, Phase::DeviceFront, Phase::Assemble].map(|phase| phase as usize));
+        assert_eq!(
+            [3.5, 4.0, 4.5].map(phase),
+            [Phase::DeviceFront, Phase::DeviceFront, Phase::Assemble].map(|phase| phase as usize)
+        );
     }
 
     #[test]

@@ -1,4 +1,5 @@
-//! What a machine has that decides which objects it makes, and whether another machine has the same: for tasks of a scheduler.
+//! What a machine has that decides which objects it makes, and whether another machine has the same: for
+//! tasks of a scheduler.
 pub mod program;
 mod toolkit;
 
@@ -17,8 +18,8 @@ pub struct Node {
     version: String,
     /// Where `PATH` has nvcc and the host compiler. No path if it has none.
     programs: BTreeMap<String, Option<String>>,
-    /// The digests of what is in files of the toolkit and of the host compiler, and in folders of headers, by their paths. No digest if a file is
-    /// missing or can't be read.
+    /// The digests of what is in files of the toolkit and of the host compiler, and in folders of headers, by
+    /// their paths. No digest if a file is missing or can't be read.
     contents: BTreeMap<String, Option<String>>,
     /// The variables that compilers read. No value if one isn't set.
     variables: BTreeMap<String, Option<String>>,
@@ -42,7 +43,10 @@ fn differences<'a>(
     say: impl Fn(&str, Option<&str>, Option<&str>) -> String + 'a,
 ) -> impl Iterator<Item = String> + 'a {
     let of = |name: &str| here.get(name).and_then(Option::as_deref);
-    wanted.iter().filter(move |(name, value)| of(name) != value.as_deref()).map(move |(name, value)| say(name, value.as_deref(), of(name)))
+    wanted
+        .iter()
+        .filter(move |(name, value)| of(name) != value.as_deref())
+        .map(move |(name, value)| say(name, value.as_deref(), of(name)))
 }
 
 /// What to do about programs that are elsewhere.
@@ -50,7 +54,11 @@ fn of_program(name: &str, wanted: Option<&str>, here: Option<&str>) -> String {
     match (wanted, here) {
         (Some(wanted), None) => format!("PATH has no {name}: install {wanted}, or export PATH in the job"),
         (wanted, here) => {
-            format!("PATH has {}, not {}: export PATH in the job", here.unwrap_or("no such program"), wanted.unwrap_or("none"))
+            format!(
+                "PATH has {}, not {}: export PATH in the job",
+                here.unwrap_or("no such program"),
+                wanted.unwrap_or("none")
+            )
         }
     }
 }
@@ -66,19 +74,28 @@ fn of_contents(path: &str, wanted: Option<&str>, here: Option<&str>) -> String {
 /// What to do about another value of a variable.
 fn of_variable(name: &str, wanted: Option<&str>, here: Option<&str>) -> String {
     match wanted {
-        Some(wanted) => format!("{name} is '{}', not '{wanted}': export it in the job", here.unwrap_or_default()),
+        Some(wanted) => {
+            format!("{name} is '{}', not '{wanted}': export it in the job", here.unwrap_or_default())
+        }
         None => format!("{name} is '{}', and wasn't set: unset it in the job", here.unwrap_or_default()),
     }
 }
 
-/// What keeps a machine from making the objects that another one would make: a line for each thing, which says what to do.
+/// What keeps a machine from making the objects that another one would make: a line for each thing, which
+/// says what to do.
 fn findings(wanted: &Node, here: &Node, around: &Surroundings) -> Vec<String> {
     let mut found = Vec::new();
     let (share, fault) = &around.share;
-    found.extend(fault.as_ref().map(|fault| format!("no file can be made in {share} ({fault}): mount it writable, or make room there")));
+    found.extend(fault.as_ref().map(|fault| {
+        format!("no file can be made in {share} ({fault}): mount it writable, or make room there")
+    }));
     let (temporary, room) = &around.temporary;
     if *room < LEAST_ROOM {
-        found.push(format!("{temporary} has room for {} MB: clear it, or set TMPDIR to a folder with {} MB", room >> 20, LEAST_ROOM >> 20));
+        found.push(format!(
+            "{temporary} has room for {} MB: clear it, or set TMPDIR to a folder with {} MB",
+            room >> 20,
+            LEAST_ROOM >> 20
+        ));
     }
     if wanted.version != here.version {
         found.push(format!("zigrunk is {}, not {}: install the same version", here.version, wanted.version));
@@ -106,7 +123,11 @@ mod tests {
         Node {
             version: "1".into(),
             programs: map(&[("nvcc", Some("/c/nvcc")), ("g++", Some("/bin/g++"))]),
-            contents: map(&[("/c/cicc", Some("12")), ("/usr/include", Some("34")), ("/usr/local/include", None)]),
+            contents: map(&[
+                ("/c/cicc", Some("12")),
+                ("/usr/include", Some("34")),
+                ("/usr/local/include", None),
+            ]),
             variables: map(&[("CPATH", Some("/x")), ("LD_LIBRARY_PATH", None)]),
             ahead: 0.5,
         }
@@ -124,14 +145,26 @@ mod tests {
         let cases: [(Change, &str); 15] = [
             (|_, _| {}, ""),
             (|it, _| it.version = "2".into(), "zigrunk is 2, not 1: install the same version"),
-            (|it, _| it.programs = map(&[("g++", Some("/bin/g++"))]), "PATH has no nvcc: install /c/nvcc, or export PATH in the job"),
+            (
+                |it, _| it.programs = map(&[("g++", Some("/bin/g++"))]),
+                "PATH has no nvcc: install /c/nvcc, or export PATH in the job",
+            ),
             (
                 |it, _| it.programs = map(&[("nvcc", Some("/d/nvcc")), ("g++", Some("/bin/g++"))]),
                 "PATH has /d/nvcc, not /c/nvcc: export PATH in the job",
             ),
-            (|it, _| drop(it.contents.insert("/c/cicc".into(), None)), "no /c/cicc: install the package that has it, or mount it"),
-            (|it, _| drop(it.contents.insert("/c/cicc".into(), Some("13".into()))), "/c/cicc differs: install the same version"),
-            (|it, _| drop(it.contents.insert("/usr/local/include".into(), Some("1".into()))), "/usr/local/include differs: install the same version"),
+            (
+                |it, _| drop(it.contents.insert("/c/cicc".into(), None)),
+                "no /c/cicc: install the package that has it, or mount it",
+            ),
+            (
+                |it, _| drop(it.contents.insert("/c/cicc".into(), Some("13".into()))),
+                "/c/cicc differs: install the same version",
+            ),
+            (
+                |it, _| drop(it.contents.insert("/usr/local/include".into(), Some("1".into()))),
+                "/usr/local/include differs: install the same version",
+            ),
             (|it, _| it.variables.clear(), "CPATH is '', not '/x': export it in the job"),
             (
                 |it, _| drop(it.variables.insert("LD_LIBRARY_PATH".into(), Some("/l".into()))),
@@ -145,7 +178,10 @@ mod tests {
                 |_, around| around.share.1 = Some("Read-only file system".into()),
                 "no file can be made in /share (Read-only file system): mount it writable, or make room there",
             ),
-            (|_, around| around.temporary.1 -= 1, "/tmp has room for 255 MB: clear it, or set TMPDIR to a folder with 256 MB"),
+            (
+                |_, around| around.temporary.1 -= 1,
+                "/tmp has room for 255 MB: clear it, or set TMPDIR to a folder with 256 MB",
+            ),
         ];
         for (change, wanted) in cases {
             let (mut here, mut surroundings) = (node(), around());

@@ -65,7 +65,9 @@ fn parse(words: &[OsString]) -> Result<Wanted, Error> {
                 let file = value(&mut words, "--write needs a file")?;
                 return Ok(Wanted::Write(file.into(), words.raw_args()?.map(PathBuf::from).collect()));
             }
-            Value(second) if file.is_some() => return Err(format!("one file at a time, not {} too", second.to_string_lossy()).into()),
+            Value(second) if file.is_some() => {
+                return Err(format!("one file at a time, not {} too", second.to_string_lossy()).into());
+            }
             Value(first) => file = Some(first.into()),
             option => return Err(unexpected(&option, &["--write", "--version", "--help"])),
         }
@@ -82,7 +84,9 @@ fn ahead_of(folder: &Path) -> io::Result<f64> {
     let time = fs::metadata(&path).and_then(|file| file.modified());
     fs::remove_file(&path)?;
     let time = time?;
-    Ok(before.duration_since(time).map_or_else(|behind| -behind.duration().as_secs_f64(), |ahead| ahead.as_secs_f64()))
+    Ok(before
+        .duration_since(time)
+        .map_or_else(|behind| -behind.duration().as_secs_f64(), |ahead| ahead.as_secs_f64()))
 }
 
 /// The digests of paths, in digits.
@@ -98,7 +102,8 @@ fn node(settings: &Settings, paths: impl FnOnce(&Toolkit) -> Vec<PathBuf>, ahead
     let text = |path: Option<&PathBuf>| path.map(|path| path.to_string_lossy().into_owned());
     let nvcc = (settings.nvcc.to_string_lossy().into_owned(), text(toolkit.nvcc.as_ref()));
     let compiler = (toolkit.compiler.0.clone(), text(toolkit.compiler.1.as_ref()));
-    let variables = VARIABLES.map(|name| (name.to_owned(), own_variable(name).map(|value| value.to_string_lossy().into_owned())));
+    let variables = VARIABLES
+        .map(|name| (name.to_owned(), own_variable(name).map(|value| value.to_string_lossy().into_owned())));
     Node {
         version: env!("CARGO_PKG_VERSION").into(),
         programs: [nvcc, compiler].into_iter().filter(|(name, _)| !name.is_empty()).collect(),
@@ -125,9 +130,13 @@ fn write(file: &Path, others: &[PathBuf], settings: &Settings) -> Result<(), Str
         return Err(format!("no {}", path.display()));
     }
     let others = others.iter().map(|path| absolute(&cwd.join(path), &cwd)).collect::<Vec<_>>();
-    let node = node(settings, |toolkit| topmost(toolkit.paths.iter().cloned().chain(others).collect()), ahead);
+    let node =
+        node(settings, |toolkit| topmost(toolkit.paths.iter().cloned().chain(others).collect()), ahead);
     if node.programs.values().any(Option::is_none) || node.programs.len() < 2 {
-        return Err(format!("{} isn't on PATH, or its dry run names no host compiler", settings.nvcc.to_string_lossy()));
+        return Err(format!(
+            "{} isn't on PATH, or its dry run names no host compiler",
+            settings.nvcc.to_string_lossy()
+        ));
     }
     let text = serde_json::to_string_pretty(&node).map_err(|error| error.to_string())?;
     replace_file(file, format!("{text}\n").as_bytes()).map_err(cannot)
@@ -137,8 +146,10 @@ fn write(file: &Path, others: &[PathBuf], settings: &Settings) -> Result<(), Str
 /// Errors: why the file can't be read.
 fn check(file: &Path, settings: &Settings) -> Result<Vec<String>, String> {
     let shown = file.display();
-    let text = content_of(file).map_err(|error| format!("cannot read {shown} ({error}): mount the disk that all machines share"))?;
-    let wanted: Node = serde_json::from_slice(&text).map_err(|error| format!("{shown} isn't of zigrunk check-node --write: {error}"))?;
+    let text = content_of(file)
+        .map_err(|error| format!("cannot read {shown} ({error}): mount the disk that all machines share"))?;
+    let wanted: Node = serde_json::from_slice(&text)
+        .map_err(|error| format!("{shown} isn't of zigrunk check-node --write: {error}"))?;
     let share = folder_of(file);
     let (ahead, fault) = match ahead_of(&share) {
         Ok(ahead) => (ahead, None),
@@ -148,7 +159,8 @@ fn check(file: &Path, settings: &Settings) -> Result<Vec<String>, String> {
     let mut here = node(settings, |_| paths, ahead);
     if here.programs.values().any(Option::is_none) {
         // Without nvcc nothing says where the host compiler would be.
-        let others: Vec<_> = wanted.programs.iter().filter(|(name, _)| !here.programs.contains_key(*name)).collect();
+        let others: Vec<_> =
+            wanted.programs.iter().filter(|(name, _)| !here.programs.contains_key(*name)).collect();
         here.programs.extend(others.into_iter().map(|(name, path)| (name.clone(), path.clone())));
     }
     let temporary = &settings.temporary;
@@ -183,7 +195,8 @@ fn act(wanted: &Wanted) -> i32 {
     i32::from(!lines.is_empty())
 }
 
-/// Writes or compares, as the words say. Says the exit status: 0 if nothing differs, 1 if something does, 2 for wrong usage or a bad setting.
+/// Writes or compares, as the words say. Says the exit status: 0 if nothing differs, 1 if something does, 2
+/// for wrong usage or a bad setting.
 pub fn run(words: &[OsString]) -> i32 {
     match parse(words) {
         Ok(wanted) => act(&wanted),

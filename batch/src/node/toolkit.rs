@@ -1,4 +1,5 @@
-//! The toolkit and the host compiler that calls of a machine use, by what nvcc and the compiler say, and the digests of their files.
+//! The toolkit and the host compiler that calls of a machine use, by what nvcc and the compiler say, and the
+//! digests of their files.
 use cache::digest::{Digest, Hasher};
 use call::programs;
 use machine::settings::own_variable;
@@ -19,7 +20,8 @@ const SIDE_BY_SIDE: usize = 4;
 /// How deep folders of headers are looked through, so that a link to a folder above ends.
 const DEEPEST: usize = 20;
 /// nvcc's programs beside it, and what it reads there.
-const BESIDE: [&str; 7] = ["nvcc", "nvcc.profile", "cudafe++", "ptxas", "fatbinary", "nvlink", "crt/link.stub"];
+const BESIDE: [&str; 7] =
+    ["nvcc", "nvcc.profile", "cudafe++", "ptxas", "fatbinary", "nvlink", "crt/link.stub"];
 /// The programs that gcc runs.
 const OF_COMPILER: [&str; 4] = ["cc1plus", "cc1", "as", "collect2"];
 
@@ -45,7 +47,11 @@ fn dry_run(text: &str) -> DryRun<'_> {
             Some(("INCLUDES", value)) => said.includes = value,
             Some(("PATH", value)) => said.path = value,
             _ if said.compiler.is_empty() && line.contains(" -E ") => {
-                said.compiler = line.strip_prefix('"').and_then(|rest| rest.split('"').next()).or(line.split(' ').next()).unwrap_or_default();
+                said.compiler = line
+                    .strip_prefix('"')
+                    .and_then(|rest| rest.split('"').next())
+                    .or(line.split(' ').next())
+                    .unwrap_or_default();
             }
             _ => {}
         }
@@ -66,7 +72,8 @@ fn printed(program: &Path, words: &[&str]) -> Option<[Vec<u8>; 2]> {
     Some([said.stdout, said.stderr])
 }
 
-/// The files by which gcc does otherwise than it would by itself, and the folders in which it looks for headers, by what it says.
+/// The files by which gcc does otherwise than it would by itself, and the folders in which it looks for
+/// headers, by what it says.
 fn specs_and_folders(said: &[u8]) -> (Vec<PathBuf>, Vec<PathBuf>) {
     let path = |text: &[u8]| PathBuf::from(OsStr::from_bytes(text));
     let lines = || said.split(|&byte| byte == b'\n');
@@ -84,7 +91,12 @@ fn of_compiler(compiler: &Path, path: &OsStr) -> Vec<PathBuf> {
     };
     let [_, said] = printed(compiler, &["-E", "-v", "-x", "c++", "/dev/null"]).unwrap_or_default();
     let (specs, folders) = specs_and_folders(&said);
-    [compiler.to_owned()].into_iter().chain(OF_COMPILER.iter().filter_map(part)).chain(specs).chain(folders).collect()
+    [compiler.to_owned()]
+        .into_iter()
+        .chain(OF_COMPILER.iter().filter_map(part))
+        .chain(specs)
+        .chain(folders)
+        .collect()
 }
 
 /// nvcc and the host compiler that it finds, and the files and folders of both.
@@ -105,11 +117,16 @@ impl Toolkit {
         let text = String::from_utf8_lossy(&[out, errors].concat()).into_owned();
         let said = dry_run(&text);
         let beside = BESIDE.iter().map(|name| Path::new(said.nvcc).join(name));
-        let libraries = fs::read_dir(said.libraries).into_iter().flatten().flatten().map(|entry| entry.path());
+        let libraries =
+            fs::read_dir(said.libraries).into_iter().flatten().flatten().map(|entry| entry.path());
         let path = if said.path.is_empty() { own_path } else { OsString::from(said.path) };
         let compiler = programs::find(OsStr::new(said.compiler), &path, Path::new(""));
         let parts = compiler.as_ref().map(|compiler| of_compiler(compiler, &path)).unwrap_or_default();
-        let files = [nvcc.clone(), Path::new(said.cicc).join("cicc")].into_iter().chain(beside).chain(libraries).chain(parts);
+        let files = [nvcc.clone(), Path::new(said.cicc).join("cicc")]
+            .into_iter()
+            .chain(beside)
+            .chain(libraries)
+            .chain(parts);
         let paths = files.chain(include_folders(said.includes)).filter(|path| path.exists()).collect();
         Toolkit { nvcc: Some(nvcc), compiler: (said.compiler.to_owned(), compiler), paths }
     }
@@ -139,7 +156,8 @@ fn files_below(path: &Path, deep: usize, found: &mut Vec<PathBuf>) {
     }
 }
 
-/// The digest of a file, or of the names and contents of all files below a folder. `None` if a path leads to nothing, or a file can't be read.
+/// The digest of a file, or of the names and contents of all files below a folder. `None` if a path leads to
+/// nothing, or a file can't be read.
 fn digest_below(path: &Path) -> Option<Digest> {
     let mut files = Vec::new();
     files_below(path, 0, &mut files);
@@ -161,14 +179,17 @@ pub fn digests_of(paths: &[PathBuf]) -> Vec<Option<Digest>> {
     let next = AtomicUsize::new(0);
     let read = || {
         let mut found = Vec::new();
-        while let Some((at, path)) = Some(next.fetch_add(1, Ordering::Relaxed)).and_then(|at| Some((at, paths.get(at)?))) {
+        while let Some((at, path)) =
+            Some(next.fetch_add(1, Ordering::Relaxed)).and_then(|at| Some((at, paths.get(at)?)))
+        {
             found.push((at, digest_below(path)));
         }
         found
     };
     let mut digests = vec![None; paths.len()];
     thread::scope(|scope| {
-        let threads: Vec<_> = (1..SIDE_BY_SIDE).map(|_| thread::Builder::new().spawn_scoped(scope, read)).collect();
+        let threads: Vec<_> =
+            (1..SIDE_BY_SIDE).map(|_| thread::Builder::new().spawn_scoped(scope, read)).collect();
         let others = threads.into_iter().flatten().filter_map(|thread| thread.join().ok());
         for (at, digest) in [read()].into_iter().chain(others).flatten() {
             digests[at] = digest;
@@ -200,9 +221,15 @@ mod tests {
         let text = "#$ _HERE_=/c/bin\n#$ CICC_PATH=/c/bin/../nvvm/bin\n#$ NVVMIR_LIBRARY_DIR=/c/libdevice\n#$ INCLUDES=\"-I/c/inc\" \"-I/c/a b\" \n\
                     #$ PATH=/c/bin:/bin\nremark -E x\n#$ gcc-12 -D_X=1 -E -x c++ \"k.cu\"\n#$ other -E x\n";
         let found = dry_run(text);
-        assert_eq!([found.nvcc, found.cicc, found.libraries], ["/c/bin", "/c/bin/../nvvm/bin", "/c/libdevice"]);
+        assert_eq!(
+            [found.nvcc, found.cicc, found.libraries],
+            ["/c/bin", "/c/bin/../nvvm/bin", "/c/libdevice"]
+        );
         assert_eq!([found.path, found.compiler], ["/c/bin:/bin", "gcc-12"]);
-        assert_eq!(include_folders(found.includes).collect::<Vec<_>>(), [Path::new("/c/inc"), Path::new("/c/a b")]);
+        assert_eq!(
+            include_folders(found.includes).collect::<Vec<_>>(),
+            [Path::new("/c/inc"), Path::new("/c/a b")]
+        );
         assert_eq!(dry_run("#$ \"/a b/g++\" -E x\n").compiler, "/a b/g++");
         assert_eq!(dry_run("nvcc: no\n"), DryRun::default());
     }
@@ -216,12 +243,24 @@ mod tests {
         assert_eq!(specs_and_folders(b"clang version\n"), (Vec::new(), Vec::new()));
     }
 
-    /// A toolkit in a folder: its nvcc, which says where the others are, and files of which some belong to it.
+    /// A toolkit in a folder: its nvcc, which says where the others are, and files of which some belong to
+    /// it.
     fn make_toolkit(here: &Path) {
         for folder in ["nvvm", "lib", "bin", "inc", "sys"] {
             fs::create_dir_all(here.join(folder)).unwrap();
         }
-        for name in ["lib/d.bc", "nvvm/cicc", "ptxas", "bin/as", "bin/cc1plus", "cudafe", "bin/ld", "specs", "inc/h", "sys/h"] {
+        for name in [
+            "lib/d.bc",
+            "nvvm/cicc",
+            "ptxas",
+            "bin/as",
+            "bin/cc1plus",
+            "cudafe",
+            "bin/ld",
+            "specs",
+            "inc/h",
+            "sys/h",
+        ] {
             fs::write(here.join(name), name).unwrap();
         }
         let shown = here.display();
@@ -229,7 +268,11 @@ mod tests {
             "#$ _HERE_={shown}\n#$ CICC_PATH={shown}/nvvm\n#$ NVVMIR_LIBRARY_DIR={shown}/lib\n#$ INCLUDES=\"-I{shown}/inc\"\n#$ PATH={shown}/bin\n\
              #$ gcc -E k.cu"
         );
-        fs::write(here.join("nvcc"), format!("#!/bin/sh\n[ \"$*\" = '--dryrun -c zigrunk.cu' ] && echo '{says}' >&2\n")).unwrap();
+        fs::write(
+            here.join("nvcc"),
+            format!("#!/bin/sh\n[ \"$*\" = '--dryrun -c zigrunk.cu' ] && echo '{says}' >&2\n"),
+        )
+        .unwrap();
         let gcc = format!(
             "#!/bin/sh\ncase $1 in\n-E) printf '%s\\n' 'Reading specs from {shown}/specs' '#include <...> search starts here:' ' {shown}/sys' End >&2 ;;\n\
              *) echo {shown}/bin/${{1#-print-prog-name=}} ;;\nesac\n"
@@ -247,8 +290,22 @@ mod tests {
             let here = TestFolder::new();
             make_toolkit(&here);
             let found = Toolkit::of(here.join("nvcc").as_os_str());
-            assert_eq!((found.nvcc, found.compiler), (Some(here.join("nvcc")), ("gcc".into(), Some(here.join("bin/gcc")))));
-            let wanted = ["nvcc", "nvvm/cicc", "ptxas", "lib/d.bc", "bin/gcc", "bin/cc1plus", "bin/as", "specs", "inc", "sys"];
+            assert_eq!(
+                (found.nvcc, found.compiler),
+                (Some(here.join("nvcc")), ("gcc".into(), Some(here.join("bin/gcc"))))
+            );
+            let wanted = [
+                "nvcc",
+                "nvvm/cicc",
+                "ptxas",
+                "lib/d.bc",
+                "bin/gcc",
+                "bin/cc1plus",
+                "bin/as",
+                "specs",
+                "inc",
+                "sys",
+            ];
             assert_eq!(found.paths, wanted.map(|name| here.join(name)).into());
             assert_eq!(Toolkit::of(here.join("missing").as_os_str()), Toolkit::default());
         });

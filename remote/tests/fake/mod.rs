@@ -1,4 +1,5 @@
-//! A server in the test's own process: contents, results, and execution that really runs a command in a folder. It fails on request.
+//! A server in the test's own process: contents, results, and execution that really runs a command in a
+//! folder. It fails on request.
 use prost::Message;
 use std::collections::{BTreeMap, BTreeSet};
 use std::fs;
@@ -20,7 +21,9 @@ use zigrunk_remote::api::longrunning::{Operation, operation};
 use zigrunk_remote::api::rpc;
 use zigrunk_remote::api::v2::action_cache_server::{ActionCache, ActionCacheServer};
 use zigrunk_remote::api::v2::capabilities_server::{Capabilities, CapabilitiesServer};
-use zigrunk_remote::api::v2::content_addressable_storage_server::{ContentAddressableStorage, ContentAddressableStorageServer};
+use zigrunk_remote::api::v2::content_addressable_storage_server::{
+    ContentAddressableStorage, ContentAddressableStorageServer,
+};
 use zigrunk_remote::api::v2::execution_server::{Execution, ExecutionServer};
 use zigrunk_remote::api::v2::{self, batch_read_blobs_response, batch_update_blobs_response, *};
 use zigrunk_remote::digest::digest_of;
@@ -90,7 +93,11 @@ impl State {
     /// Takes part of what it has away, now and then.
     fn forget(&mut self) {
         if self.fails() {
-            let lost = self.contents.keys().nth(usize::try_from(self.lot.below(1 + self.contents.len() as u64)).unwrap()).cloned();
+            let lost = self
+                .contents
+                .keys()
+                .nth(usize::try_from(self.lot.below(1 + self.contents.len() as u64)).unwrap())
+                .cloned();
             lost.map(|hash| self.contents.remove(&hash));
         }
     }
@@ -119,7 +126,8 @@ impl State {
 
     fn message<T: Message + Default>(&mut self, digest: Option<&Digest>) -> Result<T, Status> {
         let digest = digest.ok_or_else(|| Status::invalid_argument("no digest"))?;
-        let content = self.contents.get(&digest.hash).ok_or_else(|| Status::failed_precondition("missing content"))?;
+        let content =
+            self.contents.get(&digest.hash).ok_or_else(|| Status::failed_precondition("missing content"))?;
         T::decode(content.as_slice()).map_err(|_| Status::invalid_argument("no message"))
     }
 
@@ -127,8 +135,12 @@ impl State {
         let directory: Directory = self.message(digest)?;
         for file in directory.files {
             let hash = file.digest.unwrap_or_default().hash;
-            let content = self.contents.get(&hash).cloned().or_else(|| (hash == digest_of(b"").hash).then(Vec::new));
-            fs::write(folder.join(file.name), content.ok_or_else(|| Status::failed_precondition("missing content"))?)?;
+            let content =
+                self.contents.get(&hash).cloned().or_else(|| (hash == digest_of(b"").hash).then(Vec::new));
+            fs::write(
+                folder.join(file.name),
+                content.ok_or_else(|| Status::failed_precondition("missing content"))?,
+            )?;
         }
         for inner in directory.directories {
             fs::create_dir(folder.join(&inner.name))?;
@@ -144,10 +156,20 @@ impl State {
         let folder = tempfile::tempdir()?;
         self.stage(action.input_root_digest.as_ref(), folder.path())?;
         let program = if self.lacks_tools { "/no/such/tool" } else { &command.arguments[0] };
-        let variables = command.environment_variables.into_iter().map(|variable| (variable.name, variable.value));
-        let ran = Command::new(program).args(&command.arguments[1..]).current_dir(folder.path()).env_clear().envs(variables).output();
+        let variables =
+            command.environment_variables.into_iter().map(|variable| (variable.name, variable.value));
+        let ran = Command::new(program)
+            .args(&command.arguments[1..])
+            .current_dir(folder.path())
+            .env_clear()
+            .envs(variables)
+            .output();
         let Ok(ran) = ran else { return Ok(ActionResult { exit_code: 127, ..ActionResult::default() }) };
-        let mut result = ActionResult { exit_code: ran.status.code().unwrap_or(255), stdout_raw: ran.stdout, ..ActionResult::default() };
+        let mut result = ActionResult {
+            exit_code: ran.status.code().unwrap_or(255),
+            stdout_raw: ran.stdout,
+            ..ActionResult::default()
+        };
         let errors = digest_of(&ran.stderr);
         self.contents.insert(errors.hash.clone(), ran.stderr);
         result.stderr_digest = Some(errors);
@@ -186,7 +208,8 @@ impl Fake {
             runtime.block_on(async {
                 let listener = TcpListener::bind("127.0.0.1:0").await.unwrap();
                 told.send(listener.local_addr().unwrap()).unwrap();
-                let server = tls.map_or_else(Server::builder, |tls| Server::builder().tls_config(tls).unwrap());
+                let server =
+                    tls.map_or_else(Server::builder, |tls| Server::builder().tls_config(tls).unwrap());
                 serve(server, service, listener, ended).await;
             });
         });
@@ -226,12 +249,24 @@ impl Service {
     fn called<T>(&self, name: &'static str, request: &Request<T>) -> Result<MutexGuard<'_, State>, Status> {
         let mut state = self.0.lock().unwrap();
         state.calls.push(name);
-        let bearer = request.metadata().get("authorization").map(|value| value.to_str().unwrap_or_default().to_owned());
-        if state.token.as_ref().is_some_and(|token| bearer.as_deref() != Some(format!("Bearer {token}").as_str())) {
+        let bearer = request
+            .metadata()
+            .get("authorization")
+            .map(|value| value.to_str().unwrap_or_default().to_owned());
+        if state
+            .token
+            .as_ref()
+            .is_some_and(|token| bearer.as_deref() != Some(format!("Bearer {token}").as_str()))
+        {
             return Err(Status::unauthenticated("the token has expired"));
         }
         if state.fails() {
-            let kinds = [Status::unavailable("busy"), Status::internal("broken"), Status::aborted("again"), Status::resource_exhausted("too many")];
+            let kinds = [
+                Status::unavailable("busy"),
+                Status::internal("broken"),
+                Status::aborted("again"),
+                Status::resource_exhausted("too many"),
+            ];
             let kind = usize::try_from(state.lot.below(kinds.len() as u64)).unwrap();
             return Err(kinds[kind].clone());
         }
@@ -242,22 +277,35 @@ impl Service {
 
 #[tonic::async_trait]
 impl Capabilities for Service {
-    async fn get_capabilities(&self, request: Request<GetCapabilitiesRequest>) -> Result<Response<ServerCapabilities>, Status> {
+    async fn get_capabilities(
+        &self,
+        request: Request<GetCapabilitiesRequest>,
+    ) -> Result<Response<ServerCapabilities>, Status> {
         let state = self.called("capabilities", &request)?;
         let sha256 = digest_function::Value::Sha256 as i32;
         let update = ActionCacheUpdateCapabilities { update_enabled: state.takes_results };
-        let cache =
-            CacheCapabilities { digest_functions: vec![sha256], action_cache_update_capabilities: Some(update), ..CacheCapabilities::default() };
+        let cache = CacheCapabilities {
+            digest_functions: vec![sha256],
+            action_cache_update_capabilities: Some(update),
+            ..CacheCapabilities::default()
+        };
         let execution = ExecutionCapabilities { digest_function: sha256, exec_enabled: state.executes };
-        Ok(Response::new(ServerCapabilities { cache_capabilities: Some(cache), execution_capabilities: Some(execution) }))
+        Ok(Response::new(ServerCapabilities {
+            cache_capabilities: Some(cache),
+            execution_capabilities: Some(execution),
+        }))
     }
 }
 
 #[tonic::async_trait]
 impl ContentAddressableStorage for Service {
-    async fn find_missing_blobs(&self, request: Request<FindMissingBlobsRequest>) -> Result<Response<FindMissingBlobsResponse>, Status> {
+    async fn find_missing_blobs(
+        &self,
+        request: Request<FindMissingBlobsRequest>,
+    ) -> Result<Response<FindMissingBlobsResponse>, Status> {
         let state = self.called("missing", &request)?;
-        let asked: BTreeSet<String> = request.get_ref().blob_digests.iter().map(|digest| digest.hash.clone()).collect();
+        let asked: BTreeSet<String> =
+            request.get_ref().blob_digests.iter().map(|digest| digest.hash.clone()).collect();
         assert_eq!(asked.len(), request.get_ref().blob_digests.len(), "each content is asked for once");
         let is_missing = |digest: &Digest| !state.contents.contains_key(&digest.hash);
         Ok(Response::new(FindMissingBlobsResponse {
@@ -265,24 +313,35 @@ impl ContentAddressableStorage for Service {
         }))
     }
 
-    async fn batch_update_blobs(&self, request: Request<BatchUpdateBlobsRequest>) -> Result<Response<BatchUpdateBlobsResponse>, Status> {
+    async fn batch_update_blobs(
+        &self,
+        request: Request<BatchUpdateBlobsRequest>,
+    ) -> Result<Response<BatchUpdateBlobsResponse>, Status> {
         let mut state = self.called("update", &request)?;
         let update = |one: batch_update_blobs_request::Request| {
             let digest = one.digest.unwrap_or_default();
-            let status =
-                state.keep(&digest, one.data).err().map(|status| rpc::Status { code: status.code() as i32, message: status.message().into() });
+            let status = state
+                .keep(&digest, one.data)
+                .err()
+                .map(|status| rpc::Status { code: status.code() as i32, message: status.message().into() });
             batch_update_blobs_response::Response { digest: Some(digest), status }
         };
         let responses = request.into_inner().requests.into_iter().map(update).collect();
         Ok(Response::new(BatchUpdateBlobsResponse { responses }))
     }
 
-    async fn batch_read_blobs(&self, request: Request<BatchReadBlobsRequest>) -> Result<Response<BatchReadBlobsResponse>, Status> {
+    async fn batch_read_blobs(
+        &self,
+        request: Request<BatchReadBlobsRequest>,
+    ) -> Result<Response<BatchReadBlobsResponse>, Status> {
         let mut state = self.called("read", &request)?;
         let read = |digest: Digest| match state.content(&digest) {
-            Ok(data) => batch_read_blobs_response::Response { digest: Some(digest), data, ..Default::default() },
+            Ok(data) => {
+                batch_read_blobs_response::Response { digest: Some(digest), data, ..Default::default() }
+            }
             Err(status) => {
-                let status = Some(rpc::Status { code: status.code() as i32, message: status.message().into() });
+                let status =
+                    Some(rpc::Status { code: status.code() as i32, message: status.message().into() });
                 batch_read_blobs_response::Response { digest: Some(digest), status, ..Default::default() }
             }
         };
@@ -293,17 +352,24 @@ impl ContentAddressableStorage for Service {
 
 #[tonic::async_trait]
 impl ActionCache for Service {
-    async fn get_action_result(&self, request: Request<GetActionResultRequest>) -> Result<Response<ActionResult>, Status> {
+    async fn get_action_result(
+        &self,
+        request: Request<GetActionResultRequest>,
+    ) -> Result<Response<ActionResult>, Status> {
         let state = self.called("result", &request)?;
         let hash = request.into_inner().action_digest.unwrap_or_default().hash;
         state.results.get(&hash).cloned().map(Response::new).ok_or_else(|| Status::not_found("no result"))
     }
 
-    async fn update_action_result(&self, request: Request<UpdateActionResultRequest>) -> Result<Response<ActionResult>, Status> {
+    async fn update_action_result(
+        &self,
+        request: Request<UpdateActionResultRequest>,
+    ) -> Result<Response<ActionResult>, Status> {
         let mut state = self.called("keep", &request)?;
         let message = request.into_inner();
         let result = message.action_result.unwrap_or_default();
-        let lacks = |file: &OutputFile| !state.contents.contains_key(&file.digest.clone().unwrap_or_default().hash);
+        let lacks =
+            |file: &OutputFile| !state.contents.contains_key(&file.digest.clone().unwrap_or_default().hash);
         if state.fails_one_of == 0 {
             assert!(!result.output_files.iter().any(lacks), "contents come before the result");
         }
@@ -322,12 +388,14 @@ impl Service {
         let response = match state.run(digest) {
             Ok(result) => ExecuteResponse { result: Some(result), ..ExecuteResponse::default() },
             Err(status) => {
-                let status = Some(rpc::Status { code: status.code() as i32, message: status.message().into() });
+                let status =
+                    Some(rpc::Status { code: status.code() as i32, message: status.message().into() });
                 ExecuteResponse { status, ..ExecuteResponse::default() }
             }
         };
         let any = prost_types::Any { type_url: String::new(), value: response.encode_to_vec() };
-        let ended = Operation { name: name.into(), done: true, result: Some(operation::Result::Response(any)) };
+        let ended =
+            Operation { name: name.into(), done: true, result: Some(operation::Result::Response(any)) };
         Box::pin(tokio_stream::iter([Ok(begun), Ok(ended)]))
     }
 }
@@ -337,7 +405,10 @@ impl Execution for Service {
     type ExecuteStream = Answers<Operation>;
     type WaitExecutionStream = Answers<Operation>;
 
-    async fn execute(&self, request: Request<ExecuteRequest>) -> Result<Response<Answers<Operation>>, Status> {
+    async fn execute(
+        &self,
+        request: Request<ExecuteRequest>,
+    ) -> Result<Response<Answers<Operation>>, Status> {
         let mut state = self.called("execute", &request)?;
         if !state.executes {
             return Err(Status::unimplemented("no execution"));
@@ -348,13 +419,17 @@ impl Execution for Service {
         Ok(Response::new(self.operations(&mut state, &name, &digest)))
     }
 
-    async fn wait_execution(&self, request: Request<WaitExecutionRequest>) -> Result<Response<Answers<Operation>>, Status> {
+    async fn wait_execution(
+        &self,
+        request: Request<WaitExecutionRequest>,
+    ) -> Result<Response<Answers<Operation>>, Status> {
         let mut state = self.called("wait", &request)?;
         if state.fails() {
             state.executions.clear();
         }
         let name = request.into_inner().name;
-        let digest = state.executions.get(&name).cloned().ok_or_else(|| Status::not_found("no such execution"))?;
+        let digest =
+            state.executions.get(&name).cloned().ok_or_else(|| Status::not_found("no such execution"))?;
         Ok(Response::new(self.operations(&mut state, &name, &digest)))
     }
 }
@@ -366,7 +441,8 @@ impl ByteStream for Service {
     async fn read(&self, request: Request<ReadRequest>) -> Result<Response<Answers<ReadResponse>>, Status> {
         let mut state = self.called("read stream", &request)?;
         let content = state.content(&digest_in(&request.get_ref().resource_name)?)?;
-        let mut parts: Vec<Result<ReadResponse, Status>> = content.chunks(1 << 20).map(|part| Ok(ReadResponse { data: part.to_vec() })).collect();
+        let mut parts: Vec<Result<ReadResponse, Status>> =
+            content.chunks(1 << 20).map(|part| Ok(ReadResponse { data: part.to_vec() })).collect();
         if state.fails() {
             parts.pop();
             parts.push(Err(Status::unavailable("the stream broke")));
@@ -374,9 +450,13 @@ impl ByteStream for Service {
         Ok(Response::new(Box::pin(tokio_stream::iter(parts))))
     }
 
-    async fn write(&self, request: Request<Streaming<WriteRequest>>) -> Result<Response<WriteResponse>, Status> {
+    async fn write(
+        &self,
+        request: Request<Streaming<WriteRequest>>,
+    ) -> Result<Response<WriteResponse>, Status> {
         drop(self.called("write stream", &request)?);
-        let (mut stream, mut name, mut content, mut is_whole) = (request.into_inner(), String::new(), Vec::new(), false);
+        let (mut stream, mut name, mut content, mut is_whole) =
+            (request.into_inner(), String::new(), Vec::new(), false);
         while let Some(part) = stream.next().await {
             let part = part?;
             if name.is_empty() {
@@ -399,7 +479,10 @@ impl ByteStream for Service {
 fn digest_in(name: &str) -> Result<Digest, Status> {
     let parts: Vec<&str> = name.rsplit('/').take(3).collect();
     match parts.as_slice() {
-        [size, hash, "blobs"] => Ok(Digest { hash: (*hash).to_owned(), size_bytes: size.parse().map_err(|_| Status::invalid_argument("no size"))? }),
+        [size, hash, "blobs"] => Ok(Digest {
+            hash: (*hash).to_owned(),
+            size_bytes: size.parse().map_err(|_| Status::invalid_argument("no size"))?,
+        }),
         _ => Err(Status::invalid_argument("no content's name")),
     }
 }
