@@ -11,9 +11,10 @@ counts as two parts, its head and the rest, each with the needs that the log has
 - a schedule of the parts has to accept these starts and ends in the order of their times, whatever fails. libzigrunk's is the proved one, by which
   `may_happen` of the crate schedule_orders is defined;
 - a command that opened a file which an earlier one opened to write, or the other way round, has to need that one; a head, for what it opened;
-- commands that ran at the same time, those of a build's other calls too, may open no file that one of them opened to write.
+- commands that ran at the same time, those of a build's other calls too, may open no file that one of them opened to write;
+- each file has to hold what it holds after the plan's commands one after the other, and each product what nvcc's holds (tests/premises.py).
 
-It says how many parts began before all that their commands need had ended, and how many calls of each kind there were. The last line is
+It says how many parts began before all that their commands need had ended, and how many calls and files of each kind there were. The last line is
 'N passed, M failed', and the status is 1 if one failed. It needs nvcc, strace, make, ninja, and what `make rust` and
 `cargo build --release -p capi` leave.
 """
@@ -36,14 +37,15 @@ from collections.abc import Iterator
 from pathlib import Path
 from typing import Any, NamedTuple
 
+import premises
 import random_calls
-from compare_calls import Call, write_sources
+from compare_calls import Call, path_of, version_of, write_sources
 from runner import TOOLS, Counts, skip_all
 
 TOP = Path(__file__).resolve().parent.parent
 PROGRAMS = {"cicc", "cudafe++", "ptxas", "fatbinary", "nvlink", "gcc", "g++", "cc", "c++", "nvcc"}
 TARGET = re.compile(r"\w+-linux-\w+-")
-TRACED = "trace=execve,open,openat,creat,chdir,clone,clone3,fork,vfork,exit_group"
+TRACED = "trace=execve,open,openat,creat,chdir,clone,clone3,fork,vfork,exit_group,unlinkat"
 # Of ten calls so many are of the lists, so many are random, and so many are those of builds. The others are of the sources below.
 SHARES = {"lists": 4, "random": 3, "builds": 2, "few": 1}
 # How many calls are drawn for one that is split.
@@ -201,10 +203,19 @@ def process(one: dict[str, Any]) -> Process:
     return Process(one["kind"], one["begin"], one["end"] or float("inf"), one["written"], one["opened"])
 
 
+def entry_of(path: str) -> dict[str, Any]:
+    """What a log has of its call."""
+    lines = Path(path).read_text(encoding="utf-8").splitlines() if os.path.exists(path) else []
+    return next((json.loads(line) for line in lines if '"commands"' in line), {})
+
+
 def logged(path: str) -> list[dict[str, Any]]:
     """The commands of the call that a log has."""
-    lines = Path(path).read_text(encoding="utf-8").splitlines() if os.path.exists(path) else []
-    return next((json.loads(line)["commands"] for line in lines if '"commands"' in line), [])
+    return entry_of(path).get("commands", [])
+
+
+def status_of(path: str) -> int:
+    return entry_of(path).get("status", -1)
 
 
 # what the log says of it
@@ -336,10 +347,11 @@ def ninja_file(calls: list[list[str]], logs: list[str]) -> str:
 
 
 class Made(NamedTuple):
-    """What was made at once: calls, and all their tools."""
+    """What was made at once: calls, all their tools, and how what each call left compares with what its plan's commands leave, and nvcc."""
 
     calls: list[Traced]
     tools: list[Process]
+    compared: list[premises.Compared]
 
 
 class Caller:
@@ -347,6 +359,7 @@ class Caller:
 
     def __init__(self, driver: str, seed: int) -> None:
         self.driver, self.seed = driver, seed
+        self.comparer = premises.Comparer(driver, nvcc := path_of("nvcc"), version_of(nvcc))
         self.lines, self.table = listed(), random_calls.options()
         random.Random(seed).shuffle(self.lines)
         self.weights = [random_calls.WEIGHTS[option.purpose] for option in self.table]
@@ -360,42 +373,58 @@ class Caller:
             for name, text in FILES.items():
                 Path(f"{folder}/work/{name}").write_text(text, encoding="utf-8")
             if kind == "builds":
-                return self.build(folder, lot)
-            return self.call(folder, self.line(kind, number, lot), lot)
+                return self.build(premises.Room(folder), lot)
+            return self.call(premises.Room(folder), self.line(kind, number, lot), lot)
 
     def line(self, kind: str, number: int, lot: random.Random) -> str:
         if kind == "lists":
             return self.lines[number % len(self.lines)]
         return shlex.join(drawn(lot, "out")) if kind == "few" else random_calls.line_of(self.seed, number, self.table, self.weights)
 
-    def call(self, folder: str, line: str, lot: random.Random) -> Made:
+    def call(self, room: premises.Room, line: str, lot: random.Random) -> Made:
         """Makes the call of a line."""
-        call, work = Call(line, 0), f"{folder}/work"
+        call, work = Call(line, 0), str(room.work)
         if call.setup:
             subprocess.run(["bash", "-c", call.setup], cwd=work, env={**os.environ, "WORK": work}, capture_output=True, check=False)
-        env = {name: value.replace("@WORK@", work) for name, value in call.env.items()}
+        room.keep()
+        log, cwd = f"{room.folder}/log.0", f"{work}/{call.cwd}"
+        env = self.environment(room, {"ZIGRUNK_LOG": log, **{name: value.replace("@WORK@", work) for name, value in call.env.items()}}, lot)
         words = [word.replace("@WORK@", work) for word in call.words]
-        trace = self.traced([self.driver, *words], folder, f"{work}/{call.cwd}", lot, {"ZIGRUNK_LOG": f"{folder}/log.0", **env})
-        return Made([trace.call(f"{folder}/log.0", line)], [process(one) for one in trace.tools])
+        ran, trace = traced([self.driver, *words], room, cwd, env)
+        one = trace.call(log, line)
+        compared = [self.comparer.compare(room, line, words, Path(cwd), env, room.left(ran))] if one.commands else []
+        return Made([one], [process(tool) for tool in trace.tools], compared)
 
-    def build(self, folder: str, lot: random.Random) -> Made:
+    def build(self, room: premises.Room, lot: random.Random) -> Made:
         """Makes the calls of a build."""
         calls = [drawn(lot, f"out{number}") for number in range(lot.choice([4, 5, 6]))]
-        logs = [f"{folder}/log.{number}" for number in range(len(calls))]
-        Path(f"{folder}/work/Makefile").write_text(makefile(calls, logs), encoding="utf-8")
-        Path(f"{folder}/work/build.ninja").write_text(ninja_file(calls, logs), encoding="utf-8")
+        logs = [f"{room.folder}/log.{number}" for number in range(len(calls))]
+        Path(f"{room.work}/Makefile").write_text(makefile(calls, logs), encoding="utf-8")
+        Path(f"{room.work}/build.ninja").write_text(ninja_file(calls, logs), encoding="utf-8")
+        room.keep()
         builder = lot.choice([["make", "-k"], ["ninja", "-k", "0"]])
-        trace = self.traced([*builder, f"-j{lot.choice([3, 4, 6])}"], folder, f"{folder}/work", lot, {})
+        env = self.environment(room, {}, lot)
+        ran, trace = traced([*builder, f"-j{lot.choice([3, 4, 6])}"], room, str(room.work), env)
         made = [trace.call(log, f"by {builder[0]}: {shlex.join(words)}") for log, words in zip(logs, calls)]
-        return Made(made, [process(one) for one in trace.tools])
+        left = room.left(ran)
+        compared = [self.comparer.compare(room, one.words, words, room.work, env, left._replace(status=status_of(log), said=None))
+                    for one, words, log in zip(made, calls, logs) if one.commands]
+        return Made(made, [process(one) for one in trace.tools], compared)
 
-    def traced(self, words: list[str], folder: str, cwd: str, lot: random.Random, more: dict[str, str]) -> Trace:
-        """What some words start in a folder."""
+    def environment(self, room: premises.Room, more: dict[str, str], lot: random.Random) -> dict[str, str]:
+        """The variables of a call. It shares slots with no call outside its room, since nobody removes what it waits by there."""
+        (room.folder / "run").mkdir(mode=0o700)
         kept = {name: value for name, value in os.environ.items() if not name.startswith(("ZIGRUNK", "NVCC_", "MAKEFLAGS"))}
-        env = {**kept, "TMPDIR": f"{folder}/tmp", "ZIGRUNK_SLOTS": str(lot.choice([2, 4, 8])), "DRIVER": self.driver, **more}
-        strace = ["strace", "-f", "--seccomp-bpf", "-ttt", "-q", "-s", "4096", "-e", TRACED, "-e", "signal=none", "-o", f"{folder}/trace"]
-        subprocess.run([*strace, *words], cwd=cwd, env=env, stdin=subprocess.DEVNULL, capture_output=True, check=False)
-        return Trace(Path(f"{folder}/trace").read_text(encoding="utf-8", errors="replace"), os.path.normpath(cwd))
+        return {**kept, "TMPDIR": str(room.temporary), "XDG_RUNTIME_DIR": f"{room.folder}/run", "ZIGRUNK_SLOTS": str(lot.choice([2, 4, 8])),
+                "DRIVER": self.driver, **more}
+
+
+def traced(words: list[str], room: premises.Room, cwd: str, env: dict[str, str]) -> tuple["subprocess.CompletedProcess[bytes]", Trace]:
+    """What some words start in a folder."""
+    file = room.folder / "trace"
+    strace = ["strace", "-f", "--seccomp-bpf", "-ttt", "-q", "-s", "4096", "-e", TRACED, *premises.KEEPING, "-e", "signal=none", "-o", str(file)]
+    ran = subprocess.run([*strace, *words], cwd=cwd, env=env, stdin=subprocess.DEVNULL, capture_output=True, check=False)
+    return ran, Trace(file.read_text(encoding="utf-8", errors="replace"), os.path.normpath(cwd))
 
 
 class Totals:
@@ -408,10 +437,12 @@ class Totals:
     def add(self, kind: str, made: Made, most: int) -> None:
         """Counts what was made at once, but for calls that weren't split, or are more than are wanted of the kind."""
         together = [*shared(made.tools)]
-        for call in [call for call in made.calls if call.commands][:most - self.kinds[kind]]:
+        split = [call for call in made.calls if call.commands]
+        for call, compared in [*zip(split, made.compared)][:most - self.kinds[kind]]:
             commands, problems = seen(call)
             problems += [] if problems else [*refusals(self.zigrunk, commands), *unordered(commands, [*tools_of(call)])]
-            self.counts.case(call.words, [*problems, *together])
+            self.counts.case(call.words, [*problems, *compared.problems, *together])
+            self.seen.update(compared.seen)
             together = []
             self.kinds[kind] += 1
             self.seen.update(parts=len(parts_of(call.commands)), heads=sum("went_on" in one for one in call.commands),
@@ -422,7 +453,9 @@ class Totals:
         kinds = ", ".join(f"{self.kinds[kind]} of {kind}" for kind in SHARES if self.kinds[kind])
         calls, shown = self.counts.passed + self.counts.failed, self.seen
         print(f"seed {seed}: {calls} calls, {kinds}; {shown['parts']} parts, {shown['heads']} of them heads, {shown['halves']} halves of compiles")
-        if lacking := [what for what in ("heads", "halves") if not self.seen[what]]:
+        print(f"{shown['succeeded']} calls succeeded. Beside the plan's commands one after the other: {shown['products']} products, "
+              f"{shown['temporary']} temporary files, {shown['moved']} that stand for others; {shown['undecided']} differ between two such runs")
+        if lacking := [what for what in ("heads", "halves", "succeeded", "temporary", "products", "moved") if not self.seen[what]]:
             self.counts.case("", [f"there were no {' and no '.join(lacking)}"])
 
 
