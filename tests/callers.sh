@@ -92,14 +92,30 @@ first_plans() {
 # has_ten_lines LANGUAGE: whether the program has at most ten.
 has_ten_lines() { [ "$(block "$1" | grep -c '')" -le 10 ] && [ "$(block "$1" | grep -c '')" -gt 2 ]; }
 
-# answers PROGRAM..: what a program says of the rows of the table, and of pairs of dry runs by lot, if they are alike what C says.
-answers() { env -i PATH="$PATH" HOME="$HOME" "${python_environment[@]}" "$@" "$room" < "$scratch/rows"; }
-alike() { diff "$scratch/answers" <(answers "$@"); }
+# in_parts FUNCTION PROGRAM..: whether a function succeeds with each part of the rows, of the table and of pairs of dry runs by lot. As many parts run
+# at once as there are processors.
+in_parts() {
+    local part started=0
+    rm -f "$scratch/failed"
+    for part in "$scratch"/rows/*; do
+        [ "$((started++))" -lt "$(nproc)" ] || wait -n
+        { "$1" "${part##*/}" "${@:2}" || touch "$scratch/failed"; } &
+    done
+    wait
+    ! [ -e "$scratch/failed" ]
+}
+
+# answers PART PROGRAM..: what a program says of a part of the rows.
+answers() { env -i PATH="$PATH" HOME="$HOME" "${python_environment[@]}" "${@:2}" "$room" < "$scratch/rows/$1"; }
+note() { answers "$@" > "$scratch/answers/$1"; }
+is_alike() { diff "$scratch/answers/$1" <(answers "$@"); }
+alike() { in_parts is_alike "$@"; }
 
 # told: what C says. Some of the pairs by lot are planned, and some aren't.
 told() {
-    answers "$scratch/answers_c" > "$scratch/answers" &&
-        awk '/^== lot/ { all++ } /^refused 1[02] / && !/ 0 0$/ { refused++ } /^start 0$/ { planned++ } END { exit !(all && refused > all / 4 && planned > 2) }' "$scratch/answers"
+    in_parts note "$scratch/answers_c" &&
+        cat "$scratch"/answers/* |
+        awk '/^== lot/ { all++ } /^refused 1[02] / && !/ 0 0$/ { refused++ } /^start 0$/ { planned++ } END { exit !(all && refused > all / 4 && planned > 2) }'
 }
 
 # by_cmake: a project finds the library, as it is shared and as an archive.
@@ -173,7 +189,8 @@ check 'C: the program with the archive' built_c "$scratch/first.c" "$scratch/fir
 check 'C: its plan with the archive' plans "$scratch/first_static"
 pairs=${PAIRS:-100}
 python_environment=(LD_LIBRARY_PATH="$LD_LIBRARY_PATH" ZIGRUNK_LIBRARY="$ZIGRUNK_LIBRARY" PYTHONPATH="$PYTHONPATH" PYTHONDONTWRITEBYTECODE=1 LC_CTYPE=C.UTF-8)
-{ misuse_rows && python3 tests/callers/mutated.py "$room" "${SEED:-1}" "$pairs"; } > "$scratch/rows"
+mkdir "$scratch/rows" "$scratch/answers"
+{ misuse_rows && python3 tests/callers/mutated.py "$room" "${SEED:-1}" "$pairs"; } | split -a 4 -l 500 - "$scratch/rows/"
 check 'C: answers.c' built_c tests/callers/answers.c "$scratch/answers_c" "${flags[@]}"
 check "C: what it says of the table and of $pairs pairs by lot" told
 check 'C++: answers.cpp' built_cpp tests/callers/answers.cpp "$scratch/answers_cpp" "${flags[@]}"

@@ -362,7 +362,7 @@ typedef struct zigrunk_found_program {
     struct zigrunk_text program;
     // The value of PATH.
     struct zigrunk_text path;
-    // The program's path, or NULL if there is no such program.
+    // The program's path, or NULL or an empty text if there is no such program.
     struct zigrunk_text found;
 } zigrunk_found_program;
 

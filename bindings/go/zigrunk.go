@@ -9,10 +9,8 @@ package zigrunk
 // #include <zigrunk.h>
 import "C"
 
-import (
-	"runtime"
-	"unsafe"
-)
+import "runtime"
+import "unsafe"
 
 // Status says why a call is refused.
 type Status int
@@ -76,18 +74,16 @@ func (e *Error) Error() string { return e.Message }
 
 // Run is a program to run without a shell: its name or path and its words, all of its environment as NAME=VALUE, and its directory.
 type Run struct {
-	Words       []string
-	Environment []string
-	Directory   string
+	Words, Environment []string
+	Directory          string
 }
 
 // Command is a command of a plan.
 type Command struct {
 	Run
-	// Reads, Writes and MayWrite are the paths of the files that it reads by its words (see Missing), writes, and may write or leave out.
-	Reads, Writes, MayWrite []string
-	// Targets are names such as compute_80 or sm_80. Those of a preprocessor are those of the cicc commands that read what it writes.
-	Targets []string
+	// Reads, Writes and MayWrite are the paths of the files that it reads by its words (see Missing), writes, and may write or leave out. Targets are
+	// names such as compute_80 or sm_80; those of a preprocessor are those of the cicc commands that read what it writes.
+	Reads, Writes, MayWrite, Targets []string
 	// Needs are the numbers of the commands that have to end before it starts, ascending.
 	Needs []int
 	// Group is the number of its group, DryRun the dry run that it is of, 1 or 2, and Line its line there, from 1.
@@ -100,17 +96,66 @@ type Command struct {
 	Cacheable, Preprocesses bool
 }
 
+// given is memory of C for what one function is passed, and where that puts what it makes, and why it refuses.
+type given struct {
+	memory   []unsafe.Pointer
+	keeps    *owned // what it is passed that is freed once nobody uses it
+	why      *C.zigrunk_error
+	answer   *C.zigrunk_answer
+	call     *C.zigrunk_call
+	plan     *C.zigrunk_plan
+	schedule *C.zigrunk_schedule
+	line     *C.zigrunk_line
+}
+
+// copied is a copy in memory of C, as far as Go's rules for pointers ask for it.
+func copied[Of any](g *given, all []Of) *Of {
+	room := C.malloc(C.size_t(len(all)+1) * C.size_t(unsafe.Sizeof(*new(Of))))
+	g.memory = append(g.memory, room)
+	copy(unsafe.Slice((*Of)(room), len(all)), all)
+	return (*Of)(room)
+}
+
+func (g *given) text(of string) C.zigrunk_text {
+	return C.zigrunk_text{(*C.char)(unsafe.Pointer(copied(g, []byte(of)))), C.size_t(len(of))}
+}
+
+func (g *given) texts(of []string) C.zigrunk_texts {
+	items, lengths := make([]*C.char, len(of)), make([]C.size_t, len(of))
+	for i, it := range of {
+		items[i], lengths[i] = g.text(it).bytes, C.size_t(len(it))
+	}
+	return C.zigrunk_texts{copied(g, items), copied(g, lengths), C.size_t(len(of))}
+}
+
+// ended frees what a function was passed, and says why it refuses.
+func (g *given) ended(status C.int32_t) error {
+	for _, it := range g.memory {
+		C.free(it)
+	}
+	if status == C.ZIGRUNK_OK {
+		return nil
+	}
+	defer C.zigrunk_free(unsafe.Pointer(g.why))
+	return &Error{Status(status), uint32(g.why.input), int(g.why.line), text(g.why.message)}
+}
+
+// answered are the texts that a function makes.
+func (g *given) answered(status C.int32_t) ([]string, error) {
+	if err := g.ended(status); err != nil {
+		return nil, err
+	}
+	defer C.zigrunk_free(unsafe.Pointer(g.answer))
+	return texts(g.answer.texts), nil
+}
+
 // owned is what a function has made, which is freed once nobody uses it.
 type owned struct{ pointer unsafe.Pointer }
 
-func own(pointer unsafe.Pointer, status C.int32_t, refused *C.zigrunk_error) (*owned, error) {
-	if status != C.ZIGRUNK_OK {
-		defer C.zigrunk_free(unsafe.Pointer(refused))
-		return nil, &Error{Status(status), uint32(refused.input), int(refused.line), text(refused.message)}
-	}
-	made := &owned{pointer}
-	runtime.SetFinalizer(made, func(made *owned) { C.zigrunk_free(made.pointer) })
-	return made, nil
+func own(made unsafe.Pointer) *owned {
+	it := &owned{made}
+	runtime.SetFinalizer(it, func(it *owned) { C.zigrunk_free(it.pointer) })
+	return it
 }
 
 func text(of C.zigrunk_text) string {
@@ -119,41 +164,10 @@ func text(of C.zigrunk_text) string {
 
 func texts(of C.zigrunk_texts) []string {
 	made := make([]string, of.count)
-	items, lengths := unsafe.Slice(of.items, of.count), unsafe.Slice(of.lengths, of.count)
-	for i := range made {
-		made[i] = text(C.zigrunk_text{items[i], lengths[i]})
+	for i, item := range unsafe.Slice(of.items, of.count) {
+		made[i] = text(C.zigrunk_text{item, unsafe.Slice(of.lengths, of.count)[i]})
 	}
 	return made
-}
-
-// given is memory of C for what is passed.
-type given struct{ all []unsafe.Pointer }
-
-func (g *given) room(size int) unsafe.Pointer {
-	made := C.malloc(C.size_t(size + 1))
-	g.all = append(g.all, made)
-	return made
-}
-
-func (g *given) free() {
-	for _, it := range g.all {
-		C.free(it)
-	}
-}
-
-func (g *given) text(of string) C.zigrunk_text {
-	room := g.room(len(of))
-	copy(unsafe.Slice((*byte)(room), len(of)), of)
-	return C.zigrunk_text{(*C.char)(room), C.size_t(len(of))}
-}
-
-func (g *given) texts(of []string) C.zigrunk_texts {
-	items, lengths := (**C.char)(g.room(len(of)*8)), (*C.size_t)(g.room(len(of)*8))
-	for i, it := range of {
-		text := g.text(it)
-		unsafe.Slice(items, len(of))[i], unsafe.Slice(lengths, len(of))[i] = text.bytes, text.length
-	}
-	return C.zigrunk_texts{items, lengths, C.size_t(len(of))}
 }
 
 // Lookup is a program that dry runs name, and the value of PATH there.
@@ -170,15 +184,11 @@ func (g *given) programs(of []FoundProgram) (*C.zigrunk_found_program, C.size_t)
 	if of == nil {
 		return nil, 0
 	}
-	rows := (*C.zigrunk_found_program)(g.room(len(of) * C.sizeof_zigrunk_found_program))
-	for i, it := range of {
-		row := C.zigrunk_found_program{program: g.text(it.Program), path: g.text(it.Path)}
-		if it.Found != "" {
-			row.found = g.text(it.Found)
-		}
-		unsafe.Slice(rows, len(of))[i] = row
+	rows := []C.zigrunk_found_program{}
+	for _, it := range of {
+		rows = append(rows, C.zigrunk_found_program{g.text(it.Program), g.text(it.Path), g.text(it.Found)})
 	}
-	return rows, C.size_t(len(of))
+	return copied(g, rows), C.size_t(len(rows))
 }
 
 func run(of C.zigrunk_run) Run { return Run{texts(of.words), texts(of.environment), text(of.cwd)} }
@@ -188,8 +198,8 @@ type Call struct {
 	// DryRuns are that of the line as it is, and the two that are planned. Plan runs what it needs of them; to run them elsewhere, pass what they
 	// print to standard error to PlanOf.
 	DryRuns [3]Run
-	// Dependencies is what writes the dependency file, or nil if the line asks for none. It's no command of the plan.
-	Dependencies *Run
+	// Dependencies is what writes the dependency file. It's no command of the plan, and has no words if the line asks for no such file.
+	Dependencies Run
 	// Flag is the option that says what nvcc makes, Input the source's path, as the dry runs have it, and KeepDir the directory that keeps
 	// generated files, or empty.
 	Flag, Input, KeepDir string
@@ -203,24 +213,15 @@ type Call struct {
 // NewCall reads a line of nvcc: its words without nvcc's name, all of its environment, as os.Environ gives it, its directory, and one for
 // temporary files, which has to be there. nvcc reads NVCC_PREPEND_FLAGS and NVCC_APPEND_FLAGS in the environment, and the commands run in it.
 func NewCall(nvcc string, words, environment []string, directory, tmp string) (*Call, error) {
-	var passed given
-	defer passed.free()
-	line := C.zigrunk_nvcc_call{passed.text(nvcc), passed.texts(words), passed.texts(environment), passed.text(directory), passed.text(tmp)}
-	var made *C.zigrunk_call
-	var refused *C.zigrunk_error
-	status := C.zigrunk_call_of(&line, &made, &refused)
-	call, err := own(unsafe.Pointer(made), status, refused)
-	if err != nil {
+	var g given
+	line := C.zigrunk_nvcc_call{g.text(nvcc), g.texts(words), g.texts(environment), g.text(directory), g.text(tmp)}
+	if err := g.ended(C.zigrunk_call_of(&line, &g.call, &g.why)); err != nil {
 		return nil, err
 	}
-	outline := C.zigrunk_call_outline(made)
-	var rule *Run
-	if outline.dependencies.words.count > 0 {
-		dependencies := run(outline.dependencies)
-		rule = &dependencies
-	}
-	runs := [3]Run{run(outline.own_dry_run), run(outline.first_dry_run), run(outline.second_dry_run)}
-	return &Call{runs, rule, text(outline.flag), text(outline.input), text(outline.keep_dir), texts(outline.outputs), int(outline.jobs), call}, nil
+	of := C.zigrunk_call_outline(g.call)
+	runs := [3]Run{run(of.own_dry_run), run(of.first_dry_run), run(of.second_dry_run)}
+	return &Call{runs, run(of.dependencies), text(of.flag), text(of.input), text(of.keep_dir), texts(of.outputs), int(of.jobs),
+		own(unsafe.Pointer(g.call))}, nil
 }
 
 // Plan is what one nvcc call runs: the commands of its groups in order, and those that it dropped.
@@ -229,109 +230,65 @@ type Plan struct {
 	plan              *owned
 }
 
+func (g *given) planned(status C.int32_t) (*Plan, error) {
+	if err := g.ended(status); err != nil {
+		return nil, err
+	}
+	all := C.zigrunk_plan_commands(g.plan)
+	commands := make([]Command, all.count)
+	for i, of := range unsafe.Slice(all.items, all.count) {
+		// (C's size_t is as wide as int)
+		needs := append([]int{}, unsafe.Slice((*int)(unsafe.Pointer(of.needs)), of.needs_count)...)
+		commands[i] = Command{
+			Run: Run{texts(of.words), texts(of.environment), text(of.cwd)}, Reads: texts(of.reads), Writes: texts(of.writes),
+			MayWrite: texts(of.may_write), Targets: texts(of.targets), Needs: needs, Group: int(of.group), DryRun: int(of.dry_run),
+			Line: int(of.line), Tool: Tool(of.tool), Missing: Missing(of.missing), Stage: uint32(of.stage), Reason: uint32(of.reason),
+			Cacheable: of.is_cacheable != 0, Preprocesses: of.preprocesses != 0,
+		}
+	}
+	kept := all.count - all.dropped
+	return &Plan{commands[:kept:kept], commands[kept:], own(unsafe.Pointer(g.plan))}, nil
+}
+
 // Plan runs the dry runs, and plans.
 func (c *Call) Plan() (*Plan, error) {
-	defer runtime.KeepAlive(c)
-	var made *C.zigrunk_plan
-	var refused *C.zigrunk_error
-	status := C.zigrunk_call_plan((*C.zigrunk_call)(c.call.pointer), &made, &refused)
-	return planned(made, status, refused)
+	g := given{keeps: c.call}
+	return g.planned(C.zigrunk_call_plan((*C.zigrunk_call)(c.call.pointer), &g.plan, &g.why))
 }
 
 // PlanOf plans what the dry runs printed. NoDryRun, and the input that is at fault, if the texts aren't the dry runs of this call; ToNvcc if nvcc does
 // something else for the line, or a command reads a file that no command before it writes. If someone else wrote them, give it a limit on the bytes
 // that reading them makes; 0 is none. The programs are where those are that the runs name: nil looks on this machine's disk.
 func (c *Call) PlanOf(ownRun, first, second []byte, programs []FoundProgram, limit int) (*Plan, error) {
-	defer runtime.KeepAlive(c)
-	var passed given
-	defer passed.free()
-	table, count := passed.programs(programs)
-	runs := C.zigrunk_dry_runs{passed.text(string(ownRun)), passed.text(string(first)), passed.text(string(second)), table, count, C.size_t(limit)}
-	var made *C.zigrunk_plan
-	var refused *C.zigrunk_error
-	status := C.zigrunk_call_plan_of((*C.zigrunk_call)(c.call.pointer), &runs, &made, &refused)
-	return planned(made, status, refused)
+	g := given{keeps: c.call}
+	table, count := g.programs(programs)
+	runs := C.zigrunk_dry_runs{g.text(string(ownRun)), g.text(string(first)), g.text(string(second)), table, count, C.size_t(limit)}
+	return g.planned(C.zigrunk_call_plan_of((*C.zigrunk_call)(c.call.pointer), &runs, &g.plan, &g.why))
 }
 
 // PlanOf plans two dry runs alone, with generated files under canonical names: zigrunk_plan_call of zigrunk.h says what they are.
 func PlanOf(dry1, dry2 []byte, directory, tmp, flag string, environment []string, programs []FoundProgram, limit int) (*Plan, error) {
-	var passed given
-	defer passed.free()
-	table, count := passed.programs(programs)
-	call := C.zigrunk_plan_call{dry1: passed.text(string(dry1)), dry2: passed.text(string(dry2)), cwd: passed.text(directory), tmp: passed.text(tmp),
-		flag: passed.text(flag), environment: passed.texts(environment), programs: table, programs_count: count, limit: C.size_t(limit)}
-	var made *C.zigrunk_plan
-	var refused *C.zigrunk_error
-	status := C.zigrunk_plan_of(&call, &made, &refused)
-	return planned(made, status, refused)
-}
-
-func planned(made *C.zigrunk_plan, status C.int32_t, refused *C.zigrunk_error) (*Plan, error) {
-	plan, err := own(unsafe.Pointer(made), status, refused)
-	if err != nil {
-		return nil, err
-	}
-	all := C.zigrunk_plan_commands(made)
-	commands := make([]Command, all.count)
-	for i, of := range unsafe.Slice(all.items, all.count) {
-		commands[i] = command(of)
-	}
-	kept := all.count - all.dropped
-	return &Plan{commands[:kept:kept], commands[kept:], plan}, nil
-}
-
-func command(of C.zigrunk_command) Command {
-	needs := make([]int, of.needs_count)
-	for i, need := range unsafe.Slice(of.needs, of.needs_count) {
-		needs[i] = int(need)
-	}
-	return Command{
-		Run: Run{texts(of.words), texts(of.environment), text(of.cwd)}, Reads: texts(of.reads), Writes: texts(of.writes),
-		MayWrite: texts(of.may_write), Targets: texts(of.targets), Needs: needs, Group: int(of.group), DryRun: int(of.dry_run), Line: int(of.line),
-		Tool: Tool(of.tool), Missing: Missing(of.missing), Stage: uint32(of.stage), Reason: uint32(of.reason), Cacheable: of.is_cacheable != 0,
-		Preprocesses: of.preprocesses != 0,
-	}
-}
-
-// Where a function puts its answer, or why there is none.
-type (
-	answer  = **C.zigrunk_answer
-	refusal = **C.zigrunk_error
-)
-
-// ask calls a function that makes texts.
-func ask(call func(passed *given, made answer, why refusal) C.int32_t) ([]string, error) {
-	var passed given
-	defer passed.free()
-	var made *C.zigrunk_answer
-	var refused *C.zigrunk_error
-	status := call(&passed, &made, &refused)
-	it, err := own(unsafe.Pointer(made), status, refused)
-	if err != nil {
-		return nil, err
-	}
-	defer runtime.KeepAlive(it)
-	return texts(made.texts), nil
+	var g given
+	table, count := g.programs(programs)
+	call := C.zigrunk_plan_call{dry1: g.text(string(dry1)), dry2: g.text(string(dry2)), cwd: g.text(directory), tmp: g.text(tmp),
+		flag: g.text(flag), environment: g.texts(environment), programs: table, programs_count: count, limit: C.size_t(limit)}
+	return g.planned(C.zigrunk_plan_of(&call, &g.plan, &g.why))
 }
 
 func first(all []string, err error) (string, error) { return append(all, "")[0], err }
 
 // Text is the plan as "json", "ninja", "shell", "compdb" or "text".
 func (p *Plan) Text(format string) (string, error) {
-	defer runtime.KeepAlive(p)
-	return first(ask(func(passed *given, made answer, why refusal) C.int32_t {
-		return C.zigrunk_plan_text((*C.zigrunk_plan)(p.plan.pointer), passed.text(format), made, why)
-	}))
+	g := given{keeps: p.plan}
+	return first(g.answered(C.zigrunk_plan_text((*C.zigrunk_plan)(p.plan.pointer), g.text(format), &g.answer, &g.why)))
 }
 
 // Key is what a cache hashes of a command, by its number, and the files to hash with it and with what the command reads: they tell one version of its
 // tool from another. Two commands for which all that is equal make files of equal contents, in whatever directories they run; EMBEDDING.md has two
 // exceptions. It's an error (BadLine) that says why if a cache may not serve the command. So ask when the commands that it needs have ended.
 func (p *Plan) Key(number int) (key []byte, toolFiles []string, err error) {
-	defer runtime.KeepAlive(p)
-	all, err := ask(func(_ *given, made answer, why refusal) C.int32_t {
-		return C.zigrunk_plan_key((*C.zigrunk_plan)(p.plan.pointer), C.size_t(number), made, why)
-	})
+	g := given{keeps: p.plan}
+	all, err := g.answered(C.zigrunk_plan_key((*C.zigrunk_plan)(p.plan.pointer), C.size_t(number), &g.answer, &g.why))
 	if err != nil {
 		return nil, nil, err
 	}
@@ -340,37 +297,32 @@ func (p *Plan) Key(number int) (key []byte, toolFiles []string, err error) {
 
 // Split lists the words that a POSIX shell reads in a text.
 func Split(text string) ([]string, error) {
-	return ask(func(passed *given, made answer, why refusal) C.int32_t {
-		return C.zigrunk_split(passed.text(text), made, why)
-	})
+	var g given
+	return g.answered(C.zigrunk_split(g.text(text), &g.answer, &g.why))
 }
 
 // Quote is words as one text, which a POSIX shell reads as these words.
 func Quote(words []string) (string, error) {
-	return first(ask(func(passed *given, made answer, why refusal) C.int32_t {
-		return C.zigrunk_quote(passed.texts(words), made, why)
-	}))
+	var g given
+	return first(g.answered(C.zigrunk_quote(g.texts(words), &g.answer, &g.why)))
 }
 
 // Remap is words with canonical names for the files that nvcc generates. The suffixes are behind the standard ones.
 func Remap(words, suffixes []string) ([]string, error) {
-	return ask(func(passed *given, made answer, why refusal) C.int32_t {
-		return C.zigrunk_remap(passed.texts(words), passed.texts(suffixes), made, why)
-	})
+	var g given
+	return g.answered(C.zigrunk_remap(g.texts(words), g.texts(suffixes), &g.answer, &g.why))
 }
 
 // Headers lists the files that the output of a preprocessor names.
 func Headers(output []byte) ([]string, error) {
-	return ask(func(passed *given, made answer, why refusal) C.int32_t {
-		return C.zigrunk_headers(passed.text(string(output)), made, why)
-	})
+	var g given
+	return g.answered(C.zigrunk_headers(g.text(string(output)), &g.answer, &g.why))
 }
 
 // Lookups lists the look-ups of programs that a plan of two dry runs needs, none twice.
 func Lookups(dry1, dry2 []byte, directory string, limit int) (found []Lookup, err error) {
-	all, err := ask(func(passed *given, made answer, why refusal) C.int32_t {
-		return C.zigrunk_lookups(passed.text(string(dry1)), passed.text(string(dry2)), passed.text(directory), C.size_t(limit), made, why)
-	})
+	var g given
+	all, err := g.answered(C.zigrunk_lookups(g.text(string(dry1)), g.text(string(dry2)), g.text(directory), C.size_t(limit), &g.answer, &g.why))
 	for i := 0; i+1 < len(all); i += 2 {
 		found = append(found, Lookup{all[i], all[i+1]})
 	}
@@ -379,9 +331,8 @@ func Lookups(dry1, dry2 []byte, directory string, limit int) (found []Lookup, er
 
 // Candidates lists the paths that a look-up tries, in order: the first that is an executable file is the program.
 func Candidates(of Lookup, directory string) ([]string, error) {
-	return ask(func(passed *given, made answer, why refusal) C.int32_t {
-		return C.zigrunk_candidates(passed.text(of.Program), passed.text(of.Path), passed.text(directory), made, why)
-	})
+	var g given
+	return g.answered(C.zigrunk_candidates(g.text(of.Program), g.text(of.Path), g.text(directory), &g.answer, &g.why))
 }
 
 // Schedule says which command of a plan may start next, and which outputs may be printed. It starts nothing: you say what happened.
@@ -392,32 +343,78 @@ type Schedule struct {
 
 // NewSchedule is a schedule of a plan of which nothing has started. After a failure only commands before it start.
 func NewSchedule(plan *Plan, slots int) (*Schedule, error) {
-	defer runtime.KeepAlive(plan)
-	var passed given
-	defer passed.free()
-	plans := (**C.zigrunk_plan)(passed.room(8))
-	*plans = (*C.zigrunk_plan)(plan.plan.pointer)
+	g := given{keeps: plan.plan}
+	plans := copied(&g, []*C.zigrunk_plan{(*C.zigrunk_plan)(plan.plan.pointer)})
 	call := C.zigrunk_schedule_call{plans: plans, plans_count: 1, slots: C.size_t(slots), after_failure: C.ZIGRUNK_START_EARLIER}
-	var made *C.zigrunk_schedule
-	var refused *C.zigrunk_error
-	status := C.zigrunk_schedule_of(&call, &made, &refused)
-	schedule, err := own(unsafe.Pointer(made), status, refused)
-	return &Schedule{schedule, len(plan.Commands)}, err
+	err := g.ended(C.zigrunk_schedule_of(&call, &g.schedule, &g.why))
+	return &Schedule{own(unsafe.Pointer(g.schedule)), len(plan.Commands)}, err
 }
 
 // Start is the number of a command to start now, which counts as started, or -1 if none may start.
 func (s *Schedule) Start() int {
+	defer runtime.KeepAlive(s)
 	return int(C.zigrunk_schedule_start((*C.zigrunk_schedule)(s.schedule.pointer)))
 }
 
 // Ended notes how a command ended, and says whether it was running.
 func (s *Schedule) Ended(command int, succeeded bool) bool {
+	defer runtime.KeepAlive(s)
 	outcome := map[bool]C.uint32_t{true: C.ZIGRUNK_SUCCEEDED, false: C.ZIGRUNK_FAILED}[succeeded]
 	return C.zigrunk_schedule_ended((*C.zigrunk_schedule)(s.schedule.pointer), C.size_t(command), outcome) == C.ZIGRUNK_OK
 }
 
 // Told says up to which command the outputs from a first one on may be printed, and whether nothing runs and nothing may start.
 func (s *Schedule) Told(first int) (end int, over bool) {
+	defer runtime.KeepAlive(s)
 	progress := C.zigrunk_schedule_progress((*C.zigrunk_schedule)(s.schedule.pointer), C.size_t(first), C.size_t(s.size))
 	return int(progress.told), progress.is_over != 0
+}
+
+// Output is a file that such a line makes: what it is, as "obj", its path, and whether the command may leave it out.
+type Output struct {
+	Key, Path string
+	Optional  bool
+}
+
+// Line is what a line of cicc, ptxas, cudafe++, nvcc, nvc or nvc++ says: zigrunk_line of zigrunk.h says what its fields are.
+type Line struct {
+	Input, CompilationFlag                                                                               string
+	Outputs                                                                                              []Output
+	DependencyArgs, PreprocessorArgs, CommonArgs, ArchArgs, UnhashedArgs, ExtraDistFiles, ExtraHashFiles []string
+	Language, ColorMode                                                                                  uint32
+	DoubleDashInput                                                                                      bool
+}
+
+func (g *given) lineOf(tool Tool, directory string, words, environment []string) *C.zigrunk_line_call {
+	return &C.zigrunk_line_call{cwd: g.text(directory), words: g.texts(words), environment: g.texts(environment), tool: C.uint32_t(tool)}
+}
+
+// LineRecords reads a line, without the tool's name. It's an error (BadLine) if it compiles nothing, or no cache can serve it.
+func LineRecords(tool Tool, directory string, words, environment []string) (*Line, error) {
+	var g given
+	if err := g.ended(C.zigrunk_line_records(g.lineOf(tool, directory, words, environment), &g.line, &g.why)); err != nil {
+		return nil, err
+	}
+	defer C.zigrunk_free(unsafe.Pointer(g.line))
+	of, outputs := g.line, make([]Output, g.line.output_keys.count)
+	keys, paths := texts(of.output_keys), texts(of.output_paths)
+	for i, optional := range unsafe.Slice(of.output_is_optional, len(outputs)) {
+		outputs[i] = Output{keys[i], paths[i], optional != 0}
+	}
+	return &Line{text(of.input), text(of.compilation_flag), outputs, texts(of.dependency_args), texts(of.preprocessor_args), texts(of.common_args),
+		texts(of.arch_args), texts(of.unhashed_args), texts(of.extra_dist_files), texts(of.extra_hash_files), uint32(of.language),
+		uint32(of.color_mode), of.double_dash_input != 0}, nil
+}
+
+// LineWords lists the words that such a line is written back as.
+func LineWords(tool Tool, directory string, words, environment []string) ([]string, error) {
+	var g given
+	return g.answered(C.zigrunk_line_words(g.lineOf(tool, directory, words, environment), &g.answer, &g.why))
+}
+
+// CommandKey is what a cache hashes of a command that no plan has: zigrunk_command_key of zigrunk.h says what it is for.
+func CommandKey(tool Tool, words, environment, roots []string) (string, error) {
+	var g given
+	call := C.zigrunk_key_call{words: g.texts(words), environment: g.texts(environment), roots: g.texts(roots), tool: C.uint32_t(tool)}
+	return first(g.answered(C.zigrunk_command_key(&call, &g.answer, &g.why)))
 }

@@ -69,7 +69,7 @@ pub struct zigrunk_found_program {
     pub program: zigrunk_text,
     /// The value of PATH.
     pub path: zigrunk_text,
-    /// The program's path, or NULL if there is no such program.
+    /// The program's path, or NULL or an empty text if there is no such program.
     pub found: zigrunk_text,
 }
 
@@ -172,18 +172,19 @@ pub(crate) struct Table<'a> {
     disk: Disk,
 }
 
-impl Table<'_> {
+impl<'a> Table<'a> {
     /// # Safety
     ///
     /// The pointer is NULL or valid for so many elements.
     pub(crate) unsafe fn of(programs: *const zigrunk_found_program, count: usize) -> Result<Self, Error> {
         // SAFETY: the caller ensures it.
         let given = (!programs.is_null()).then(|| unsafe { elements(programs, count) });
-        // SAFETY: the caller ensures it.
-        let path_of = |row: &zigrunk_found_program| unsafe { Ok::<_, Error>((!row.found.bytes.is_null()).then_some(row.found.utf8()?)) };
-        // SAFETY: the caller ensures it.
-        let texts = |row: &zigrunk_found_program| unsafe { Ok::<ProgramRow<'_>, Error>((row.program.utf8()?, row.path.utf8()?, path_of(row)?)) };
-        let rows = given.map(|rows| listed(rows.iter().map(texts))).transpose()?;
+        let row_of = |row: &zigrunk_found_program| -> Result<ProgramRow<'a>, Error> {
+            // SAFETY: the caller ensures it.
+            let (program, path, found) = unsafe { (row.program.utf8()?, row.path.utf8()?, row.found.utf8()?) };
+            Ok((program, path, (!found.is_empty()).then_some(found)))
+        };
+        let rows = given.map(|rows| listed(rows.iter().map(row_of))).transpose()?;
         Ok(Table { rows, disk: Disk::default() })
     }
 }

@@ -12,7 +12,11 @@ static void print_text(const char *name, const char *bytes, size_t length) {
     printf("%s ", name);
     for (size_t i = 0; i < length; i++) {
         unsigned char byte = (unsigned char)bytes[i];
-        printf(byte < 33 || byte > 126 || byte == '\\' ? "\\%02x" : "%c", byte);
+        if (byte < 33 || byte > 126 || byte == '\\') {
+            printf("\\%02x", byte);
+        } else {
+            putchar(byte);
+        }
     }
     putchar('\n');
 }
@@ -134,7 +138,7 @@ static void print_line(const zigrunk_command *of) {
     zigrunk_free(line), zigrunk_free(written), zigrunk_free(key);
 }
 
-/* The look-ups of a call, the paths that each tries, and the plan if each finds the first. */
+/* The look-ups of a call, the paths that each tries, and the plan if each finds the first, and if the first finds none. */
 static void print_table(const zigrunk_call *call, zigrunk_dry_runs runs, const char *cwd) {
     zigrunk_found_program programs[16];
     zigrunk_answer *asked = NULL, *tried[16] = {NULL};
@@ -154,10 +158,14 @@ static void print_table(const zigrunk_call *call, zigrunk_dry_runs runs, const c
     }
     runs.programs = programs, runs.programs_count = asked->texts.count / 2;
     zigrunk_error *error = NULL;
-    if (zigrunk_call_plan_of(call, &runs, &plan, &error) != ZIGRUNK_OK) {
-        print_refusal(error);
-    } else {
+    int32_t status = zigrunk_call_plan_of(call, &runs, &plan, &error);
+    if (status == ZIGRUNK_OK) {
         print_form(plan, "text");
+        zigrunk_free(plan), programs->found = (zigrunk_text){"", 0};
+        status = zigrunk_call_plan_of(call, &runs, &plan, &error);
+    }
+    if (status != ZIGRUNK_OK) {
+        print_refusal(error);
     }
     for (size_t i = 0; i < 16; i++) {
         zigrunk_free(tried[i]);

@@ -112,6 +112,8 @@ static void print_table(const zigrunk::Call &call, const std::string &own, const
         print_texts("candidate", zigrunk::candidates(of.lookup, cwd));
     }
     print_text("text", call.plan_of(own, first, second, 0, programs).text("text"));
+    programs->at(0).found.reset();
+    call.plan_of(own, first, second, 0, programs);
 }
 
 static void print_plan(const zigrunk::Plan &plan) {

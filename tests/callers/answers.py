@@ -11,10 +11,13 @@ import zigrunk
 FORMS = ("json", "ninja", "shell", "text", "none")
 
 
+ESCAPES = {it: chr(it) if 32 < it < 127 and it != 92 else f"\\{it:02x}" for it in range(256)}
+
+
 def print_texts(name: str, texts: Iterable[Union[str, bytes]]) -> None:
     for text in texts:
         data = text if isinstance(text, bytes) else os.fsencode(text)
-        print(name, "".join(chr(it) if 32 < it < 127 and it != 92 else f"\\{it:02x}" for it in data))
+        print(name, data.decode("latin-1").translate(ESCAPES))
 
 
 def print_run(name: str, run: Optional[zigrunk.Run]) -> None:
@@ -72,6 +75,7 @@ def print_table(call: zigrunk.Call, own: bytes, first: bytes, second: bytes, cwd
         print_texts("candidate", paths)
     programs = {it: paths[0] for it, paths in zip(asked, tried)}
     print_texts("text", [call.plan_of(own, first, second, programs).text("text")])
+    call.plan_of(own, first, second, {**programs, asked[0]: None})
 
 
 def print_plan(plan: zigrunk.Plan) -> None:

@@ -9,13 +9,14 @@ import os
 import re
 import subprocess
 import sys
-from concurrent.futures import ThreadPoolExecutor
+from concurrent.futures import ProcessPoolExecutor, as_completed
 from itertools import groupby
 from pathlib import Path
-from typing import Dict, List
+from typing import Dict, List, Tuple
 
 HERE = Path(__file__).resolve().parent
-CHUNK = 500
+# How many pairs a process takes at a time.
+PART = 500
 NOT_FOUND = "refused 6 "
 
 
@@ -60,26 +61,35 @@ def said(program: List[str], room: str, rows: str) -> Dict[str, str]:
     return found
 
 
+def compared(cudaplan: str, room: str, seed: str, first: int, count: int, programs: List[List[str]]) -> Tuple[int, List[str]]:
+    """How many answers to a part of the pairs are right, and the others."""
+    words = [sys.executable, str(HERE / "mutated.py"), room, f"{seed} {first}", str(count), f"part{first}_"]
+    rows = subprocess.run(words, stdout=subprocess.PIPE, text=True, check=True).stdout
+    wanted = {row.split()[0]: by_cudaplan(cudaplan, room, row) for row in rows.splitlines()}
+    wrong = []
+    for program in programs:
+        found = said(program, room, rows)
+        for name, plan in wanted.items():
+            # (cudaplan ends its text with a newline more than the library)
+            answer = found.get(name, "no answer")
+            is_right = answer.removesuffix("\\0a") == plan.removesuffix("\\0a")
+            if answer.startswith(NOT_FOUND):
+                is_right = is_missing(answer, f"{room}/w")
+            if not is_right:
+                wrong.append(f"{' '.join(program)}: seed {seed} {first}, {name}: another plan than cudaplan's")
+    return len(wanted) * len(programs) - len(wrong), wrong
+
+
 def main(arguments: List[str]) -> int:
-    cudaplan, room, seed, count = arguments[:4]
+    cudaplan, room, seed, count = arguments[0], arguments[1], arguments[2], int(arguments[3])
     programs = [list(words) for is_mark, words in groupby(arguments[4:], lambda it: it == "--") if not is_mark]
     passed = failed = 0
-    with ThreadPoolExecutor(os.cpu_count()) as pool:
-        for chunk in range(0, int(count), CHUNK):
-            words = [sys.executable, str(HERE / "mutated.py"), room, f"{seed} {chunk}", str(min(CHUNK, int(count) - chunk))]
-            rows = subprocess.run(words, stdout=subprocess.PIPE, text=True, check=True).stdout
-            wanted = list(pool.map(lambda row: by_cudaplan(cudaplan, room, row), rows.splitlines()))
-            for program, found in zip(programs, pool.map(lambda program: said(program, room, rows), programs)):
-                for row, plan in zip(rows.splitlines(), wanted):
-                    name = row.split()[0]
-                    # (cudaplan ends its text with a newline more than the library)
-                    answer = found.get(name, "no answer")
-                    is_same = answer.removesuffix("\\0a") == plan.removesuffix("\\0a")
-                    if answer.startswith(NOT_FOUND):
-                        is_same = is_missing(answer, f"{room}/w")
-                    passed, failed = passed + is_same, failed + (not is_same)
-                    if not is_same:
-                        print(f"{' '.join(program)}: {seed} {chunk}, {row}: another plan than cudaplan's")
+    with ProcessPoolExecutor(os.cpu_count()) as pool:
+        parts = [pool.submit(compared, cudaplan, room, seed, first, min(PART, count - first), programs) for first in range(0, count, PART)]
+        for part in as_completed(parts):
+            right, wrong = part.result()
+            passed, failed = passed + right, failed + len(wrong)
+            print("".join(f"{it}\n" for it in wrong), end="")
     print(f"{passed} passed, {failed} failed")
     return 1 if failed or not passed else 0
 

@@ -13,23 +13,25 @@ import (
 	"zigrunk"
 )
 
+var out = bufio.NewWriter(os.Stdout)
+
 func printTexts(name string, texts ...string) {
 	for _, text := range texts {
-		fmt.Print(name, " ")
+		fmt.Fprint(out, name, " ")
 		for _, it := range []byte(text) {
 			if it < 33 || it > 126 || it == '\\' {
-				fmt.Printf("\\%02x", it)
+				fmt.Fprintf(out, "\\%02x", it)
 			} else {
-				fmt.Print(string(rune(it)))
+				out.WriteByte(it)
 			}
 		}
-		fmt.Println()
+		fmt.Fprintln(out)
 	}
 }
 
-func printRun(name string, run *zigrunk.Run) {
-	fmt.Println(name)
-	if run != nil {
+func printRun(name string, run zigrunk.Run) {
+	fmt.Fprintln(out, name)
+	if len(run.Words) > 0 {
 		printTexts(" word", run.Words...)
 		printTexts(" variable", run.Environment...)
 		printTexts(" cwd", run.Directory)
@@ -41,13 +43,13 @@ func printRefusal(err error) {
 	if !errors.As(err, &refused) {
 		log.Fatal(err)
 	}
-	fmt.Println("refused", int(refused.Status), refused.Input, refused.Line)
+	fmt.Fprintln(out, "refused", int(refused.Status), refused.Input, refused.Line)
 	printTexts("message", refused.Message)
 }
 
 func printCall(call *zigrunk.Call) {
 	for i, name := range []string{"own", "first", "second"} {
-		printRun(name, &call.DryRuns[i])
+		printRun(name, call.DryRuns[i])
 	}
 	printRun("dependencies", call.Dependencies)
 	printTexts("flag", call.Flag)
@@ -58,7 +60,7 @@ func printCall(call *zigrunk.Call) {
 	printTexts(name, call.KeepDir)
 	printTexts("input", call.Input)
 	printTexts("output", call.Outputs...)
-	fmt.Println("jobs", call.Jobs)
+	fmt.Fprintln(out, "jobs", call.Jobs)
 }
 
 func one(is bool) int {
@@ -73,7 +75,7 @@ func printCommand(of *zigrunk.Command) {
 	if group < 0 {
 		word, group = "no", 0
 	}
-	fmt.Printf("command of %s group, %d, stage %d, tool %d, missing %d, reason %d, run %d, line %d, cacheable %d, preprocesses %d\n", word, group,
+	fmt.Fprintf(out, "command of %s group, %d, stage %d, tool %d, missing %d, reason %d, run %d, line %d, cacheable %d, preprocesses %d\n", word, group,
 		of.Stage, of.Tool, of.Missing, of.Reason, of.DryRun, of.Line, one(of.Cacheable), one(of.Preprocesses))
 	printTexts(" word", of.Words...)
 	printTexts(" variable", of.Environment...)
@@ -83,7 +85,7 @@ func printCommand(of *zigrunk.Command) {
 	printTexts(" may write", of.MayWrite...)
 	printTexts(" target", of.Targets...)
 	for _, need := range of.Needs {
-		fmt.Println(" needs", need)
+		fmt.Fprintln(out, " needs", need)
 	}
 }
 
@@ -96,7 +98,7 @@ func printSchedule(plan *zigrunk.Plan) {
 	running := []int{}
 	for _, over := schedule.Told(0); !over; _, over = schedule.Told(0) {
 		for next := schedule.Start(); next >= 0; next = schedule.Start() {
-			fmt.Println("start", next)
+			fmt.Fprintln(out, "start", next)
 			running = append(running, next)
 		}
 		if !schedule.Ended(running[0], true) {
@@ -104,13 +106,12 @@ func printSchedule(plan *zigrunk.Plan) {
 		}
 		running = running[1:]
 		told, _ := schedule.Told(0)
-		fmt.Println("told", told)
+		fmt.Fprintln(out, "told", told)
 	}
 }
 
 func printLine(of *zigrunk.Command) {
-	call := zigrunk.ToolLine{Tool: of.Tool, Directory: of.Directory, Words: of.Words[1:]}
-	line, err := call.Records()
+	line, err := zigrunk.LineRecords(of.Tool, of.Directory, of.Words[1:], nil)
 	if err != nil {
 		log.Fatal(err)
 	}
@@ -125,8 +126,8 @@ func printLine(of *zigrunk.Command) {
 		line.ExtraHashFiles} {
 		printTexts(" line", texts...)
 	}
-	fmt.Println(" line of", line.Language, line.ColorMode, one(line.DoubleDashInput), one(line.Outputs[0].Optional))
-	written, err := call.Written()
+	fmt.Fprintln(out, " line of", line.Language, line.ColorMode, one(line.DoubleDashInput), one(line.Outputs[0].Optional))
+	written, err := zigrunk.LineWords(of.Tool, of.Directory, of.Words[1:], nil)
 	if err != nil {
 		log.Fatal(err)
 	}
@@ -160,7 +161,12 @@ func printTable(call *zigrunk.Call, own, first, second []byte, cwd string) error
 		return err
 	}
 	text, err := plan.Text("text")
+	if err != nil {
+		return err
+	}
 	printTexts("text", text)
+	programs[0].Found = ""
+	_, err = call.PlanOf(own, first, second, programs, 0)
 	return err
 }
 
@@ -251,6 +257,7 @@ func printMade(tmp string, words []string) error {
 }
 
 func main() {
+	defer out.Flush()
 	if len(os.Args) > 3 && os.Args[1] == "--call" {
 		if err := printMade(os.Args[2], os.Args[3:]); err != nil {
 			printRefusal(err)
@@ -263,7 +270,7 @@ func main() {
 	}
 	for rows := bufio.NewScanner(os.Stdin); rows.Scan(); {
 		row := strings.Fields(rows.Text())
-		fmt.Println("==", row[0])
+		fmt.Fprintln(out, "==", row[0])
 		if err := print(os.Args[1], row); err != nil {
 			printRefusal(err)
 		}

@@ -165,8 +165,8 @@ func makeCall(socket, tmp string, words []string) int {
 		byNvcc := zigrunk.Run{Words: append([]string{"nvcc"}, words...), Environment: os.Environ(), Directory: directory}
 		return code(processOf(byNvcc).Run())
 	}
-	if call.Dependencies != nil {
-		if failed := code(processOf(*call.Dependencies).Run()); failed != 0 {
+	if len(call.Dependencies.Words) > 0 {
+		if failed := code(processOf(call.Dependencies).Run()); failed != 0 {
 			return failed
 		}
 	}

@@ -13,11 +13,14 @@ use zigrunk::{
 };
 
 fn print_text(name: &str, text: impl AsRef<[u8]>) {
-    let escaped = text.as_ref().iter().map(|&byte| match byte {
-        b'\\' | 0..=32 | 127.. => format!("\\{byte:02x}"),
-        _ => char::from(byte).to_string(),
-    });
-    println!("{name} {}", escaped.collect::<String>());
+    let mut escaped = String::new();
+    for &byte in text.as_ref() {
+        match byte {
+            b'\\' | 0..=32 | 127.. => escaped += &format!("\\{byte:02x}"),
+            _ => escaped.push(char::from(byte)),
+        }
+    }
+    println!("{name} {escaped}");
 }
 
 fn print_texts<T: AsRef<[u8]>>(name: &str, texts: impl IntoIterator<Item = T>) {
@@ -145,9 +148,15 @@ fn print_table(call: &Call, runs: &DryRuns, cwd: &Path) -> Result<(), Box<dyn Er
         print_texts("candidate", tried.iter());
         programs.push(FoundProgram { found: tried.get(0).map(String::from), lookup });
     }
-    match call.plan_of(runs, &programs, None).and_then(|plan| plan.text(Format::Text)) {
-        Ok(text) => print_text("text", text),
-        Err(error) => print_refusal(&error),
+    let text = |programs: &Vec<_>| call.plan_of(runs, programs, None).and_then(|plan| plan.text(Format::Text));
+    let mut planned = text(&programs);
+    if let Ok(whole) = planned {
+        print_text("text", whole);
+        programs[0].found = None;
+        planned = text(&programs);
+    }
+    if let Err(error) = planned {
+        print_refusal(&error);
     }
     Ok(())
 }
