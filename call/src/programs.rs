@@ -76,7 +76,7 @@ impl<P: Programs + ?Sized> Programs for &P {
     }
 }
 
-/// A row of a table of programs: a program, the value of `PATH`, and the path that it has, if it is there.
+/// A row of a table of programs: a program, the value of `PATH`, and the path that it has, if it is there. An empty path is none.
 pub type ProgramRow<'a> = (&'a str, &'a str, Option<&'a str>);
 
 /// What a table says of a look-up: the path in its first row.
@@ -85,7 +85,7 @@ pub type ProgramRow<'a> = (&'a str, &'a str, Option<&'a str>);
 ///
 /// [`OutOfMemory`].
 pub fn found_in<'a>(mut rows: impl Iterator<Item = ProgramRow<'a>>, program: &str, path: &str) -> Result<Option<String>, OutOfMemory> {
-    rows.find(|row| (row.0, row.1) == (program, path)).and_then(|row| row.2).map(copied).transpose()
+    rows.find(|row| (row.0, row.1) == (program, path)).and_then(|row| row.2).filter(|path| !path.is_empty()).map(copied).transpose()
 }
 
 impl Programs for [FoundProgram] {
@@ -230,9 +230,10 @@ mod tests {
             lookup: Lookup { program: "cicc".into(), path: path.into() },
             found: found.map(String::from),
         };
-        let rows = vec![row("/a", None), row("/b", Some("/x/cicc")), row("/b", Some("/y/cicc"))];
+        let rows = vec![row("/a", None), row("/b", Some("/x/cicc")), row("/b", Some("/y/cicc")), row("/d", Some(""))];
         let found = |program: &str, path: &str| rows.find(program, path, "/").unwrap();
-        assert_eq!([found("cicc", "/a"), found("cicc", "/b"), found("cicc", "/c"), found("gcc", "/b")], [None, Some("/x/cicc".into()), None, None]);
+        assert_eq!(found("cicc", "/b"), Some("/x/cicc".into()));
+        assert_eq!([found("cicc", "/a"), found("cicc", "/c"), found("cicc", "/d"), found("gcc", "/b")], [None, None, None, None]);
     }
 
     #[test]

@@ -172,18 +172,15 @@ pub(crate) struct Table<'a> {
     disk: Disk,
 }
 
-impl<'a> Table<'a> {
+impl Table<'_> {
     /// # Safety
     ///
     /// The pointer is NULL or valid for so many elements.
     pub(crate) unsafe fn of(programs: *const zigrunk_found_program, count: usize) -> Result<Self, Error> {
         // SAFETY: the caller ensures it.
         let given = (!programs.is_null()).then(|| unsafe { elements(programs, count) });
-        let row_of = |row: &zigrunk_found_program| -> Result<ProgramRow<'a>, Error> {
-            // SAFETY: the caller ensures it.
-            let (program, path, found) = unsafe { (row.program.utf8()?, row.path.utf8()?, row.found.utf8()?) };
-            Ok((program, path, (!found.is_empty()).then_some(found)))
-        };
+        // SAFETY: the caller ensures it.
+        let row_of = |row: &zigrunk_found_program| unsafe { Ok::<_, Error>((row.program.utf8()?, row.path.utf8()?, Some(row.found.utf8()?))) };
         let rows = given.map(|rows| listed(rows.iter().map(row_of))).transpose()?;
         Ok(Table { rows, disk: Disk::default() })
     }
