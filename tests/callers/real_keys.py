@@ -3,8 +3,9 @@
 
 A key of the driver is a digest of more than callers hash, so what is compared is which commands have one, and which of these are equal. Each call of
 tests/random_calls.py is made twice, the second time with another word or header. KEYS, bindings/rust/examples/keys.rs, prints the keys of both; the
-driver makes both with an empty cache, and its log says what the cache had. The driver caches nothing of a call that keeps files, and its keys by
-tokens find more: where only lines, blanks and comments differ of what a command reads. The last line is 'N passed, M failed', and counts commands."""
+driver makes both with an empty cache, and its log says what the cache had. The driver caches nothing of a call that keeps files, and no product that
+has its file's name in it, as a cubin with debugging information: it's written elsewhere first. Its keys by tokens find more: where only lines, blanks
+and comments differ of what a command reads. The last line is 'N passed, M failed', and counts commands."""
 
 import json
 import os
@@ -25,10 +26,11 @@ CHANGES: Tuple[List[str], ...] = (["-DZZ=1"], ["-Xptxas", "-O1"], ["-lineinfo"],
 
 
 class Keyed(NamedTuple):
-    """A command of one of the tools: what the driver calls it, and its key, or whether the cache had it. `None` if it has no key."""
+    """A command of one of the tools: what the driver calls it, and its key, or whether the cache had it. `None` if it has no key. What it writes."""
 
     name: str
     key: Any
+    writes: Tuple[str, ...] = ()
 
 
 def by_callers(keys: str, base: Path, number: int, words: List[str], place: Dict[str, Any]) -> List[Keyed]:
@@ -37,8 +39,8 @@ def by_callers(keys: str, base: Path, number: int, words: List[str], place: Dict
     ran = subprocess.run([keys, str(place["cwd"]), str(tmp), "nvcc", *words], **place, stdout=subprocess.PIPE, stderr=subprocess.DEVNULL, check=False)
     found = []
     for line in ran.stdout.decode(errors="surrogateescape").splitlines():
-        key, targets, program, *_ = line.split("\t")
-        found.append(Keyed(" ".join([os.path.basename(program), *targets.split(",")]).strip(), None if key == "-" else key))
+        key, targets, program, *writes = line.split("\t")
+        found.append(Keyed(" ".join([os.path.basename(program), *targets.split(",")]).strip(), None if key == "-" else key, tuple(writes)))
     return [it for it in found if it.name.startswith(TOOLS)] if ran.returncode == 0 else []
 
 
@@ -52,12 +54,17 @@ def by_driver(zigrunk: str, base: Path, words: List[str], place: Dict[str, Any])
     return [Keyed(it["kind"], it.get("hit")) for it in commands if it["kind"].startswith(TOOLS)]
 
 
+def has_own_name(path: str) -> bool:
+    return os.path.isfile(path) and os.fsencode(os.path.basename(path)) in Path(path).read_bytes()
+
+
 def differences(first: Tuple[List[Keyed], List[Keyed]], second: Tuple[List[Keyed], List[Keyed]], keeps: bool) -> List[str]:
     """For each command of the second call what differs, or an empty text; the driver's are the second of two lists."""
     before = {it.key for it in first[0]}
     found = []
     for caller, driver in zip(*second):
-        if caller.name != driver.name or (caller.key is None and driver.key is not None) or (driver.key is None and not keeps and caller.key):
+        is_uncached = driver.key is None and caller.key and not keeps and not any(map(has_own_name, caller.writes))
+        if caller.name != driver.name or (caller.key is None and driver.key is not None) or is_uncached:
             found.append(f"{caller} beside the driver's {driver}")
         elif caller.key in before and driver.key is False:
             found.append(f"{caller.name}: its key is an old one, and the driver's cache lacks it")
