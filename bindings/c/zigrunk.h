@@ -11,7 +11,9 @@
  *   - Each text that you get has a NUL behind it, which its length doesn't count, and each list a NULL. So a list of words may be passed to
  *     execve.
  *   - The same input gives the same answer, unless an allocation fails (ZIGRUNK_OUT_OF_MEMORY), or what the call looks at has changed: the
- *     disk, or nvcc.
+ *     disk, or nvcc. A refused allocation aborts in one case: Rust's library copies a path of 384 to 4,095 bytes to open the file, or to look
+ *     at it.
+ *   - zigrunk_call_plan forks, and waits for the processes that it has started.
  *
  * What you have to ensure, since the library can't check it
  *

@@ -14,7 +14,7 @@ use rattle_std::alloc::{AllocError, Global};
 use rattle_std::vec::Vec as List;
 
 use crate::error::Error;
-use crate::memory::{OutOfMemory, copied, copied_bytes, displayed, joined, listed};
+use crate::memory::{OutOfMemory, copied, copied_bytes, displayed, joined, listed, openable, path_from};
 use crate::plan::{Command, CommandTool};
 use crate::ptx::names_in_ptx;
 use crate::words::TextsIter;
@@ -82,9 +82,9 @@ fn has_other_code(command: Command<'_>) -> bool {
 }
 
 /// Whether the kernel runs a program itself. A script may run anything.
-fn is_binary(program: &Path) -> io::Result<bool> {
+fn is_binary(program: &str) -> io::Result<bool> {
     let mut begin = [0; 4];
-    let read = File::open(program)?.read(&mut begin)?;
+    let read = File::open(openable(program)?)?.read(&mut begin)?;
     Ok(begin[..read] == *b"\x7fELF")
 }
 
@@ -101,7 +101,7 @@ impl Facts {
 
     /// Adds where a path of a command leads, or nothing if there is no such file.
     fn add_place(&mut self, name: &str, command: Command<'_>, path: &str, real: RealPath<'_>) -> Result<(), Error> {
-        let path = joined(&[&path_in(command.cwd(), path)?, "\0"])?;
+        let path = joined(&[&path_from(command.cwd(), path)?, "\0"])?;
         let path = CStr::from_bytes_with_nul(path.as_bytes()).map_err(|_| Error::nul())?;
         let place = match real(path) {
             Err(error) if error.kind() == io::ErrorKind::OutOfMemory => return Err(OutOfMemory.into()),
@@ -114,10 +114,10 @@ impl Facts {
     fn add_named(&mut self, command: Command<'_>) -> Result<(), Error> {
         let odd = || Error::uncacheable("its PTX names files", None);
         for path in command.reads() {
-            let ptx = fs::read(path).map_err(unread)?;
+            let ptx = openable(path).and_then(fs::read).map_err(unread)?;
             for name in names_in_ptx(&ptx) {
                 let name = name.and_then(|name| str::from_utf8(name).ok()).ok_or_else(odd)?;
-                let of = stamp(&path_in(command.cwd(), name)?).map_err(unread)?;
+                let of = stamp(&path_from(command.cwd(), name)?).map_err(unread)?;
                 self.add(joined(&[".file ", name])?.into_bytes(), of.into_bytes())?;
             }
         }
@@ -131,14 +131,9 @@ fn real_path(path: &CStr) -> io::Result<Vec<u8>> {
     fs::canonicalize(path).map(|real| real.into_os_string().into_encoded_bytes())
 }
 
-/// A path as a command that runs in a directory finds it.
-fn path_in(cwd: &str, path: &str) -> Result<String, OutOfMemory> {
-    if path.starts_with('/') { copied(path) } else { joined(&[cwd, "/", path]) }
-}
-
 /// The size of a file, and when it was changed. Nothing if it isn't there.
 fn stamp(path: &str) -> io::Result<String> {
-    let Ok(status) = fs::metadata(path) else { return Ok(String::new()) };
+    let Ok(status) = openable(path).and_then(fs::metadata) else { return Ok(String::new()) };
     let text = |time: &dyn Display| displayed(&format_args!("{} {time}", status.len())).map_err(|_| io::ErrorKind::OutOfMemory.into());
     match status.modified()?.duration_since(UNIX_EPOCH) {
         Ok(since) => text(&since.as_nanos()),
@@ -192,7 +187,7 @@ impl ToolFiles {
     }
 
     fn add_if_there(&mut self, path: String) -> Result<(), OutOfMemory> {
-        if Path::new(&path).is_file() { self.add(path) } else { Ok(()) }
+        if openable(&path).is_ok_and(Path::is_file) { self.add(path) } else { Ok(()) }
     }
 
     /// Adds the libraries that the loader may take in place of the system's libm. cicc has libm compute constants.
@@ -200,7 +195,7 @@ impl ToolFiles {
         let folders = value_of(command, "LD_LIBRARY_PATH");
         for folder in folders.split([':', ';']).filter(|_| !folders.is_empty()) {
             for name in LIBMS {
-                self.add_if_there(path_in(command.cwd(), &joined(&[folder, if folder.is_empty() { "" } else { "/" }, name])?)?)?;
+                self.add_if_there(path_from(command.cwd(), &joined(&[folder, if folder.is_empty() { "" } else { "/" }, name])?)?)?;
             }
         }
         Ok(())
@@ -251,7 +246,7 @@ impl Command<'_> {
         if has_other_code(*self) {
             return Err(refused("LD_PRELOAD or LD_AUDIT is set"));
         }
-        if !is_binary(Path::new(self.program())).map_err(unread)? {
+        if !is_binary(self.program()).map_err(unread)? {
             return Err(refused("its program is a script"));
         }
         let names_reach = names_reach(asked.tool, &asked.words);

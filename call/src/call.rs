@@ -3,7 +3,7 @@ use crate::dry_runs::{DryRuns, Nvcc, Places, Ran};
 use crate::error::reason::Reason;
 use crate::error::{Error, Input};
 use crate::fitness::check_plan;
-use crate::memory::listed;
+use crate::memory::{OutOfMemory, listed};
 use crate::nvcc_line::{NvccCall, NvccLine, text_in};
 use crate::outline::{Outline, Run};
 use crate::plan::{Plan, PlanCall, plan};
@@ -39,26 +39,34 @@ pub struct Call {
     outline: Outline,
 }
 
-/// Runs nvcc's dry runs as processes of this one.
-#[derive(Clone, Copy, Debug, Default)]
-pub struct Processes;
-
-fn start(run: &Run) -> io::Result<Child> {
-    run.command().stdin(Stdio::null()).stdout(Stdio::null()).stderr(Stdio::piped()).spawn()
+/// Runs nvcc's dry runs as processes of this one, by default those of the standard library.
+#[derive(Clone, Copy, Debug)]
+pub struct Processes<P = Child> {
+    /// Starts one.
+    pub start: fn(&Run) -> io::Result<P>,
+    /// Waits for its end.
+    pub end: fn(P) -> io::Result<Ran>,
 }
 
-fn ended(child: io::Result<Child>) -> Result<Ran, Error> {
-    let output = child.and_then(Child::wait_with_output).map_err(|error| Error::io("run nvcc's dry run", error))?;
-    Ok(Ran { succeeded: output.status.success(), errors: output.stderr })
+impl Default for Processes {
+    fn default() -> Processes {
+        let start = |run: &Run| run.command().stdin(Stdio::null()).stdout(Stdio::null()).stderr(Stdio::piped()).spawn();
+        let end = |child: Child| {
+            let output = child.wait_with_output()?;
+            Ok(Ran { succeeded: output.status.success(), errors: output.stderr })
+        };
+        Processes { start, end }
+    }
 }
 
-impl Nvcc for Processes {
+impl<P> Nvcc for Processes<P> {
     type Stop = Error;
 
     fn run(&mut self, runs: &[Run]) -> Result<Vec<Ran>, Error> {
-        let started: Vec<io::Result<Child>> = runs.iter().map(start).collect();
-        let ended: Vec<Result<Ran, Error>> = started.into_iter().map(ended).collect();
-        ended.into_iter().collect()
+        // (all are waited for before the error of one counts)
+        let started: Vec<io::Result<P>> = listed(runs.iter().map(|run| Ok::<_, OutOfMemory>((self.start)(run))))?;
+        let ended: Vec<io::Result<Ran>> = listed(started.into_iter().map(|it| Ok::<_, OutOfMemory>(it.and_then(self.end))))?;
+        listed(ended.into_iter().map(|ran| ran.map_err(|error| Error::io("run nvcc's dry run", error))))
     }
 }
 
@@ -189,8 +197,17 @@ impl Call {
     /// Those of [`make_dry_runs`](Call::make_dry_runs), [`ErrorKind::Io`](crate::ErrorKind) if one can't be started, and those of
     /// [`plan_made`](Call::plan_made).
     pub fn plan(&self) -> Result<Plan, Error> {
-        let dry_runs = self.make_dry_runs(&mut Processes)?;
-        self.plan_made(&dry_runs, &self.planning(&Disk::default(), Some(MOST_BYTES)))
+        self.plan_by(&mut Processes::default())
+    }
+
+    /// The same, given what runs nvcc.
+    ///
+    /// # Errors
+    ///
+    /// Those of [`make_dry_runs`](Call::make_dry_runs) and [`plan_made`](Call::plan_made).
+    pub fn plan_by<N: Nvcc>(&self, nvcc: &mut N) -> Result<Plan, N::Stop> {
+        let dry_runs = self.make_dry_runs(nvcc)?;
+        Ok(self.plan_made(&dry_runs, &self.planning(&Disk::default(), Some(MOST_BYTES)))?)
     }
 
     fn planning<'a>(&'a self, programs: &'a dyn Programs, limit: Option<NonZeroUsize>) -> Planning<'a> {

@@ -1,7 +1,7 @@
 //! The dry runs of a call: how they are made, and what nvcc says in them.
 use crate::error::reason::Reason;
 use crate::error::{Error, Unfit};
-use crate::memory::{OutOfMemory, copied_bytes};
+use crate::memory::{OutOfMemory, copied_bytes, listed};
 use crate::outline::{Outline, Run};
 use crate::pairs::check_pair;
 use dry_run_pairs::{Comparison, agree, fails_by_threads, prints_to_files, remarks_in, runs_devices_first, with_commands, without_folder};
@@ -94,7 +94,8 @@ impl DryRuns {
     /// have the commands of the line, or if the call keeps files. So it doesn't matter which options this nvcc has, and what they mean to it.
     pub(crate) fn make<N: Nvcc>(nvcc: &mut N, places: &Places<'_>) -> Result<DryRuns, N::Stop> {
         let outline = places.outline;
-        let runs = [&outline.own_dry_run, &outline.second_dry_run, &outline.first_dry_run].map(Run::clone);
+        let runs = [&outline.own_dry_run, &outline.second_dry_run, &outline.first_dry_run];
+        let runs: Vec<Run> = listed(runs.iter().map(|run| run.with(&[]))).map_err(Error::from)?;
         let keeps = outline.keep_dir.is_some();
         let mut ran = nvcc.run(if keeps { &runs } else { &runs[..2] })?.into_iter();
         let (Some(own), Some(second), first) = (ran.next(), ran.next(), ran.next()) else {

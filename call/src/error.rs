@@ -436,16 +436,25 @@ impl fmt::Display for What<'_> {
             Cause::Fault(text) => f.write_str(text),
             Cause::Nul => f.write_str("a text contains NUL"),
             Cause::Unwritable(refusal) => refusal.fmt(f),
-            Cause::Nvcc(printed) => f.write_str(said(printed).trim_end()),
+            Cause::Nvcc(printed) => write_said(f, printed),
             Cause::Io(deed, error) => write!(f, "cannot {deed}: {error}"),
         }
     }
 }
 
-/// nvcc's messages in what it printed.
-fn said(printed: &[u8]) -> String {
-    let lines = printed.split_inclusive(|&byte| byte == b'\n').filter(|line| !line.starts_with(b"#$ "));
-    String::from_utf8_lossy(&lines.flatten().copied().collect::<Vec<u8>>()).into_owned()
+/// Writes nvcc's messages in what it printed, without a copy: that of a long text could be refused.
+fn write_said(f: &mut fmt::Formatter<'_>, printed: &[u8]) -> fmt::Result {
+    let lines = || printed.split_inclusive(|&byte| byte == b'\n').filter(|line| !line.starts_with(b"#$ "));
+    let last = lines().enumerate().filter(|(_, line)| !line.trim_ascii_end().is_empty()).last();
+    let Some((last, _)) = last else { return Ok(()) };
+    for (number, line) in lines().take(last + 1).enumerate() {
+        let line = if number == last { line.trim_ascii_end() } else { line };
+        for chunk in line.utf8_chunks() {
+            f.write_str(chunk.valid())?;
+            f.write_str(if chunk.invalid().is_empty() { "" } else { "\u{fffd}" })?;
+        }
+    }
+    Ok(())
 }
 
 impl fmt::Display for Error {

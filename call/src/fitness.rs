@@ -1,6 +1,6 @@
 //! Whether a plan is its call's, and can be run.
 use crate::error::{Error, Input, Unfit};
-use crate::memory::copied;
+use crate::memory::{copied, openable};
 use crate::outline::Outline;
 use crate::plan::{Command, Plan};
 use dry_run_pairs::without_folder;
@@ -64,8 +64,8 @@ fn unfit(why: Unfit, command: Command<'_>) -> Error {
 fn check_names(plan: &Plan, outline: &Outline, command: Command<'_>) -> Result<(), Error> {
     let behind = |option: &str| command.arguments().skip_while(|word| *word != option).nth(1);
     if let Some(told) = behind("--orig_src_path_name").filter(|path| path.starts_with('/')) {
-        let source = fs::canonicalize(path_in(plan.cwd(), outline.input())?.as_str());
-        if source.is_ok_and(|source| fs::canonicalize(told).map_or(true, |path| path != source)) {
+        let source = openable(path_in(plan.cwd(), outline.input())?.as_str()).and_then(fs::canonicalize);
+        if source.is_ok_and(|source| openable(told).and_then(fs::canonicalize).map_or(true, |path| path != source)) {
             return Err(unfit(Unfit::OtherSource(copied(told)?), command));
         }
     }

@@ -4,6 +4,8 @@ use rattle_std::string::String as Text;
 use rattle_std::vec::Vec as List;
 use std::collections::TryReserveError;
 use std::fmt::{self, Display, Write};
+use std::io;
+use std::path::Path;
 
 /// An allocation failed.
 #[derive(Clone, Copy, Debug, PartialEq, Eq)]
@@ -45,6 +47,19 @@ pub fn copied(text: &str) -> Result<String, OutOfMemory> {
     copy.try_reserve_exact(text.len())?;
     copy.push_str(text);
     Ok(copy)
+}
+
+/// A path as what runs in a directory finds it.
+pub(crate) fn path_from(cwd: &str, path: &str) -> Result<String, OutOfMemory> {
+    if path.starts_with('/') { copied(path) } else { joined(&[cwd, "/", path]) }
+}
+
+/// A path that Linux may open. The standard library copies one of 384 bytes or more to open it, and ends the process if that is refused: so
+/// it doesn't get one that is too long to be opened, and what it copies doesn't grow with the input.
+pub(crate) fn openable(path: &str) -> io::Result<&Path> {
+    const LONGEST: usize = 4095;
+    const TOO_LONG: i32 = 36;
+    if path.len() > LONGEST { Err(io::Error::from_raw_os_error(TOO_LONG)) } else { Ok(Path::new(path)) }
 }
 
 /// Adds to a text.

@@ -1,6 +1,6 @@
 //! Lines of nvcc: their words, and where they are made.
 use crate::error::{Error, ErrorKind, Input};
-use crate::memory::{OutOfMemory, copied, copied_pairs, listed, pairs, strings, texts};
+use crate::memory::{OutOfMemory, copied, copied_pairs, listed, openable, pairs, path_from, strings, texts};
 use crate::outline::{Outline, Run};
 use crate::variable::Variable;
 use canonical_names::is_plain;
@@ -126,8 +126,9 @@ impl NvccLine {
 
     /// The text of a plain file that the line names. nvcc reads an options file too, and a pipe gives its bytes only once.
     fn options_file(&self, name: &str) -> Result<Option<(String, String)>, OutOfMemory> {
-        let path = Path::new(&self.cwd).join(name);
-        let Some(file) = fs::metadata(&path).ok().filter(fs::Metadata::is_file) else { return Ok(None) };
+        let path = path_from(&self.cwd, name)?;
+        let Ok(path) = openable(&path) else { return Ok(None) };
+        let Some(file) = fs::metadata(path).ok().filter(fs::Metadata::is_file) else { return Ok(None) };
         let mut content = String::new();
         content.try_reserve_exact(usize::try_from(file.len()).unwrap_or(usize::MAX))?;
         let is_read = File::open(path).is_ok_and(|mut file| file.read_to_string(&mut content).is_ok());

@@ -1,6 +1,6 @@
 //! Look-ups of the programs that dry runs name.
 use crate::error::{BadLine, Error, Input};
-use crate::memory::{OutOfMemory, copied, listed, text};
+use crate::memory::{OutOfMemory, copied, listed, openable, text};
 use crate::nvcc_line::{plain, text_in};
 use crate::words::Texts;
 use dry_runs::{LimitedFault, ParsedRuns, Which, lookups_of_runs, parse_dry_runs, parse_within};
@@ -110,7 +110,7 @@ impl Disk {
         if let Some((_, is)) = known.iter().find(|(of, _)| of == path) {
             return Ok(*is);
         }
-        let is = is_program(Path::new(path));
+        let is = openable(path).is_ok_and(is_program);
         known.try_reserve(1)?;
         known.push((copied(path)?, is));
         Ok(is)

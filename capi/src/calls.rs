@@ -2,9 +2,11 @@
 use crate::given::{collected, copies, zigrunk_text, zigrunk_texts, Environment};
 use crate::made::{answer, freed, give, zigrunk_error, zigrunk_made, Room};
 use crate::plans::{made_plan, zigrunk_found_program, zigrunk_plan, Table};
-use call::{copied_bytes, Call, DryRuns, Error, NvccCall, Run};
+use call::{copied_bytes, Call, DryRuns, Error, NvccCall, Processes, Ran, Run};
+use std::io;
 use std::num::NonZeroUsize;
 use std::ptr;
+use unix::Spawned;
 
 /// A call of nvcc.
 #[repr(C)]
@@ -138,12 +140,22 @@ pub unsafe extern "C" fn zigrunk_call_outline(call: *const zigrunk_call) -> *con
     unsafe { ptr::addr_of!((*call).outline) }
 }
 
+/// A dry run as a process, whose start needs no more memory than can be refused.
+fn start(run: &Run) -> io::Result<Spawned> {
+    let variables = run.environment().iter().map(|(name, value)| [name.as_str(), "=", value]);
+    Spawned::start(run.words().iter().map(String::as_str), variables, run.cwd())
+}
+
+fn end(spawned: Spawned) -> io::Result<Ran> {
+    spawned.ended().map(|(status, errors)| Ran { succeeded: status.succeeded(), errors })
+}
+
 /// Runs nvcc's dry runs, looks on the disk for the programs that they name, and plans.
 #[no_mangle]
 #[must_use]
 pub unsafe extern "C" fn zigrunk_call_plan(call: *const zigrunk_call, made: *mut *mut zigrunk_plan, error: *mut *mut zigrunk_error) -> i32 {
     // SAFETY: the caller ensures it.
-    unsafe { answer(made, error, || made_plan((*call).call.plan()?, &(*call).others)) }
+    unsafe { answer(made, error, || made_plan((*call).call.plan_by(&mut Processes { start, end })?, &(*call).others)) }
 }
 
 /// # Safety

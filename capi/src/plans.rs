@@ -2,12 +2,10 @@
 use crate::given::{copies, elements, meant, zigrunk_text, zigrunk_texts, Environment};
 use crate::made::{answer, freed, give, text, texts, zigrunk_answer, zigrunk_error, zigrunk_made, Room};
 use call::{
-    copied_bytes, found_in, listed, Command, CommandTool, Disk, Error, ErrorKind, Format, HostCompiler, OutOfMemory, Plan, PlanCall, ProgramRow,
-    Programs, Stage,
+    found_in, listed, Command, CommandTool, Disk, Error, ErrorKind, Format, HostCompiler, OutOfMemory, Plan, PlanCall, ProgramRow, Programs, Stage,
 };
-use std::ffi::{c_char, CStr};
 use std::num::NonZeroUsize;
-use std::{io, iter, ptr};
+use std::{iter, ptr};
 
 /// cicc, which compiles device code to PTX.
 pub const ZIGRUNK_TOOL_CICC: u32 = 0;
@@ -292,20 +290,8 @@ pub unsafe extern "C" fn zigrunk_plan_text(
     unsafe { answer(made, error, || text((*plan).plan.text(format()?)?)) }
 }
 
-extern "C" {
-    fn realpath(path: *const c_char, real: *mut c_char) -> *mut c_char;
-}
-
-/// Where a path really leads, by C's library, which can say so without memory.
-fn real_path(path: &CStr) -> io::Result<Vec<u8>> {
-    let mut real = [0_u8; 4096];
-    // SAFETY: there is room for the longest path.
-    ptr::NonNull::new(unsafe { realpath(path.as_ptr(), real.as_mut_ptr().cast()) }).ok_or_else(io::Error::last_os_error)?;
-    copied_bytes(CStr::from_bytes_until_nul(&real).map_or(&[], CStr::to_bytes)).map_err(|_| io::ErrorKind::OutOfMemory.into())
-}
-
 fn key_of(plan: &zigrunk_plan, command: usize) -> Result<*mut zigrunk_answer, Error> {
-    let key = plan.plan.commands().nth(command).ok_or(ErrorKind::BadNumber)?.cache_key_by(&real_path)?;
+    let key = plan.plan.commands().nth(command).ok_or(ErrorKind::BadNumber)?.cache_key_by(&unix::real_path)?;
     let files = key.tool.iter().map(|path| path.as_os_str().as_encoded_bytes());
     texts(iter::once(key.text.as_slice()).chain(files))
 }

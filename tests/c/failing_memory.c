@@ -45,7 +45,7 @@ void __wrap_free(void *old) {
     __real_free(old);
 }
 
-static char room[4096], nvcc[4200], cwd[4200], tmp[4200], first[1 << 16], second[1 << 16], own[1 << 16];
+static char room[4096], nvcc[4200], other_nvcc[4200], cwd[4200], tmp[4200], first[1 << 16], second[1 << 16], own[1 << 16];
 
 static size_t content(const char *name, char *to) {
     char path[4200];
@@ -109,6 +109,22 @@ static int32_t made(int number) {
         status = zigrunk_plan_of(&plan, (zigrunk_plan **)&it, &error);
         status = status ? status : zigrunk_plan_key(it, (size_t)(number - 17), (zigrunk_answer **)&other, &error);
         break;
+    case 22: /* nvcc's own processes */
+        status = zigrunk_call_of(&call, (zigrunk_call **)&it, &error);
+        status = status ? status : zigrunk_call_plan(it, (zigrunk_plan **)&other, &error);
+        break;
+    case 23: { /* a path that is longer than the system's longest */
+        static char odd[6100] = "#$ PATH=/";
+        memset(odd + 9, 'a', 6000), strcpy(odd + 6009, "\n#$ gcc -E x.cu\n");
+        plan.dry1 = plan.dry2 = text(odd);
+        status = zigrunk_plan_of(&plan, (zigrunk_plan **)&it, &error);
+        break;
+    }
+    case 24: /* a program that refuses the line, with a message */
+        call.nvcc.bytes = other_nvcc;
+        status = zigrunk_call_of(&call, (zigrunk_call **)&it, &error);
+        status = status ? status : zigrunk_call_plan(it, (zigrunk_plan **)&other, &error);
+        break;
     default: break;
     }
     if (status > 0 && (!error || error->status != status)) {
@@ -134,7 +150,8 @@ int main(int count, char **arguments) {
         return 2;
     }
     snprintf(room, sizeof room, "%s", arguments[1]);
-    snprintf(nvcc, sizeof nvcc, "%s/bin/nvcc", room), snprintf(cwd, sizeof cwd, "%s/w", room), snprintf(tmp, sizeof tmp, "%s/t", room);
+    snprintf(nvcc, sizeof nvcc, "%s/bin/nvcc", room), snprintf(other_nvcc, sizeof other_nvcc, "%s/bin/cudafe++", room);
+    snprintf(cwd, sizeof cwd, "%s/w", room), snprintf(tmp, sizeof tmp, "%s/t", room);
     lengths[0] = content("one.dry1", first), lengths[1] = content("one.dry2", second), lengths[2] = content("one.own", own);
     state = strtoull(arguments[2], NULL, 10);
     long most = atol(arguments[3]);

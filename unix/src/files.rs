@@ -173,3 +173,17 @@ pub(crate) fn set(file: BorrowedFd<'_>, what: i32, value: i32) -> io::Result<()>
     let answer = unsafe { libc::fcntl(file.as_raw_fd(), what, value) };
     if answer < 0 { Err(io::Error::last_os_error()) } else { Ok(()) }
 }
+/// Where a path really leads. C's library can say so without memory, and the copy reports it if there is none.
+/// Errors: those of `realpath`, and `OutOfMemory`.
+pub fn real_path(path: &CStr) -> io::Result<Vec<u8>> {
+    let mut real = [0_u8; libc::PATH_MAX as usize];
+    // SAFETY: there is room for the longest path.
+    let found = unsafe { libc::realpath(path.as_ptr(), real.as_mut_ptr().cast()) };
+    if found.is_null() {
+        return Err(io::Error::last_os_error());
+    }
+    let (real, mut copy) = (real.split(|&byte| byte == 0).next().unwrap_or_default(), Vec::new());
+    copy.try_reserve_exact(real.len())?;
+    copy.extend_from_slice(real);
+    Ok(copy)
+}

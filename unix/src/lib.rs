@@ -11,6 +11,7 @@ mod pipes;
 mod processes;
 mod shared;
 mod signals;
+mod spawned;
 pub mod streams;
 #[cfg(any(test, feature = "testing"))]
 pub mod test_folder;
@@ -23,7 +24,7 @@ pub mod words;
 pub use bounds::{MOST_TRIES, UNBLOCKED};
 pub use files::{
     Access, Opening, give, kind_of_file_system, make_folder, make_pipe, may_run, may_write, memory_file,
-    open, open_below, open_fifo, open_unblocked, remove_below, room_in, touch, try_lock, withhold,
+    open, open_below, open_fifo, open_unblocked, real_path, remove_below, room_in, touch, try_lock, withhold,
 };
 pub use image::Image;
 pub use pipes::{
@@ -36,5 +37,6 @@ pub use processes::{
 };
 pub use shared::SharedPage;
 pub use signals::{CHLD, CONT, HUP, INT, KILL, STOP, Signals, TERM, TSTP, end_by};
+pub use spawned::Spawned;
 pub use waits::{wait_for, wait_for_end, wait_for_streams, wait_to_write};
 pub use watches::Watch;

@@ -38,7 +38,7 @@ pub fn spare_files() -> usize {
     usize::try_from(most).unwrap_or(usize::MAX).saturating_sub(open)
 }
 
-fn null() -> io::Result<OwnedFd> {
+pub(crate) fn null() -> io::Result<OwnedFd> {
     Ok(open(c"/dev/null", OFlags::RDWR | OFlags::CLOEXEC, Mode::empty())?)
 }
 
@@ -96,9 +96,17 @@ pub fn end_of(child: i32) -> io::Result<Option<Status>> {
 
 /// Waits for a child.
 pub fn wait_for_child(child: i32) {
-    for _ in 0..crate::bounds::MOST_TRIES {
-        if state_of(child, WaitOptions::empty()).err() != Some(rustix::io::Errno::INTR) {
-            return;
+    let _ = status_at_end(child);
+}
+
+/// Waits for a child, and says how it has ended.
+/// Errors: those of `waitpid`.
+pub(crate) fn status_at_end(child: i32) -> io::Result<Status> {
+    let mut tries = 0;
+    loop {
+        match state_of(child, WaitOptions::empty()) {
+            Err(rustix::io::Errno::INTR) if tries < crate::bounds::MOST_TRIES => tries += 1,
+            state => return state?.map(Status::of).ok_or_else(|| rustix::io::Errno::CHILD.into()),
         }
     }
 }
