@@ -1,0 +1,5 @@
+pub mod MapLemmas
+pub mod MarkLemmas
+pub mod OwnLemmas
+pub mod PathLemmas
+pub mod StepLemmas

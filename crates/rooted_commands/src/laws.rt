@@ -1,0 +1,17 @@
+//! Laws of rooted names.
+
+ghost use Rattle.rooted_commands.specs.Laws.{CheckoutsAgree, PathsStayDistinct, OneFolderIsExact, RootKeepsSteps, OwnPathsComeBack};
+
+/// What the root does for all paths and commands.
+///
+/// What is below one checkout and below another has one rooted path (`same`). Two paths that aren't below the root themselves have
+/// different ones, unless the same is behind the checkout's folders in both (`distinct`); where it has one folder, they are one path as
+/// seen from the call's directory (`exact`). A command's record, its role in any group, and whether it preprocesses stay (`steps`).
+/// In what a tool says, a plain name's path below the first folder comes back from its rooted path (`back`).
+pub fn roots()
+    ensures same { CheckoutsAgree }
+    ensures distinct { PathsStayDistinct }
+    ensures exact { OneFolderIsExact }
+    ensures steps { RootKeepsSteps }
+    ensures back { OwnPathsComeBack }
+{}

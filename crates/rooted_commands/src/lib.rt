@@ -1,0 +1,14 @@
+//! How the commands of a plan name files, so that two checkouts of a project make equal objects.
+//!
+//! nvcc's tools and host compilers write names of sources into what they make. Here a name below the folder of a checkout has the same
+//! text in its place everywhere: the root.
+#![tactic(auto)]
+
+mod commands;
+pub mod laws;
+mod own;
+mod paths;
+
+pub use commands::rooted_command;
+pub use own::own_text;
+pub use paths::{Root, rooted_path};
