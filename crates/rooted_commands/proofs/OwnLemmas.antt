@@ -1,5 +1,5 @@
 -- A rooted path in what a tool says becomes the path.
-use Rattle.std.proofs.Common.{◌≡◌, ℕ, ◌-◌, ◌==◌, true, false, cond, nat_eq, length, List, [], ◌∷◌, ◌++◌, Some, ap, sym, ◌∙◌, subst, refl, codes, arith}
+use Rattle.std.proofs.Common.{◌≡◌, ℕ, ◌-◌, ◌==◌, true, false, cond, nat_eq, length, List, [], ◌∷◌, ◌++◌, ap, ◌∙◌, subst, refl, codes, arith}
 use Rattle.std.specs.List.{list_all, starts_with}
 use Rattle.std.proofs.lemmas.Bool.{and_parts}
 use Rattle.texts.specs.Lists.{first_word, is_some_and}

@@ -1,5 +1,5 @@
 -- What needs depend on stays when names are rooted.
-use Rattle.std.proofs.Common.{◌≡◌, ℕ, Bool, true, false, ◌&&◌, ◌||◌, ◌==◌, cond, nat_eq, length, List, [], ◌∷◌, ◌++◌, Option, Some, None, refl, ap, sym, ◌∙◌, bytes_eq, codes, option_and_then, append_assoc, arith}
+use Rattle.std.proofs.Common.{◌≡◌, ℕ, Bool, true, false, ◌||◌, ◌==◌, cond, nat_eq, length, List, [], ◌∷◌, ◌++◌, Some, None, refl, ap, ◌∙◌, bytes_eq, codes, option_and_then, append_assoc, arith}
 use Rattle.std.specs.Bool.{beq}
 use Rattle.std.specs.List.{flat_map, starts_with}
 use Rattle.std.proofs.lemmas.Bool.{and_parts}
@@ -12,11 +12,10 @@ use Rattle.compilers.specs.declared.plans.program.Program.TheVariants as program
 use Rattle.command_files.specs.declared.files.CommandFiles.{CommandFiles}
 use Rattle.command_files.specs.CommandFiles.{files_of_program, host_files, host_input, word_before}
 use Rattle.command_files.specs.Files.{is_among}
-use Rattle.command_files.specs.PlanNeeds.{preprocesses, step_of, role_of, is_host_compiler}
-use Rattle.command_files.specs.declared.steps.Step.{Step}
+use Rattle.command_files.specs.PlanNeeds.{preprocesses, step_of}
 use Rattle.placed_commands.specs.PlacedCommands.{files_of, are_same, placed_command}
 use Rattle.placed_commands.proofs.PlaceLemmas.{keeps-steps}
-use Rattle.rooted_commands.specs.Commands.{keeps_record, with_words, if_kept, tool_words, rooted_tool, file_map, folder_maps, file_maps, rooted_host, placed_tool, rooted_by, rooted_command}
+use Rattle.rooted_commands.specs.Commands.{keeps_record, with_words, if_kept, tool_words, file_map, folder_maps, file_maps, rooted_host, placed_tool, rooted_by}
 use Rattle.rooted_commands.specs.Laws.{RootKeepsSteps}
 use Rattle.rooted_commands.specs.declared.paths.Root.{Root}
 

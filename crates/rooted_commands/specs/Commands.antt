@@ -1,5 +1,5 @@
 -- The commands of a plan with the root in place of the checkout's folder.
-use Rattle.std.specs.Prelude.{◌≡◌, ℕ, List, [], ◌∷◌, ◌++◌, Bool, true, ◌&&◌, ◌||◌, if◌then◌else◌, Option, Some, None, map, codes, refl, bytes_eq}
+use Rattle.std.specs.Prelude.{◌≡◌, ℕ, List, [], ◌∷◌, ◌++◌, Bool, ◌&&◌, ◌||◌, if◌then◌else◌, Option, Some, None, map, codes, refl, bytes_eq}
 use Rattle.std.specs.Bool.{beq}
 use Rattle.std.specs.List.{flat_map}
 use Rattle.texts.specs.Lists.{rest_after}

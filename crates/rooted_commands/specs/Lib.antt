@@ -1,4 +1,6 @@
 pub mod Commands
 pub mod Laws
+pub mod MarkerExamples
+pub mod Markers
 pub mod OwnTexts
 pub mod Paths

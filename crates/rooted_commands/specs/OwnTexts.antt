@@ -1,5 +1,5 @@
 -- What a tool says, with the checkout's own folder in place of the root. The byte 47 is `/`.
-use Rattle.std.specs.Prelude.{◌≡◌, ℕ, ◌-◌, ◌==◌, nat_le, nat_eq, length, List, [], ◌∷◌, ◌++◌, Bool, true, false, not, ◌&&◌, ◌||◌, if◌then◌else◌, Option, Some, None, codes, refl}
+use Rattle.std.specs.Prelude.{ℕ, ◌-◌, ◌==◌, nat_le, nat_eq, length, List, [], ◌∷◌, ◌++◌, Bool, true, false, not, ◌&&◌, ◌||◌, if◌then◌else◌, Option, Some, None, codes, refl}
 use Rattle.std.specs.List.{starts_with}
 use Rattle.texts.specs.Lists.{first_word, is_some_and, rest_after}
 use Rattle.texts.specs.Rows.{Gives}

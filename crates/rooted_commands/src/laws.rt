@@ -1,6 +1,7 @@
 //! Laws of rooted names.
 
 ghost use Rattle.rooted_commands.specs.Laws.{CheckoutsAgree, PathsStayDistinct, OneFolderIsExact, RootKeepsSteps, OwnPathsComeBack};
+ghost use Rattle.rooted_commands.specs.MarkerExamples.{NamesAreRooted, RawStringsStay, DoubtfulLinesStay};
 
 /// What the root does for all paths and commands.
 ///
@@ -14,4 +15,11 @@ pub fn roots()
     ensures exact { OneFolderIsExact }
     ensures steps { RootKeepsSteps }
     ensures back { OwnPathsComeBack }
+{}
+
+/// What comes of some preprocessed texts.
+pub fn worked_texts()
+    ensures names { NamesAreRooted }
+    ensures raw_strings { RawStringsStay }
+    ensures doubtful { DoubtfulLinesStay }
 {}

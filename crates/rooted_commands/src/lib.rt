@@ -6,9 +6,11 @@
 
 mod commands;
 pub mod laws;
+mod markers;
 mod own;
 mod paths;
 
 pub use commands::rooted_command;
+pub use markers::rooted_text;
 pub use own::own_text;
 pub use paths::{Root, rooted_path};

@@ -1,6 +1,5 @@
 use Rattle.std.proofs.Common.{◌≡◌, ◌++◌, map, drop, string_bytes}
 use Rattle.std.specs.List.{flat_map}
-use Rattle.command_files.specs.Files.{is_among}
 use Rattle.rooted_commands.specs.Commands.{folder_maps}
 use Rattle.rooted_commands.proofs.commands.file_maps.Given as goal
 
