@@ -51,6 +51,7 @@ impl Texts {
 
 /// A program with all that it gets.
 struct Program {
+    is_path: bool,
     words: Texts,
     environment: Texts,
     folder: Texts,
@@ -70,8 +71,14 @@ impl Program {
             libc::sigprocmask(libc::SIG_SETMASK, &raw const none, ptr::null_mut());
             libc::signal(libc::SIGPIPE, libc::SIG_DFL);
             if libc::chdir(self.folder.pointers[0]) == 0 {
+                let (program, words) = (self.words.pointers[0], self.words.pointers.as_ptr());
                 environ = self.environment.pointers.as_ptr();
-                libc::execvp(self.words.pointers[0], self.words.pointers.as_ptr());
+                // (as the standard library: the shell runs what is no program of the kernel's if PATH has it)
+                if self.is_path {
+                    libc::execv(program, words);
+                } else {
+                    libc::execvp(program, words);
+                }
             }
         }
         io::Error::last_os_error().raw_os_error().unwrap_or(libc::EIO)
@@ -109,6 +116,7 @@ impl Spawned {
         folder: &'a str,
     ) -> io::Result<Spawned> {
         let program = Program {
+            is_path: words.clone().next().is_some_and(|program| program.contains('/')),
             words: Texts::of(words.map(|word| [word]))?,
             environment: Texts::of(environment)?,
             folder: Texts::of(iter::once([folder]))?,
@@ -147,6 +155,9 @@ impl Spawned {
 #[cfg(test)]
 mod tests {
     use super::*;
+    use crate::test_folder::TestFolder;
+    use std::fs;
+    use std::os::unix::fs::PermissionsExt;
 
     fn said(words: &[&str], environment: &[[&'static str; 3]], folder: &str) -> io::Result<(i32, String)> {
         let (status, errors) =
@@ -170,6 +181,20 @@ mod tests {
         assert_eq!([kind(&["sh"], "/"), kind(&["/bin/sh"], "/missing")], [ErrorKind::NotFound; 2]);
         assert_eq!(kind(&["/bin/sh", "-c", "\0"], "/"), ErrorKind::InvalidInput);
         assert_eq!(kind(&["/usr"], "/"), ErrorKind::PermissionDenied);
+    }
+
+    #[test]
+    fn the_shell_runs_a_script_without_a_first_line_by_its_name_alone() {
+        let folder = TestFolder::new();
+        let script = folder.join("odd");
+        fs::write(&script, "echo said >&2\n").unwrap();
+        fs::set_permissions(&script, fs::Permissions::from_mode(0o755)).unwrap();
+        let [path, search] = [script.to_str().unwrap(), folder.to_str().unwrap()].map(String::from);
+        let start = |word: &str| {
+            Spawned::start([word].into_iter(), [["PATH", "=", search.as_str()]].into_iter(), "/")
+        };
+        assert_eq!(start("odd").unwrap().ended().unwrap().1, b"said\n");
+        assert_eq!(start(&path).unwrap_err().raw_os_error(), Some(libc::ENOEXEC));
     }
 
     #[test]
