@@ -1,5 +1,5 @@
 -- A text is its first line and the others.
-use Rattle.std.proofs.Common.{◌≡◌, ℕ, suc, ◌+◌, ◌≤◌, ◌==◌, true, false, cond, eqb, List, [], ◌∷◌, length, take, drop, ap, sym, ◌∙◌, subst, refl, arith, one-add}
+use Rattle.std.proofs.Common.{◌≡◌, ℕ, ◌+◌, ◌≤◌, ◌==◌, true, false, cond, eqb, List, [], ◌∷◌, length, take, drop, ap, sym, ◌∙◌, subst, refl, arith, one-add}
 use Rattle.rooted_commands.specs.Markers.{line_length, lines_of, with_byte}
 
 shift : (c m : ℕ) (text : List ℕ) → with_byte c (take m text ∷ lines_of (drop m text)) ≡ take (1 + m) (c ∷ text) ∷ lines_of (drop (1 + m) (c ∷ text))

@@ -1,4 +1,4 @@
-use Rattle.std.proofs.Common.{◌∷◌, ap, sym, ◌∙◌, drop, take, arith, length}
+use Rattle.std.proofs.Common.{◌∷◌, ap, sym, ◌∙◌, drop, take, arith}
 use Rattle.rooted_commands.specs.Markers as spec
 use Rattle.rooted_commands.proofs.LineLemmas.{cut-first, has-byte}
 use Rattle.rooted_commands.proofs.markers.first_line.Goals as goal
