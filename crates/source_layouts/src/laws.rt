@@ -2,6 +2,7 @@
 
 ghost use Rattle.source_layouts.specs.Examples as examples;
 ghost use Rattle.source_layouts.specs.LayoutLaws as spec;
+ghost use Rattle.source_layouts.specs.LineNumbers as lines;
 
 /// A comment between two tokens doesn't count, nor does an empty line if lines don't.
 pub fn comments()
@@ -17,6 +18,12 @@ pub fn readings()
     ensures found { spec.TextsHavePieces }
     ensures pieces { spec.LayoutsHaveThePieces }
     ensures same { spec.SamePieces }
+{}
+
+/// If a set of words shuts out the number of a line, no word becomes it: each closed set has what words may become, and this one is closed.
+pub fn line_numbers()
+    ensures sets { lines.ClosedSetsShutOut }
+    ensures tried { lines.SetsAreTried }
 {}
 
 /// Examples: texts with their layouts, and texts without one.

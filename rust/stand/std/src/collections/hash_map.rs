@@ -49,6 +49,17 @@ impl<K: Eq + Hash, V> HashMap<K, V> {
         Ok(self.entries.entry(key))
     }
 
+    /// Puts `value` at `key`, and gives back what was there.
+    #[inline]
+    pub fn insert(&mut self, key: K, value: V) -> Result<Option<V>, AllocFailed<(K, V)>> {
+        if self.make_room().is_err() {
+            return Err(AllocFailed {
+                value: (key, value),
+            });
+        }
+        Ok(self.entries.insert(key, value))
+    }
+
     /// The value of `key`.
     #[inline]
     pub fn get<Q: Eq + Hash + ?Sized>(&self, key: &Q) -> Option<&V>
