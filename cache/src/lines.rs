@@ -2,9 +2,12 @@
 //!
 //! `__LINE__` is the number of the line from which it comes, be it by way of other macros. So the lines of a text don't count if none of its
 //! words leads there by any definition in any text, or on a command line, whether a preprocessor takes that definition or leaves it out.
-//! Macros may put parts of words together: then any words of what is reached may be parts, in any order.
+//! Macros may put parts of words together: then any words of what is reached may be parts, in any order. What the words reach is sought here,
+//! and the proved crate `source_layouts` says whether that is all, and has no such number.
 use crate::source::{spliced, words_of};
 use machine::bytes::{contains, find};
+use rattle_std::alloc::Global;
+use source_layouts::{Macro, shuts_lines_out};
 use std::borrow::Cow;
 use std::collections::{HashMap, HashSet};
 
@@ -79,8 +82,15 @@ impl<'a> Macros<'a> {
 
     /// Whether words may become the number of a line.
     pub fn see_lines(&self, words: impl Iterator<Item = &'a [u8]>) -> bool {
+        let words: Vec<&[u8]> = words.collect();
+        let reached = self.reached(&words);
+        reached.contains(LINE) || !self.are_all(&words, &reached)
+    }
+
+    /// What words may become, if that isn't the number of a line.
+    fn reached(&self, words: &[&'a [u8]]) -> HashSet<&'a [u8]> {
         let mut reached: HashSet<&[u8]> = HashSet::new();
-        let mut new: Vec<&[u8]> = words.chain(SUFFIXES).collect();
+        let mut new: Vec<&[u8]> = words.iter().copied().chain(SUFFIXES).collect();
         while !new.is_empty() && !reached.contains(LINE) {
             while let Some(word) = new.pop() {
                 if reached.insert(word) {
@@ -89,7 +99,15 @@ impl<'a> Macros<'a> {
             }
             new.extend(self.joined(&reached));
         }
-        reached.contains(LINE)
+        reached
+    }
+
+    /// Whether these are sure to be all that words may become. Without memory they aren't.
+    fn are_all(&self, words: &[&[u8]], reached: &HashSet<&[u8]>) -> bool {
+        let lists: Vec<(&[u8], Vec<&[u8]>)> = self.0.iter().map(|(name, words)| (*name, words.iter().copied().collect())).collect();
+        let macros: Vec<Macro<'_>> = lists.iter().map(|(name, words)| Macro { name, words }).collect();
+        let reached: Vec<&[u8]> = reached.iter().copied().collect();
+        shuts_lines_out(Global, &macros, words, &reached).unwrap_or(false)
     }
 
     /// The macros whose names are words put together, and that aren't among these.
@@ -169,6 +187,18 @@ mod tests {
         assert_eq!(sees(further, "first name"), Some(false));
         assert_eq!(sees(further, "first _name"), Some(true));
         assert_eq!(sees("", "INE__ __"), Some(true), "gcc itself has a part");
+    }
+
+    #[test]
+    fn words_that_were_not_found_are_missed() {
+        let mut macros = Macros::default();
+        macros.define(b"A=B");
+        macros.define(b"B=__LINE__");
+        macros.define(b"join=1");
+        let are_all = |words: &[&'static [u8]], found: &[&'static [u8]]| macros.are_all(words, &found.iter().copied().chain(SUFFIXES).collect());
+        assert!(are_all(&[b"C"], &[b"C"]) && are_all(&[b"join"], &[b"join", b"1"]));
+        assert!(!are_all(&[b"A"], &[b"A"]) && !are_all(&[b"A"], &[b"A", b"B"]) && !are_all(&[b"A"], &[b"A", b"B", LINE]));
+        assert!(!are_all(&[b"jo", b"in"], &[b"jo", b"in"]) && !are_all(&[b"C"], &[]));
     }
 
     #[test]
