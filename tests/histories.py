@@ -182,7 +182,7 @@ class Trace:
         if tool is None:
             self.others.setdefault(number, []).append((time, path))
         # (ccache's own files are made for calls at the same time)
-        elif not path.startswith(("/dev/", "/proc/")) and "/ccache/" not in path:
+        elif not path.startswith(("/dev/", "/proc/")) and not re.search("/ccache(-tmp)?/", path):
             self.tools[tool]["opened"].setdefault(path, time)
             if re.search("O_WRONLY|O_RDWR|O_CREAT", how):
                 self.tools[tool]["written"].add(path)
