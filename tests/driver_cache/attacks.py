@@ -103,14 +103,14 @@ class Box:
         subprocess.run(["objcopy", "--strip-unneeded", product, stripped], check=True)
         return stripped.read_bytes()
 
-    def check(self, what: str, words: list[str], env: dict[str, str] | None = None, cwd: str = ".") -> bytes | None:
-        """Makes a call with the cache and by nvcc, and compares."""
+    def check(self, what: str, words: list[str], env: dict[str, str] | None = None, cwd: str = ".") -> tuple[str, bytes | None]:
+        """Makes a call with the cache and by nvcc, and compares. Gives what nvcc says and makes."""
         made = self.run(self.own, words, env or {}, cwd)
         wanted = self.run("nvcc", words, env or {}, cwd)
         for name, one, other in zip(("status", "messages", "product"), made, wanted):
             if one != other:
                 raise Wrong(f"{what}: {name} {one!r:.300}, not {other!r:.300}")
-        return wanted[2]
+        return wanted[1], wanted[2]
 
     def changes(self, words: list[str], change: Callable[[], object], env: dict[str, str] | None = None, cwd: str = ".", *, differs: bool = True,
                 env_after: dict[str, str] | None = None) -> None:
@@ -185,10 +185,10 @@ class Box:
         return any(line[0].endswith(b"cc1plus") and b"-E" not in line and any(own in word for word in line) for line in lines)
 
     def leaves(self, words: list[str], env: dict[str, str] | None = None, before: Callable[[], object] | None = None) -> None:
-        """Makes a call twice with the cache and once by nvcc. Each time all files that it leaves, and their kinds and modes, are to be the same."""
+        """Makes a call twice with the cache and once by nvcc. Each time the files that it leaves, and their kinds and modes, are to be the same."""
         first = {path.name for path in self.work.iterdir()}
         settle()
-        left: list[list[tuple[str, int, int, int]]] = []
+        left: list[list[tuple[str, int, int, bool]]] = []
         for program in (str(self.own), str(self.own), "nvcc"):
             for path in [path for path in self.work.iterdir() if path.name not in first]:
                 path.unlink()
@@ -197,8 +197,11 @@ class Box:
             environment = {**self.environment, "PWD": str(self.work), **(env or {})}
             subprocess.run([program, *words, f"-I{self.room}/small"], cwd=self.work, env=environment, capture_output=True, check=False)
             status = {path.name: (path.lstat(), path.stat()) for path in self.work.iterdir() if path.name not in first}
-            left.append(sorted((name, own.st_mode, own.st_nlink, target.st_size) for name, (own, target) in status.items()))
+            # (names of temporary files are in some, so that their sizes differ)
+            left.append(sorted((name, own.st_mode, own.st_nlink, target.st_size > 0) for name, (own, target) in status.items()))
             settle()
+        for path in [path for path in self.work.iterdir() if path.name not in first]:
+            path.unlink()
         if left[0] != left[2] or left[1] != left[2]:
             raise Wrong(f"files {left[0]}, then {left[1]}, not {left[2]}")
 
@@ -206,7 +209,10 @@ class Box:
         """Makes a change once a compile's text is there that a preprocessor wrote, or after a while."""
         until = time.monotonic() + 20
         while time.monotonic() < until:
-            texts = [path for path in (self.room / "tmp").rglob("cache.*.ii") if path.exists()]
+            try:
+                texts = [path for path in (self.room / "tmp").rglob("cache.*.ii") if path.exists()]
+            except FileNotFoundError:  # (a folder that has gone meanwhile)
+                continue
             if any(b"f()" in path.read_bytes()[-200:] for path in texts):
                 break
         change()
@@ -1084,7 +1090,7 @@ def profile_within_a_call(box: Box) -> None:
 
 @case
 def header_within_a_call(box: Box) -> None:
-    """A header in an earlier folder, which comes and goes by a rename of the folder. The cache doesn't notice it yet."""
+    """A header in an earlier folder, which comes and goes by a rename of the folder."""
     box.put("m.cpp", SLOW + HOST)
     box.put("late/h.h", "#define V 1\n")
     box.put("away/h.h", "#define V 2\n")
