@@ -50,7 +50,7 @@ static void *real(int at) { return reals[at] ? reals[at] : (reals[at] = dlsym(RT
 
 struct record {
     uint32_t size, process, parent, number;
-    uint8_t kind, none;
+    uint8_t kind, is_relative;
     uint16_t error;
     uint32_t mode;
     uint64_t device, file, length;
@@ -87,7 +87,7 @@ static uint64_t mixed(uint64_t sum, const void *bytes, size_t size) {
 
 // Whether such a record has to be written: those of processes, which count in their order, always.
 static int is_new(const struct record *record, const char *folder, const char *text) {
-    if (strchr("BEXFPU", record->kind)) return 1;
+    if (strchr("BEXFPUW", record->kind)) return 1;
     uint64_t sum = mixed(0xcbf29ce484222325, record, sizeof *record);
     if (folder) sum = mixed(mixed(sum, folder, strlen(folder)), "/", 1);
     sum = mixed(sum, text, strlen(text));
@@ -115,6 +115,7 @@ static const char *place(int folder, char to[PATH_SIZE]) {
 static void note_relative(struct record *record, int folder, const char *path) {
     char buffer[PATH_SIZE];
     const char *before = place(folder, buffer);
+    record->is_relative = folder == AT_FDCWD;
     if (!before) lost++;
     else if (is_new(record, before, path)) append(record, before, path);
 }
@@ -164,6 +165,9 @@ static void tell_beginning(int how) {
     owner = CALL(SYS_getpid);
     program[size < 0 ? 0 : size] = 0;
     tell('B', program, how, has_status ? &status : NULL);
+    // (where the loader has looked for libraries by relative paths)
+    if (how != IS_FORKED && !place(AT_FDCWD, program)) lost++;
+    if (how != IS_FORKED) tell('W', program, 0, NULL);
 }
 
 // Open files that a program may read without having opened them.

@@ -1433,21 +1433,39 @@ END_OF_SCRIPT
             for _ in 1 2; do settle && call "${usual[@]}"; done
             same "served with $line" "$status $([ "$(commands true)" = nvcc ] && echo whole)" '0 '
         done
-        echo -O2 > words
         echo 'int one() { return 1; }' > k.cu
         twice "${usual[@]}"
-        for words in '--options-file words' '-Xcompiler -MD' '-Xcompiler -imacros,k.h' '-Xcompiler -H'; do
+        for words in '-Xcompiler -MD' '-Xcompiler -imacros,k.h' '-Xcompiler -H'; do
             echo > k.h
             # shellcheck disable=SC2086 # several words
             { call "${usual[@]}" $words && settle && call "${usual[@]}" $words; }
             same "served with $words" "$status $([ "$(commands true)" = nvcc ] && echo whole)" '0 '
         done
-        for _ in 1 2; do settle && call NVCC_APPEND_FLAGS='-optf words' "${usual[@]}"; done
-        same 'served with a list that a variable names' "$status $([ "$(commands true)" = nvcc ] && echo whole)" '0 '
         rm -f k.d
         # nvcc takes the targets of the GPUs that it finds
         whole '' -arch=native -c k.cu -o k.o
         whole '' -arch=native -c k.cu -o k.o
+        end
+    fi
+    if case_of 'whole: what cannot be observed'; then
+        project
+        mkdir "$room/bin.1"
+        gcc -static -x c -o "$room/bin.1/nvcc" - <<< "#include <unistd.h>
+int main(int n, char** words) { return execv(\"$(command -v nvcc)\", words); }"
+        for _ in 1 2; do whole '' PATH="$room/bin.1:$PATH" "${usual[@]}"; done
+        call ZIGRUNK_EXPLAIN=1 PATH="$room/bin.1:$PATH" "${usual[@]}"
+        same 'the reason' "$(sed 's/: [^:]* into .*//' "$room/err")" 'zigrunk-nvcc: the call is not kept as a whole'
+        end
+    fi
+    if case_of 'whole: lists of words'; then
+        project
+        printf '%s\n' '#ifdef MORE' 'int more = MORE;' '#endif' >> k.cu
+        echo -DMORE=1 > words
+        twice --options-file words "${usual[@]}"
+        twice NVCC_APPEND_FLAGS='-optf words' "${usual[@]}"
+        echo -DMORE=2 > words
+        whole '' --options-file words "${usual[@]}"
+        whole '' NVCC_APPEND_FLAGS='-optf words' "${usual[@]}"
         end
     fi
     if case_of 'whole: tools and variables'; then
@@ -1468,8 +1486,11 @@ END_OF_SCRIPT
         whole '' PATH="$path" "${usual[@]}"
         rm "$room/bin.2/gcc"
         printf '#!/bin/sh\nexec %s -DX "$@"\n' "$(command -v nvcc)" > "$room/bin.1/nvcc"
-        whole '' PATH="$path" "${usual[@]}"
-        whole '' PATH="$path" "${usual[@]}"
+        twice PATH="$path" "${usual[@]}"
+        # what a script reads may use any variable, which it doesn't ask for by its name
+        printf '#!/bin/sh\nexec %s -DMORE_THAN="$USER" "$@"\n' "$(command -v nvcc)" > "$room/bin.1/nvcc"
+        whole '' PATH="$path" USER=1 "${usual[@]}"
+        whole '' PATH="$path" USER=2 "${usual[@]}"
         end
     fi
     if case_of 'whole: variables that may count after all'; then

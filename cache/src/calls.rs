@@ -19,7 +19,7 @@ use std::io::{self, ErrorKind, IsTerminal};
 use std::os::unix::ffi::OsStrExt;
 use std::path::{Path, PathBuf};
 
-/// Variables that nothing of what a call makes depends on, unless a profile of nvcc names one. All others count, since a profile may use any.
+/// Variables that nothing of what a call makes depends on, unless a process asks for one. All others count, since nvcc's profile may use any.
 const FREE_VARIABLES: [&str; 39] = [
     "COLUMNS",
     "DISPLAY",
@@ -69,7 +69,15 @@ fn is_free(name: &OsStr) -> bool {
     FREE_VARIABLES.iter().any(|free| name == free.as_bytes()) || FREE_BEGINNINGS.iter().any(|begin| name.starts_with(begin.as_bytes()))
 }
 
-/// Whether a text has the name of such a variable: a profile of nvcc may use any.
+/// For these of them tools ask, but nothing that they make depends on them; messages are kept for the kind of terminal.
+const HARMLESS: [&str; 6] = ["COLUMNS", "GCC_COLORS", "MAKEFLAGS", "PWD", "TERM", "TMPDIR"];
+
+/// Whether a variable counts that isn't in a call's key, if a process has asked for it.
+pub fn counts_if_asked(name: &OsStr) -> bool {
+    is_free(name) && !HARMLESS.iter().any(|harmless| name == *harmless)
+}
+
+/// Whether a text has the name of a variable that isn't in a call's key: a script may use any without asking.
 pub fn names_free_variable(text: &[u8]) -> bool {
     words_of(text).any(|word| is_free(OsStr::from_bytes(word)))
 }
@@ -119,7 +127,7 @@ fn keys(line: &NvccLine, nvcc: &Path) -> [Digest; 2] {
 /// The key of a call: the processor, its nvcc, its words and its variables, and its folder, with where that really is, if that counts.
 fn key(line: &NvccLine, nvcc: &Path, folder: &[u8], variables: impl Iterator<Item = (OsString, OsString)>) -> Digest {
     let mut hasher = Hasher::default();
-    hasher.add(b"zigrunk call 7");
+    hasher.add(b"zigrunk call 8");
     hasher.add(instructions().as_bytes());
     hasher.add(folder);
     hasher.add(nvcc.as_os_str().as_bytes());
@@ -214,7 +222,7 @@ pub fn put(is_new: bool, path: &Path, text: &[u8]) -> io::Result<()> {
 #[cfg(test)]
 mod tests {
     use super::*;
-    use crate::manifest::{Form, Lacking, Seen, Vain};
+    use crate::manifest::{Form, Seen, Vain};
     use crate::test_folder::TestFolder;
     use std::fs;
 
@@ -274,7 +282,7 @@ mod tests {
         let (store, line, nvcc) = (Store::new(room.join("store"), 1 << 20), line("-c k.cu", room.to_str().unwrap()), Path::new("/b/nvcc"));
         let keep = |text: &str, folder_counts: bool| {
             fs::write(room.join("k.cu"), text).unwrap();
-            let vain = Vain::now(Path::new(""), vec![Lacking { name: b"a.h".to_vec(), may_be_folder: true }], &room).unwrap();
+            let vain = Vain::now(Path::new(""), vec![b"a.h".to_vec()], &room).unwrap();
             let files = vec![Seen::now(Path::new("k.cu"), &room).unwrap()];
             let manifest = Manifest { files, vain: vec![vain], ..Manifest::default() };
             super::keep(&store, &line, nvcc, folder_counts, &manifest, &Answer { said: vec![(false, text.into())], ..answer() });
@@ -301,8 +309,7 @@ mod tests {
         let put = |text: &str| fs::write(room.join("k.cu"), text).unwrap();
         let keep = |said: &[u8]| {
             put("int a;\n");
-            let (seen, text) = Seen::with_text(Path::new("k.cu"), &room).unwrap();
-            let files = vec![Seen { form: Form::of_source(&text), ..seen }];
+            let files = vec![Seen { form: Form::of_source(b"int a;\n"), ..Seen::now(Path::new("k.cu"), &room).unwrap() }];
             let manifest = Manifest { files, defines: Some(Vec::new()), ..Manifest::default() };
             super::keep(&store, &line, nvcc, false, &manifest, &Answer { said: vec![(true, said.to_vec())], ..answer() });
         };

@@ -107,6 +107,32 @@ pub fn tells_time(text: &[u8]) -> bool {
     pairs(text, b':', b':', 3).any(is_time) || years(b'"') || years(b'\\')
 }
 
+/// Whether a source may have a preprocessor compare the times of files, by `#pragma GCC dependency`, which it doesn't write. Macros may put
+/// that together, or the text of a definition.
+pub fn compares_times(text: &[u8]) -> bool {
+    let is_word = |byte: &u8| byte.is_ascii_alphanumeric() || *byte == b'_';
+    let is_between = |byte: &u8| byte.is_ascii_whitespace() || *byte == b'\\';
+    let mut from = 0;
+    while let Some(place) = find(&text[from..], b"ncy").map(|place| from + place) {
+        from = place + 3;
+        let begin = text[..place].iter().rposition(|byte| !is_word(byte)).map_or(0, |last| last + 1);
+        let is_whole = !text.get(from).is_some_and(is_word);
+        if &text[begin..from] == b"dependency" && is_whole {
+            let end = text[..begin].iter().rposition(|byte| !is_between(byte)).map_or(0, |last| last + 1);
+            let behind = text[from..].iter().find(|byte| !is_between(byte));
+            let line = text[..begin].rsplit(|&byte| byte == b'\n').next().unwrap_or_default().trim_ascii_start();
+            let is_defined = contains(line, b"define") && !line.starts_with(b"*") && !line.starts_with(b"//");
+            let is_named = text[..end].ends_with(b"GCC") || text[..end].ends_with(b"*/") || is_defined;
+            if is_named || matches!(behind, Some(b'"' | b'<')) {
+                return true;
+            }
+        } else if is_whole && b"dependency".ends_with(&text[begin..from]) {
+            return true;
+        }
+    }
+    contains(text, b"??/")
+}
+
 /// Whether a text sees its lines, as its definition says, which is only asked where one of the words is for which it looks.
 pub fn sees_lines(text: &[u8]) -> bool {
     let sees = |word: &&[u8]| find(text, word).is_some_and(|begin| token_texts::sees_lines(&text[begin..begin + word.len()]));
@@ -173,6 +199,26 @@ mod tests {
         ];
         for (text, wanted) in cases {
             assert_eq!(assembler_reads_more(text.as_bytes(), None), wanted, "{text}");
+        }
+    }
+
+    #[test]
+    fn a_source_may_compare_times() {
+        let cases = [
+            ("#pragma GCC dependency \"data\"\n", true),
+            ("_Pragma(\"GCC \\\n dependency \\\"data\\\"\")\n", true),
+            ("#pragma GCC /* x */dependency \"data\"\n", true),
+            ("#pragma GCC depend\\\nency <data>\n", true),
+            ("#define D dependency\n", true),
+            ("P(G dependency \"data\")\nP(GCC CAT(depend, ency) \"data\")\n", true),
+            ("P(GCC CAT(depend, ency) data)\n", true),
+            ("#pragma GCC depend??/\nency\n", true),
+            ("// a dependency of GCC\n", false),
+            (" * they define a dependency.\n", false),
+            ("a frequency's dependency is latency\n", false),
+        ];
+        for (text, wanted) in cases {
+            assert_eq!(compares_times(text.as_bytes()), wanted, "{text}");
         }
     }
 

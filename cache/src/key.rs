@@ -20,7 +20,7 @@ use std::path::{Path, PathBuf};
 use token_texts::token_text;
 
 /// What every key begins with. It changes with what is in an entry, or in a key.
-const FORM: &[u8] = b"zigrunk command 6";
+const FORM: &[u8] = b"zigrunk command 7";
 
 /// A part of a text that has so many bytes is found in the store, with what its tokens are.
 const LARGE: usize = 1 << 16;
@@ -133,7 +133,7 @@ pub fn start_of(recipe: &Recipe, tool: &Digest, environment: &[(OsString, OsStri
 
 /// The key of a compile by the texts that it reads and by its words, those for the preprocessor too. `None` if it may not have one.
 pub fn direct<'a>(mut start: Hasher, recipe: &Recipe, texts: &[Text], words: impl Iterator<Item = &'a String>) -> Option<Digest> {
-    start.add(b"direct 4");
+    start.add(b"direct 5");
     start.add(recipe.job.folder.as_bytes());
     for word in words {
         marked::add_to(&mut start, &recipe.unnamed(word.as_bytes())?, recipe.directory.as_bytes());

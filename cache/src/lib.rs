@@ -1,13 +1,12 @@
 //! The cache of commands: what a command of the same tool, words and inputs has made and said before is made and said again.
 #![forbid(unsafe_code)]
 
-mod ahead;
 pub mod calls;
 pub mod counts;
 pub mod digest;
 mod entry;
 mod host_text;
-mod includes;
+mod inputs;
 mod key;
 mod libraries;
 mod lines;
@@ -19,16 +18,17 @@ pub mod place;
 mod processor;
 pub mod program;
 mod recipe;
-mod searches;
 mod session;
 mod source;
 mod stamps;
 mod store;
 mod stored;
 pub mod tool;
+mod ways;
 mod words;
 
-pub use session::{Finished, Session};
+pub use inputs::Refusal;
+pub use session::{Beginning, Finished, Session};
 
 use unix as system;
 #[cfg(test)]

@@ -1,4 +1,4 @@
-//! What a whole call depends on: the files that were read for it, and the places where some were sought in vain.
+//! What a call or a command depends on: the files that were read for it, and the places where some were sought in vain.
 //!
 //! A file counts by its contents. It isn't read again if its stamp is the one it had, and if it had been as it is for a while when it was
 //! read. A folder's stamp says in the same way that nothing has appeared in it.
@@ -10,12 +10,13 @@ use crate::source::{layout_of, words_of};
 use crate::stamps::Stamp;
 use crate::store::digest_of;
 use crate::stored;
-use machine::streams::{content, content_of};
+use machine::settings::own_variable;
+use machine::streams::content_of;
 use serde::{Deserialize, Serialize};
 use std::ffi::OsStr;
 use std::fs::{self, File, Metadata};
 use std::io::ErrorKind;
-use std::os::unix::ffi::OsStrExt;
+use std::os::unix::ffi::{OsStrExt, OsStringExt};
 use std::os::unix::fs::MetadataExt;
 use std::path::{Path, PathBuf};
 
@@ -38,10 +39,8 @@ pub enum Form {
     /// A text of which each byte counts.
     Text,
     Source(Layouts),
-    /// A file that counts by the time of its last change, too.
-    Dated,
-    /// A program that counts by where it is, too: by that it finds others.
-    Placed(#[serde(with = "stored::path")] PathBuf),
+    /// A file that counts by the time of its last change, too: its seconds and nanoseconds.
+    Dated(i64, i64),
 }
 
 impl Form {
@@ -49,6 +48,11 @@ impl Form {
     pub fn of_source(text: &[u8]) -> Form {
         let digest = |is_lined: bool| layout_of(text, is_lined).map(|layout| Digest::of(layout.as_slice()));
         digest(true).map_or(Form::Text, |lined| Form::Source(Layouts { lined, free: digest(false), is_free: false }))
+    }
+
+    /// That of a file whose time counts.
+    pub fn dated(status: &Metadata) -> Form {
+        Form::Dated(status.mtime(), status.mtime_nsec())
     }
 }
 
@@ -73,46 +77,27 @@ impl Seen {
         Some(Seen { path: path.to_owned(), digest, stamp: Stamp::settled(&cwd.join(path), &status), form: Form::Other })
     }
 
-    /// The same, if the time of its last change counts, too.
-    pub fn dated(path: &Path, cwd: &Path) -> Option<Seen> {
-        let seen = Seen::now(path, cwd)?;
-        let status = fs::metadata(cwd.join(path)).ok()?;
-        let mut hasher = Hasher::default();
-        hasher.update(&seen.digest.0);
-        for part in [status.mtime(), status.mtime_nsec()] {
-            hasher.update(&part.to_le_bytes());
-        }
-        Some(Seen { digest: hasher.finish(), form: Form::Dated, ..seen })
-    }
-
-    /// The same, with its text.
-    pub fn with_text(path: &Path, cwd: &Path) -> Option<(Seen, Vec<u8>)> {
-        let file = File::open(cwd.join(path)).ok()?;
-        let status = file.metadata().ok().filter(Metadata::is_file)?;
-        let text = content(&file).ok()?;
-        Some((Seen { path: path.to_owned(), digest: Digest::of(&text), stamp: Stamp::settled(&cwd.join(path), &status), form: Form::Text }, text))
-    }
-
     /// The same file as it is now.
     fn again(&self, cwd: &Path) -> Option<Seen> {
-        let status = fs::metadata(cwd.join(&self.path)).ok()?;
-        let place = if let Form::Placed(_) = self.form { Some(Form::Placed(fs::canonicalize(cwd.join(&self.path)).ok()?)) } else { None };
-        let is_in_place = place.as_ref().is_none_or(|place| *place == self.form);
-        if is_in_place && self.stamp.is_some_and(|stamp| stamp == Stamp::of(&status)) {
+        let path = cwd.join(&self.path);
+        let status = fs::metadata(&path).ok()?;
+        if self.stamp.is_some_and(|stamp| stamp == Stamp::of(&status)) {
             let is_for_all = status.mode() & 0o444 == 0o444;
-            return (is_for_all || File::open(cwd.join(&self.path)).is_ok()).then(|| self.clone());
+            return (is_for_all || File::open(path).is_ok()).then(|| self.clone());
         }
-        if let Some(form) = place {
-            return Some(Seen { form, ..Seen::now(&self.path, cwd)? });
-        }
-        match self.form {
-            Form::Other | Form::Text | Form::Placed(_) => return Some(Seen { form: self.form.clone(), ..Seen::now(&self.path, cwd)? }),
-            Form::Dated => return Seen::dated(&self.path, cwd),
-            Form::Source(_) => {}
-        }
-        let (now, text) = Seen::with_text(&self.path, cwd)?;
-        let form = if now.digest == self.digest { self.form.clone() } else { Form::of_source(&text) };
+        let now = Seen::now(&self.path, cwd)?;
+        let form = match self.form {
+            Form::Dated(..) => Form::dated(&status),
+            Form::Source(_) if now.digest != self.digest => Form::of_source(&content_of(&path).ok()?),
+            Form::Other | Form::Text | Form::Source(_) => self.form.clone(),
+        };
         Some(Seen { form, ..now })
+    }
+
+    /// Whether this is the same to a call as what it was. The layouts of a source are those of its text.
+    pub fn counts_as(&self, now: &Seen) -> bool {
+        let same_time = !matches!(self.form, Form::Dated(..)) || self.form == now.form;
+        self.digest == now.digest && same_time
     }
 
     /// The layouts of a source.
@@ -128,36 +113,28 @@ pub fn real_place(path: &Path, cwd: &Path) -> Option<PathBuf> {
     Some(own.and_then(|own| real.strip_prefix(own).ok().map(Path::to_owned)).unwrap_or(real))
 }
 
-/// A name that wasn't in a folder.
-#[derive(Clone, PartialEq, Eq, Debug, PartialOrd, Ord, Serialize, Deserialize)]
-pub struct Lacking {
-    #[serde(with = "serde_bytes")]
-    pub name: Vec<u8>,
-    /// Whether a folder may have the name.
-    pub may_be_folder: bool,
-}
-
 /// A folder in which names were sought in vain.
 #[derive(Clone, PartialEq, Eq, Debug, Serialize, Deserialize)]
 pub struct Vain {
     /// Its path, seen from the call's working directory.
     #[serde(with = "stored::path")]
     pub folder: PathBuf,
-    pub lacks: Vec<Lacking>,
+    #[serde(with = "stored::texts")]
+    pub lacks: Vec<Vec<u8>>,
     /// Unless it had only just been changed.
     pub stamp: Option<Stamp>,
 }
 
 impl Vain {
     /// A folder that lacks some names, as it is now. It has no stamp if one of the names is a link's: what that leads to may come elsewhere.
-    pub fn now(folder: &Path, lacks: Vec<Lacking>, cwd: &Path) -> Option<Vain> {
+    pub fn now(folder: &Path, lacks: Vec<Vec<u8>>, cwd: &Path) -> Option<Vain> {
         let status = fs::metadata(cwd.join(folder)).ok()?;
-        let path = |lacking: &Lacking| cwd.join(folder).join(OsStr::from_bytes(&lacking.name));
-        let is_free = |lacking: &Lacking| match fs::metadata(path(lacking)) {
-            Ok(found) => lacking.may_be_folder && found.is_dir(),
-            Err(error) => matches!(error.kind(), ErrorKind::NotFound | ErrorKind::NotADirectory),
+        let path = |name: &Vec<u8>| cwd.join(folder).join(OsStr::from_bytes(name));
+        let is_free = |name: &Vec<u8>| {
+            let missing = |error: &std::io::Error| matches!(error.kind(), ErrorKind::NotFound | ErrorKind::NotADirectory);
+            fs::metadata(path(name)).as_ref().is_err_and(missing)
         };
-        let is_link = |lacking: &Lacking| fs::symlink_metadata(path(lacking)).is_ok_and(|found| found.is_symlink());
+        let is_link = |name: &Vec<u8>| fs::symlink_metadata(path(name)).is_ok_and(|found| found.is_symlink());
         let stamp = Stamp::settled(&cwd.join(folder), &status).filter(|_| !lacks.iter().any(is_link));
         lacks.iter().all(is_free).then(|| Vain { folder: folder.to_owned(), lacks, stamp })
     }
@@ -172,14 +149,57 @@ impl Vain {
     }
 }
 
-/// What a whole call depends on.
+/// A folder whose names were read.
+#[derive(Clone, PartialEq, Eq, Debug, Serialize, Deserialize)]
+pub struct Listed {
+    /// Its path, seen from the call's working directory.
+    #[serde(with = "stored::path")]
+    pub folder: PathBuf,
+    names: Digest,
+}
+
+impl Listed {
+    /// A folder as it is now.
+    pub fn now(folder: &Path, cwd: &Path) -> Option<Listed> {
+        let entries = fs::read_dir(cwd.join(folder)).ok()?;
+        let mut names: Vec<_> = entries.map(|entry| entry.map(|entry| entry.file_name())).collect::<Result<_, _>>().ok()?;
+        names.sort();
+        let mut hasher = Hasher::default();
+        for name in names {
+            hasher.add(name.as_bytes());
+        }
+        Some(Listed { folder: folder.to_owned(), names: hasher.finish() })
+    }
+}
+
+/// A variable for which a process asked, with its value.
+#[derive(Clone, PartialEq, Eq, Debug, PartialOrd, Ord, Serialize, Deserialize)]
+pub struct Variable {
+    #[serde(with = "serde_bytes")]
+    name: Vec<u8>,
+    #[serde(with = "serde_bytes")]
+    value: Option<Vec<u8>>,
+}
+
+impl Variable {
+    /// A variable as the call has it.
+    pub fn now(name: &[u8]) -> Variable {
+        let value = own_variable(OsStr::from_bytes(name)).map(OsStringExt::into_vec);
+        Variable { name: name.to_vec(), value }
+    }
+}
+
+/// What a call or a command depends on.
 #[derive(Clone, PartialEq, Eq, Debug, Default, Serialize, Deserialize)]
 pub struct Manifest {
+    /// A path may be here twice, if the file is several things to a call.
     pub files: Vec<Seen>,
     pub vain: Vec<Vain>,
+    pub listed: Vec<Listed>,
     /// Paths, and where they lead: folders may be one, and gcc may name what a link leads to.
     #[serde(with = "stored::pairs")]
     pub places: Vec<(PathBuf, PathBuf)>,
+    pub variables: Vec<Variable>,
     /// What the command lines of preprocessors define, if a source may stand for another one of its layout.
     pub defines: Option<Vec<Vec<u8>>>,
 }
@@ -200,20 +220,29 @@ impl Manifest {
     pub fn again(&self, cwd: &Path) -> Option<Manifest> {
         let files = self.files.iter().map(|seen| seen.again(cwd)).collect::<Option<_>>()?;
         let vain = self.vain.iter().map(|vain| vain.again(cwd)).collect::<Option<_>>()?;
+        let listed = self.listed.iter().map(|listed| Listed::now(&listed.folder, cwd)).collect::<Option<_>>()?;
         let places = self.places.iter().map(|(path, _)| Some((path.clone(), real_place(path, cwd)?))).collect::<Option<_>>()?;
-        Some(Manifest { files, vain, places, defines: self.defines.clone() })
+        let variables = self.variables.iter().map(|variable| Variable::now(&variable.name)).collect();
+        Some(Manifest { files, vain, listed, places, variables, defines: self.defines.clone() })
+    }
+
+    /// Whether all of it is as it is in another one, which is the same at another time.
+    pub fn holds_in(&self, now: &Manifest) -> bool {
+        let is_same = |(earlier, seen): (&Seen, &Seen)| earlier.counts_as(seen);
+        self.has_surroundings_of(now) && self.files.iter().zip(&now.files).all(is_same)
+    }
+
+    fn has_surroundings_of(&self, now: &Manifest) -> bool {
+        self.places == now.places && self.listed == now.listed && self.variables == now.variables
     }
 
     /// The same as it is now, if what has changed of it doesn't count: sources of which the layouts are as they were.
     pub fn alike(&self, now: &Manifest, cwd: &Path) -> Option<Manifest> {
-        let defines = self.defines.as_ref().filter(|_| self.places == now.places)?;
+        let defines = self.defines.as_ref().filter(|_| self.has_surroundings_of(now))?;
         let mut alike = now.clone();
         let mut unsure = Vec::new();
         for (place, (earlier, seen)) in self.files.iter().zip(&mut alike.files).enumerate() {
-            if matches!(earlier.form, Form::Placed(_)) && earlier.form != seen.form {
-                return None;
-            }
-            if earlier.digest == seen.digest {
+            if earlier.counts_as(seen) {
                 continue;
             }
             let (before, after) = (earlier.layouts()?, seen.layouts()?);
@@ -236,7 +265,7 @@ impl Manifest {
 
     /// Whether the lines of some sources may count. `None` if that isn't known.
     fn may_see_lines(&self, places: &[usize], defines: &[Vec<u8>], cwd: &Path) -> Option<bool> {
-        let files = self.files.iter().filter(|seen| !matches!(seen.form, Form::Other | Form::Placed(_)));
+        let files = self.files.iter().filter(|seen| !matches!(seen.form, Form::Other));
         let texts: Vec<Vec<u8>> = files.map(|seen| content_of(&cwd.join(&seen.path)).ok()).collect::<Option<_>>()?;
         let definitions = texts.iter().map(|text| definitions_in(text)).collect::<Option<Vec<_>>>()?;
         let mut macros = Macros::default();
@@ -252,30 +281,24 @@ impl Manifest {
         places.iter().map(sees).collect::<Option<Vec<bool>>>().map(|sees| sees.contains(&true))
     }
 
-    /// The digest of what counts, beside a call's own key.
-    pub fn digest(&self, call: &Digest) -> Digest {
+    /// The digest of what counts, beside a key.
+    pub fn digest(&self, key: &Digest) -> Digest {
         let mut hasher = Hasher::default();
-        hasher.add(b"zigrunk result 2");
-        hasher.update(&call.0);
-        hasher.update(&(self.files.len() as u64).to_le_bytes());
-        for seen in &self.files {
-            hasher.add(seen.path.as_os_str().as_bytes());
-            hasher.update(&seen.digest.0);
-            if let Form::Placed(place) = &seen.form {
-                hasher.add(place.as_os_str().as_bytes());
-            }
-        }
-        for vain in &self.vain {
-            hasher.add(vain.folder.as_os_str().as_bytes());
-            hasher.update(&(vain.lacks.len() as u64).to_le_bytes());
-            vain.lacks.iter().for_each(|lacking| hasher.add(&lacking.name));
-        }
-        hasher.update(&(self.places.len() as u64).to_le_bytes());
-        for path in self.places.iter().flat_map(|(path, real)| [path, real]) {
-            hasher.add(path.as_os_str().as_bytes());
-        }
+        hasher.add(b"zigrunk result 3");
+        hasher.update(&key.0);
+        // (what is different now and then is left out)
+        let files = self.files.iter().map(|seen| (seen.path.as_os_str().as_bytes(), seen.digest, time_of(&seen.form)));
+        let vain = self.vain.iter().map(|vain| (vain.folder.as_os_str().as_bytes(), &vain.lacks));
+        let rest = (&self.listed, &self.variables);
+        let places = self.places.iter().map(|(path, real)| (path.as_os_str().as_bytes(), real.as_os_str().as_bytes()));
+        hasher.update(&stored::to_bytes(&(files.collect::<Vec<_>>(), vain.collect::<Vec<_>>(), places.collect::<Vec<_>>(), rest)));
         hasher.finish()
     }
+}
+
+/// The time of a file's last change, if that counts.
+fn time_of(form: &Form) -> Option<(i64, i64)> {
+    if let Form::Dated(seconds, part) = form { Some((*seconds, *part)) } else { None }
 }
 
 #[cfg(test)]
@@ -299,10 +322,10 @@ mod tests {
         }
 
         fn manifest(&self) -> Manifest {
-            let lacks = vec![Lacking { name: b"a.h".to_vec(), may_be_folder: true }, Lacking { name: b"sub".to_vec(), may_be_folder: false }];
-            let vain = Vain::now(Path::new("inc"), lacks, &self.0).unwrap();
+            let vain = Vain::now(Path::new("inc"), vec![b"a.h".to_vec(), b"sub".to_vec()], &self.0).unwrap();
             let places = [("inc", "inc"), ("way", "inc")].map(|(path, real)| (path.into(), real.into())).to_vec();
-            Manifest { files: vec![Seen::now(Path::new("k.cu"), &self.0).unwrap()], vain: vec![vain], places, defines: None }
+            let files = vec![Seen::now(Path::new("k.cu"), &self.0).unwrap()];
+            Manifest { files, vain: vec![vain], places, ..Manifest::default() }
         }
 
         fn again(&self, manifest: &Manifest) -> Option<Digest> {
@@ -316,8 +339,9 @@ mod tests {
         let mut manifest = scratch.manifest();
         manifest.files[0].stamp = Some(Stamp([[1; 8], [2; 8], [3; 8], [4; 8], [5; 8], [6; 8], [255; 8]]));
         manifest.defines = Some(vec![b"A=1".to_vec(), Vec::new()]);
-        manifest.files.push(Seen { form: Form::Dated, ..manifest.files[0].clone() });
-        manifest.files.push(Seen { form: Form::Placed("/b/gcc".into()), ..manifest.files[0].clone() });
+        manifest.files.push(Seen { form: Form::Dated(1, 2), ..manifest.files[0].clone() });
+        manifest.listed.push(Listed::now(Path::new("inc"), &scratch.0).unwrap());
+        manifest.variables = vec![Variable { name: b"A".to_vec(), value: None }, Variable { name: b"B".to_vec(), value: Some(b"b".to_vec()) }];
         for text in ["int a;\n", "f(\n", "??"] {
             manifest.files.push(Seen { form: Form::of_source(text.as_bytes()), ..manifest.files[0].clone() });
         }
@@ -368,33 +392,36 @@ mod tests {
     }
 
     #[test]
-    fn the_place_of_a_program_counts() {
+    fn the_names_in_a_folder_count() {
         let scratch = Scratch::new();
-        let own = |name: &str| scratch.0.join(name);
-        for name in ["one", "two"] {
-            fs::create_dir(own(name)).unwrap();
-            fs::hard_link(own("k.cu"), own(name).join("gcc")).unwrap();
-        }
-        std::os::unix::fs::symlink("one", own("link")).unwrap();
-        let place = |folder: &str| Form::Placed(fs::canonicalize(own(folder)).unwrap().join("gcc"));
-        let seen = Seen { form: place("one"), ..Seen::now(Path::new("link/gcc"), &scratch.0).unwrap() };
-        let stamp = Some(Stamp::of(&fs::metadata(own("link/gcc")).unwrap()));
-        let manifest = Manifest { files: vec![Seen { stamp, ..seen }], ..Manifest::default() };
-        let first = scratch.again(&manifest);
-        assert_eq!(first, Some(manifest.digest(&Digest::of(b"call"))));
-        fs::remove_file(own("link")).unwrap();
-        std::os::unix::fs::symlink("two", own("link")).unwrap();
-        let now = manifest.again(&scratch.0).unwrap();
-        assert_eq!((&now.files[0].form, now.files[0].digest), (&place("two"), manifest.files[0].digest));
-        assert_ne!(scratch.again(&manifest), first);
-        let manifest = Manifest { defines: Some(Vec::new()), ..manifest };
-        assert_eq!(manifest.alike(&now, &scratch.0), None);
+        let manifest = Manifest { listed: vec![Listed::now(Path::new("inc"), &scratch.0).unwrap()], ..Manifest::default() };
+        let holds = || manifest.again(&scratch.0).map(|now| manifest.holds_in(&now));
+        assert_eq!(holds(), Some(true));
+        fs::write(scratch.0.join("inc/b.h"), "").unwrap();
+        assert_eq!(holds(), Some(false));
+        fs::rename(scratch.0.join("inc/b.h"), scratch.0.join("b.h")).unwrap();
+        assert_eq!(holds(), Some(true));
+        fs::remove_dir(scratch.0.join("inc")).unwrap();
+        assert_eq!(holds(), None);
+    }
+
+    #[test]
+    fn a_variable_for_which_a_process_asked_counts() {
+        let of = |name: &str, value: Option<Vec<u8>>| Manifest { variables: vec![Variable { name: name.into(), value }], ..Manifest::default() };
+        let holds = |manifest: &Manifest| manifest.again(Path::new("/")).is_some_and(|now| manifest.holds_in(&now));
+        let path = own_variable("PATH").map(OsStringExt::into_vec);
+        assert_eq!(
+            [of("PATH", path), of("PATH", None), of("NO_SUCH", None), of("NO_SUCH", Some(Vec::new()))].each_ref().map(holds),
+            [true, false, true, false]
+        );
     }
 
     #[test]
     fn times_count_if_that_is_asked_for() {
         let scratch = Scratch::new();
-        let manifest = Manifest { files: vec![Seen::dated(Path::new("k.cu"), &scratch.0).unwrap()], ..Manifest::default() };
+        let dated = Form::dated(&fs::metadata(scratch.0.join("k.cu")).unwrap());
+        let seen = Seen { form: dated, ..Seen::now(Path::new("k.cu"), &scratch.0).unwrap() };
+        let manifest = Manifest { files: vec![seen], ..Manifest::default() };
         let first = manifest.digest(&Digest::of(b"call"));
         assert_eq!(scratch.again(&manifest), Some(first));
         let file = File::options().write(true).open(scratch.0.join("k.cu")).unwrap();
@@ -432,9 +459,8 @@ mod tests {
         let put = |text: &str| fs::write(scratch.0.join("k.cu"), text).unwrap();
         fs::write(scratch.0.join("inc/a.h"), header).unwrap();
         put(texts[0]);
-        let seen = |name: &str| Seen::with_text(Path::new(name), &scratch.0).unwrap();
-        let (source, text) = seen("k.cu");
-        let files = vec![Seen { form: Form::of_source(&text), ..source }, seen("inc/a.h").0];
+        let seen = |name: &str, form: Form| Seen { form, ..Seen::now(Path::new(name), &scratch.0).unwrap() };
+        let files = vec![seen("k.cu", Form::of_source(texts[0].as_bytes())), seen("inc/a.h", Form::Text)];
         let manifest = Manifest { files, defines: Some(vec![defines.into()]), ..Manifest::default() };
         put(texts[1]);
         let now = manifest.again(&scratch.0).unwrap();
@@ -518,7 +544,7 @@ mod tests {
             }
             is_free
         };
-        let cases = [("b.h", false, true), ("a.h", false, false), ("a.h", true, true), ("sub", true, false), ("sub", false, false)];
+        let cases = [("b.h", false, true), ("a.h", false, false), ("a.h", true, false), ("sub", true, false), ("sub", false, false)];
         for (name, is_folder, wanted) in cases {
             assert_eq!(after(name, is_folder), wanted, "{name} {is_folder}");
         }
@@ -527,7 +553,7 @@ mod tests {
         let vain = manifest.again(&scratch.0).unwrap().vain.remove(0);
         assert_eq!((&vain.lacks, vain.stamp), (&manifest.vain[0].lacks, None));
         fs::create_dir(scratch.0.join("far.h")).unwrap();
-        assert!(manifest.again(&scratch.0).is_some(), "a folder may have the name");
+        assert_eq!(manifest.again(&scratch.0), None, "a folder counts too");
         fs::remove_dir(scratch.0.join("far.h")).unwrap();
         fs::write(scratch.0.join("far.h"), "").unwrap();
         assert_eq!(manifest.again(&scratch.0), None);

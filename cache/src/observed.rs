@@ -11,6 +11,7 @@
 //! | 8 | 4 | its parent |
 //! | 12 | 4 | of an opened file the flags of `open`; of an end how many records were lost; of a beginning 1 after a fork, 2 if the list was empty, else 0 |
 //! | 16 | 1 | the kind of record: a letter of `Kind` |
+//! | 17 | 1 | 1 if the path was relative to the working directory |
 //! | 18 | 2 | why the call failed, by `errno`, or 0 |
 //! | 20 | 4 | the file's mode, or 0 if the record has no stamp |
 //! | 24 | 56 | the file's `Stamp` in its order: device, number, size, the seconds and nanoseconds of its change, those of its status's change |
@@ -55,7 +56,8 @@ pub struct Sight {
     pub is_folder: bool,
 }
 
-/// What a command's processes did, but for files below the call's own directory.
+/// What a command's processes did, but for files below the call's own directory. A path that was relative, and is below the call's working directory,
+/// is relative here.
 #[derive(Clone, PartialEq, Eq, Debug, Default)]
 pub struct Observed {
     /// The files that were read before the command itself made them, each with its stamp in the process that read it.
@@ -73,10 +75,30 @@ pub struct Observed {
     pub programs: BTreeMap<PathBuf, Stamp>,
     /// The libraries that they had, as the loader names them.
     pub libraries: BTreeMap<PathBuf, Stamp>,
+    /// Where the loader looked for libraries, and the lists that it read.
+    pub sought: BTreeSet<PathBuf>,
     /// The variables that a process asked for by their names. A shell takes all without asking.
     pub variables: BTreeSet<OsString>,
     /// The files and folders that the command made or wrote to.
     pub made: BTreeSet<PathBuf>,
+}
+
+impl Observed {
+    /// A file that only one of two lists has as read, or that was another in each.
+    pub fn read_otherwise<'a>(&'a self, other: &'a Observed) -> Option<&'a PathBuf> {
+        let is_other = |(path, stamp): &(&PathBuf, &Stamp), list: &Observed| list.read.get(*path) != Some(*stamp);
+        let own = self.read.iter().find(|file| is_other(file, other));
+        own.or_else(|| other.read.iter().find(|file| is_other(file, self))).map(|(path, _)| path)
+    }
+
+    /// Leaves out what another list has, but for programs and libraries.
+    pub fn leave_out(&mut self, other: &Observed) {
+        self.read.retain(|path, _| !other.read.contains_key(path));
+        self.seen.retain(|path, _| !other.seen.contains_key(path));
+        self.listed.retain(|path, _| !other.listed.contains_key(path));
+        self.lacking.retain(|path| !other.lacking.contains(path));
+        self.followed.retain(|path| !other.followed.contains(path));
+    }
 }
 
 /// Why a list isn't all that the command depends on.
@@ -104,6 +126,8 @@ pub enum Gap {
     Changed(PathBuf),
     /// It looked at this path, and a rule of access or a limit kept it from there: why, by `errno`.
     Refused(PathBuf, u16),
+    /// It isn't known where the loader looked for its libraries.
+    Loaded(PathBuf),
     /// It did what the observer can't follow.
     Unseen(String),
 }
@@ -122,6 +146,7 @@ impl Display for Gap {
             Gap::Altered(path) => write!(out, "the command changed {}, which was there before", path.display()),
             Gap::Changed(path) => write!(out, "{} changed while the command ran", path.display()),
             Gap::Refused(path, error) => write!(out, "the command could not look at {} (error {error})", path.display()),
+            Gap::Loaded(path) => write!(out, "the loader did not say where it looked for the libraries of {}", path.display()),
             Gap::Unseen(what) => write!(out, "the command did what cannot be observed: {what}"),
         }
     }
@@ -160,6 +185,8 @@ enum Kind {
     Inherited,
     /// `U`: something that can't be observed.
     Unseen,
+    /// `W`: the working directory in which it begins.
+    Works,
 }
 
 impl Kind {
@@ -180,6 +207,7 @@ impl Kind {
             b'V' => Kind::Variable,
             b'I' => Kind::Inherited,
             b'U' => Kind::Unseen,
+            b'W' => Kind::Works,
             _ => return None,
         })
     }
@@ -191,6 +219,7 @@ struct Record<'a> {
     parent: u32,
     number: u32,
     kind: Kind,
+    is_relative: bool,
     error: u16,
     mode: u32,
     stamp: Stamp,
@@ -216,7 +245,8 @@ impl<'a> Record<'a> {
             *place = u64::from_ne_bytes(number(bytes, at)?).to_le_bytes();
         }
         let (kind, error) = (Kind::of(*bytes.get(16)?)?, u16::from_ne_bytes(number(bytes, 18)?));
-        Some((Record { process: word(4)?, parent: word(8)?, number: word(12)?, kind, error, mode: word(20)?, stamp, text }, size))
+        let (is_relative, mode) = (*bytes.get(17)? != 0, word(20)?);
+        Some((Record { process: word(4)?, parent: word(8)?, number: word(12)?, kind, is_relative, error, mode, stamp, text }, size))
     }
 
     fn path(&self) -> PathBuf {
@@ -246,12 +276,40 @@ struct Process {
     /// The programs that the C library starts for it, less those that have begun.
     awaited: Vec<PathBuf>,
     has_ended: bool,
+    /// The working directories in which it began programs.
+    works: Vec<PathBuf>,
 }
+
+/// Where a command runs, by which its paths are read.
+#[derive(Clone, Copy, Debug)]
+pub struct Scope<'a> {
+    /// The path by which its first process was run.
+    pub program: &'a Path,
+    /// The call's own directories: files below these are left out.
+    pub own: &'a [&'a Path],
+    /// Where the call's working directory really is, if paths are to be relative to it that were.
+    pub cwd: Option<&'a Path>,
+}
+
+impl Scope<'_> {
+    /// Whether a path is below one of the call's own directories.
+    fn is_own(&self, path: &Path) -> bool {
+        let whole = self.cwd.map(|cwd| cwd.join(path));
+        self.own.iter().any(|directory| whole.as_deref().unwrap_or(path).starts_with(directory))
+    }
+
+    /// A path as it is to be, which was relative to a working directory.
+    fn relative(&self, path: PathBuf) -> PathBuf {
+        self.cwd.and_then(|cwd| path.strip_prefix(cwd).ok()).map(Path::to_owned).unwrap_or(path)
+    }
+}
+
+/// What the loader of each process has said (`LD_DEBUG`), by the process's number.
+pub type Loads = BTreeMap<u32, Vec<u8>>;
 
 /// A list while it is read.
 struct List<'a> {
-    program: &'a Path,
-    own: &'a [&'a Path],
+    scope: Scope<'a>,
     observed: Observed,
     processes: BTreeMap<u32, Process>,
 }
@@ -269,11 +327,11 @@ impl List<'_> {
 
     fn take(&mut self, record: &Record<'_>) -> Result<(), Gap> {
         self.goes_on(record)?;
-        let path = record.path();
+        let path = if record.is_relative { self.scope.relative(record.path()) } else { record.path() };
         match record.kind {
             Kind::Begin => return self.begin(record, path),
             Kind::End if record.number > 0 => return Err(Gap::Lost(self.process(record).program.clone())),
-            Kind::Started if path != self.program => return Err(Gap::NotEntered(self.program.to_owned())),
+            Kind::Started if path != self.scope.program => return Err(Gap::NotEntered(self.scope.program.to_owned())),
             Kind::Run => self.process(record).next = Some(path),
             Kind::NotRun => {
                 let process = self.process(record);
@@ -285,19 +343,15 @@ impl List<'_> {
             Kind::Start => self.process(record).awaited.push(path),
             Kind::Unseen => return Err(Gap::Unseen(String::from_utf8_lossy(record.text).into_owned())),
             Kind::Inherited if record.mode & FILE_TYPE == PLAIN || record.is_folder() => return Err(Gap::Inherited(path)),
-            Kind::Library => drop(self.observed.libraries.insert(path, record.stamp)),
+            Kind::Library if !self.scope.is_own(&path) => drop(self.observed.libraries.insert(path, record.stamp)),
             Kind::Variable => drop(self.observed.variables.insert(path.into_os_string())),
-            Kind::Make if record.error == 0 && !self.is_own(&path) => drop(self.observed.made.insert(path)),
+            Kind::Make if record.error == 0 && !self.scope.is_own(&path) => drop(self.observed.made.insert(path)),
             Kind::Open => return self.open(record, path),
             Kind::Look | Kind::List | Kind::Follow | Kind::Make => return self.look(record, path),
-            Kind::Started | Kind::End | Kind::Inherited => {}
+            Kind::Works => self.process(record).works.push(path),
+            Kind::Started | Kind::End | Kind::Inherited | Kind::Library => {}
         }
         Ok(())
-    }
-
-    /// Whether a path is below one of the call's own directories.
-    fn is_own(&self, path: &Path) -> bool {
-        self.own.iter().any(|directory| path.starts_with(directory))
     }
 
     fn process(&mut self, record: &Record<'_>) -> &mut Process {
@@ -313,8 +367,10 @@ impl List<'_> {
             return Err(Gap::Unseen(format!("how it ran {}", path.display())));
         }
         self.process(record).program.clone_from(&path);
-        self.observed.followed.extend(run_by.filter(|path| record.number == RUNS && !self.is_own(path)));
-        self.observed.programs.insert(path, record.stamp);
+        self.observed.followed.extend(run_by.filter(|path| record.number == RUNS && !self.scope.is_own(path)));
+        if !self.scope.is_own(&path) {
+            self.observed.programs.insert(path, record.stamp);
+        }
         Ok(())
     }
 
@@ -322,7 +378,7 @@ impl List<'_> {
         if record.error != 0 || record.is_folder() {
             return self.look(record, path);
         }
-        if self.is_own(&path) || OF_KERNEL.contains(&record.text) {
+        if self.scope.is_own(&path) || OF_KERNEL.contains(&record.text) {
             return Ok(());
         }
         if record.mode & FILE_TYPE != PLAIN || is_of_kernel(&path) {
@@ -346,7 +402,7 @@ impl List<'_> {
     }
 
     fn look(&mut self, record: &Record<'_>, path: PathBuf) -> Result<(), Gap> {
-        if self.is_own(&path) || self.observed.made.contains(&path) || OF_KERNEL.contains(&record.text) {
+        if self.scope.is_own(&path) || self.observed.made.contains(&path) || OF_KERNEL.contains(&record.text) {
             return Ok(());
         }
         let observed = &mut self.observed;
@@ -370,9 +426,28 @@ impl List<'_> {
         Ok(())
     }
 
+    /// Notes where the loader of a process has looked, by what it said.
+    fn add_load(&mut self, process: &Process, said: &[u8]) -> Result<(), Gap> {
+        let lines = || said.split(|&byte| byte == b'\n').filter_map(|line| line.splitn(2, |&byte| byte == b'\t').nth(1)).map(<[u8]>::trim_ascii);
+        // The observer has one library that each process looks for.
+        if lines().filter(|line| line.starts_with(OBSERVERS_LIBRARY)).count() < process.works.len() {
+            return Err(Gap::Loaded(process.program.clone()));
+        }
+        for tried in lines().filter_map(|line| line.strip_prefix(b"trying file=")).map(|path| Path::new(OsStr::from_bytes(path))) {
+            let places = process.works.iter().map(|work| if tried.is_absolute() { tried.to_owned() } else { self.scope.relative(work.join(tried)) });
+            self.observed.sought.extend(places.filter(|place| !self.scope.is_own(place)));
+        }
+        self.observed.sought.extend(LOADERS_LISTS.map(PathBuf::from));
+        Ok(())
+    }
+
     /// The list, once all records are read.
-    fn whole(mut self) -> Result<Observed, Gap> {
-        for process in self.processes.values_mut() {
+    fn whole(mut self, loads: &Loads) -> Result<Observed, Gap> {
+        for (number, process) in std::mem::take(&mut self.processes) {
+            let mut process = process;
+            if !process.works.is_empty() {
+                self.add_load(&process, loads.get(&number).map_or(&[][..], Vec::as_slice))?;
+            }
             if let Some(program) = process.next.take().or_else(|| process.awaited.pop()) {
                 return Err(Gap::NotEntered(program));
             }
@@ -386,22 +461,26 @@ impl List<'_> {
     }
 }
 
+/// What the loader says as it begins to look for the observer's library.
+const OBSERVERS_LIBRARY: &[u8] = b"find library=libdl.so.2 ";
+/// The lists that it reads.
+const LOADERS_LISTS: [&str; 2] = ["/etc/ld.so.cache", "/etc/ld.so.preload"];
+
 /// Whether a path is of a file system that the kernel makes up.
 fn is_of_kernel(path: &Path) -> bool {
     ["/proc", "/sys", "/dev"].iter().any(|folder| path.starts_with(folder))
 }
 
-/// What a command did, by its records, or by those of several runs, one behind the other. `program` is the path by which its first process was run.
-/// Files below the directories `own` are left out.
-/// Errors: why the records aren't all that it did.
-pub fn observed(records: &[u8], program: &Path, own: &[&Path]) -> Result<Observed, Gap> {
+/// What a command did, by its records, or by those of several runs, one behind the other, and by what its loaders said.
+/// Errors: why that isn't all that it did.
+pub fn observed(records: &[u8], loads: &Loads, scope: Scope<'_>) -> Result<Observed, Gap> {
     if records.is_empty() {
         return Err(Gap::Nothing);
     }
     if records.len() > MOST {
         return Err(Gap::TooLong);
     }
-    let mut list = List { program, own, observed: Observed::default(), processes: BTreeMap::new() };
+    let mut list = List { scope, observed: Observed::default(), processes: BTreeMap::new() };
     let mut at = 0;
     while at < records.len() {
         let (record, size) = Record::first(&records[at..]).ok_or(Gap::Broken(at))?;
@@ -411,7 +490,7 @@ pub fn observed(records: &[u8], program: &Path, own: &[&Path]) -> Result<Observe
         list.take(&record)?;
         at += size;
     }
-    list.whole()
+    list.whole(loads)
 }
 
 #[cfg(test)]
@@ -424,6 +503,11 @@ mod tests {
 
     const OWN: &str = "/t/call";
     const TOOL: &str = "/a/tool";
+
+    fn scope() -> Scope<'static> {
+        static OWNS: std::sync::OnceLock<[&Path; 1]> = std::sync::OnceLock::new();
+        Scope { program: Path::new(TOOL), own: OWNS.get_or_init(|| [Path::new(OWN)]), cwd: Some(Path::new("/here")) }
+    }
 
     /// A record of the process 7, whose parent is the process 1.
     fn record(letter: u8, text: &str) -> Vec<u8> {
@@ -472,7 +556,7 @@ mod tests {
     /// What these records say, between the beginning and the end of the process.
     fn read(records: &[Vec<u8>]) -> Result<Observed, Gap> {
         let all = [&first(), records, &[record(b'E', "")]].concat().concat();
-        observed(&all, Path::new(TOOL), &[Path::new(OWN)])
+        observed(&all, &Loads::new(), scope())
     }
 
     fn paths<T>(map: &BTreeMap<PathBuf, T>) -> Vec<&str> {
@@ -512,6 +596,44 @@ mod tests {
             (vec!["/w/link", "/w/no-link"], vec!["/l/libc.so.6"], vec!["/b/tool"])
         );
         assert_eq!(list.variables, BTreeSet::from(["TMPDIR".into()]));
+    }
+
+    #[test]
+    fn a_relative_path_stays_relative_to_the_working_directory() {
+        let relative = |path: &str| {
+            let mut bytes = file(b'O', path, 9);
+            bytes[17] = 1;
+            bytes
+        };
+        let list = read(&[relative("/here/./a.h"), file(b'O', "/here/b.h", 9), relative("/there/c.h")]).unwrap();
+        assert_eq!(paths(&list.read), ["/here/b.h", "/there/c.h", "a.h"]);
+    }
+
+    #[test]
+    fn where_the_loader_has_looked_counts() {
+        let all = [&first()[..], &[record(b'W', "/here"), record(b'E', "")]].concat().concat();
+        let found = |said: &str| observed(&all, &Loads::from([(7, said.into())]), scope());
+        let begins = "     7:\tfind library=libdl.so.2 [0]; searching\n";
+        let tried =
+            "     7:\t search path=/a:\n     7:\t  trying file=/a/tls/libm.so\n     7:\t  trying file=./libm.so\n     7:\t  trying file=/t/call/x\n";
+        let list = found(&format!("{tried}{begins}")).unwrap();
+        assert_eq!(names(&list.sought), ["/a/tls/libm.so", "/etc/ld.so.cache", "/etc/ld.so.preload", "libm.so"]);
+        assert_eq!((found(tried), found("")), (Err(Gap::Loaded("/b/tool".into())), Err(Gap::Loaded("/b/tool".into()))));
+        assert_eq!(observed(&all, &Loads::from([(8, begins.into())]), scope()), Err(Gap::Loaded("/b/tool".into())));
+    }
+
+    #[test]
+    fn two_lists_may_differ_in_what_was_read() {
+        let list = |records: &[Vec<u8>]| read(records).unwrap();
+        let (one, two) = (list(&[file(b'O', "/w/a.h", 1)]), list(&[file(b'O', "/w/a.h", 1), file(b'O', "/w/b.h", 1), failed(b'O', "/w/c.h", 2)]));
+        assert_eq!(
+            (one.read_otherwise(&one), one.read_otherwise(&two), two.read_otherwise(&one)),
+            (None, Some(&"/w/b.h".into()), Some(&"/w/b.h".into()))
+        );
+        assert_eq!(one.read_otherwise(&list(&[file(b'O', "/w/a.h", 2)])), Some(&"/w/a.h".into()));
+        let mut rest = two.clone();
+        rest.leave_out(&one);
+        assert_eq!((paths(&rest.read), names(&rest.lacking), rest.programs), (vec!["/w/b.h"], vec!["/w/c.h"], two.programs));
     }
 
     #[test]
@@ -596,8 +718,7 @@ mod tests {
 
     #[test]
     fn a_list_that_is_cut_or_hostile_is_no_list() {
-        let own = [Path::new(OWN)];
-        let observed = |records: &[u8]| observed(records, Path::new(TOOL), &own);
+        let observed = |records: &[u8]| observed(records, &Loads::new(), scope());
         assert_eq!(observed(&[]), Err(Gap::Nothing));
         assert_eq!(observed(&record(b'E', "")), Err(Gap::Nothing));
         assert_eq!(observed(&vec![0; MOST + 1]), Err(Gap::TooLong));

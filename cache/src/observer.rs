@@ -1,5 +1,5 @@
 //! The observer (`observer.c`) as this program carries it: a library for the processes of commands, and a file of records for each command.
-use crate::observed::{Gap, Observed, observed};
+use crate::observed::{Gap, Loads, Observed, Scope, observed};
 use crate::system;
 use machine::jobs::Job;
 use machine::settings::own_variable;
@@ -22,11 +22,19 @@ const RECORDS: &str = "ZIGRUNK_OBSERVED";
 /// What ends a name in `LD_PRELOAD`, or begins one that the loader knows.
 const MARKS: [char; 3] = [' ', ':', '$'];
 
+/// By these the loader of each process says where it looks for libraries, and in which file.
+const LOADER_SAYS: &str = "LD_DEBUG";
+const SAYS_IN: &str = "LD_DEBUG_OUTPUT";
+/// The folders where it looks, which it says in lines.
+const FOLDERS: &str = "LD_LIBRARY_PATH";
+
 /// A process that is to be observed: nvcc's dry run of this number, or one for a task of the plan.
 #[derive(Clone, Copy, PartialEq, Eq, PartialOrd, Ord, Debug)]
 pub enum Subject {
     /// The dry run of this number.
     DryRun(usize),
+    /// The preprocessor that writes what the task of this number reads, for its key.
+    Question(usize),
     /// The task of this number.
     Task(usize),
 }
@@ -53,42 +61,76 @@ impl Observer {
     }
 
     /// The job of a command with the observer in its processes. A library that it has anyway stays behind the observer.
-    /// Errors: `NotFound` for its program, those of a new file, and of a variable that isn't UTF-8.
+    /// Errors: `NotFound` for its program, those of a new file, and of a variable that isn't UTF-8, or that the loader's words need. Then the command
+    /// has a gap.
     pub fn observing(&mut self, subject: Subject, job: &Job) -> io::Result<Job> {
+        let observing = self.try_observing(subject, job);
+        if observing.is_err() {
+            self.commands.entry(subject).or_default().1.push(PathBuf::new());
+        }
+        observing
+    }
+
+    fn try_observing(&mut self, subject: Subject, job: &Job) -> io::Result<Job> {
         let program = job.program(&own_variable("PATH").unwrap_or_default()).ok_or(ErrorKind::NotFound)?;
         let count: usize = self.commands.values().map(|(_, lists)| lists.len()).sum();
         let records = self.folder.join(format!("{count}.records"));
-        let given = job.variables.iter().rev().find(|(name, _)| name == PRELOAD);
-        let others = match given {
-            Some((_, value)) => value.clone(),
-            None => own_variable(PRELOAD).map(OsString::into_string).transpose().map_err(|_| ErrorKind::InvalidData)?,
+        let given = |wanted: &str| match job.variables.iter().rev().find(|(name, _)| name == wanted) {
+            Some((_, value)) => Ok(value.clone()),
+            None => own_variable(wanted).map(OsString::into_string).transpose().map_err(|_| ErrorKind::InvalidData),
         };
+        if given(LOADER_SAYS)?.is_some() || given(FOLDERS)?.is_some_and(|folders| folders.contains('\n')) {
+            return Err(ErrorKind::Unsupported.into());
+        }
+        let others = given(PRELOAD)?;
         let library = format!("{}/observer.so", self.folder.display());
         let libraries = others.map_or_else(|| library.clone(), |others| format!("{library}:{others}"));
         File::create_new(&records)?;
         let mut job = job.clone();
         job.variables.push((PRELOAD.into(), Some(libraries)));
         job.variables.push((RECORDS.into(), Some(records.display().to_string())));
+        job.variables.push((LOADER_SAYS.into(), Some("libs".into())));
+        job.variables.push((SAYS_IN.into(), Some(records.with_extension("loads").display().to_string())));
         self.commands.entry(subject).or_insert_with(|| (program, Vec::new())).1.push(records);
         Ok(job)
     }
 
-    /// What a command did each time that it ran. Files below these directories, which are the call's own, are left out.
+    /// The processes that were to be observed.
+    pub fn subjects(&self) -> impl Iterator<Item = Subject> {
+        self.commands.keys().copied()
+    }
+
+    /// What a command did each time that it ran. Files below these directories, which are the call's own, are left out. Paths that were relative
+    /// stay so below a working directory, if one is given.
     /// Errors: why that isn't known.
-    pub fn observed(&self, subject: Subject, own: &[&Path]) -> Result<Observed, Gap> {
+    pub fn observed(&self, subject: Subject, own: &[&Path], cwd: Option<&Path>) -> Result<Observed, Gap> {
         let (program, lists) = self.commands.get(&subject).ok_or(Gap::Nothing)?;
-        let lists: Vec<Vec<u8>> = lists.iter().map(|list| content_of(list).unwrap_or_default()).collect();
-        if lists.iter().any(Vec::is_empty) {
+        let texts: Vec<Vec<u8>> = lists.iter().map(|list| content_of(list).unwrap_or_default()).collect();
+        if texts.iter().any(Vec::is_empty) {
             return Err(Gap::Nothing);
         }
-        observed(&lists.concat(), program, own)
+        observed(&texts.concat(), &self.loads(lists), Scope { program, own, cwd })
+    }
+
+    /// What the loaders of a command's processes have said.
+    fn loads(&self, lists: &[PathBuf]) -> Loads {
+        let mut loads = Loads::new();
+        for entry in fs::read_dir(&self.folder).into_iter().flatten().flatten() {
+            let path = entry.path();
+            let number = path.extension().and_then(|number| number.to_str()?.parse().ok());
+            let is_of = |list: &PathBuf| list.with_extension("loads") == path.with_extension("");
+            if let Some(number) = number.filter(|_| lists.iter().any(is_of)) {
+                loads.entry(number).or_default().extend(content_of(&path).unwrap_or_default());
+            }
+        }
+        loads
     }
 }
 
 /// What was observed, as lines of a kind and a path or a name.
 fn lines(list: &Observed) -> Vec<u8> {
     let stamped = [("program", &list.programs), ("library", &list.libraries), ("read", &list.read), ("listed", &list.listed)];
-    let plain = [("followed", &list.followed), ("lacking", &list.lacking), ("made", &list.made)];
+    let plain = [("followed", &list.followed), ("lacking", &list.lacking), ("made", &list.made), ("sought", &list.sought)];
     let stamped = stamped.iter().flat_map(|(kind, paths)| paths.keys().map(move |path| (*kind, path.as_os_str())));
     let plain = plain.iter().flat_map(|(kind, paths)| paths.iter().map(move |path| (*kind, path.as_os_str())));
     let seen = list.seen.keys().map(|path| ("seen", path.as_os_str()));
@@ -105,7 +147,7 @@ fn observe(file: &str, words: &[&str]) -> io::Result<i32> {
     let program = observer.commands.get(&Subject::Task(0)).map(|(program, _)| program.clone()).unwrap_or_default();
     let variables = job.variables.into_iter().filter_map(|(name, value)| Some((name, value?)));
     let status = Command::new(&program).arg0(words[0]).args(&words[1..]).envs(variables).status();
-    let text = match observer.observed(Subject::Task(0), &[&folder]) {
+    let text = match observer.observed(Subject::Task(0), &[&folder], None) {
         Ok(list) => lines(&list),
         Err(gap) => format!("unknown: {gap}\n").into_bytes(),
     };
@@ -149,7 +191,10 @@ mod tests {
         assert_eq!([value(&own, PRELOAD), value(&none, PRELOAD)], [Some(&*format!("{library}:/a.so")), Some(&*library)]);
         let files = [&own, &none].map(|job| value(job, RECORDS).unwrap().to_owned());
         assert!(files[0] != files[1] && files.iter().all(|file| fs::read(file).unwrap().is_empty()));
-        assert_eq!([Subject::Task(4), Subject::DryRun(4)].map(|subject| observer.observed(subject, &[])), [Err(Gap::Nothing), Err(Gap::Nothing)]);
+        assert_eq!(
+            [Subject::Task(4), Subject::DryRun(4)].map(|subject| observer.observed(subject, &[], None)),
+            [Err(Gap::Nothing), Err(Gap::Nothing)]
+        );
         assert_eq!(observer.observing(Subject::Task(6), &Job::default()).unwrap_err().kind(), ErrorKind::NotFound);
     }
 

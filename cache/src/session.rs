@@ -7,13 +7,15 @@ use crate::{counts, host_text, key, recipe, stored};
 use direct::Direct;
 pub use whole::Finished;
 
-use crate::ahead::Known;
-use crate::calls::{Product, put, terminal};
+use crate::calls::{Product, is_on, put, terminal};
 use crate::digest::{Digest, Hasher};
 use crate::entry::{Entry, Made};
 use crate::host_text::assembler_reads_more;
+use crate::inputs::{Memory, Reading, Refusal};
 use crate::key::{Part, Text};
+use crate::manifest::Manifest;
 use crate::marked::{Marked, has_symbol};
+use crate::observed::{Gap, Observed};
 use crate::observer::{Observer, Subject};
 use crate::recipe::{Output, Recipe, Role, path_of};
 use crate::stamps::Moment;
@@ -25,14 +27,14 @@ use machine::jobs::{Ended, Job};
 use machine::planned::PlannedCommand;
 use machine::streams::{called, complain, content_of};
 use machine::task::{Done, Step, Task};
-use std::collections::BTreeMap;
+use std::collections::{BTreeMap, BTreeSet};
 use std::fs;
 use std::io::{self, ErrorKind};
 use std::mem;
 use std::os::unix::ffi::OsStrExt;
 use std::os::unix::fs::MetadataExt;
 use std::path::{Path, PathBuf};
-use unix::{Status, Watch};
+use unix::Status;
 
 /// The keys of a command.
 #[derive(Clone, PartialEq, Eq, Debug)]
@@ -89,6 +91,43 @@ struct Candidate {
     hit: Option<bool>,
     /// How it's looked up without a preprocessor, if it is a compile.
     direct: Direct,
+    /// What it depended on beside its texts, once it has been served or kept, if that was observed.
+    inputs: Option<Manifest>,
+}
+
+impl Candidate {
+    fn new(recipe: Recipe, state: State) -> Candidate {
+        Candidate { recipe, state, hit: None, direct: Direct::default(), inputs: None }
+    }
+
+    /// Whether it has been served or kept.
+    fn is_served(&self) -> bool {
+        matches!(self.state, State::Hit | State::Kept)
+    }
+}
+
+/// How a call begins, before anything is read for it.
+pub struct Beginning {
+    moment: Moment,
+    cwd: PathBuf,
+    /// What observes the call's processes, if that is possible here.
+    observer: Option<Observer>,
+    memory: Memory,
+}
+
+impl Beginning {
+    /// Notes how things are, and has all processes observed of a call with these words, whose files go to `tmp`.
+    pub fn new(tmp: &str, cwd: &str, words: &[String]) -> Beginning {
+        let observer = Observer::new(Path::new(tmp).join("observer")).ok();
+        // (before the moment at which all is to be as it will be)
+        let memory = Memory::new(Path::new(cwd), words);
+        Beginning { moment: Moment::now(), cwd: cwd.into(), observer, memory }
+    }
+
+    /// What is to observe the call's processes.
+    pub fn observer(&mut self) -> Option<&mut Observer> {
+        self.observer.as_mut()
+    }
 }
 
 /// The cache during a call.
@@ -98,22 +137,18 @@ pub struct Session<'a> {
     tmp: &'a str,
     candidates: BTreeMap<usize, Candidate>,
     terminal: Vec<u8>,
-    /// What tells which names come into the folder in which the commands run: a library there would be theirs.
-    watch: Option<Watch>,
-    /// When it began, in seconds, and by the clock.
+    /// When it began, in seconds, and by the clock: before that nothing was read but by nvcc's dry runs.
     begun: f64,
     started: Moment,
+    beginning: Beginning,
     /// Whether the user knows that nothing can be written.
     has_complained: bool,
     /// What the call's commands have put in places outside its directory.
     products: Vec<Product>,
     /// Whether what a command made may have the lines of an earlier source, as what cudafe++ and cicc write for the host compiler has.
     has_other_lines: bool,
-    /// The call's own preprocessors, each with its text, until more of that is known.
-    preprocessors: Vec<(usize, Job, PathBuf)>,
-    known: Known,
-    /// What observes the call's commands, if they are to be observed.
-    observer: Option<Observer>,
+    /// The call's own preprocessors, until the files are known that they read.
+    preprocessors: Vec<usize>,
 }
 
 /// The modes that a new file gets.
@@ -127,6 +162,7 @@ fn new_modes() -> Option<u32> {
 struct Taken {
     ended: Ended,
     products: Vec<Product>,
+    inputs: Option<Manifest>,
 }
 
 impl Recipe {
@@ -146,37 +182,75 @@ fn names(text: &[u8], directory: &str) -> bool {
 
 impl<'a> Session<'a> {
     /// The cache for the tasks of a call's commands, whose files go to `tmp`. Tasks that aren't commands are left out.
-    pub fn new(store: &'a Store, tmp: &'a str, commands: &[PlannedCommand], tasks: &[Task]) -> Session<'a> {
+    pub fn new(store: &'a Store, tmp: &'a str, commands: &[PlannedCommand], tasks: &[Task], beginning: Beginning) -> Session<'a> {
         let of_plan = tasks.iter().enumerate().filter_map(|(number, task)| Some((number, &commands[task.command?], &task.job)));
-        let candidate = |(number, recipe)| (number, Candidate { recipe, state: State::Fresh, hit: None, direct: Direct::default() });
-        let candidates: BTreeMap<usize, Candidate> = recipe::recipes(of_plan, tmp).into_iter().map(candidate).collect();
-        let preprocessor = |(number, task): (usize, &Task)| {
-            let text = commands.get(task.command?).filter(|command| command.preprocesses)?.writes.first()?;
-            Some((number, task.job.clone(), PathBuf::from(text)))
-        };
-        // (before the moment at which all is to be as it will be)
-        let watch = tasks.first().and_then(|task| Watch::new(Path::new(&task.job.folder)).ok());
+        let candidate = |(number, recipe)| (number, Candidate::new(recipe, State::Fresh));
+        let preprocesses = |task: &Task| task.command.is_some_and(|command| commands[command].preprocesses);
         Session {
             store,
             tools: Tools::new(store),
             tmp,
-            candidates,
+            candidates: recipe::recipes(of_plan, tmp).into_iter().map(candidate).collect(),
             terminal: terminal(),
-            watch,
             begun: now(),
             started: Moment::now(),
+            beginning,
             has_complained: false,
             products: Vec::new(),
             has_other_lines: false,
-            preprocessors: tasks.iter().enumerate().filter_map(preprocessor).collect(),
-            known: Known::default(),
-            observer: None,
+            preprocessors: tasks.iter().enumerate().filter(|(_, task)| preprocesses(task)).map(|(number, _)| number).collect(),
         }
     }
 
-    /// The job in the place of one that is about to start for a task, if what that does is to be observed.
+    /// The job in the place of one that is about to start for a task, if what that does can be observed.
     pub fn observing(&mut self, task: usize, job: &Job) -> Option<Job> {
-        self.observer.as_mut()?.observing(Subject::Task(task), job).ok()
+        let is_asked = self.candidates.get(&task).is_some_and(|candidate| matches!(candidate.state, State::Asked));
+        let subject = if is_asked { Subject::Question(task) } else { Subject::Task(task) };
+        self.beginning.observer.as_mut()?.observing(subject, job).ok()
+    }
+
+    /// What was observed of a process of a call.
+    fn observed(&self, subject: Subject) -> Result<Observed, Gap> {
+        let real = |path: &Path| fs::canonicalize(path).unwrap_or_else(|_| path.to_owned());
+        let (own, cwd) = (real(Path::new(self.tmp)), real(&self.beginning.cwd));
+        let observer = self.beginning.observer.as_ref().ok_or(Gap::Nothing)?;
+        observer.observed(subject, &[Path::new(self.tmp), &own], Some(&cwd))
+    }
+
+    /// Whether the files that the call's preprocessors read may be looked at: these have ended, and a command runs that takes far longer.
+    pub fn may_look_ahead(&self, done: &[Done]) -> bool {
+        let has_ended = |&task: &usize| done[task].ended.as_ref().is_some_and(|ended| ended.status.succeeded());
+        let runs = || self.candidates.values().any(|candidate| matches!(candidate.state, State::Missed(..) | State::Begun(..)));
+        !self.preprocessors.is_empty() && is_on() && self.preprocessors.iter().all(has_ended) && runs()
+    }
+
+    /// Looks at them.
+    pub fn look_ahead(&mut self) {
+        for task in mem::take(&mut self.preprocessors) {
+            if let Ok(observed) = self.observed(Subject::Task(task)) {
+                self.reading().look_ahead(&observed);
+            }
+        }
+    }
+
+    /// What reads that.
+    fn reading(&mut self) -> Reading<'_> {
+        Reading::new(&self.beginning.cwd, self.beginning.moment.time, &self.tools, &mut self.beginning.memory)
+    }
+
+    /// Whether a compile has read the same files as the preprocessor that wrote its text, as far as they were observed.
+    fn reads_as_asked(&self, task: usize) -> bool {
+        let lists = self.observed(Subject::Task(task)).ok().zip(self.observed(Subject::Question(task)).ok());
+        lists.is_none_or(|(own, asked)| own.read_otherwise(&asked).is_none())
+    }
+
+    /// What a task that has run depended on, beside what its preprocessor has: the text is all that counts of that.
+    fn inputs_of(&mut self, task: usize) -> Result<Manifest, Refusal> {
+        let mut observed = self.observed(Subject::Task(task))?;
+        if self.candidates.get(&task).is_some_and(|candidate| candidate.recipe.question.is_some()) {
+            observed.leave_out(&self.observed(Subject::Question(task))?);
+        }
+        self.reading().manifest(&observed, &BTreeSet::new())
     }
 
     /// What to do with a task that may start.
@@ -357,6 +431,9 @@ impl<'a> Session<'a> {
 
     fn hit(&mut self, task: usize, taken: Taken) -> Step {
         self.set(task, State::Hit, Some(true));
+        if let Some(candidate) = self.candidates.get_mut(&task) {
+            candidate.inputs = taken.inputs;
+        }
         self.products.extend(taken.products);
         Step::Ended(taken.ended)
     }
@@ -375,6 +452,10 @@ impl<'a> Session<'a> {
         if recipe.outputs.len() != entry.outputs.len() || (entry.speaks() && !may_say()) {
             return None;
         }
+        let inputs = match &entry.inputs {
+            Some(inputs) => Some(inputs.again(&self.beginning.cwd).filter(|now| inputs.holds_in(now))?),
+            None => None,
+        };
         let (directory, mut products) = (self.tmp.as_bytes(), Vec::new());
         for (output, text) in recipe.outputs.iter().zip(&entry.outputs) {
             match text {
@@ -385,7 +466,7 @@ impl<'a> Session<'a> {
         }
         let status = Status { code: 0, signal: None, dumped: false };
         let ended = Ended { status, out: entry.out.filled(directory), errors: entry.errors.filled(directory), times };
-        Some(Taken { ended, products })
+        Some(Taken { ended, products, inputs })
     }
 
     /// What to do with a task that has run, with the keys under which it's kept and its first text.
@@ -400,9 +481,12 @@ impl<'a> Session<'a> {
         let Some(products) = may_move.then(|| moved().map(put).collect::<Option<Vec<_>>>()).flatten() else { return self.runs_alone(task) };
         let entry = |(keys, text): (&Keys, &[u8])| Some((keys.clone(), self.entry_of(recipe, text, &ended)?));
         if let Some((keys, entry)) = kept.filter(|_| ended.status.succeeded()).and_then(entry) {
-            if self.is_as_it_was(task, &keys, kept.map_or(&[][..], |(_, text)| text)) {
-                self.keep(&keys, &entry);
+            let is_same = self.is_as_it_was(task, &keys, kept.map_or(&[][..], |(_, text)| text));
+            if is_same && self.reads_as_asked(task) {
+                let inputs = self.inputs_of(task).ok();
+                self.keep(&keys, &Entry { inputs: inputs.clone(), ..entry });
                 self.set(task, State::Kept, None);
+                self.candidates.entry(task).and_modify(|candidate| candidate.inputs = inputs);
                 self.found(task, keys.texts);
             }
         }
@@ -442,7 +526,7 @@ impl<'a> Session<'a> {
         let shown = host_text::shown_files(text, &messages).into_iter().map(|name| self.shown(recipe, name));
         let shown = shown.collect::<Option<_>>()?;
         let terminal = if messages.is_empty() { Vec::new() } else { self.terminal.clone() };
-        (!is_named && !is_odd).then_some(Entry { outputs, out, errors, shown, terminal })
+        (!is_named && !is_odd).then_some(Entry { outputs, out, errors, shown, terminal, inputs: None })
     }
 }
 
@@ -545,8 +629,8 @@ mod tests {
         let (early, texts) = parts(false);
         fs::write(&recipe.reads[1], "an id").unwrap();
         let (store, state) = (store(), State::Begun(Box::new(early), texts[0].content.clone()));
-        let mut session = Session::new(&store, "/t", &[], &[]);
-        session.candidates.insert(7, Candidate { recipe: recipe.clone(), state, hit: None, direct: Direct::default() });
+        let mut session = Session::new(&store, "/t", &[], &[], Beginning::new("/none", "/", &[]));
+        session.candidates.insert(7, Candidate::new(recipe.clone(), state));
         assert!(session.caught_up(7) && !session.caught_up(7) && !session.caught_up(8));
         let State::Missed(keys, text) = &session.candidates[&7].state else { panic!("it runs, and is to be kept") };
         let (late, texts) = parts(true);
@@ -569,7 +653,7 @@ mod tests {
     #[test]
     fn only_messages_are_for_a_kind_of_terminal() {
         let store = store();
-        let session = Session { terminal: b"xterm".to_vec(), ..Session::new(&store, "/t", &[], &[]) };
+        let session = Session { terminal: b"xterm".to_vec(), ..Session::new(&store, "/t", &[], &[], Beginning::new("/none", "/", &[])) };
         let recipe = recipe(Kind::Host, Vec::new());
         let terminal_of = |errors: &str| {
             let status = Status { code: 0, signal: None, dumped: false };

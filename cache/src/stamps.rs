@@ -17,6 +17,9 @@ const FRESH: Duration = Duration::from_secs(2);
 /// By so much the time of a change may be earlier than the clock was.
 pub const GRAIN: Duration = Duration::from_millis(20);
 
+/// A file that changed later than this before a call began may have been another when it was read.
+pub const MARGIN: Duration = Duration::from_millis(100);
+
 /// A moment by the clock by which files have their times, and by one that nobody sets.
 #[derive(Clone, Copy, Debug)]
 pub struct Moment {

@@ -4,10 +4,10 @@
 use crate::digest::{Digest, Hasher};
 use crate::libraries::{LISTED, Libraries, Loader};
 use crate::place;
-use crate::searches::Ways;
 use crate::stamps::{GRAIN, Stamp, is_unchanged};
 use crate::store::{Store, digest_of};
 use crate::system;
+use crate::ways::Ways;
 use call::programs;
 use machine::bytes::contains;
 use machine::host_compilers::{HostCompiler, is_gccs_name};
@@ -79,21 +79,6 @@ fn key_of(path: &Path, stamp: &Stamp) -> Digest {
     hasher.add(path.as_os_str().as_bytes());
     hasher.update(&stamp.0.concat());
     hasher.finish()
-}
-
-/// What the file of a compiler has in its name.
-const COMPILERS: [&str; 4] = ["gcc", "g++", "clang", "nvc"];
-
-/// Whether a compiler's name leads to another program, as to another cache, which runs any compiler.
-pub fn is_disguised(program: &Path) -> bool {
-    !is_called(program, &COMPILERS)
-}
-
-/// Whether the file to which a path leads has one of these in its name.
-pub fn is_called(program: &Path, names: &[&str]) -> bool {
-    let real = fs::canonicalize(program).ok();
-    let name = real.as_deref().and_then(Path::file_name).and_then(OsStr::to_str);
-    name.is_some_and(|name| names.iter().any(|part| name.contains(part)))
 }
 
 fn is_program(file: &mut File) -> bool {
@@ -275,6 +260,12 @@ impl Tools {
         Some(digest)
     }
 
+    /// The digest of a file's contents, as it is now.
+    pub fn digest_of(&self, path: &Path) -> Option<Digest> {
+        let is_large = fs::metadata(path).is_ok_and(|status| status.len() >= LARGE);
+        if is_large { self.digest(path, false) } else { digest_of(&mut File::open(path).ok()?).ok() }
+    }
+
     /// The digest of a file's contents, which is to be a program or not.
     pub fn known(&mut self, path: &Path, is_tool: bool) -> Option<Digest> {
         if let Some(known) = self.known.get(path) {
@@ -346,11 +337,6 @@ impl Tools {
             }
         }
         Some(())
-    }
-
-    /// Looks at the libraries that the loader may give a program that the cache doesn't serve.
-    pub fn know_libraries(&mut self, run: &Run<'_>) -> Option<()> {
-        self.add_libraries(&mut Hasher::default(), run.program, run)
     }
 
     /// Adds files by their names and contents.
@@ -610,25 +596,6 @@ mod tests {
     }
 
     #[test]
-    fn another_cache_with_gccs_name_is_no_compiler() {
-        let scratch = Scratch::new();
-        let [real, cache] = ["bin/x86_64-linux-gnu-g++-12", "bin/ccache"].map(|name| scratch.put(name, "\x7fELF one"));
-        let [gcc, other] = ["gcc", "g++"].map(|name| scratch.0.join(name));
-        symlink(&real, &gcc).unwrap();
-        symlink(&cache, &other).unwrap();
-        let missing = scratch.0.join("missing-gcc");
-        assert_eq!([&real, &cache, &gcc, &other, &missing].map(|path| is_disguised(path)), [false, true, false, true, true]);
-        // (a program that only has gcc's name isn't it either)
-        let own = programs::find("gcc".as_ref(), &env::var_os("PATH").unwrap(), Path::new("/")).unwrap();
-        let is_known = |program: &PathBuf| {
-            let environment: Vec<_> = env::vars_os().collect();
-            let mut tools = Tools::in_stores(vec![Store::new(scratch.0.join("store"), 1 << 20)]);
-            tools.identity(&Run { kind: Kind::Host, program, folder: Path::new("/"), environment: &environment }).is_some()
-        };
-        assert_eq!([&own, &real, &cache, &gcc, &other, &missing].map(is_known), [true, false, false, false, false, false]);
-    }
-
-    #[test]
     fn gcc_has_parts() {
         let run = |environment: &[(OsString, OsString)]| {
             let gcc = programs::find("gcc".as_ref(), &env::var_os("PATH").unwrap(), Path::new("/")).unwrap();
@@ -642,5 +609,20 @@ mod tests {
         let usual = run(&[("PATH".into(), own)]);
         assert!(usual.iter().all(Option::is_some), "{usual:?}");
         assert_eq!(run(&[("PATH".into(), before)]), [usual[0].clone(), Some(other)]);
+    }
+
+    #[test]
+    fn a_program_that_only_has_gccs_name_is_no_compiler() {
+        let scratch = Scratch::new();
+        let [real, cache] = ["bin/x86_64-linux-gnu-g++-12", "bin/ccache"].map(|name| scratch.put(name, "\x7fELF one"));
+        let link = scratch.0.join("gcc");
+        symlink(&cache, &link).unwrap();
+        let own = programs::find("gcc".as_ref(), &env::var_os("PATH").unwrap(), Path::new("/")).unwrap();
+        let is_known = |program: &PathBuf| {
+            let environment: Vec<_> = env::vars_os().collect();
+            let mut tools = Tools::in_stores(vec![Store::new(scratch.0.join("store"), 1 << 20)]);
+            tools.identity(&Run { kind: Kind::Host, program, folder: Path::new("/"), environment: &environment }).is_some()
+        };
+        assert_eq!([&own, &real, &cache, &link, &scratch.0.join("missing-gcc")].map(is_known), [true, false, false, false, false]);
     }
 }

@@ -1,6 +1,6 @@
 //! What the words of a command are to its key, by the table of `command_keys`. A command with a word that isn't there isn't cached.
 use crate::tool::Kind;
-use command_keys::{CountedWord, NamedFiles, ReadWord, Role};
+use command_keys::{CountedWord, NamedFiles, ReadWord};
 use compilers::plans::Program;
 use rattle_std::alloc::Global;
 
@@ -32,12 +32,6 @@ pub fn with_read<T>(kind: Kind, words: &[String], read: impl FnOnce(&[ReadWord<'
 pub fn with_counted<T>(kind: Kind, words: &[String], files: &NamedFiles<'_>, read: impl FnOnce(&[CountedWord<'_>]) -> T) -> Option<T> {
     let counted = command_keys::counted_words(Global, program_of(kind), &bytes_of(words), files).ok()??;
     Some(read(counted.as_slice()))
-}
-
-/// The names in the words of a command of files that it reads. `None` if the cache doesn't know one of its words.
-pub fn names_read(kind: Kind, words: &[String]) -> Option<Vec<String>> {
-    let names = |read: &[ReadWord<'_>]| read.iter().filter(|word| word.role == Role::Reads).map(|word| text_of(word.name)).collect();
-    with_read(kind, words, names)
 }
 
 /// A part of a word.
@@ -87,11 +81,6 @@ pub fn is_preprocess(words: &[String]) -> bool {
     are_known(Kind::Host, &others) && !others.iter().any(is_other)
 }
 
-/// The files that the words of a preprocessor have it include first.
-pub fn included(words: &[String]) -> Vec<&str> {
-    words.windows(2).filter(|pair| pair[0] == "-include").map(|pair| pair[1].as_str()).collect()
-}
-
 /// What the words of a preprocessor define.
 pub fn defined(words: &[String]) -> Vec<&str> {
     let joined = words.iter().filter_map(|word| word.strip_prefix("-D")).filter(|definition| !definition.is_empty());
@@ -109,6 +98,7 @@ pub fn search_words(words: &[String]) -> Vec<String> {
 #[cfg(test)]
 mod tests {
     use super::*;
+    use command_keys::Role;
     use command_keys::{Form, KnownWord, Meaning};
 
     fn list(words: &str) -> Vec<String> {
@@ -273,7 +263,7 @@ mod tests {
     fn words_of_preprocessors_are_known() {
         let nvccs = "-D__CUDA_ARCH__=750 -E -x c++ -D A -U B -I/i -isystem /s -I j -include cuda_runtime.h -m64 k.cu -o k.ii";
         assert!(is_preprocess(&list(nvccs)));
-        assert_eq!((included(&list(nvccs)), defined(&list(nvccs))), (vec!["cuda_runtime.h"], vec!["__CUDA_ARCH__=750", "A"]));
+        assert_eq!(defined(&list(nvccs)), ["__CUDA_ARCH__=750", "A"]);
         assert_eq!(search_words(&list(nvccs)), ["-I/i", "-isystem", "/s", "-I", "j"]);
         for word in ["-c", "-MD", "-imacros m.h", "-dD", "-C", "-P", "-H", "-nostdinc", "-iquote q", "-idirafter d", "-fdirectives-only", "-B."] {
             assert!(!is_preprocess(&list(&format!("{nvccs} {word}"))), "{word}");

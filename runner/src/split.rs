@@ -11,8 +11,9 @@ use crate::run::{self, Stopped};
 use crate::tasks::{self, Surroundings};
 use crate::threads;
 use crate::voice::{End, Habits, Say, Voice};
+use cache::observer::Observer;
 use cache::place;
-use cache::{Finished, Session};
+use cache::{Beginning, Finished, Session};
 use call::{Disk, DryRuns, Error, LineReason, MOST_BYTES, NvccLine, Outline, Plan, Planning, Reason};
 use machine::folder::{CallFolder, OWN};
 use machine::host_compilers::HostCompiler;
@@ -20,13 +21,12 @@ use machine::jobs::Machine;
 use machine::places::absolute;
 use machine::planned::{PlannedCommand, Wishes, commands_of};
 use machine::settings::{Settings, own_variable};
-use machine::streams::{Said, called, write_file};
+use machine::streams::{Said, called, complain, write_file};
 use machine::task::{Done, Task};
 use std::fs;
 use std::iter;
 use std::os::unix::fs::FileTypeExt;
 use std::path::{Path, PathBuf};
-use std::time::SystemTime;
 
 /// Why a call doesn't come to its end here.
 #[derive(Clone, PartialEq, Debug)]
@@ -241,9 +241,10 @@ impl Call<'_> {
         call: &call::Call,
         say: &mut Say<'_>,
     ) -> Result<Outcome, Stop> {
-        let (line, tmp, outline, begun) = (self.line, call.tmp(), call.outline(), SystemTime::now());
-        let dry_runs = dry_runs_of(machine, call)?;
+        let (line, tmp, outline) = (self.line, call.tmp(), call.outline());
         let store = if outline.keep_dir.is_some() { None } else { place::store_of(self.settings, &line.cwd) };
+        let mut beginning = store.as_ref().map(|_| Beginning::new(tmp, &line.cwd, &line.words));
+        let dry_runs = dry_runs_of(machine, call, beginning.as_mut().and_then(Beginning::observer))?;
         let planned = self.planned(call, &dry_runs, store.is_some())?;
         let Planned { commands, tasks, .. } = &planned;
         let launcher = self.settings.launcher.first().map(String::as_str).unwrap_or_default();
@@ -257,7 +258,8 @@ impl Call<'_> {
             Voice::new(tasks, planned.habits, &mut say).in_order(told_order(commands, tasks, &dry_runs));
         voice.remark(&dry_runs.messages()?);
         let (refusals, asked) = (self.refusals, outline.dependencies.as_ref());
-        let cache = store.as_ref().map(|store| Session::new(store, tmp, commands, tasks));
+        let cache = store.as_ref().zip(beginning);
+        let cache = cache.map(|(store, beginning)| Session::new(store, tmp, commands, tasks, beginning));
         let mut maker = RuleMaker { commands, asked, launcher, refusals, voice, cache, made: None };
         let mut done = run::run(machine, &mut maker, tasks, self.at_once(outline))?;
         let is_made_whole = planned.complete(machine, maker.cache.as_ref(), &mut done)?;
@@ -274,7 +276,10 @@ impl Call<'_> {
             say(true, self.words_of_silence(status).as_bytes());
         }
         if let Some(cache) = cache.as_mut().filter(|_| status == 0 && !is_made_whole) {
-            cache.keep_call(&Finished { line, commands, tasks, rule: made, said, begun });
+            let kept = cache.keep_call(&Finished { line, commands, tasks, rule: made, said });
+            if let (Err(refusal), true) = (kept, self.settings.explains) {
+                complain(&format!("{}: the call is not kept as a whole: {refusal}", called()));
+            }
         }
         Ok(Outcome { status, commands: logged, counted })
     }
@@ -315,10 +320,14 @@ impl Planned {
 }
 
 /// Has nvcc make the dry runs of a call. The folder for the driver's own files is made meanwhile.
-fn dry_runs_of<M: Machine>(machine: &mut M, call: &call::Call) -> Result<DryRuns, Stop> {
+fn dry_runs_of<M: Machine>(
+    machine: &mut M,
+    call: &call::Call,
+    observer: Option<&mut Observer>,
+) -> Result<DryRuns, Stop> {
     machine.plans(true);
     let make_own = || fs::create_dir(Path::new(call.tmp()).join(OWN)).map_err(|_| Reason::NoTemporaryRoom);
-    let dry_runs = call.make_dry_runs(&mut Jobs::new(machine, make_own).observed(None))?;
+    let dry_runs = call.make_dry_runs(&mut Jobs::new(machine, make_own).observed(observer))?;
     machine.plans(false);
     Ok(dry_runs)
 }

@@ -35,14 +35,13 @@ class Asked(NamedTuple):
     error: str
 
 
-LOADER = "the loader looks for a library; the one that it takes is in the list"
+LOADER = "the loader looks for a folder of libraries; where it looks for files is in the list"
 # Folders where it looks for those that suit the processor.
 CAPABILITIES = "(glibc-hwcaps|tls|haswell|avx512_1|x86_64)"
 # Paths that the observer doesn't see, each with the reason why nothing is lost.
 REASONS = [
-    (r"/etc/ld\.so\.(preload|cache)", "the loader reads it before any library runs; the cache looks for libraries as the loader does"),
-    (rf".*/({CAPABILITIES}(/.*)?|[^/]+\.so(\.[0-9]+)*)", LOADER),
-    (r"/usr/(lib|share)/locale(/.*)?|/usr/share/locale-langpack/.*", "the C library reads how messages are written: the cache counts LANG and LC_.."),
+    (rf".*/{CAPABILITIES}(/.*)?", LOADER),
+    (r"/usr/(lib|share)/locale(/.*)?|/usr/share/locale-langpack/.*", "the C library reads how messages are written: the cache knows where it looks"),
     (r"/etc/localtime|/usr/share/zoneinfo/.*", "the C library reads the time zone: a text with the time isn't kept"),
     (r"/usr/lib/[^/]+/gconv/.*", "the C library reads how messages are written; a command that converts texts isn't kept"),
     (r"/etc/(passwd|nsswitch\.conf|group)", "the C library looks for the user"),
@@ -50,7 +49,7 @@ REASONS = [
     (r"/etc/malloc\.conf", "cicc's allocator reads its settings before the C library has begun"),
     (r"/proc/self/.*|/proc/[0-9]+/.*|/proc/(meminfo|stat|cpuinfo|mounts)|/proc/sys/.*|/dev/(null|tty|urandom|random)", "the kernel makes it up"),
 ]
-KINDS = ("program", "library", "read", "listed", "seen", "followed", "made", "lacking")
+KINDS = ("program", "library", "read", "listed", "seen", "followed", "made", "lacking", "sought")
 STRACE = ["strace", "-f", "--seccomp-bpf", "-y", "-s", "4096", "-e", "signal=none", "-e",
           "trace=open,openat,openat2,stat,lstat,newfstatat,statx,access,faccessat,faccessat2,"
           "readlink,readlinkat,execve,execveat,chdir,getdents64"]
@@ -138,7 +137,8 @@ def misses(seen: set[Asked], kinds: dict[str, set[str]], own: str) -> Iterator[t
     for one in sorted(seen):
         if one.path.startswith(own):
             continue
-        known = of["lacking"] | of["made"] if one.error in {"ENOENT", "ENOTDIR"} else of["listed"] if one.call == "getdents64" else there
+        missing = of["lacking"] | of["made"] | of["sought"]
+        known = missing if one.error in {"ENOENT", "ENOTDIR"} else of["listed"] if one.call == "getdents64" else there
         if one.path in known or (one.call == "execve" and not one.error and os.path.realpath(one.path) in there):
             continue
         if one.call in {"readlink", "readlinkat", "faccessat2"} and one.path in ways:

@@ -6,9 +6,9 @@ use crate::host_text::files_entered;
 use crate::key::Part;
 use crate::recipe::Recipe;
 use crate::recipe::path_of;
-use crate::searches::Ways;
 use crate::stamps::{GRAIN, Moment, is_unchanged, keeps_changes};
 use crate::tool::Kind;
+use crate::ways::Ways;
 use crate::words;
 use call::ptx::files_of_ptx;
 use std::collections::{BTreeSet, HashSet};
@@ -71,11 +71,8 @@ impl Session<'_> {
         let mut ways = Ways::new(Path::new(&recipe.job.folder), begun);
         let folders = if recipe.question.is_some() { folders_of(recipe, &files) } else { BTreeSet::new() };
         let tells = |file: &PathBuf| fs::metadata(file).is_ok_and(|status| keeps_changes(file, &status));
-        let watched = self.watch.as_mut().and_then(|watch| {
-            let folder = watch.folder().to_owned();
-            Some((folder, watch.come()?))
-        });
-        let watched = watched.as_ref().map(|(folder, names)| (folder.as_path(), *names));
+        let cwd = Path::new(&recipe.job.folder);
+        let watched = self.beginning.memory.come(cwd).map(|names| (cwd, names));
         let counts_by_contents = recipe.has_own_source && !files.iter().all(tells);
         let is_changed = files.iter().any(|file| is_new(file, &mut ways, begun))
             || folders.iter().any(|folder| has_new(folder, &files, &mut ways, begun))

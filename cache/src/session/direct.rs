@@ -1,16 +1,16 @@
 //! Host compiles that are found without a preprocessor: by the texts that they read, if all headers are as they were.
+use super::whole::Written;
 use super::{Session, Taken};
 use crate::digest::Digest;
 use crate::key::{self, Text};
 use crate::lines::may_be_open;
-use crate::manifest::{Manifest, Seen};
+use crate::manifest::Manifest;
 use crate::recipe::{Recipe, Role};
 use crate::source::{begins_raw_string, join_of};
 use crate::stored;
 use machine::bytes::contains;
 use machine::streams::content_of;
-use serde::{Deserialize, Serialize};
-use std::collections::BTreeSet;
+use std::collections::{BTreeMap, BTreeSet};
 use std::path::{Path, PathBuf};
 
 /// What is known of a compile without a preprocessor.
@@ -20,27 +20,12 @@ pub struct Direct {
     key: Option<Digest>,
     /// That of its entry, by its preprocessed text.
     entry: Option<Digest>,
-    /// What it would read, if it was found so.
-    pub found: Option<Found>,
+    /// What a preprocessor would depend on, if it was found so.
+    pub found: Option<Manifest>,
 }
 
-/// What a compile depends on beside its own texts.
-#[derive(Clone, PartialEq, Eq, Debug, Default, Serialize, Deserialize)]
-pub struct Found {
-    /// How many of the files it reads. It asks whether the others are there.
-    count: usize,
-    pub manifest: Manifest,
-}
-
-impl Found {
-    /// The headers that the compile reads.
-    pub fn read(&self) -> &[Seen] {
-        self.manifest.files.get(..self.count).unwrap_or(&self.manifest.files)
-    }
-}
-
-/// What the store has under the key of texts: the key of an entry, and the headers by which that holds.
-type Stored = (Digest, Found);
+/// What the store has under the key of texts: the key of an entry, and what the preprocessor depended on by which that holds.
+type Stored = (Digest, Manifest);
 
 /// The generated files that a compile reads: its own, cicc's stub file, which that includes, and the fatbin's, which the stub file includes.
 fn generated(recipe: &Recipe) -> Option<Vec<PathBuf>> {
@@ -106,10 +91,10 @@ impl Session<'_> {
         self.candidates.get_mut(&task)?.direct.key = Some(key);
         let (entry, found): Stored = stored::of_bytes(&self.store.read(&key)?)?;
         let candidate = self.candidates.get(&task)?;
-        let now = found.manifest.again(Path::new(&candidate.recipe.job.folder))?;
-        let entry = self.entry(&entry).filter(|_| now.digest(&key) == found.manifest.digest(&key))?;
+        let now = found.again(Path::new(&candidate.recipe.job.folder))?;
+        let entry = self.entry(&entry).filter(|_| found.holds_in(&now))?;
         let taken = self.take(&candidate.recipe, &entry, times)?;
-        self.candidates.get_mut(&task)?.direct.found = Some(Found { manifest: now, ..found });
+        self.candidates.get_mut(&task)?.direct.found = Some(now);
         Some(taken)
     }
 
@@ -120,28 +105,20 @@ impl Session<'_> {
         }
     }
 
-    /// The files beside its own texts that a compile has read, by its preprocessed text, and those for which it may ask. `None` if it isn't
-    /// known to read all of them, or if it may see its lines.
-    fn read_beside(&self, recipe: &Recipe, call: &Manifest, present: &BTreeSet<PathBuf>) -> Option<Found> {
-        let (_, file) = recipe.question.as_ref()?;
-        let written = self.known.found(file).filter(|written| !written.sees_lines)?;
-        let entered = written.entered.as_ref()?.iter().map(PathBuf::as_path);
-        let (own, others): (BTreeSet<&Path>, BTreeSet<&Path>) = entered.partition(|path| path.starts_with(self.tmp));
-        let (read, beside): (Vec<&Seen>, Vec<&Seen>) = call.files.iter().partition(|seen| others.contains(seen.path.as_path()));
-        let generated = generated(recipe)?;
-        let is_known = own.iter().all(|path| generated.iter().any(|file| file == path)) && read.len() == others.len();
-        let asked = beside.into_iter().filter(|seen| present.contains(&seen.path));
-        let (count, files) = (read.len(), read.iter().copied().chain(asked).cloned().collect());
-        is_known.then(|| Found { count, manifest: Manifest { files, vain: call.vain.clone(), places: call.places.clone(), defines: None } })
+    /// Whether a compile's preprocessor has entered no other files of the call than those that a key by texts has, nor may see its lines.
+    fn is_known(&self, recipe: &Recipe, entered: &BTreeSet<PathBuf>) -> bool {
+        let own = entered.iter().filter(|path| path.starts_with(self.tmp));
+        generated(recipe).is_some_and(|generated| own.into_iter().all(|path| generated.contains(path)))
     }
 
-    /// Keeps what the call's compiles have read beside their own texts, so that they are found without a preprocessor. These files are among
-    /// those of the whole call, and so are the places where any was sought in vain.
-    pub fn keep_directly(&self, cwd: &str, call: &Manifest, present: &BTreeSet<PathBuf>) {
-        for candidate in self.candidates.values().filter(|candidate| candidate.recipe.job.folder == cwd) {
-            let (Some(key), Some(entry)) = (candidate.direct.key, candidate.direct.entry) else { continue };
-            if let Some(found) = self.read_beside(&candidate.recipe, call, present) {
-                let _ = self.store.write(&key, &stored::to_bytes(&(entry, &found)));
+    /// Keeps what the preprocessors of the call's compiles depended on, so that these are found without one.
+    pub(super) fn keep_directly(&self, cwd: &str, questions: &BTreeMap<usize, Manifest>, written: &Written) {
+        for (number, manifest) in questions {
+            let Some(candidate) = self.candidates.get(number).filter(|candidate| candidate.recipe.job.folder == cwd) else { continue };
+            let entered = candidate.recipe.question.as_ref().and_then(|(_, file)| written.entered_without_lines(file));
+            let is_known = entered.is_some_and(|entered| self.is_known(&candidate.recipe, entered));
+            if let (Some(key), Some(entry), true) = (candidate.direct.key, candidate.direct.entry, is_known) {
+                let _ = self.store.write(&key, &stored::to_bytes(&(entry, manifest)));
             }
         }
     }
@@ -150,7 +127,6 @@ impl Session<'_> {
 #[cfg(test)]
 mod tests {
     use super::*;
-    use crate::manifest::Form;
 
     fn without(text: &str) -> String {
         String::from_utf8(without_device_code(text.into())).unwrap()
@@ -184,15 +160,5 @@ mod tests {
         ] {
             assert_eq!(without(text), text);
         }
-    }
-
-    #[test]
-    fn what_is_kept_is_read_back() {
-        let seen = |path: &str| Seen { path: path.into(), digest: Digest::of(b"a"), stamp: None, form: Form::Other };
-        let found = Found { count: 1, manifest: Manifest { files: vec![seen("a.h"), seen("b.h")], ..Manifest::default() } };
-        let bytes = stored::to_bytes(&(Digest::of(b"a"), &found));
-        assert_eq!((found.read(), stored::of_bytes(&bytes)), (&[seen("a.h")][..], Some((Digest::of(b"a"), found.clone()))));
-        assert_eq!(Found { count: 3, ..found.clone() }.read().len(), 2);
-        assert!([bytes.len() - 1, 20].iter().all(|&size| stored::of_bytes::<Stored>(&bytes[..size]).is_none()));
     }
 }
