@@ -120,12 +120,14 @@ static void note_relative(struct record *record, int folder, const char *path) {
     else if (is_new(record, before, path)) append(record, before, path);
 }
 
+#define HERE "/proc/self/cwd/"
 // Notes what a call said of a path: by its error, or with what is known of its file.
 static void note(char kind, int folder, const char *path, int error, uint32_t number, const struct stat *status) {
     int kept = errno;
     struct record record = {.kind = kind, .error = error, .number = number};
-    // (an empty path is no file, or one that is open)
+    // (an empty path is no file, or one that is open; the other is the name that each process has for its own working directory)
     if (state != ON || !path || !*path) return;
+    if (!strncmp(path, HERE, sizeof HERE - 1) && path[sizeof HERE - 1]) folder = AT_FDCWD, path += sizeof HERE - 1;
     if (status && !error) stamp(&record, status);
     if (path[0] != '/' && folder != NOWHERE) note_relative(&record, folder, path);
     else if (is_new(&record, NULL, path)) append(&record, NULL, path);

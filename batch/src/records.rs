@@ -3,6 +3,7 @@
 use super::asked::{BatchCall, words_of};
 use super::products::Product;
 use call::programs;
+use machine::rooted::as_written;
 use machine::settings::{Settings, own_variable};
 use serde_json::json;
 use std::collections::BTreeSet;
@@ -29,7 +30,8 @@ impl Reads {
     pub fn of_folder(tmp: &Path) -> Reads {
         let entries = fs::read_dir(tmp).into_iter().flatten().flatten().map(|entry| entry.path());
         let texts = entries.filter(|path| path.extension() == Some(OsStr::new("ii")));
-        let read: Option<Vec<BTreeSet<String>>> = texts.map(|path| headers(&fs::read(path).ok()?)).collect();
+        let read: Option<Vec<BTreeSet<String>>> =
+            texts.map(|path| headers(&fs::read(as_written(&path)).ok()?)).collect();
         match read {
             Some(read) if !read.is_empty() => Reads::Files(read.into_iter().flatten().collect()),
             _ => Reads::Unknown,

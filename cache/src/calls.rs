@@ -64,8 +64,14 @@ const FREE_VARIABLES: [&str; 39] = [
 /// The same for those that begin so.
 const FREE_BEGINNINGS: [&str; 9] = ["CCACHE_", "CMAKE_", "DBUS_", "GITHUB_", "SLURM_", "SSH_", "VSCODE_", "XDG_", "ZIGRUNK_"];
 
+/// The one among these that counts: products are others under a root.
+const COUNTING: &[u8] = b"ZIGRUNK_ROOT";
+
 fn is_free(name: &OsStr) -> bool {
     let name = name.as_bytes();
+    if name == COUNTING {
+        return false;
+    }
     FREE_VARIABLES.iter().any(|free| name == free.as_bytes()) || FREE_BEGINNINGS.iter().any(|begin| name.starts_with(begin.as_bytes()))
 }
 
@@ -247,6 +253,7 @@ mod tests {
             key_of("-c k.cu", None, "/c/nvcc", &[("A", "1"), ("PATH", "/bin")]),
             key_of("-c k.cu", None, "/b/nvcc", &[("A", "2"), ("PATH", "/bin")]),
             key_of("-c k.cu", None, "/b/nvcc", &[("A", "1"), ("PATH", "/bin"), ("INCLUDES", "-I/x")]),
+            key_of("-c k.cu", None, "/b/nvcc", &[("A", "1"), ("PATH", "/bin"), ("ZIGRUNK_ROOT", "/w")]),
         ];
         assert!(others.iter().all(|other| *other != usual));
     }

@@ -186,6 +186,11 @@ impl Call<'_> {
         self.leave();
         if self.settings.explains {
             complain(&format!("{}: nvcc itself: {reason}", called()));
+        } else if self.settings.root.is_some() && reason.compiles() {
+            complain(&format!(
+                "{}: ZIGRUNK_ROOT is not used, since nvcc makes this call: {reason}",
+                called()
+            ));
         }
         if self.compiler.path.is_none() && self.settings.runner.is_empty() {
             complain(&format!("{}: cannot find {} in PATH", called(), self.compiler.name.to_string_lossy()));

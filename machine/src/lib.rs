@@ -17,6 +17,7 @@ pub mod piped;
 pub mod places;
 pub mod planned;
 pub mod quota;
+pub mod rooted;
 pub mod settings;
 pub mod slots;
 pub mod streams;

@@ -1,6 +1,7 @@
 //! The commands of a call as the driver runs them, which the proved crate `call_tasks` makes of its plan.
 use crate::folder::OWN;
 use crate::head_start::Wait;
+use crate::rooted::Rooting;
 use crate::system::may_write;
 use call::{Error, Plan, Run};
 use call_tasks::{Asks, Head as ListedHead, Task as ListedTask, head_needs_of, needs_of, tasks_of};
@@ -80,6 +81,8 @@ pub struct Wishes<'a> {
     pub frees: bool,
     /// What makes the dependency file.
     pub rule: Option<&'a Run>,
+    /// How commands name files of a checkout that products don't name.
+    pub rooting: Option<&'a Rooting>,
 }
 
 /// How many bytes a file's name may have.
@@ -135,7 +138,7 @@ pub fn list_of(words: &[String]) -> Result<Vec<Text>, AllocError> {
     words.iter().map(|word| text(word)).collect()
 }
 
-fn held(word: &str) -> Result<Held, AllocError> {
+pub(crate) fn held(word: &str) -> Result<Held, AllocError> {
     Ok(Held::new(text(word)?))
 }
 
@@ -164,13 +167,14 @@ fn command_of(run: &Run) -> Result<Command, AllocError> {
 
 fn asks_of(plan: &Plan, wishes: Wishes<'_>) -> Result<Asks, AllocError> {
     let own = held(&format!("{}/{OWN}", plan.tmp()))?;
-    let Wishes { in_place, halves, pipes, heads, frees, rule } = wishes;
+    let Wishes { in_place, halves, pipes, heads, frees, rule, rooting } = wishes;
     let rule = rule.map(command_of).transpose()?;
     Ok(Asks {
         tmp: held(plan.tmp())?,
         cwd: held(plan.cwd())?,
         own,
-        in_place,
+        // (a rooted plan says itself where its tools run)
+        in_place: in_place && rooting.is_none(),
         halves,
         pipes,
         heads,
@@ -218,7 +222,9 @@ fn planned(task: &ListedTask, needs: &[usize], of_head: &[usize], line: usize) -
 /// What is started of a plan, and the halves of its last host compile, if that runs in two.
 /// An error if memory runs out.
 pub fn commands_of(plan: &Plan, wishes: Wishes<'_>) -> Result<(Vec<PlannedCommand>, Option<Split>), Error> {
-    let made = tasks_of(Global, &asks_of(plan, wishes)?, &plan.proved().plan)?;
+    let own = &plan.proved().plan;
+    let rooted = wishes.rooting.map(|rooting| rooting.plan(own)).transpose()?;
+    let made = tasks_of(Global, &asks_of(plan, wishes)?, rooted.as_ref().unwrap_or(own))?;
     let tasks: &[ListedTask] = &made.tasks;
     let (needs, of_heads) =
         (needs_of(Global, wishes.frees, tasks)?, head_needs_of(Global, wishes.frees, tasks)?);

@@ -19,6 +19,15 @@ pub enum AskedCache {
     Folder(PathBuf),
 }
 
+/// A checkout whose files have the same names in products as those of any other checkout.
+#[derive(Clone, PartialEq, Eq, Debug, Default)]
+pub struct AskedRoot {
+    /// Its folder, absolute, without a slash at its end.
+    pub folder: String,
+    /// What stands for the folder, absolute, without a slash at its end.
+    pub name: String,
+}
+
 /// What commands wait for, though they can begin without it.
 #[derive(Clone, Copy, PartialEq, Eq, Debug, Default)]
 pub struct Waits {
@@ -61,6 +70,8 @@ pub struct Settings {
     pub explains: bool,
     /// What commands wait for.
     pub waits: Waits,
+    /// The checkout that products don't name, if one is set.
+    pub root: Option<AskedRoot>,
     /// The nvccs through which this call came.
     pub inside: OsString,
 }
@@ -134,6 +145,21 @@ fn cache(of: Lookup<'_>) -> Result<AskedCache, String> {
     }
 }
 
+/// What stands for a checkout's folder if the setting doesn't say it: a debugger that starts in the checkout
+/// finds sources by it, and no tool does, since none of those that note a source's time and size runs there.
+const USUAL_ROOT: &str = "/proc/self/cwd";
+
+/// A checkout's folder, with `=` and what stands for it or without. Both are in words that gcc cuts at `=`, and
+/// in line markers.
+fn root(text: &str) -> Option<AskedRoot> {
+    let (folder, name) = text.split_once('=').unwrap_or((text, USUAL_ROOT));
+    let [folder, name] = [folder, name].map(|path| path.trim_end_matches('/'));
+    let is_plain = |byte: u8| byte >= b' ' && !matches!(byte, b'=' | b'"' | b'\\' | 0x7f);
+    let is_path = |path: &str| path.starts_with('/') && path.bytes().all(is_plain);
+    let asked = || AskedRoot { folder: folder.to_owned(), name: name.to_owned() };
+    (is_path(folder) && is_path(name)).then(asked)
+}
+
 /// A variable's words, as a shell cuts it at its blanks.
 fn words(of: Lookup<'_>, name: &str) -> Vec<String> {
     let value = of(name).unwrap_or_default();
@@ -182,6 +208,18 @@ impl Settings {
 
     fn of(of: Lookup<'_>) -> Result<Settings, String> {
         switch(of, "ZIGRUNK_CALLS", true)?;
+        let settings = Settings::each(of)?;
+        if settings.root.is_some() && !settings.launcher.is_empty() {
+            return Err(
+                "ZIGRUNK_ROOT and ZIGRUNK_LAUNCHER cannot both be set: a launcher gets the plan's own words"
+                    .into(),
+            );
+        }
+        Ok(settings)
+    }
+
+    /// Each by itself.
+    fn each(of: Lookup<'_>) -> Result<Settings, String> {
         Ok(Settings {
             nvcc: of("ZIGRUNK_NVCC").unwrap_or_else(|| "nvcc".into()),
             cache: cache(of)?,
@@ -207,6 +245,12 @@ impl Settings {
                 for_needs: !switch(of, "ZIGRUNK_EARLY", true)?,
                 for_fatbin: !switch(of, "ZIGRUNK_LATE", true)?,
             },
+            root: read(
+                of,
+                "ZIGRUNK_ROOT",
+                root,
+                "a checkout's absolute path, or such a path, = and what stands for it, such as /home/me/project=/src",
+            )?,
             inside: of("ZIGRUNK_INSIDE").unwrap_or_default(),
         })
     }
@@ -265,6 +309,27 @@ mod tests {
     }
 
     #[test]
+    fn a_root_is_a_folder_and_what_stands_for_it() {
+        let asked = |folder: &str, name: &str| Some(AskedRoot { folder: folder.into(), name: name.into() });
+        for (text, wanted) in [
+            ("/w/p", asked("/w/p", USUAL_ROOT)),
+            ("/w/p//=/src/", asked("/w/p", "/src")),
+            ("/w/a b=/x/y", asked("/w/a b", "/x/y")),
+            ("w/p", None),
+            ("/w/p=src", None),
+            ("/w/p=", None),
+            ("/", None),
+            ("/w=/a=/b", None),
+            ("/w\"=/a", None),
+            ("/w\\=/a", None),
+            ("/w\n", None),
+            ("yes", None),
+        ] {
+            assert_eq!(root(text), wanted, "{text}");
+        }
+    }
+
+    #[test]
     fn sizes_have_letters() {
         let cases = [
             ("0", Some(0)),
@@ -288,7 +353,7 @@ mod tests {
         }
     }
 
-    const VARIABLES: [(&str, &str); 18] = [
+    const VARIABLES: [(&str, &str); 19] = [
         ("ZIGRUNK_NVCC", "/c/nvcc"),
         ("ZIGRUNK_CACHE", "./c"),
         ("ZIGRUNK_CACHE_SIZE", "2K"),
@@ -306,6 +371,7 @@ mod tests {
         ("ZIGRUNK_CALLS", "no"),
         ("ZIGRUNK_REMOTE", "grpc://a:1"),
         ("ZIGRUNK_REMOTE_FALLBACK", "no"),
+        ("ZIGRUNK_ROOT", "/w/p/=/src"),
         ("ZIGRUNK_INSIDE", "/a:/b"),
     ];
 
@@ -327,6 +393,7 @@ mod tests {
             log: Some("log".into()),
             explains: true,
             waits: Waits { for_needs: true, for_fatbin: true },
+            root: Some(AskedRoot { folder: "/w/p".into(), name: "/src".into() }),
             inside: "/a:/b".into(),
         };
         let none = Settings { nvcc: "nvcc".into(), temporary: "/tmp".into(), ..Settings::default() };
@@ -334,7 +401,9 @@ mod tests {
             for (name, value) in VARIABLES {
                 set_variable(name, value);
             }
-            assert_eq!((Settings::of_environment(), keeps_calls()), (Ok(wanted), false));
+            assert_eq!((Settings::each(&variable), keeps_calls()), (Ok(wanted), false));
+            let both = "ZIGRUNK_ROOT and ZIGRUNK_LAUNCHER cannot both be set";
+            assert!(Settings::of_environment().unwrap_err().starts_with(both));
             for (name, _) in VARIABLES {
                 set_variable(name, "");
             }

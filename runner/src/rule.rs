@@ -7,8 +7,9 @@ use call::Run;
 use dependency_rules::{order_of, rule_asked, rule_text};
 use machine::jobs::{Ended, Job};
 use machine::planned::{PlannedCommand, list_of};
+use machine::rooted::{Rooting, as_written};
 use machine::streams::{called, complain, content_of, write_file};
-use machine::task::{Done, Step};
+use machine::task::{Done, Step, Task};
 use rattle_std::alloc::{AllocError, Global};
 use rattle_std::vec::Collect;
 use std::collections::BTreeSet;
@@ -35,6 +36,10 @@ pub struct RuleMaker<'a, 'b> {
     pub voice: Voice<'b>,
     /// The driver's own cache, if the call uses it.
     pub cache: Option<Session<'a>>,
+    /// What the call's tasks are.
+    pub tasks: &'a [Task],
+    /// How its commands name files of a checkout that products don't name.
+    pub rooting: Option<&'a Rooting>,
     /// The dependency file that it has made.
     pub made: Option<Product>,
 }
@@ -51,7 +56,8 @@ impl RuleMaker<'_, '_> {
         let words = commands.iter().map(words).collect::<Result<Vec<_>, AllocError>>().ok()?;
         let order = order_of(Global, &words).ok()??;
         let text_of = |&place: &usize| {
-            Bytes::copy_of(Global, &content_of(Path::new(commands[place].writes.first()?)).ok()?).ok()
+            Bytes::copy_of(Global, &content_of(&as_written(Path::new(commands[place].writes.first()?))).ok()?)
+                .ok()
         };
         order.as_slice().iter().map(text_of).collect()
     }
@@ -71,6 +77,13 @@ impl Watch for RuleMaker<'_, '_> {
     fn make_rule(&mut self) -> bool {
         self.made = self.try_make();
         self.made.is_some()
+    }
+
+    fn wrote(&mut self, task: usize) -> Result<(), String> {
+        let command = self.tasks[task].command.map(|number| &self.commands[number]);
+        let text = command.filter(|command| command.preprocesses).and_then(|command| command.writes.first());
+        let Some((rooting, text)) = self.rooting.zip(text) else { return Ok(()) };
+        rooting.change(Path::new(text)).map_err(|error| format!("{text} cannot be changed: {error}"))
     }
 
     fn refused(&mut self, tool: &str) {
@@ -167,6 +180,8 @@ mod tests {
                 refusals: &Refusals::default(),
                 voice,
                 cache: None,
+                tasks: &[],
+                rooting: None,
                 made: None,
             };
             maker.make_rule().then(|| fs::read_to_string(self.0.join("k.d")).unwrap())
@@ -217,6 +232,8 @@ mod tests {
             refusals: &refusals,
             voice,
             cache: None,
+            tasks: &[],
+            rooting: None,
             made: None,
         };
         assert_eq!(maker.front(), Some(0));

@@ -31,6 +31,9 @@ impl From<Refused> for Stopped {
 pub trait Watch {
     /// Does a task without a process, if that is possible.
     fn make_rule(&mut self) -> bool;
+    /// Hears that a task has succeeded, before one that needs it starts.
+    /// Errors: why what it has written is of no use.
+    fn wrote(&mut self, task: usize) -> Result<(), String>;
     /// Hears that the cache refuses commands of a tool: they run without it.
     fn refused(&mut self, tool: &str);
     /// Whether the cache has refused commands of a tool.
@@ -65,6 +68,10 @@ pub struct NoRule;
 impl Watch for NoRule {
     fn make_rule(&mut self) -> bool {
         false
+    }
+
+    fn wrote(&mut self, _: usize) -> Result<(), String> {
+        Ok(())
     }
 
     fn refused(&mut self, _: &str) {}
@@ -511,6 +518,9 @@ impl<'a, M: Machine, W: Watch> Run<'a, M, W> {
     fn end(&mut self, number: usize, ended: Ended) -> Result<(), Stopped> {
         (self.done[number].ended, self.states[number]) = (Some(ended), State::Ended);
         let outcome = if self.done[number].failed() { Outcome::Failure } else { Outcome::Success };
+        if matches!(outcome, Outcome::Success) {
+            self.watch.wrote(number).map_err(Stopped::NoProcess)?;
+        }
         Ok(self.schedule.ended(number, outcome)?)
     }
 }
@@ -688,6 +698,9 @@ mod tests {
         holds: Option<usize>,
         /// Whether it observes what is started, whose name gets a mark then.
         observes: bool,
+        /// The tasks that have succeeded, and the one whose files are of no use.
+        wrote: Vec<usize>,
+        spoils: Option<usize>,
     }
 
     impl Heard {
@@ -700,6 +713,11 @@ mod tests {
     impl Watch for Heard {
         fn make_rule(&mut self) -> bool {
             self.makes_rule
+        }
+
+        fn wrote(&mut self, task: usize) -> Result<(), String> {
+            self.wrote.push(task);
+            if self.spoils == Some(task) { Err(format!("{task} is of no use")) } else { Ok(()) }
         }
 
         fn refused(&mut self, tool: &str) {
@@ -816,6 +834,19 @@ mod tests {
             run_all(&mut machine, &tasks, 2),
             ("acb".into(), vec![Some(0), Some(0), Some(7), None, None])
         );
+    }
+
+    #[test]
+    fn what_a_task_wrote_is_heard_of_before_others_read_it() {
+        let tasks = [task("a 0", &[]), task("b 7", &[0]), task("c 0", &[1])];
+        let mut heard = Heard::default();
+        run(&mut Fake::default(), &mut heard, &tasks, 9).unwrap();
+        assert_eq!(heard.wrote, [0], "what failed has written nothing of use");
+        let mut machine = Fake::default();
+        let mut spoilt = Heard { spoils: Some(0), ..Heard::default() };
+        let stopped = run(&mut machine, &mut spoilt, &tasks, 9).unwrap_err();
+        assert_eq!(stopped, Stopped::NoProcess("0 is of no use".into()));
+        assert_eq!(machine.started, ["a"]);
     }
 
     #[test]

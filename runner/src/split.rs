@@ -20,9 +20,11 @@ use machine::host_compilers::HostCompiler;
 use machine::jobs::Machine;
 use machine::places::absolute;
 use machine::planned::{PlannedCommand, Wishes, commands_of};
+use machine::rooted::Rooting;
 use machine::settings::{Settings, own_variable};
 use machine::streams::{Said, called, complain, write_file};
 use machine::task::{Done, Task};
+use std::borrow::Cow;
 use std::fs;
 use std::iter;
 use std::os::unix::fs::FileTypeExt;
@@ -142,11 +144,18 @@ impl Call<'_> {
         Ok(call)
     }
 
-    /// Plans the call.
-    fn planned(&self, call: &call::Call, dry_runs: &DryRuns, has_cache: bool) -> Result<Planned, Stop> {
+    /// Plans the call, whose commands name files as `rooting` says.
+    fn planned(
+        &self,
+        call: &call::Call,
+        dry_runs: &DryRuns,
+        rooting: Option<&Rooting>,
+        has_cache: bool,
+    ) -> Result<Planned, Stop> {
         let (tmp, outline) = (call.tmp(), call.outline());
         let plan = self.plan(call, dry_runs)?;
-        let (commands, halves) = Self::commands(&plan, &self.wishes(&plan, outline, dry_runs, has_cache))?;
+        let wishes = Wishes { rooting, ..self.wishes(&plan, outline, dry_runs, has_cache) };
+        let (commands, halves) = Self::commands(&plan, &wishes)?;
         let scratch = self
             .settings
             .scratch()
@@ -163,7 +172,9 @@ impl Call<'_> {
             remote::send(&mut tasks, &commands, tmp, self.settings.needs_remote);
         }
         let first_wave = threads::first_wave(&tasks, self.at_once(outline));
-        let habits = habits_of(&tasks, halves.is_some() || has_cache, dry_runs, outline)?;
+        // (what a command says under a root is changed as a whole)
+        let holds_back = halves.is_some() || has_cache || rooting.is_some();
+        let habits = habits_of(&tasks, holds_back, dry_runs, outline)?;
         Ok(Planned { commands, tasks, halves: halves.zip(whole), habits: Habits { first_wave, ..habits } })
     }
 
@@ -208,6 +219,7 @@ impl Call<'_> {
             heads,
             frees,
             rule,
+            rooting: None,
         }
     }
 
@@ -245,14 +257,17 @@ impl Call<'_> {
         let store = if outline.keep_dir.is_some() { None } else { place::store_of(self.settings, &line.cwd) };
         let mut beginning = store.as_ref().map(|_| Beginning::new(tmp, &line.cwd, &line.words));
         let dry_runs = dry_runs_of(machine, call, beginning.as_mut().and_then(Beginning::observer))?;
-        let planned = self.planned(call, &dry_runs, store.is_some())?;
+        let root = self.settings.root.as_ref().filter(|_| self.runs_in_place());
+        let rooting = root.map(|root| Rooting::of(root, &line.cwd, tmp)).transpose()?;
+        let planned = self.planned(call, &dry_runs, rooting.as_ref(), store.is_some())?;
         let Planned { commands, tasks, .. } = &planned;
         let launcher = self.settings.launcher.first().map(String::as_str).unwrap_or_default();
         let before = caches::counts(machine, self.settings)?;
         let mut said = Said::new();
         let mut say = |is_error: bool, text: &[u8]| {
+            let text = rooting.as_ref().map_or(Cow::Borrowed(text), |rooting| rooting.own(text).into());
             said.extend(store.is_some().then(|| (is_error, text.to_vec())));
-            say(is_error, text);
+            say(is_error, &text);
         };
         let mut voice =
             Voice::new(tasks, planned.habits, &mut say).in_order(told_order(commands, tasks, &dry_runs));
@@ -260,7 +275,9 @@ impl Call<'_> {
         let (refusals, asked) = (self.refusals, outline.dependencies.as_ref());
         let cache = store.as_ref().zip(beginning);
         let cache = cache.map(|(store, beginning)| Session::new(store, tmp, commands, tasks, beginning));
-        let mut maker = RuleMaker { commands, asked, launcher, refusals, voice, cache, made: None };
+        let rooting = rooting.as_ref();
+        let mut maker =
+            RuleMaker { commands, asked, launcher, refusals, voice, cache, tasks, rooting, made: None };
         let mut done = run::run(machine, &mut maker, tasks, self.at_once(outline))?;
         let is_made_whole = planned.complete(machine, maker.cache.as_ref(), &mut done)?;
         check_end(self.folder.is_there(), &done, tasks, &dry_runs)?;

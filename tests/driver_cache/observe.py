@@ -205,6 +205,7 @@ CASES: list[tuple[str, list[str], list[str], str]] = [
     ("system", ["./processes", "system"], ["read @/a", "lacking @/none/cat", "program /usr/bin/cat"], ""),
     ("an open folder", ["./processes", "folder"], ["read @/sub/x", "listed @/sub"], ""),
     ("another working directory", ["./processes", "moves"], ["read @/sub/x", "read @/sub/../a", "seen @/sub"], ""),
+    ("the working directory by its other name", ["cat", "/proc/self/cwd/a"], ["read @/a"], ""),
     ("what it makes", ["./processes", "makes"], ["made @/new"], ""),
     ("a link", ["cat", "link"], ["read @/link"], ""),
     ("a link that is read", ["readlink", "-e", "link"], ["followed @/link"], ""),

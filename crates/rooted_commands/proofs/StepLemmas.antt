@@ -15,7 +15,7 @@ use Rattle.command_files.specs.Files.{is_among}
 use Rattle.command_files.specs.PlanNeeds.{preprocesses, step_of}
 use Rattle.placed_commands.specs.PlacedCommands.{files_of, are_same, placed_command}
 use Rattle.placed_commands.proofs.PlaceLemmas.{keeps-steps}
-use Rattle.rooted_commands.specs.Commands.{keeps_record, with_words, if_kept, tool_words, file_map, folder_maps, file_maps, rooted_host, placed_tool, rooted_by}
+use Rattle.rooted_commands.specs.Commands.{keeps_record, with_words, if_kept, tool_words, file_map, folder_maps, file_maps, writes_names, rooted_host, placed_tool, rooted_by}
 use Rattle.rooted_commands.specs.Laws.{RootKeepsSteps}
 use Rattle.rooted_commands.specs.declared.paths.Root.{Root}
 
@@ -83,7 +83,11 @@ by-host r c program is = rw is (maps-unseen (host_files c.cwd) (files-unseen c.c
 
 host-step : (r : Root) (c : NvccGeneratedSubcommand) (count group : ℕ) → program_at c.exe ≡ programs.Other → step_of count group (rooted_host r c) ≡ step_of count group c
 host-step r c count group is =
-    same-step count group c (file_maps r c.cwd ++ c.args) (by-host r c (program_at c.exe) is) (maps-unseen preprocesses (λ old new end ws. refl) r c.cwd c.args)
+    elim (writes_names c.args) as (λ b. step_of count group (cond b (with_words c (file_maps r c.cwd ++ c.args)) c) ≡ step_of count group c) [
+      | true ↦
+          same-step count group c (file_maps r c.cwd ++ c.args) (by-host r c (program_at c.exe) is) (maps-unseen preprocesses (λ old new end ws. refl) r c.cwd c.args)
+      | false ↦ refl
+    ]
 
 pub root-keeps-steps : RootKeepsSteps
 root-keeps-steps r c count group =

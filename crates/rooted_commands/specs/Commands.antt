@@ -1,7 +1,7 @@
 -- The commands of a plan with the root in place of the checkout's folder.
-use Rattle.std.specs.Prelude.{◌≡◌, ℕ, List, [], ◌∷◌, ◌++◌, Bool, ◌&&◌, ◌||◌, if◌then◌else◌, Option, Some, None, map, codes, refl, bytes_eq}
+use Rattle.std.specs.Prelude.{◌≡◌, ℕ, nat_eq, List, [], ◌∷◌, ◌++◌, Bool, ◌&&◌, ◌||◌, if◌then◌else◌, Option, Some, None, map, codes, refl, bytes_eq}
 use Rattle.std.specs.Bool.{beq}
-use Rattle.std.specs.List.{flat_map}
+use Rattle.std.specs.List.{flat_map, list_any, starts_with}
 use Rattle.texts.specs.Lists.{rest_after}
 use Rattle.texts.specs.Rows.{spaced}
 use Rattle.compilers.specs.Programs.{program_at}
@@ -68,9 +68,20 @@ folder_maps r at_top folder = file_map folder r.root (codes "/") ∷ (if at_top 
 abbrev pub file_maps : Root → List ℕ → List (List ℕ)
 file_maps r cwd = flat_map (folder_maps r (is_among r.folders cwd)) r.folders ++ file_map r.tmp (codes "/tmp") [] ∷ []
 
--- a host compiler's command
+-- whether a word asks for what debuggers need, as `-g` and `-ggdb` do
+abbrev pub is_for_debuggers : List ℕ → Bool
+is_for_debuggers word = starts_with nat_eq word (codes "-g")
+
+-- whether a host compiler writes names that its text lacks: it reads sources, or notes where it runs
+abbrev pub writes_names : List (List ℕ) → Bool
+writes_names words = preprocesses words || list_any is_for_debuggers words
+
+-- a host compiler's command, which may write rooted names
+abbrev pub mapped_host : Root → NvccGeneratedSubcommand → NvccGeneratedSubcommand
+mapped_host r c = with_words c (file_maps r c.cwd ++ c.args)
+
 abbrev pub rooted_host : Root → NvccGeneratedSubcommand → NvccGeneratedSubcommand
-rooted_host r c = with_words c (file_maps r c.cwd ++ c.args)
+rooted_host r c = if writes_names c.args then mapped_host r c else c
 
 -- the command that runs in place of one of a plan, by its program: tools run in `/`
 abbrev pub placed_tool : Root → Program → NvccGeneratedSubcommand → NvccGeneratedSubcommand
@@ -113,11 +124,16 @@ pub another_record_below_the_root :
 another_record_below_the_root = refl
 
 pub host_compiler_in_the_checkout :
-    rooted_command example_call (line (codes "/usr/bin/g++") (spaced "-c -x c++ /t/k.cpp -o k.o") (codes "/data/p/a"))
+    rooted_command example_call (line (codes "/usr/bin/g++") (spaced "-c -x c++ -g /t/k.cpp -o k.o") (codes "/data/p/a"))
     ≡ line (codes "/usr/bin/g++")
-    (spaced "-ffile-prefix-map=/home/u/p/=/src/ -ffile-prefix-map=/data/p/=/src/ -ffile-prefix-map=/t=/tmp -c -x c++ /t/k.cpp -o k.o")
+    (spaced "-ffile-prefix-map=/home/u/p/=/src/ -ffile-prefix-map=/data/p/=/src/ -ffile-prefix-map=/t=/tmp -c -x c++ -g /t/k.cpp -o k.o")
     (codes "/data/p/a")
 host_compiler_in_the_checkout = refl
+
+pub host_compiler_without_names :
+    rooted_command example_call (line (codes "/usr/bin/g++") (spaced "-c -x c++ /t/k.cpp -o k.o") (codes "/data/p/a"))
+    ≡ line (codes "/usr/bin/g++") (spaced "-c -x c++ /t/k.cpp -o k.o") (codes "/data/p/a")
+host_compiler_without_names = refl
 
 pub host_compiler_at_its_top :
     rooted_command (call_in (codes "/data/p") (codes "/t")) (line (codes "gcc") (spaced "-E k.cu") (codes "/data/p"))

@@ -1,7 +1,7 @@
 //! Commands of a plan with the root in place of the checkout's folder.
 
 ghost use Rattle.std.specs.Prelude.{◌≡◌, ◌++◌, [], IfOk, OnOk, map, string_bytes};
-ghost use Rattle.std.specs.List.{flat_map};
+ghost use Rattle.std.specs.List.{flat_map, list_any};
 ghost use Rattle.placed_commands.specs.PlacedCommands.{are_same};
 ghost use Rattle.rooted_commands.specs.Commands as spec;
 
@@ -178,6 +178,44 @@ fn file_maps(alloc: Global, root: &Root, cwd: &str) -> Result<Words, AllocError>
     Ok(words)
 }
 
+// Whether a word asks for what debuggers need.
+fn is_for_debuggers(word: &str) -> bool
+    ensures { result ≡ spec.is_for_debuggers word.now }
+{
+    word.as_bytes().starts_with(b"-g")
+}
+
+fn is_any_for_debuggers(words: &[String]) -> bool
+    ensures { result ≡ list_any spec.is_for_debuggers (map string_bytes words.now) }
+{
+    for word in words {
+        if is_for_debuggers(word.as_str()) {
+            return true;
+        }
+    }
+    false
+}
+
+// Whether a host compiler writes names that its text lacks.
+fn writes_names(words: &[String]) -> bool
+    ensures { result ≡ spec.writes_names (map string_bytes words.now) }
+{
+    preprocesses(words) || is_any_for_debuggers(words)
+}
+
+// A host compiler's command that writes rooted names.
+fn mapped_host(
+    alloc: Global,
+    root: &Root,
+    command: &NvccGeneratedSubcommand,
+) -> Result<NvccGeneratedSubcommand, AllocError>
+    ensures { IfOk result (λ mapped. mapped ≡ spec.mapped_host root.now command.now) }
+{
+    let mut words = file_maps(alloc, root, command.cwd.as_str())?;
+    words.push_copies(alloc, command.args.as_slice())?;
+    with_words(alloc, command, words)
+}
+
 // A host compiler's command.
 fn rooted_host(
     alloc: Global,
@@ -186,17 +224,20 @@ fn rooted_host(
 ) -> Result<NvccGeneratedSubcommand, AllocError>
     ensures { IfOk result (λ rooted. rooted ≡ spec.rooted_host root.now command.now) }
 {
-    let mut words = file_maps(alloc, root, command.cwd.as_str())?;
-    words.push_copies(alloc, command.args.as_slice())?;
-    with_words(alloc, command, words)
+    if writes_names(command.args.as_slice()) {
+        mapped_host(alloc, root, command)
+    } else {
+        command.try_clone(alloc)
+    }
 }
 
 /// The command that runs in place of one of a plan, so that what it makes has the root in place of the checkout's folder.
 ///
 /// A tool of nvcc runs in `/`, as [`placed_command`] says it, with rooted names in the words that it writes: behind
 /// `--orig_src_file_name` and `--orig_src_path_name` for cicc and cudafe++, behind `--ident=` for fatbinary. Its words stay as they are
-/// placed if its record would be another. Any other program is a host compiler, and gets gcc's prefix maps in front of its words: from
-/// the checkout's folders to the root, and from the folder of generated files to `/tmp`.
+/// placed if its record would be another. Any other program is a host compiler. If it preprocesses, or writes for debuggers, it gets gcc's
+/// prefix maps in front of its words: from the checkout's folders to the root, and from the folder of generated files to `/tmp`. Else it
+/// writes no names but those of its text, which are rooted.
 pub fn rooted_command(
     alloc: Global,
     root: &Root,

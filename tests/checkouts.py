@@ -1,0 +1,199 @@
+#!/usr/bin/env python3
+"""Makes calls in two checkouts of one project under ZIGRUNK_ROOT, and compares what they leave and say.
+
+    tests/checkouts.py [--calls N] [--seed N] [--nvcc FILE] ZIGRUNK-NVCC
+
+The checkouts have paths of other lengths, sources of other times, and directories for temporary files of their own. A call's source, targets,
+options, working directory and forms of paths are drawn by the seed. Both products have to be equal, byte for byte, and have no path of a
+checkout; a dependency file has to be nvcc's; messages may differ by the checkout's folder alone. Then come the cases of a few calls that are
+given. The last line is 'N passed, M failed'.
+"""
+import argparse
+import os
+import random
+import re
+import shutil
+import subprocess
+import sys
+import tempfile
+from pathlib import Path
+from typing import NamedTuple
+
+HEADER = """#pragma once
+#include <cassert>
+inline const char* where() { return __FILE__; }
+__host__ __device__ inline int checked(int a) { assert(a > 0); return a + 1; }
+"""
+KERNELS = """#include <cstdio>
+#include "deep/h.h"
+static __device__ int count;
+static __global__ void kernel(int* p) { assert(p); *p = checked(*p) + count; printf("%s", __FILE__); }
+namespace { __constant__ float table[4]; struct Local { int a; }; template <class T> __global__ void fill(T* p) { p->a = int(table[0]); } }
+void run_NAME(int* p) { std::puts(where()); kernel<<<1, 1>>>(p); fill<<<1, 1>>>((Local*)p); }
+"""
+RAW = """#include "deep/h.h"
+static __device__ const char text[] = R"(
+# 1 "FOLDER/src/raw.cu"
+)";
+__global__ void raw(char* p) { *p = text[checked(*p)]; }
+"""
+WARNS = """#include "deep/h.h"
+#line 40 "named.cuh"
+__global__ void warns(int* p) { int unused; *p = checked(2); }
+int host(int a) { int b; return a; }
+"""
+SOURCES = {"a/k.cu": KERNELS.replace("NAME", "a"), "b/k.cu": KERNELS.replace("NAME", "b"), "raw.cu": RAW, "warns.cu": WARNS}
+OPTIONS = ["-O2", "-g", "-G", "-lineinfo", "-rdc=true", "-std=c++17", "-DNDEBUG", "-Xcompiler -Wall", "-Xptxas -v", "-MD", "-t2", "-use_fast_math",
+           "--expt-relaxed-constexpr", "-maxrregcount=32", "-Xcompiler -g3", "-Xcompiler -ggdb,-O1", "-src-in-ptx -lineinfo", "-dopt=on -G"]
+TARGETS = ["-arch=sm_80", "-arch=sm_90 -dlto -rdc=true", "-gencode arch=compute_80,code=sm_80 -gencode arch=compute_90,code=sm_90",
+           "-gencode arch=compute_75,code=[sm_75,compute_75] -gencode arch=compute_80,code=sm_86"]
+FORMS = ["-c", "-c", "-c", "-dc", "-ptx -arch=sm_80", "-cubin -arch=sm_80", "-fatbin -arch=sm_80"]
+
+
+# What ptxas says of its own time.
+TIMES = re.compile(rb"Compile time = .*")
+
+
+class Call(NamedTuple):
+    """A call in a checkout, without the paths."""
+
+    source: str
+    words: "list[str]"
+    # The working directory below the checkout, and whether paths are absolute.
+    folder: str
+    is_absolute: bool
+
+    def line(self, top: Path) -> "list[str]":
+        """The words in a checkout."""
+        def path(name: str) -> str:
+            return str(top / name) if self.is_absolute else os.path.relpath(top / name, top / self.folder)
+        return [*self.words, f"-I{path('inc')}", path(f"src/{self.source}"), "-o", "product"]
+
+
+class Made(NamedTuple):
+    """What a call has left and said, with a mark in the place of the checkout's folder."""
+
+    status: int
+    product: "bytes | None"
+    rule: "bytes | None"
+    said: bytes
+
+
+class Checkout:
+    """A checkout of the project, with a directory for temporary files beside it."""
+
+    def __init__(self, top: Path, temporary: Path, source: "Checkout | None" = None) -> None:
+        self.top, self.temporary = top, temporary
+        temporary.mkdir()
+        if source is not None:
+            shutil.copytree(source.top, top, copy_function=shutil.copy)
+            return
+        for folder in ["inc/deep", "src/a", "src/b", "build/deeper"]:
+            (top / folder).mkdir(parents=True)
+        (top / "inc/deep/h.h").write_text(HEADER)
+        for name, text in SOURCES.items():
+            (top / "src" / name).write_text(text.replace("FOLDER", str(top)))
+
+    def make(self, compiler: str, call: Call, root: "str | None") -> Made:
+        """Makes a call, under a root or not."""
+        folder = self.top / call.folder
+        product, rule = folder / "product", folder / "product.d"
+        for file in (product, rule):
+            file.unlink(missing_ok=True)
+        environment = {**os.environ, "TMPDIR": str(self.temporary)}
+        if root is not None:
+            environment["ZIGRUNK_ROOT"] = f"{self.top}{root}"
+        words = [compiler, *call.line(self.top)]
+        ran = subprocess.run(words, cwd=folder, env=environment, stdout=subprocess.PIPE, stderr=subprocess.STDOUT, check=False)
+        left = [file.read_bytes() if file.exists() else None for file in (product, rule)]
+        said = TIMES.sub(b"", ran.stdout.replace(bytes(self.top), b"CHECKOUT"))
+        return Made(ran.returncode, left[0], left[1], said)
+
+
+def drawn(lot: random.Random) -> Call:
+    """A call by lot."""
+    form = lot.choice(FORMS)
+    words = [form, *([lot.choice(TARGETS)] if "arch" not in form else []), *lot.sample(OPTIONS, lot.randint(0, 4))]
+    if "-O1" in " ".join(words) and "-G" in words:
+        words.remove("-G")
+    return Call(lot.choice(list(SOURCES)), " ".join(words).split(), lot.choice([".", "build", "build/deeper"]), lot.random() < 0.5)
+
+
+class Trial:
+    """Two checkouts, and the two compilers."""
+
+    def __init__(self, ours: str, nvcc: str, room: Path) -> None:
+        self.ours, self.nvcc = ours, nvcc
+        # (with -t, nvcc itself fails if the path of its temporary files has a blank)
+        self.one = Checkout(room / "one", room / "temporary")
+        self.other = Checkout(room / "a longer name" / "checkout", room / "others-temporary", self.one)
+
+    def problem_of(self, call: Call) -> str:
+        """What is wrong with a call in both checkouts."""
+        one, other = (checkout.make(self.ours, call, "") for checkout in (self.one, self.other))
+        nvccs = self.one.make(self.nvcc, call, None)
+        if one.status != nvccs.status:
+            return f"status {one.status}, nvcc's is {nvccs.status}: {one.said!r}"
+        if one.product != other.product:
+            return "the products differ"
+        if (one.product is None) != (nvccs.product is None):
+            return "a product that nvcc does not make, or none"
+        if one.rule != nvccs.rule and call.source != "warns.cu":
+            return f"the dependency file is {one.rule!r}, nvcc's is {nvccs.rule!r}"
+        names = [bytes(checkout.top) for checkout in (self.one, self.other)]
+        # (a text of the source itself may have the first one's)
+        if call.source != "raw.cu" and any(name in (one.product or b"") for name in names):
+            return "the product has a checkout's path"
+        return "" if one.said == other.said else f"one says {one.said!r}, the other {other.said!r}"
+
+    def given(self) -> "list[tuple[str, str]]":
+        """The cases that are given, each with its problem."""
+        make = self.one.make
+        usual = Call("a/k.cu", ["-c", "-rdc=true", "-arch=sm_80"], "build", True)
+        plain, rooted, named = (make(self.ours, usual, root) for root in (None, "", "=/src"))
+        nvccs = make(self.nvcc, usual, None)
+        namesake = make(self.ours, usual._replace(source="b/k.cu"), "")
+        ids = [product_ids(made.product or b"") for made in (plain, rooted, namesake)]
+        return [("without a root", "" if product_ids(nvccs.product or b"") == ids[0] else f"{ids[0]}, nvcc has other ids"),
+                ("a root has ids of its own", "" if ids[0] and ids[1] and not ids[0] & ids[1] else f"{ids}"),
+                ("two sources of one name", "" if ids[2] and not ids[1] & ids[2] else f"{ids}"),
+                ("what stands for the folder", "" if b"/src/inc/deep/h.h" in (named.product or b"") else "the product lacks /src/inc/deep/h.h")]
+
+
+def product_ids(product: bytes) -> "set[bytes]":
+    """The module ids in the names of a product."""
+    return set(re.findall(rb"__cudaRegisterLinkedBinary_+([0-9a-f]{8})_", product))
+
+
+def main() -> int:
+    """Runs the trial."""
+    parser = argparse.ArgumentParser(usage=__doc__)
+    parser.add_argument("driver")
+    parser.add_argument("--calls", type=int, default=20)
+    parser.add_argument("--seed", default="roots")
+    parser.add_argument("--nvcc", default=shutil.which("nvcc"))
+    args = parser.parse_args()
+    if args.nvcc is None:
+        print("names under a root: skipped, nvcc is not on the path\n0 passed, 0 failed, 1 skipped")
+        return 0
+    lot = random.Random(args.seed)
+    passed = failed = 0
+    with tempfile.TemporaryDirectory(prefix="roots.") as room:
+        trial = Trial(os.path.abspath(args.driver), args.nvcc, Path(os.path.realpath(room)))
+        os.environ.update(ZIGRUNK_NVCC=args.nvcc)
+        for number in range(args.calls):
+            call = drawn(lot)
+            problem = trial.problem_of(call)
+            passed, failed = passed + (not problem), failed + bool(problem)
+            if problem:
+                print(f"call {number}, {call.source} {' '.join(call.words)} in {call.folder}{' by whole paths' * call.is_absolute}: {problem}"[:1500])
+        for name, problem in trial.given():
+            passed, failed = passed + (not problem), failed + bool(problem)
+            if problem:
+                print(f"{name}: {problem}"[:1500])
+    print(f"{passed} passed, {failed} failed")
+    return int(failed > 0)
+
+
+if __name__ == "__main__":
+    sys.exit(main())
