@@ -523,6 +523,8 @@ impl<'a> Session<'a> {
         let is_named = is_named || recipe.stem.as_ref().is_some_and(|stem| contains(&messages, stem.as_bytes()));
         // If an assembler alone says something, nvcc makes the call.
         let is_odd = recipe.included.is_some() && !messages.is_empty();
+        // (gcc reads a file again to show its line; nvcc's tools show that of their text)
+        let text = if recipe.kind == Kind::Host { text } else { b"" };
         let shown = host_text::shown_files(text, &messages).into_iter().map(|name| self.shown(recipe, name));
         let shown = shown.collect::<Option<_>>()?;
         let terminal = if messages.is_empty() { Vec::new() } else { self.terminal.clone() };
@@ -650,16 +652,28 @@ mod tests {
         assert!(!has_entry("in call.7", "/t/call.7") && has_entry("in call.7", "/t/call.8"));
     }
 
+    fn warned(errors: &str) -> Ended {
+        let status = Status { code: 0, signal: None, dumped: false };
+        Ended { status, out: Vec::new(), errors: errors.as_bytes().to_vec(), times: (0.0, 1.0) }
+    }
+
+    #[test]
+    fn only_gcc_reads_a_file_again_to_show_its_line() {
+        let store = store();
+        let session = Session::new(&store, "/t", &[], &[], Beginning::new("/none", "/", &[]));
+        let has_entry = |kind: Kind| {
+            let ended = warned("no-such.h(3): warning\n");
+            session.entry_of(&recipe(kind, Vec::new()), b"# 1 \"no-such.h\"\n", &ended).is_some()
+        };
+        assert_eq!([Kind::Host, Kind::Cicc, Kind::CudaFe].map(has_entry), [false, true, true]);
+    }
+
     #[test]
     fn only_messages_are_for_a_kind_of_terminal() {
         let store = store();
         let session = Session { terminal: b"xterm".to_vec(), ..Session::new(&store, "/t", &[], &[], Beginning::new("/none", "/", &[])) };
         let recipe = recipe(Kind::Host, Vec::new());
-        let terminal_of = |errors: &str| {
-            let status = Status { code: 0, signal: None, dumped: false };
-            let ended = Ended { status, out: Vec::new(), errors: errors.as_bytes().to_vec(), times: (0.0, 1.0) };
-            session.entry_of(&recipe, b"", &ended).unwrap().terminal
-        };
+        let terminal_of = |errors: &str| session.entry_of(&recipe, b"", &warned(errors)).unwrap().terminal;
         assert_eq!([terminal_of(""), terminal_of("warns\n")], [&b""[..], b"xterm"]);
     }
 }
