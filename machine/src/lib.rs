@@ -16,6 +16,7 @@ pub mod nearest;
 pub mod piped;
 pub mod places;
 pub mod planned;
+pub mod proved;
 pub mod quota;
 pub mod rooted;
 pub mod settings;

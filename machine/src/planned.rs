@@ -1,6 +1,7 @@
 //! The commands of a call as the driver runs them, which the proved crate `call_tasks` makes of its plan.
 use crate::folder::OWN;
 use crate::head_start::Wait;
+use crate::proved::{held, text};
 use crate::rooted::Rooting;
 use crate::system::may_write;
 use call::{Error, Plan, Run};
@@ -11,7 +12,6 @@ use early_starts::Split;
 use rattle_std::alloc::{AllocError, Global};
 use rattle_std::string::String as Text;
 use std::path::{Path, PathBuf};
-use texts::text::Text as Held;
 use texts::variables::Variables;
 use texts::words::Words;
 
@@ -126,20 +126,6 @@ impl PlannedCommand {
         let mut files = self.writes.iter().map(|file| Path::new(&self.folder).join(file));
         files.all(|file| file.parent().is_some_and(|folder| is_free(folder, &file)))
     }
-}
-
-/// A text as the proved crates have it.
-pub fn text(text: &str) -> Result<Text, AllocError> {
-    Text::from_str(Global, text)
-}
-
-/// Words as the proved crates have them.
-pub fn list_of(words: &[String]) -> Result<Vec<Text>, AllocError> {
-    words.iter().map(|word| text(word)).collect()
-}
-
-pub(crate) fn held(word: &str) -> Result<Held, AllocError> {
-    Ok(Held::new(text(word)?))
 }
 
 fn string(text: &Text) -> String {

@@ -1,6 +1,6 @@
 //! A call whose files below a checkout's folder are named as in any other checkout.
 use crate::folder::OWN;
-use crate::planned::held;
+use crate::proved::{held, text};
 use crate::settings::AskedRoot;
 use crate::streams::{content_of, write_file};
 use call::{Error, Reason};
@@ -43,7 +43,7 @@ impl Rooting {
         let mut folders = Words::new(Global);
         let others = real.filter(|real| *real != asked.folder);
         for folder in [Some(asked.folder.clone()), others].into_iter().flatten() {
-            folders.push(crate::planned::text(&folder)?)?;
+            folders.push(text(&folder)?)?;
         }
         let root = Root { folders, root: held(&asked.name)?, cwd: held(cwd)?, tmp: held(tmp)? };
         Ok(Rooting { root })

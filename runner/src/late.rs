@@ -126,7 +126,7 @@ mod tests {
 
     /// A split whose compiler's half reads this placeholder.
     fn split(is_linked: bool, read: &Path) -> Split {
-        let held = |text: &str| texts::text::Text::new(machine::planned::text(text).unwrap());
+        let held = |text: &str| texts::text::Text::new(machine::proved::text(text).unwrap());
         let command = || NvccGeneratedSubcommand {
             exe: held("gcc"),
             args: texts::words::Words::new(Global),
