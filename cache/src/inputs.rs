@@ -7,6 +7,7 @@ use crate::observed::{Gap, Observed, Sight};
 use crate::stamps::{MARGIN, Stamp, is_older};
 use crate::tool::Tools;
 use crate::ways::Ways;
+use dry_run_pairs::is_temporary;
 use machine::settings::own_variable;
 use machine::streams::content_of;
 use std::collections::{BTreeMap, BTreeSet, HashMap, HashSet};
@@ -95,7 +96,7 @@ fn temporary_folder(cwd: &Path) -> PathBuf {
 /// Whether a path is that of a file of nvcc's own, which has the number of its process.
 fn is_nvccs(path: &Path, temporary: &Path) -> bool {
     let name = path.file_name().unwrap_or_default().as_bytes();
-    path.parent() == Some(temporary) && name.starts_with(b"tmpxft_")
+    path.parent() == Some(temporary) && is_temporary(name)
 }
 
 /// The variables that name the language of messages, and how their quotes look.

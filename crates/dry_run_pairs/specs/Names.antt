@@ -1,7 +1,7 @@
 -- What stands in front of names in a line of a dry run, which is taken out: directories, and the beginnings of temporary files' names.
 use Rattle.std.specs.Prelude.{◌≡◌, ℕ, zero, suc, ◌-◌, List, [], ◌∷◌, ◌++◌, length, Bool, true, false, ◌||◌, ◌&&◌, ◌==◌, nat_le, Option, Some, None, if◌then◌else◌, codes, refl, option_and_then, unwrap_or}
 use Rattle.std.specs.Option.{option_or}
-use Rattle.texts.specs.Lists.{rest_after}
+use Rattle.texts.specs.Lists.{is_some_and, rest_after}
 use Rattle.dry_run_pairs.specs.Cuts.{past}
 
 -- whether a name may begin behind a byte: a quote or `=`
@@ -50,6 +50,10 @@ after_beginning text =
     (rest_after (codes "-") (past is_hex_digit call)))
     (rest_after (codes "_") (past is_hex_digit process)))
     (rest_after (codes "tmpxft_") text)
+
+-- whether a name is that of a temporary file
+abbrev pub is_temporary : List ℕ → Bool
+is_temporary name = is_some_and (λ rest. true) (after_beginning name)
 
 -- what follows the last such beginning in the name that a text begins with: no name holds a quote or `=`
 abbrev pub after_last : List ℕ → Option (List ℕ)

@@ -16,5 +16,5 @@ mod remarks;
 pub use agreement::agree;
 pub use comparison::Comparison;
 pub use forms::prints_to_files;
-pub use names::without_folder;
+pub use names::{is_temporary, without_folder};
 pub use remarks::{fails_by_threads, remarks_in, runs_devices_first, with_commands};

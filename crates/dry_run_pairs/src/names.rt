@@ -70,6 +70,13 @@ fn after_beginning(text: &[u8]) -> Option<&[u8]>
     behind(number, b"_")
 }
 
+/// Whether a name without a directory is that of a temporary file of nvcc, as `tmpxft_000030a2_00000000-7_k.ptx`.
+pub fn is_temporary(name: &[u8]) -> bool
+    ensures { result ≡ spec.is_temporary name.now }
+{
+    after_beginning(name).is_some()
+}
+
 // What follows the last such beginning in a name.
 fn after_last(name: &[u8]) -> Option<&[u8]>
     ensures rest { option_copied result ≡ spec.after_last name.now }
