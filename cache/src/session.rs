@@ -523,9 +523,9 @@ impl<'a> Session<'a> {
         let is_named = is_named || recipe.stem.as_ref().is_some_and(|stem| contains(&messages, stem.as_bytes()));
         // If an assembler alone says something, nvcc makes the call.
         let is_odd = recipe.included.is_some() && !messages.is_empty();
-        // (gcc reads a file again to show its line; nvcc's tools show that of their text)
-        let text = if recipe.kind == Kind::Host { text } else { b"" };
-        let shown = host_text::shown_files(text, &messages).into_iter().map(|name| self.shown(recipe, name));
+        // (gcc seeks a file again to show its line; nvcc's tools show that of their text, also if the file is gone)
+        let is_sought = |name: &&[u8]| recipe.kind == Kind::Host || path_of(recipe, name).exists();
+        let shown = host_text::shown_files(text, &messages).into_iter().filter(is_sought).map(|name| self.shown(recipe, name));
         let shown = shown.collect::<Option<_>>()?;
         let terminal = if messages.is_empty() { Vec::new() } else { self.terminal.clone() };
         (!is_named && !is_odd).then_some(Entry { outputs, out, errors, shown, terminal, inputs: None })
@@ -658,7 +658,7 @@ mod tests {
     }
 
     #[test]
-    fn only_gcc_reads_a_file_again_to_show_its_line() {
+    fn only_gcc_seeks_a_file_again_to_show_its_line() {
         let store = store();
         let session = Session::new(&store, "/t", &[], &[], Beginning::new("/none", "/", &[]));
         let has_entry = |kind: Kind| {
