@@ -51,9 +51,19 @@ after_beginning text =
     (rest_after (codes "_") (past is_hex_digit process)))
     (rest_after (codes "tmpxft_") text)
 
--- whether a name is that of a temporary file
+-- what follows a process's number in the name of a temporary file
+abbrev pub after_process : List ℕ → Option (List ℕ)
+after_process text = option_and_then (λ process. rest_after (codes "_") (past is_hex_digit process)) (rest_after (codes "tmpxft_") text)
+
+-- whether a name is that of a temporary file. nvcc looks for some that end sooner than a beginning does
 abbrev pub is_temporary : List ℕ → Bool
-is_temporary name = is_some_and (λ rest. true) (after_beginning name)
+is_temporary name = is_some_and (λ rest. true) (after_process name)
+
+pub sought_names_are_temporary : is_temporary (codes "tmpxft_000071ea_00000000-2.cpp") ≡ true
+sought_names_are_temporary = refl
+
+pub another_name_is_not : is_temporary (codes "tmpxft_k.ptx") ≡ false
+another_name_is_not = refl
 
 -- what follows the last such beginning in the name that a text begins with: no name holds a quote or `=`
 abbrev pub after_last : List ℕ → Option (List ℕ)

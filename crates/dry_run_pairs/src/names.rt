@@ -70,11 +70,20 @@ fn after_beginning(text: &[u8]) -> Option<&[u8]>
     behind(number, b"_")
 }
 
-/// Whether a name without a directory is that of a temporary file of nvcc, as `tmpxft_000030a2_00000000-7_k.ptx`.
+// What follows a process's number in the name of a temporary file.
+fn after_process(text: &[u8]) -> Option<&[u8]>
+    ensures { option_copied result ≡ spec.after_process text.now }
+{
+    let process = past_hex(behind(text, b"tmpxft_")?);
+    behind(process, b"_")
+}
+
+/// Whether a name without a directory is that of a temporary file of nvcc, as `tmpxft_000030a2_00000000-7_k.ptx`. It also looks for
+/// some that end sooner, as `tmpxft_000030a2_00000000-2.cpp`.
 pub fn is_temporary(name: &[u8]) -> bool
     ensures { result ≡ spec.is_temporary name.now }
 {
-    after_beginning(name).is_some()
+    after_process(name).is_some()
 }
 
 // What follows the last such beginning in a name.
