@@ -398,9 +398,12 @@ stand_ins() {
         # comes_and_goes FOLDER COMMAND: what is kept if a library comes there while gcc compiles, and what the assembler does.
         comes_and_goes() {
             rm -rf "$room/cache"
+            # (a folder that changed right before a call may have changed within it)
+            sleep 0.3
             call LIBRARY="$library" PLACE="$1" TOOL_DOES='[ "$name" != gcc-S ] || cp "$LIBRARY" "$PLACE"; '"$2" -c k.cu -o k.o
             ran_all "with one in $1 that $2"
             rm -f "$1/libc.so.6"
+            sleep 0.3
             call -c k.cu -o k.o
             ran "once it's gone from $1, $2" as gcc-S
             call -c k.cu -o k.o
