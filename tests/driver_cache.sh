@@ -28,6 +28,12 @@ case_of() {
     mkdir -m 700 "$room/run"
     echo 'first' > k.cu
     export ZIGRUNK_CACHE=$room/cache ZIGRUNK_LOG=$room/calls
+    settle
+}
+
+# settle: lets what has just changed be older than a call. What changed right before one may have changed within it, so nothing is kept by that.
+settle() {
+    sleep 0.3
 }
 
 # call [NAME=VALUE..] WORD..: makes a call with these variables.
@@ -398,12 +404,11 @@ stand_ins() {
         # comes_and_goes FOLDER COMMAND: what is kept if a library comes there while gcc compiles, and what the assembler does.
         comes_and_goes() {
             rm -rf "$room/cache"
-            # (a folder that changed right before a call may have changed within it)
-            sleep 0.3
+            settle
             call LIBRARY="$library" PLACE="$1" TOOL_DOES='[ "$name" != gcc-S ] || cp "$LIBRARY" "$PLACE"; '"$2" -c k.cu -o k.o
             ran_all "with one in $1 that $2"
             rm -f "$1/libc.so.6"
-            sleep 0.3
+            settle
             call -c k.cu -o k.o
             ran "once it's gone from $1, $2" as gcc-S
             call -c k.cu -o k.o
