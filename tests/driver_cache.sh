@@ -31,9 +31,9 @@ case_of() {
     settle
 }
 
-# settle: lets what has just changed be older than a call. What changed right before one may have changed within it, so nothing is kept by that.
+# settle: waits until nothing here or in the toolkit has only just been changed. What is newer may be changed again while it is read, and isn't kept.
 settle() {
-    sleep 0.3
+    while [ -n "$(find . "$room"/bin* "${CUDA:-.}" -newerct '0.2 seconds ago' -print -quit 2> /dev/null)" ]; do sleep 0.05; done
 }
 
 # call [NAME=VALUE..] WORD..: makes a call with these variables.
@@ -841,11 +841,6 @@ real_calls() {
         same 'their symbols' "$(nm a.o b.o | grep -o '__fatbinwrap_.*_s_cu.*' | sort -u | wc -l)" 2
         end
     fi
-}
-
-# settle: waits until nothing here has only just been changed. What is newer may be changed again while it is read, and isn't kept.
-settle() {
-    while [ -n "$(find . "$room"/bin* -newerct '0.2 seconds ago' -print -quit 2> /dev/null)" ]; do sleep 0.05; done
 }
 
 # whole WANTED WORD..: makes a call with the cache, once and without. A problem, unless the cache has served the whole call ('whole') or not (''),
