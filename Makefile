@@ -6,6 +6,7 @@ target = $(DESTDIR)$(PREFIX)
 # What `make install` installs: `proved`, which needs the Rattle kit, or `plain`, the same sources as plain Rust, which needs cargo.
 BUILT ?= $(if $(shell command -v rt),proved,plain)
 workspace = out/rust
+pages = packaging/pages.sh
 crates_from = if command -v cargo > /dev/null; then $(MAKE) rust-sources; else echo 'no cargo, so no crate for Rust'; fi
 ifeq ($(BUILT),plain)
 built = out/rust/target/release
@@ -103,7 +104,7 @@ lib:
 header: rust-sources
 	cd $(workspace)/capi && cbindgen --quiet --config cbindgen.toml --crate capi --output $(CURDIR)/bindings/c/zigrunk.h .
 
-# The proved sources as crates of plain Rust (docs/PLAIN_RUST.md), and programs and library of them: no kit, and no network if crates are there.
+# The proved sources as crates of plain Rust (docs/proof/PLAIN_RUST.md), and programs and library of them: no kit, and no network if crates are there.
 rust: rust-sources
 	cd out/rust && cargo build --release
 	$(if $(REMOTE),cd out/rust && cargo build --release -p zigrunk-remote)
@@ -176,7 +177,7 @@ random-calls: rust
 mutants-by-lot: rust-sources
 	@tests/mutants_by_lot.py --seed "$(SEED)" --count "$(if $(filter command line environment,$(origin COUNT)),$(COUNT),100)" $(if $(ONLY),--only "$(ONLY)")
 
-# Other versions of nvcc, with host compilers that suit. docs/VERSIONS.md says what differs.
+# Other versions of nvcc, with host compilers that suit. docs/TRIED.md says what differs.
 versions: rust
 	@tests/versions.sh
 
@@ -202,7 +203,7 @@ peer:
 cluster: rust
 	@tests/cluster.sh
 
-# Outside the gate. It downloads the projects of tests/field from Debian. docs/FIELD.md has what came out.
+# Outside the gate. It downloads the projects of tests/field from Debian. docs/TRIED.md has what came out.
 field: rust
 	@tests/field.sh
 

@@ -1,5 +1,5 @@
 #!/usr/bin/env bash
-# Packs what anyone can build, which is plain Rust (docs/PLAIN_RUST.md), and what is proved, if it is built:
+# Packs what anyone can build, which is plain Rust (docs/proof/PLAIN_RUST.md), and what is proved, if it is built:
 #
 #   dist/zigrunk-VERSION.tar.gz                the sources and the crates that they need, with a Makefile that needs cargo
 #   dist/zigrunk_VERSION_ARCHITECTURE.deb      packages of them: amd64, and arm64 if rustc and gcc can make it
@@ -56,8 +56,9 @@ write_sources() {
         cp "$file" "$sources/$file"
     done
     cp tests/drivers/test_plans/data/dry_runs/one_target.dry[12] "$sources/demo"
-    cp packaging/install.mk "$sources"
+    cp packaging/install.mk packaging/pages.sh "$sources"
     cp packaging/source.mk "$sources/Makefile"
+    packaging/pages.sh sources "$sources"
 }
 
 # can_build TARGET PREFIX: whether rustc has the library of a target, and gcc its tools.

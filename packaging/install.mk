@@ -1,8 +1,10 @@
 # The rules that install and uninstall. The Makefile of the repository and that of the source tarball say where the programs and the
 # archive of the library are (cudaplan, driver, archive), where the workspace of plain Rust is (workspace), and what makes them
-# (programs_from, driver_from, library_from, crates_from). zigrunk-nvcc, for build systems, is a link to zigrunk. Nothing is proved again if out/ holds what these sources make. Otherwise each part builds what
-# it installs, so that those who want one part don't wait for the other.
+# (programs_from, driver_from, library_from, crates_from), and where pages.sh is (pages). zigrunk-nvcc, for build systems, is a link to zigrunk.
+# Nothing is proved again if out/ holds what these sources make. Otherwise each part builds what it installs, so that those who want one part don't
+# wait for the other.
 install: install-programs install-library install-rust
+	@$(pages) installed "$(target)"
 
 install-programs:
 	@$(programs_from)
@@ -21,8 +23,7 @@ install-programs:
 	install -D -m 644 completions/_zigrunk "$(target)/share/zsh/site-functions/_zigrunk"
 	find examples -type f ! -path '*/__pycache__/*' | while read -r file; do \
 		[ -x "$$file" ] && mode=755 || mode=644; install -D -m "$$mode" "$$file" "$(target)/share/zigrunk/$$file" || exit 1; done
-	install -d -m 755 "$(target)/share/doc/zigrunk"
-	install -m 644 README.md docs/*.md docs/*.json docs/*.svg "$(target)/share/doc/zigrunk"
+	@$(pages) installed "$(target)"
 
 # The library is linked here, from the archive: the header and the version are always those of this folder.
 install-library:

@@ -11,6 +11,7 @@ programs_from ?= $(MAKE) build
 driver_from = :
 library_from ?= $(MAKE) build
 workspace = .
+pages = ./pages.sh
 crates_from = :
 
 # Unit tests, by cargo alone. The last line is N passed, M failed.

@@ -31,7 +31,7 @@ A line of FILE is the words of a call, quoted as for bash; nothing is globbed. W
     @how=split          the call is split; @how=nvcc: it goes to nvcc unchanged
     @launched=TEXT      the commands that go through a launcher, as 'cicc:2 ptxas:2'; without it there is no launcher
     @differs=KIND,..    the kinds of differences that docs/DIFFERENCES.md lists
-    @differs-VERSION=KIND,..  further ones with such an nvcc, as 11 or 11.2; docs/VERSIONS.md lists them
+    @differs-VERSION=KIND,..  further ones with such an nvcc, as 11 or 11.2; docs/TRIED.md lists them
 
 Both tools work in the same path, one after the other, since paths get into what is made. These are compared: the status, the
 names of files that are made or changed, their bytes (of objects without the symbols that `strip` removes, since one of them

@@ -55,6 +55,7 @@ of_sources() {
     check 'no contract is left in them' sh -c '! grep -rnE "^ *(ensures|requires|ghost) " "$1/crates"' _ "$sources"
     check 'no path of this machine is in them' has_no_path "dist/zigrunk-$version.tar.gz"
     check 'the crates that they need are in vendor' prints '' comm -3 <(crates_of "$sources/Cargo.lock") <(find "$sources/vendor" -mindepth 1 -maxdepth 1 -printf '%f\n' | sort)
+    check 'the links of their pages' tests/docs.py --links "$sources"
     # (without what takes most of the time)
     check 'their installation' env -u MAKEFLAGS CARGO_HOME="$scratch/cargo" CARGO_TARGET_DIR="$sources/target" CARGO_PROFILE_RELEASE_LTO=off \
         make -s -C "$sources" install PREFIX="$scratch/in here"

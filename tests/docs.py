@@ -3,10 +3,11 @@
 
 Prints a line for each finding, and last 'N passed, M failed': a page or a kind of check counts once. The status is 1 if one failed.
 
-    tests/docs.py --words    prints the words of each page and their sum, as `wc -w` counts them. The status is 1 if the sum is too large
+    tests/docs.py --words           prints the words of each page and their sums, as `wc -w` counts them. The status is 1 if a sum is too large
+    tests/docs.py --links FOLDER    checks the links of the pages below a folder alone, such as those that are installed
 
-The sum has README, CONTRIBUTING, packaging/README, docs/*.md, driver/*.md and bindings/*/README.md. It leaves out the changelog, the manuals,
-and what tests/ says of its files of cases.
+The sum of all pages has README, CONTRIBUTING, packaging/README, those below docs, driver/*.md and bindings/*/README.md. It leaves out the
+changelog, the manuals, and what tests/ says of its files of cases.
 """
 
 import glob
@@ -21,11 +22,16 @@ from runner import Counts
 
 TOP = os.path.realpath(f"{os.path.dirname(os.path.realpath(__file__))}/..")
 READ = ["README.md", "CONTRIBUTING.md", "packaging/README",
-        *sorted(path for folder in ("docs/*.md", "driver/*.md", "bindings/*/README.md") for path in glob.glob(folder, root_dir=TOP))]
+        *sorted(path for pages in ("docs/*.md", "docs/proof/*.md", "driver/*.md", "bindings/*/README.md") for path in glob.glob(pages, root_dir=TOP))]
 PAGES = [*READ, "CHANGELOG.md", "tests/LONG_INPUT.md", *sorted(glob.glob("tests/drivers/*/data/README.md", root_dir=TOP))]
 
-# Who reads all pages should be done in two hours, and who reads README in two minutes.
-MOST_WORDS, MOST_LINES = 24_000, 90
+# The pages of those who build with Zigrunk or call it. Those of docs/proof are for who asks what is proved, the others for contributors.
+USERS = ["README.md", *(f"docs/{name}.md" for name in ("CLUSTER", "DIFFERENCES", "EMBEDDING", "PERFORMANCE", "REPRODUCIBLE", "TRIED"))]
+PROOF = [page for page in READ if page.startswith("docs/proof/")]
+
+# Who builds with Zigrunk should have read its pages in 40 minutes, who reads all pages in two hours, and who reads README in two minutes.
+MOST = (("users' pages", USERS, 8_000), ("users' pages and docs/proof", [*USERS, *PROOF], 18_000), ("all pages", READ, 24_000))
+MOST_LINES = 90
 
 # An exported function that only tests cover: std's contracts don't say which errors a file can give.
 WITHOUT_CLAUSE = {"unread_of"}
@@ -77,7 +83,7 @@ def calling() -> Iterator[str]:
         return [" ".join(line.split()) for line in text.splitlines() if line.strip()]
 
     there = {line for name in files_below("crates/test_callers/src", ".rt") for line in lines(text_of(f"crates/test_callers/src/{name}.rt"))}
-    for block in re.findall(r"```rust\n(.*?)```", text_of("docs/CALLING.md"), re.DOTALL):
+    for block in re.findall(r"```rust\n(.*?)```", text_of("docs/proof/CALLING.md"), re.DOTALL):
         for line in lines(block):
             if line not in there:
                 yield f"CALLING quotes a line that test_callers lacks: {line}"
@@ -147,7 +153,7 @@ def architecture() -> Iterator[str]:
 
 def definitions() -> Iterator[str]:
     """Crates with definitions that DEFINITIONS has no place for."""
-    lines = re.findall(r"^(`\w+`(?:, `\w+`)*)$", text_of("docs/DEFINITIONS.md"), re.MULTILINE)
+    lines = re.findall(r"^(`\w+`(?:, `\w+`)*)$", text_of("docs/proof/DEFINITIONS.md"), re.MULTILINE)
     there = {*words_in_code(" ".join(lines))}
     for crate in crates():
         if specs_of(crate) and not crate.startswith("test_") and crate not in there:
@@ -172,9 +178,10 @@ def words_of(page: str) -> int:
 
 
 def lengths() -> Iterator[str]:
-    """Pages that are too long, all together or README alone."""
-    if (count := sum(map(words_of, READ))) > MOST_WORDS:
-        yield f"the pages have {count} words, and {MOST_WORDS} at most are wanted (tests/docs.py --words)"
+    """Pages that are too long, together or README alone."""
+    for name, pages, most in MOST:
+        if (count := sum(map(words_of, pages))) > most:
+            yield f"{name} have {count} words, and {most} at most are wanted (tests/docs.py --words)"
     if (count := len(text_of("README.md").splitlines())) > MOST_LINES:
         yield f"README.md has {count} lines, and {MOST_LINES} at most are wanted"
 
@@ -226,7 +233,8 @@ def premises_of(name: str, known: dict[str, str]) -> set[str]:
 def premises() -> Iterator[str]:
     """Laws whose row in GUARANTEES' table lacks a premise that their statement names, or has another."""
     known = {name: text for crate in crates() for name, text in statements(crate).items()}
-    rows = {law: {*words_in_code(names)} for law, names in re.findall(r"^\| `([\w:]+)` \| (.*) \|$", text_of("docs/GUARANTEES.md"), re.MULTILINE)}
+    table = re.findall(r"^\| `([\w:]+)` \| (.*) \|$", text_of("docs/proof/GUARANTEES.md"), re.MULTILINE)
+    rows = {law: {*words_in_code(names)} for law, names in table}
     for crate in WITH_PREMISES:
         own = statements(crate)
         for name in files_below(f"crates/{crate}/src", "laws.rt"):
@@ -239,7 +247,7 @@ def premises() -> Iterator[str]:
 
 def needed() -> Iterator[str]:
     """Premises of the law on what the driver starts without a clause that says that the law is false without them."""
-    text = text_of("docs/GUARANTEES.md")
+    text = text_of("docs/proof/GUARANTEES.md")
     laws = "\n".join(text_of(f"crates/{crate}/src/laws.rt") for crate in ("call_tasks", "schedule_orders"))
     clauses = {f"{law}::{clause}" for law, body in re.findall(r"^pub fn (\w+_need)\(\)\n((?:    ensures .*\n)+)", laws, re.MULTILINE)
                for clause in re.findall(r"ensures (\w+) ", body)}
@@ -254,9 +262,19 @@ def needed() -> Iterator[str]:
 def print_words() -> int:
     for page in READ:
         print(f"{words_of(page):6} {page}")
-    total = sum(map(words_of, READ))
-    print(f"{total:6} in all, of {MOST_WORDS}")
-    return 1 if total > MOST_WORDS else 0
+    for name, pages, most in MOST:
+        print(f"{sum(map(words_of, pages)):6} {name}, of {most}")
+    return 1 if [*lengths()] else 0
+
+
+def check_links(folder: str) -> int:
+    """Checks the links of the pages below a folder, those of other projects aside. At least one page has to be there."""
+    counts = Counts()
+    pages = [os.path.relpath(page, TOP) for page in glob.glob(f"{folder}/**/*.md", recursive=True) if "/vendor/" not in page]
+    counts.case("pages", [] if pages else [f"{folder} has none"])
+    for page in sorted(pages):
+        counts.case(page, sorted({*links(page)}))
+    return counts.summary()
 
 
 def commands(page: str) -> Iterator[str]:
@@ -282,7 +300,7 @@ def main() -> int:
     checks: list[tuple[str, Iterable[str]]] = [(page, links(page)) for page in PAGES]
     checks += [(page, commands(page)) for page in READ]
     checks += [("", check()) for check in (calling, files, contracts, architecture, definitions, premises, needed, lengths, version)]
-    checks += [("", words(page)) for page in ("docs/DEFINITIONS.md", "docs/GUARANTEES.md")]
+    checks += [("", words(page)) for page in ("docs/proof/DEFINITIONS.md", "docs/proof/GUARANTEES.md")]
     counts = Counts()
     for name, findings in checks:
         counts.case(name, sorted({*findings}))
@@ -290,4 +308,4 @@ def main() -> int:
 
 
 if __name__ == "__main__":
-    sys.exit(print_words() if sys.argv[1:] == ["--words"] else main())
+    sys.exit(print_words() if sys.argv[1:] == ["--words"] else check_links(sys.argv[2]) if sys.argv[1:2] == ["--links"] else main())

@@ -1,7 +1,7 @@
 #!/usr/bin/env bash
 # Real projects from Debian's archive, built by nvcc and by zigrunk-nvcc: the CUDA objects of each, in the same folder by turns. A call has to
 # have the status that nvcc's has, print the same, and make the same files. Then it builds the objects again through a cache: as they are,
-# and after a change of one kernel. docs/FIELD.md says what came out. It installs nothing.
+# and after a change of one kernel. docs/TRIED.md says what came out. It installs nothing.
 #
 #   DRIVER_BIN=FOLDER            where zigrunk-nvcc is, else where `make rust` leaves it
 #   PROJECTS='bart ceres'        only these of tests/field

@@ -4,7 +4,7 @@
 Usage: tests/hostile_input.py ZIGRUNK [--figures]     with --figures, it prints what each call took
 
 A kind is a text of half a megabyte, or of as many lines as the limit allows, which both runs of a call have. A call may take three
-seconds of the processor and 300 MB: we saw at most 0.2 s (docs/HOSTILE_INPUT.md). The last line is 'N passed, M failed', and the status
+seconds of the processor and 300 MB: we saw at most 0.2 s (docs/proof/HOSTILE_INPUT.md). The last line is 'N passed, M failed', and the status
 1 if one failed."""
 
 import itertools

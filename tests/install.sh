@@ -61,6 +61,7 @@ check 'the version of the changelog' grep -qF "## [$version]" CHANGELOG.md
 check 'make install' make -s install DESTDIR="$root" PREFIX=/usr
 check 'a second make install proves nothing' make -s install DESTDIR="$root" PREFIX=/usr
 same 'what it said' "$(cat "$scratch/said")" ''
+check 'the links of the installed pages' tests/docs.py --links "$root/usr/share/doc/zigrunk"
 PATH=$root/usr/bin:$PATH
 mkdir "$scratch/work"
 cd "$scratch/work" || exit 1

@@ -8,7 +8,7 @@ directory names them without it, and the call's product by its whole path.
 
 The calls are those of FILE (tests/calls_quick.txt unless given), which tests/compare_calls.py describes. Those that nvcc makes itself aren't
 compared, nor those with several threads, whose commands overlap. Of a call that fails, what nvcc starts is. With an nvcc before version 12 a
-plan has cudafe++ make the module id in place of cicc (docs/VERSIONS.md). Prints a line for each difference, then how many calls and commands
+plan has cudafe++ make the module id in place of cicc (docs/TRIED.md). Prints a line for each difference, then how many calls and commands
 were compared, and last 'N passed, M failed'; the status is 1 if something differs.
 """
 import argparse

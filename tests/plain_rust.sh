@@ -32,7 +32,7 @@ write() {
         env -C "$folder" cargo build --quiet --release --target-dir "$folder/target"
 }
 
-# no_debug_form: no crate prints a text by `{:?}`, which escapes other characters in Rust than in the kit (docs/PLAIN_RUST.md).
+# no_debug_form: no crate prints a text by `{:?}`, which escapes other characters in Rust than in the kit (docs/proof/PLAIN_RUST.md).
 no_debug_form() {
     ! grep -rnE --include='*.rs' --exclude-dir='test_*' '\{[a-z_0-9.]*:[^}]*\?\}' "$folder/crates"
 }

@@ -1,5 +1,5 @@
 #!/usr/bin/env bash
-# Builds the plain Rust (docs/PLAIN_RUST.md) for arm64 by Debian's cross compilers, and runs the cases of the programs, of the test drivers and
+# Builds the plain Rust (docs/proof/PLAIN_RUST.md) for arm64 by Debian's cross compilers, and runs the cases of the programs, of the test drivers and
 # of the C library there by an emulator; and checks the workspace for ppc64el and i386, and the proved crates for WebAssembly. Outside the gate:
 # it needs root, debootstrap and the network, else it is skipped with a message. The last line is "N passed, M failed".
 #

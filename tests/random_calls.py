@@ -228,7 +228,7 @@ def is_left_by_nvcc(line: str, want: Ran, got: Ran, found: Difference) -> bool:
     return found[0] == "LEFT" and both_fail(want, got) and not got["left"]
 
 
-# The rows of docs/DIFFERENCES.md, "From nvcc", that such calls can show.
+# The rows of docs/DIFFERENCES.md that such calls can show.
 KNOWN: list[Callable[[str, Ran, Ran, Difference], bool]] = [is_debug, is_later_failure, is_failure_of_threads, is_left_by_nvcc]
 
 

@@ -1,7 +1,7 @@
 #!/usr/bin/env python3
 """Plans the stored dry runs by another reading of the rules, and compares.
 
-Nothing here comes from the crates: shell words are those of Python's shlex, and each rule was written from docs/DEFINITIONS.md. For each
+Nothing here comes from the crates: shell words are those of Python's shlex, and each rule was written from docs/proof/DEFINITIONS.md. For each
 pair in tests/drivers/test_plans/data/dry_runs it compares the plan with the pair's `.plan`, and each command's needs with the case of the pair in
 tests/drivers/test_plans/data/nvcc_versions.txt. It checks the premises of the laws on names, and that of the law on orders that words can show: each
 command that isn't in the last group names all its files, or preprocesses.

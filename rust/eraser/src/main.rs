@@ -1,7 +1,7 @@
 //! Writes the proved sources as crates of plain Rust, with all that they need, as a cargo workspace.
 //!
 //! The sources are Rust with contracts, in Rattle. What only the prover reads goes; `rewrites` has the few places that plain Rust says
-//! in another way. docs/PLAIN_RUST.md has more.
+//! in another way. docs/proof/PLAIN_RUST.md has more.
 
 #[cfg(test)]
 mod cases;
