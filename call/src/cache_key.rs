@@ -23,7 +23,12 @@ use crate::words::TextsIter;
 const TOOLS: [CommandTool; 3] = [CommandTool::CudaFe, CommandTool::Cicc, CommandTool::Ptxas];
 
 /// Where the loader looks for libm in a folder, by what the processor can do.
-const LIBMS: [&str; 4] = ["glibc-hwcaps/x86-64-v4/libm.so.6", "glibc-hwcaps/x86-64-v3/libm.so.6", "glibc-hwcaps/x86-64-v2/libm.so.6", "libm.so.6"];
+const LIBMS: [&str; 4] = [
+    "glibc-hwcaps/x86-64-v4/libm.so.6",
+    "glibc-hwcaps/x86-64-v3/libm.so.6",
+    "glibc-hwcaps/x86-64-v2/libm.so.6",
+    "libm.so.6",
+];
 
 /// The library for device code, by the one name that cicc looks for in its folder.
 const LIBRARY: &str = "libdevice.10.bc";
@@ -31,12 +36,14 @@ const LIBRARY: &str = "libdevice.10.bc";
 /// Says where a path really leads.
 pub type RealPath<'a> = &'a dyn Fn(&CStr) -> io::Result<Vec<u8>>;
 
-/// What a cache hashes of a command: this text, then the contents of the tool's files, and of what the command [reads](Command::reads).
+/// What a cache hashes of a command: this text, then the contents of the tool's files, and of what the
+/// command [reads](Command::reads).
 #[derive(Debug, Clone, PartialEq, Eq)]
 pub struct CacheKey {
     /// The words, variables, directories and files' times that may change what the command makes.
     pub text: Vec<u8>,
-    /// The files that tell one version of the tool from another: the program, and what it reads beside its words.
+    /// The files that tell one version of the tool from another: the program, and what it reads beside its
+    /// words.
     pub tool: Vec<PathBuf>,
 }
 
@@ -52,7 +59,8 @@ struct Asked<'a> {
 impl<'a> Asked<'a> {
     fn of(command: Command<'a>, tool: CommandTool) -> Result<Self, OutOfMemory> {
         let bytes = |texts: TextsIter<'a>| listed(texts.map(|text| Ok::<_, OutOfMemory>(text.as_bytes())));
-        let (words, reads, products) = (bytes(command.arguments())?, bytes(command.reads())?, bytes(command.writes())?);
+        let (words, reads, products) =
+            (bytes(command.arguments())?, bytes(command.reads())?, bytes(command.writes())?);
         Ok(Asked { tool: tool.program(), words, cwd: command.cwd(), reads, products })
     }
 
@@ -63,7 +71,8 @@ impl<'a> Asked<'a> {
         counted_words(Global, self.tool, words, &files)
     }
 
-    /// The first word that a cache doesn't know: up to it there is no reading, and none up to the next, which might be its value.
+    /// The first word that a cache doesn't know: up to it there is no reading, and none up to the next, which
+    /// might be its value.
     fn unknown(&self) -> Option<&'a [u8]> {
         let is_known = |count| self.counted(count).is_ok_and(|words| words.is_some());
         let count = (1..=self.words.len()).find(|&count| !is_known(count) && !is_known(count + 1))?;
@@ -71,7 +80,8 @@ impl<'a> Asked<'a> {
     }
 }
 
-/// The value of a variable of a command, or an empty text. Of a name that occurs twice, the last value counts.
+/// The value of a variable of a command, or an empty text. Of a name that occurs twice, the last value
+/// counts.
 fn value_of<'a>(command: Command<'a>, name: &str) -> &'a str {
     command.variables().filter(|variable| variable.0 == name).last().map_or("", |variable| variable.1)
 }
@@ -100,7 +110,13 @@ impl Facts {
     }
 
     /// Adds where a path of a command leads, or nothing if there is no such file.
-    fn add_place(&mut self, name: &str, command: Command<'_>, path: &str, real: RealPath<'_>) -> Result<(), Error> {
+    fn add_place(
+        &mut self,
+        name: &str,
+        command: Command<'_>,
+        path: &str,
+        real: RealPath<'_>,
+    ) -> Result<(), Error> {
         let path = joined(&[&path_from(command.cwd(), path)?, "\0"])?;
         let path = CStr::from_bytes_with_nul(path.as_bytes()).map_err(|_| Error::nul())?;
         let place = match real(path) {
@@ -110,7 +126,8 @@ impl Facts {
         Ok(self.add(copied_bytes(name.as_bytes())?, place)?)
     }
 
-    /// Adds the files that the PTX of a command names. Of each, ptxas writes the size, and when it was changed.
+    /// Adds the files that the PTX of a command names. Of each, ptxas writes the size, and when it was
+    /// changed.
     fn add_named(&mut self, command: Command<'_>) -> Result<(), Error> {
         let odd = || Error::uncacheable("its PTX names files", None);
         for path in command.reads() {
@@ -134,20 +151,32 @@ fn real_path(path: &CStr) -> io::Result<Vec<u8>> {
 /// The size of a file, and when it was changed. Nothing if it isn't there.
 fn stamp(path: &str) -> io::Result<String> {
     let Ok(status) = openable(path).and_then(fs::metadata) else { return Ok(String::new()) };
-    let text = |time: &dyn Display| displayed(&format_args!("{} {time}", status.len())).map_err(|_| io::ErrorKind::OutOfMemory.into());
+    let text = |time: &dyn Display| {
+        displayed(&format_args!("{} {time}", status.len())).map_err(|_| io::ErrorKind::OutOfMemory.into())
+    };
     match status.modified()?.duration_since(UNIX_EPOCH) {
         Ok(since) => text(&since.as_nanos()),
         Err(before) => text(&format_args!("-{}", before.duration().as_nanos())),
     }
 }
 
-/// The facts of a command. If names reach what it makes, its directory is one, and where that and the source really are.
-fn facts(command: Command<'_>, tool: CommandTool, names_reach: bool, real: RealPath<'_>) -> Result<Facts, Error> {
+/// The facts of a command. If names reach what it makes, its directory is one, and where that and the source
+/// really are.
+fn facts(
+    command: Command<'_>,
+    tool: CommandTool,
+    names_reach: bool,
+    real: RealPath<'_>,
+) -> Result<Facts, Error> {
     let mut facts = Facts::default();
     let name = command.program().rsplit('/').next().unwrap_or_default();
     facts.add(copied_bytes(b".tool")?, copied_bytes(name.as_bytes())?)?;
     // (a module id has a sum of where the source really is)
-    for (_, source) in command.arguments().zip(command.arguments().skip(1)).filter(|(option, _)| *option == "--orig_src_path_name") {
+    for (_, source) in command
+        .arguments()
+        .zip(command.arguments().skip(1))
+        .filter(|(option, _)| *option == "--orig_src_path_name")
+    {
         facts.add_place(".source", command, source, real)?;
     }
     if names_reach {
@@ -161,8 +190,16 @@ fn facts(command: Command<'_>, tool: CommandTool, names_reach: bool, real: RealP
 }
 
 /// The text of a command's key, given its words as they count.
-fn text_of(command: Command<'_>, tool: CommandTool, words: &[CountedWord<'_>], names_reach: bool, facts: &Facts) -> Result<Vec<u8>, Error> {
-    let environment: Vec<_> = listed(command.variables().map(|(name, value)| Ok::<_, OutOfMemory>((name.as_bytes(), value.as_bytes()))))?;
+fn text_of(
+    command: Command<'_>,
+    tool: CommandTool,
+    words: &[CountedWord<'_>],
+    names_reach: bool,
+    facts: &Facts,
+) -> Result<Vec<u8>, Error> {
+    let environment: Vec<_> = listed(
+        command.variables().map(|(name, value)| Ok::<_, OutOfMemory>((name.as_bytes(), value.as_bytes()))),
+    )?;
     let chosen = tool_variables(Global, tool.program(), &environment)?;
     let counting = chosen.as_slice().iter().copied().filter(|(name, _)| names_reach || *name != b"PWD");
     let all = counting.chain(facts.0.iter().map(|(name, value)| (name.as_slice(), value.as_slice())));
@@ -190,18 +227,23 @@ impl ToolFiles {
         if openable(&path).is_ok_and(Path::is_file) { self.add(path) } else { Ok(()) }
     }
 
-    /// Adds the libraries that the loader may take in place of the system's libm. cicc has libm compute constants.
+    /// Adds the libraries that the loader may take in place of the system's libm. cicc has libm compute
+    /// constants.
     fn add_libms(&mut self, command: Command<'_>) -> Result<(), OutOfMemory> {
         let folders = value_of(command, "LD_LIBRARY_PATH");
         for folder in folders.split([':', ';']).filter(|_| !folders.is_empty()) {
             for name in LIBMS {
-                self.add_if_there(path_from(command.cwd(), &joined(&[folder, if folder.is_empty() { "" } else { "/" }, name])?)?)?;
+                self.add_if_there(path_from(
+                    command.cwd(),
+                    &joined(&[folder, if folder.is_empty() { "" } else { "/" }, name])?,
+                )?)?;
             }
         }
         Ok(())
     }
 
-    /// Adds the library for device code that cicc reads: that beside it, and that in the folder that a variable names.
+    /// Adds the library for device code that cicc reads: that beside it, and that in the folder that a
+    /// variable names.
     fn add_libraries(&mut self, command: Command<'_>) -> Result<(), OutOfMemory> {
         let beside = Path::new(command.program()).ancestors().nth(2).and_then(Path::to_str);
         let named = Some(value_of(command, "NVVMIR_LIBRARY_DIR")).filter(|folder| !folder.is_empty());
@@ -213,18 +255,20 @@ impl ToolFiles {
 }
 
 impl Command<'_> {
-    /// What a cache hashes of this command. Two commands with equal keys, whose tools' files and inputs have equal contents, make files of equal
-    /// contents, in whatever directories they run; if debugging information names directories, the key has them. Two exceptions: if a source
-    /// defines no external name, cudafe++ makes up another module id each time; and cicc has libm compute constants such as `cos(8.2)`, whose
-    /// last bit can depend on the C library and on the processor. So if machines that differ in these share a cache, hash what tells them apart,
-    /// too.
+    /// What a cache hashes of this command. Two commands with equal keys, whose tools' files and inputs have
+    /// equal contents, make files of equal contents, in whatever directories they run; if debugging
+    /// information names directories, the key has them. Two exceptions: if a source defines no external name,
+    /// cudafe++ makes up another module id each time; and cicc has libm compute constants such as `cos(8.2)`,
+    /// whose last bit can depend on the C library and on the processor. So if machines that differ in these
+    /// share a cache, hash what tells them apart, too.
     ///
     /// # Errors
     ///
-    /// [`ErrorKind::BadLine`](crate::ErrorKind), with the reason, if a cache may not serve the command: it isn't one of cudafe++, cicc or ptxas,
-    /// whose words name all that it touches; a word of it isn't known or names a further file; its program is a script; `LD_PRELOAD` or
-    /// `LD_AUDIT` is set; the PTX that ptxas reads has a `.file` of an odd form. `Io` if the program, its library or its PTX can't be read, so
-    /// ask when the commands that it needs have ended; `OutOfMemory`.
+    /// [`ErrorKind::BadLine`](crate::ErrorKind), with the reason, if a cache may not serve the command: it
+    /// isn't one of cudafe++, cicc or ptxas, whose words name all that it touches; a word of it isn't known
+    /// or names a further file; its program is a script; `LD_PRELOAD` or `LD_AUDIT` is set; the PTX that
+    /// ptxas reads has a `.file` of an odd form. `Io` if the program, its library or its PTX can't be read,
+    /// so ask when the commands that it needs have ended; `OutOfMemory`.
     pub fn cache_key(&self) -> Result<CacheKey, Error> {
         self.cache_key_by(&real_path)
     }

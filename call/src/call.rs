@@ -15,7 +15,8 @@ use std::num::NonZeroUsize;
 use std::path::Path;
 use std::process::{Child, Stdio};
 
-/// The limit on the bytes that a dry run's lines are expanded to, if nvcc has just printed it. It is far above what a line can make.
+/// The limit on the bytes that a dry run's lines are expanded to, if nvcc has just printed it. It is far
+/// above what a line can make.
 pub const MOST_BYTES: NonZeroUsize = NonZeroUsize::new(1 << 28).unwrap();
 
 /// How dry runs are planned.
@@ -50,7 +51,9 @@ pub struct Processes<P = Child> {
 
 impl Default for Processes {
     fn default() -> Processes {
-        let start = |run: &Run| run.command().stdin(Stdio::null()).stdout(Stdio::null()).stderr(Stdio::piped()).spawn();
+        let start = |run: &Run| {
+            run.command().stdin(Stdio::null()).stdout(Stdio::null()).stderr(Stdio::piped()).spawn()
+        };
         let end = |child: Child| {
             let output = child.wait_with_output()?;
             Ok(Ran { succeeded: output.status.success(), errors: output.stderr })
@@ -64,8 +67,10 @@ impl<P> Nvcc for Processes<P> {
 
     fn run(&mut self, runs: &[Run]) -> Result<Vec<Ran>, Error> {
         // (all are waited for before the error of one counts)
-        let started: Vec<io::Result<P>> = listed(runs.iter().map(|run| Ok::<_, OutOfMemory>((self.start)(run))))?;
-        let ended: Vec<io::Result<Ran>> = listed(started.into_iter().map(|it| Ok::<_, OutOfMemory>(it.and_then(self.end))))?;
+        let started: Vec<io::Result<P>> =
+            listed(runs.iter().map(|run| Ok::<_, OutOfMemory>((self.start)(run))))?;
+        let ended: Vec<io::Result<Ran>> =
+            listed(started.into_iter().map(|it| Ok::<_, OutOfMemory>(it.and_then(self.end))))?;
         listed(ended.into_iter().map(|ran| ran.map_err(|error| Error::io("run nvcc's dry run", error))))
     }
 }
@@ -75,8 +80,8 @@ impl Call {
     ///
     /// # Errors
     ///
-    /// [`ErrorKind::ToNvcc`](crate::ErrorKind), with the reason, if nvcc has to make the call itself. `OddDirectory` for a directory that can't be in
-    /// dry runs, `NotUtf8`, `OutOfMemory`.
+    /// [`ErrorKind::ToNvcc`](crate::ErrorKind), with the reason, if nvcc has to make the call itself.
+    /// `OddDirectory` for a directory that can't be in dry runs, `NotUtf8`, `OutOfMemory`.
     pub fn new<S: AsRef<OsStr>>(of: &NvccCall<'_, S>) -> Result<Call, Error> {
         let tmp = text_in(of.tmp.as_os_str(), Input::Tmp)?;
         if tmp.contains(['"', '$', '`', '\\', '\n']) {
@@ -113,8 +118,9 @@ impl Call {
         &self.tmp
     }
 
-    /// The dry runs: of the line as it is, and the two that are planned. [`plan`](Call::plan) runs what it needs of them; to run them
-    /// elsewhere, pass what they print to standard error to [`plan_of`](Call::plan_of).
+    /// The dry runs: of the line as it is, and the two that are planned. [`plan`](Call::plan) runs what it
+    /// needs of them; to run them elsewhere, pass what they print to standard error to
+    /// [`plan_of`](Call::plan_of).
     #[must_use]
     pub fn dry_runs(&self) -> [&Run; 3] {
         [&self.outline.own_dry_run, &self.outline.first_dry_run, &self.outline.second_dry_run]
@@ -163,8 +169,9 @@ impl Call {
     ///
     /// # Errors
     ///
-    /// [`ErrorKind::Nvcc`](crate::ErrorKind) with what nvcc printed if it refuses one, [`ErrorKind::ToNvcc`](crate::ErrorKind) if the line's own has other commands than that of
-    /// its normal form, `OutOfMemory`, and why one couldn't be run.
+    /// [`ErrorKind::Nvcc`](crate::ErrorKind) with what nvcc printed if it refuses one,
+    /// [`ErrorKind::ToNvcc`](crate::ErrorKind) if the line's own has other commands than that of its normal
+    /// form, `OutOfMemory`, and why one couldn't be run.
     pub fn make_dry_runs<N: Nvcc>(&self, nvcc: &mut N) -> Result<DryRuns, N::Stop> {
         DryRuns::make(nvcc, &self.places())
     }
@@ -173,9 +180,13 @@ impl Call {
     ///
     /// # Errors
     ///
-    /// Those of [`plan()`](crate::plan()). [`ErrorKind::NoDryRun`](crate::ErrorKind) and `ToNvcc` if the plan isn't the call's, or can't be run.
+    /// Those of [`plan()`](crate::plan()). [`ErrorKind::NoDryRun`](crate::ErrorKind) and `ToNvcc` if the plan
+    /// isn't the call's, or can't be run.
     pub fn plan_made(&self, dry_runs: &DryRuns, planning: &Planning<'_>) -> Result<Plan, Error> {
-        let variables = planning.variables.iter().map(|(name, value)| Ok::<_, Error>(Variable::new(name.as_str(), value.as_str())));
+        let variables = planning
+            .variables
+            .iter()
+            .map(|(name, value)| Ok::<_, Error>(Variable::new(name.as_str(), value.as_str())));
         let variables: Vec<Variable<'_>> = listed(variables)?;
         let plan = plan(&PlanCall {
             cwd: Path::new(&self.line.cwd),
@@ -194,8 +205,8 @@ impl Call {
     ///
     /// # Errors
     ///
-    /// Those of [`make_dry_runs`](Call::make_dry_runs), [`ErrorKind::Io`](crate::ErrorKind) if one can't be started, and those of
-    /// [`plan_made`](Call::plan_made).
+    /// Those of [`make_dry_runs`](Call::make_dry_runs), [`ErrorKind::Io`](crate::ErrorKind) if one can't be
+    /// started, and those of [`plan_made`](Call::plan_made).
     pub fn plan(&self) -> Result<Plan, Error> {
         self.plan_by(&mut Processes::default())
     }
@@ -211,19 +222,34 @@ impl Call {
     }
 
     fn planning<'a>(&'a self, programs: &'a dyn Programs, limit: Option<NonZeroUsize>) -> Planning<'a> {
-        Planning { variables: &self.line.variables, keeps_names: self.outline.keep_dir.is_some(), programs, limit }
+        Planning {
+            variables: &self.line.variables,
+            keeps_names: self.outline.keep_dir.is_some(),
+            programs,
+            limit,
+        }
     }
 
-    /// Plans what the dry runs printed before, here or elsewhere. If someone else wrote them, give a [limit](PlanCall::limit).
+    /// Plans what the dry runs printed before, here or elsewhere. If someone else wrote them, give a
+    /// [limit](PlanCall::limit).
     ///
     /// # Errors
     ///
-    /// Those of [`plan_made`](Call::plan_made). [`ErrorKind::NoDryRun`](crate::ErrorKind), with the place, if the two that are planned aren't one call's, and
-    /// `ToNvcc` if the line's own has other commands.
-    pub fn plan_of(&self, dry_runs: &DryRuns, programs: &dyn Programs, limit: Option<NonZeroUsize>) -> Result<Plan, Error> {
+    /// Those of [`plan_made`](Call::plan_made). [`ErrorKind::NoDryRun`](crate::ErrorKind), with the place, if
+    /// the two that are planned aren't one call's, and `ToNvcc` if the line's own has other commands.
+    pub fn plan_of(
+        &self,
+        dry_runs: &DryRuns,
+        programs: &dyn Programs,
+        limit: Option<NonZeroUsize>,
+    ) -> Result<Plan, Error> {
         dry_runs.check_pair(&self.tmp)?;
         let plan = self.plan_made(dry_runs, &self.planning(programs, limit))?;
-        if dry_runs.are_of_line(&self.places())? { Ok(plan) } else { Err(Error::to_nvcc(Reason::ReadOtherwise).at(Input::Own)) }
+        if dry_runs.are_of_line(&self.places())? {
+            Ok(plan)
+        } else {
+            Err(Error::to_nvcc(Reason::ReadOtherwise).at(Input::Own))
+        }
     }
 }
 

@@ -6,8 +6,9 @@ use crate::plan::{Command, Plan, Stage};
 /// The macro that says a preprocessor's target.
 const TARGET: &str = "-D__CUDA_ARCH__=";
 
-/// What clang has in place of a word, in two parts, given whether the word follows `-x`. Nothing takes the place of a macro of nvcc's own: clang
-/// defines those that are true of it, and no header should take it for nvcc.
+/// What clang has in place of a word, in two parts, given whether the word follows `-x`. Nothing takes the
+/// place of a macro of nvcc's own: clang defines those that are true of it, and no header should take it for
+/// nvcc.
 fn clang_word(word: &str, after_x: bool) -> Option<[&str; 2]> {
     if let Some(target) = word.strip_prefix(TARGET) {
         return Some(["--cuda-gpu-arch=sm_", target.strip_suffix('0').unwrap_or(target)]);
@@ -22,8 +23,8 @@ fn clang_word(word: &str, after_x: bool) -> Option<[&str; 2]> {
     Some([of_clang, ""])
 }
 
-/// The line of a command, each word in two parts: a step that preprocesses CUDA, for which nvcc has its host compiler define a macro, has the
-/// words of clang's own CUDA mode, any other has its own.
+/// The line of a command, each word in two parts: a step that preprocesses CUDA, for which nvcc has its host
+/// compiler define a macro, has the words of clang's own CUDA mode, any other has its own.
 fn line<'a>(program: &'a str, words: &[&'a str]) -> Result<Vec<[&'a str; 2]>, OutOfMemory> {
     if !words.contains(&"-D__CUDACC__") {
         return listed([program].iter().chain(words).map(|&word| Ok([word, ""])));
@@ -35,7 +36,8 @@ fn line<'a>(program: &'a str, words: &[&'a str]) -> Result<Vec<[&'a str; 2]>, Ou
     listed([["clang++", ""], [half, ""]].into_iter().chain(of_clang).map(Ok))
 }
 
-/// Adds the entries of a command: one for each source that it compiles. A command whose record has all files that it reads compiles none.
+/// Adds the entries of a command: one for each source that it compiles. A command whose record has all files
+/// that it reads compiles none.
 fn push_entries(text: &mut String, command: Command<'_>) -> Result<(), OutOfMemory> {
     if command.missing().is_none() {
         return Ok(());
@@ -57,8 +59,8 @@ fn push_entries(text: &mut String, command: Command<'_>) -> Result<(), OutOfMemo
     Ok(())
 }
 
-/// The commands of a plan that compile its source: the host compiler's of all groups but the last, which compiles only files that other
-/// commands have written.
+/// The commands of a plan that compile its source: the host compiler's of all groups but the last, which
+/// compiles only files that other commands have written.
 pub(crate) fn text(plan: &Plan) -> Result<String, OutOfMemory> {
     let mut text = String::new();
     push(&mut text, "[")?;
@@ -91,7 +93,8 @@ mod tests {
         ];
         for (words, wanted) in cases {
             let words: Vec<&str> = words.split(' ').collect();
-            let line: Vec<String> = line("/b/gcc", &words).unwrap().iter().map(|parts| parts.concat()).collect();
+            let line: Vec<String> =
+                line("/b/gcc", &words).unwrap().iter().map(|parts| parts.concat()).collect();
             assert_eq!(line.join(" "), wanted);
         }
     }

@@ -17,11 +17,13 @@ struct Own {
 impl Own {
     /// Whether a path is this program.
     fn is(&self, path: &Path) -> bool {
-        matches!((&self.file, fs::metadata(path)), (Some(own), Ok(other)) if (own.dev(), own.ino()) == (other.dev(), other.ino()))
+        let Ok(other) = fs::metadata(path) else { return false };
+        self.file.as_ref().is_some_and(|own| (own.dev(), own.ino()) == (other.dev(), other.ino()))
     }
 
-    /// Whether a program is this one, or an nvcc that called it. What the driver calls finds in `ZIGRUNK_INSIDE` each nvcc that it came
-    /// through, so a wrapper that ends here again doesn't run in circles.
+    /// Whether a program is this one, or an nvcc that called it. What the driver calls finds in
+    /// `ZIGRUNK_INSIDE` each nvcc that it came through, so a wrapper that ends here again doesn't run in
+    /// circles.
     fn includes(&self, path: &Path) -> bool {
         let mark = [b":", path.as_os_str().as_bytes(), b":"].concat();
         self.is(path) || self.inside.as_bytes().windows(mark.len()).any(|part| part == mark)
@@ -65,7 +67,11 @@ pub fn is_nvcc(word: &[u8]) -> bool {
 /// The words of a call without the nvcc that they may begin with, and its name.
 fn named<'a>(nvcc: &OsStr, words: &'a [OsString]) -> (OsString, &'a [OsString]) {
     match words {
-        [first, rest @ ..] if is_nvcc(first.as_bytes()) || (!first.as_bytes().starts_with(b"-") && first == nvcc) => (first.clone(), rest),
+        [first, rest @ ..]
+            if is_nvcc(first.as_bytes()) || (!first.as_bytes().starts_with(b"-") && first == nvcc) =>
+        {
+            (first.clone(), rest)
+        }
         _ => (nvcc.to_owned(), words),
     }
 }
@@ -98,7 +104,10 @@ impl std::error::Error for NoOtherNvcc {}
 /// # Errors
 ///
 /// [`NoOtherNvcc`].
-pub fn compiler<'a>(caller: &Caller<'_>, words: &'a [OsString]) -> Result<(Compiler, &'a [OsString]), NoOtherNvcc> {
+pub fn compiler<'a>(
+    caller: &Caller<'_>,
+    words: &'a [OsString],
+) -> Result<(Compiler, &'a [OsString]), NoOtherNvcc> {
     let (mut name, words) = named(caller.nvcc, words);
     let path = env::var_os("PATH").unwrap_or_default();
     let own = Own { file: fs::metadata("/proc/self/exe").ok(), inside: caller.inside.to_owned() };
@@ -139,11 +148,16 @@ mod tests {
         for (first, wanted) in cases {
             let words = [OsString::from(first), "-c".into()];
             let (name, rest) = named("my-compiler".as_ref(), &words);
-            assert_eq!((name.to_str(), rest.len()), (Some(wanted), if first == wanted { 1 } else { 2 }), "{first}");
+            assert_eq!(
+                (name.to_str(), rest.len()),
+                (Some(wanted), if first == wanted { 1 } else { 2 }),
+                "{first}"
+            );
         }
     }
 
-    /// A folder with folders `a` to `d`, each with an nvcc, and `own`, whose nvcc is this program. It goes with the test.
+    /// A folder with folders `a` to `d`, each with an nvcc, and `own`, whose nvcc is this program. It goes
+    /// with the test.
     struct Room(TestFolder);
 
     impl Room {
@@ -163,7 +177,8 @@ mod tests {
 
         /// This program, called through the nvccs of these folders.
         fn own(&self, inside: &[&str]) -> Own {
-            let parts: Vec<String> = inside.iter().map(|folder| format!("{}:", self.nvcc(folder).display())).collect();
+            let parts: Vec<String> =
+                inside.iter().map(|folder| format!("{}:", self.nvcc(folder).display())).collect();
             Own { file: fs::metadata(self.nvcc("own")).ok(), inside: format!(":{}", parts.concat()).into() }
         }
     }
@@ -199,7 +214,8 @@ mod tests {
         let room = Room::new();
         fs::hard_link(room.nvcc("own"), room.0.join("link")).unwrap();
         let own = room.own(&["a"]);
-        let is = ["own", "a", "b"].map(|folder| (own.is(&room.nvcc(folder)), own.includes(&room.nvcc(folder))));
+        let is =
+            ["own", "a", "b"].map(|folder| (own.is(&room.nvcc(folder)), own.includes(&room.nvcc(folder))));
         assert_eq!(is, [(true, true), (false, true), (false, false)]);
         assert!(own.is(&room.0.join("link")) && !own.is(&room.0.join("missing")));
         let unknown = Own { file: None, inside: OsString::new() };
@@ -211,7 +227,8 @@ mod tests {
         let room = Room::new();
         let (words, path) = ([OsString::from("-c")], room.nvcc("a"));
         let of = |nvcc: &Path, inside: &str| {
-            let caller = Caller { nvcc: nvcc.as_ref(), inside: inside.as_ref(), own_name: "zigrunk-nvcc".as_ref() };
+            let caller =
+                Caller { nvcc: nvcc.as_ref(), inside: inside.as_ref(), own_name: "zigrunk-nvcc".as_ref() };
             compiler(&caller, &words).map(|(found, rest)| (found, rest.len()))
         };
         let (found, rest) = of(&path, "").unwrap();
@@ -230,7 +247,12 @@ mod tests {
         for (nvcc, own_name) in [(exe.as_os_str(), "zigrunk-nvcc"), (OsStr::new("nvcc"), "nvcc")] {
             let caller = Caller { nvcc, inside: "".as_ref(), own_name: own_name.as_ref() };
             let found = compiler(&caller, &[]).map(|(found, _)| (found.name.clone(), found.path));
-            assert_eq!(found, next.clone().ok_or(NoOtherNvcc(nvcc.to_owned())).map(|path| (path.clone().into(), Some(path))));
+            assert_eq!(
+                found,
+                next.clone()
+                    .ok_or(NoOtherNvcc(nvcc.to_owned()))
+                    .map(|path| (path.clone().into(), Some(path)))
+            );
         }
     }
 }

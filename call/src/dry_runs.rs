@@ -4,7 +4,10 @@ use crate::error::{Error, Unfit};
 use crate::memory::{OutOfMemory, copied_bytes, listed};
 use crate::outline::{Outline, Run};
 use crate::pairs::check_pair;
-use dry_run_pairs::{Comparison, agree, fails_by_threads, prints_to_files, remarks_in, runs_devices_first, with_commands, without_folder};
+use dry_run_pairs::{
+    Comparison, agree, fails_by_threads, prints_to_files, remarks_in, runs_devices_first, with_commands,
+    without_folder,
+};
 use dry_runs::is_dry_run;
 use rattle_std::alloc::{AllocError, Global};
 use rattle_std::vec::Vec as List;
@@ -24,8 +27,8 @@ pub trait Nvcc {
     /// Why a dry run has no end.
     type Stop: From<Error>;
 
-    /// Runs these side by side, and says how each ended, in their order. Each gets the call's environment without
-    /// [`FLAG_VARIABLES`](crate::FLAG_VARIABLES).
+    /// Runs these side by side, and says how each ended, in their order. Each gets the call's environment
+    /// without [`FLAG_VARIABLES`](crate::FLAG_VARIABLES).
     ///
     /// # Errors
     ///
@@ -64,7 +67,8 @@ fn one<N: Nvcc>(nvcc: &mut N, run: &Run) -> Result<Ran, N::Stop> {
     nvcc.run(slice::from_ref(run))?.pop().ok_or_else(|| Error::to_nvcc(Reason::NoDryRunProcess).into())
 }
 
-/// The line's own dry run as for one thread, if it failed for several: what it said of the line, and the commands of another.
+/// The line's own dry run as for one thread, if it failed for several: what it said of the line, and the
+/// commands of another.
 fn for_one_thread<N: Nvcc>(nvcc: &mut N, run: &Run, failed: Ran) -> Result<Vec<u8>, N::Stop> {
     if failed.succeeded || !fails_by_threads(&failed.errors) {
         return Ok(printed(failed)?);
@@ -90,8 +94,9 @@ impl DryRuns {
         DryRuns { own, first, second, has_threads }
     }
 
-    /// Makes the dry runs of a call. The first is what the second says without the call's directory, and nvcc makes it only if that doesn't
-    /// have the commands of the line, or if the call keeps files. So it doesn't matter which options this nvcc has, and what they mean to it.
+    /// Makes the dry runs of a call. The first is what the second says without the call's directory, and nvcc
+    /// makes it only if that doesn't have the commands of the line, or if the call keeps files. So it doesn't
+    /// matter which options this nvcc has, and what they mean to it.
     pub(crate) fn make<N: Nvcc>(nvcc: &mut N, places: &Places<'_>) -> Result<DryRuns, N::Stop> {
         let outline = places.outline;
         let runs = [&outline.own_dry_run, &outline.second_dry_run, &outline.first_dry_run];
@@ -113,7 +118,11 @@ impl DryRuns {
             first = printed(one(nvcc, &outline.first_dry_run)?)?;
             is_agreed = places.agree(&own, &first)?;
         }
-        if is_agreed { Ok(DryRuns { own, first, second, has_threads }) } else { Err(Error::to_nvcc(Reason::ReadOtherwise).into()) }
+        if is_agreed {
+            Ok(DryRuns { own, first, second, has_threads })
+        } else {
+            Err(Error::to_nvcc(Reason::ReadOtherwise).into())
+        }
     }
 
     /// Refuses dry runs of which the two that are planned aren't one call's.
@@ -170,11 +179,14 @@ impl DryRuns {
         Ok(bytes(remarks_in(Global, &self.own))?)
     }
 
-    /// What is in front of the stub file's name, as nvcc gives it to cicc, which writes the file. cudafe++, which only names it, gets another.
+    /// What is in front of the stub file's name, as nvcc gives it to cicc, which writes the file. cudafe++,
+    /// which only names it, gets another.
     #[must_use]
     pub fn stub_folder(&self) -> Option<&str> {
-        let is_cicc = |line: &&str| line.starts_with("#$ cicc ") || line.starts_with("#$ \"$CICC_PATH/cicc\" ");
-        let (_, rest) = std::str::from_utf8(&self.own).ok()?.lines().rfind(is_cicc)?.split_once("--stub_file_name \"")?;
+        let is_cicc =
+            |line: &&str| line.starts_with("#$ cicc ") || line.starts_with("#$ \"$CICC_PATH/cicc\" ");
+        let (_, rest) =
+            std::str::from_utf8(&self.own).ok()?.lines().rfind(is_cicc)?.split_once("--stub_file_name \"")?;
         let (name, _) = rest.split_once('"')?;
         Some(name.rfind('/').map_or("", |slash| &name[..=slash]))
     }
@@ -235,8 +247,14 @@ mod tests {
         let own = format!("nvcc warning : x\n{line}");
         let (runs, asked) = made(&[(true, &own), (true, &plan)], None);
         let runs = runs.unwrap();
-        assert_eq!((runs.first(), runs.second(), asked), (line.as_bytes(), plan.as_bytes(), format!("{OWN}; {SECOND}")));
-        assert_eq!((runs.messages().unwrap(), runs.own(), runs.has_threads()), (b"nvcc warning : x\n".to_vec(), own.as_bytes(), false));
+        assert_eq!(
+            (runs.first(), runs.second(), asked),
+            (line.as_bytes(), plan.as_bytes(), format!("{OWN}; {SECOND}"))
+        );
+        assert_eq!(
+            (runs.messages().unwrap(), runs.own(), runs.has_threads()),
+            (b"nvcc warning : x\n".to_vec(), own.as_bytes(), false)
+        );
     }
 
     #[test]
@@ -244,9 +262,15 @@ mod tests {
         let all = format!("{OWN}; {SECOND}; {FIRST}");
         let (runs, asked) = made(&[(true, COMMANDS), (true, OTHERS), (true, COMMANDS)], None);
         let runs = runs.unwrap();
-        assert_eq!((runs.first(), runs.second(), asked.as_str()), (COMMANDS.as_bytes(), OTHERS.as_bytes(), all.as_str()));
+        assert_eq!(
+            (runs.first(), runs.second(), asked.as_str()),
+            (COMMANDS.as_bytes(), OTHERS.as_bytes(), all.as_str())
+        );
         let (refused, asked) = made(&[(true, COMMANDS), (true, OTHERS), (true, OTHERS)], None);
-        assert_eq!((reason(refused).as_str(), asked.as_str()), ("nvcc reads the line otherwise", all.as_str()));
+        assert_eq!(
+            (reason(refused).as_str(), asked.as_str()),
+            ("nvcc reads the line otherwise", all.as_str())
+        );
         let (refused, asked) = made(&[(true, COMMANDS), (true, OTHERS), (false, COMMANDS)], None);
         assert_eq!((reason(refused).as_str(), asked.as_str()), ("a dry run fails", all.as_str()));
     }
@@ -255,7 +279,10 @@ mod tests {
     fn a_call_that_keeps_files_has_three() {
         let of = |first: (bool, &str)| made(&[(true, COMMANDS), (true, COMMANDS), first], Some("/w/kept"));
         let (runs, asked) = of((true, COMMANDS));
-        assert_eq!((runs.unwrap().first(), asked), (COMMANDS.as_bytes(), format!("{OWN}; {SECOND}; {FIRST}")));
+        assert_eq!(
+            (runs.unwrap().first(), asked),
+            (COMMANDS.as_bytes(), format!("{OWN}; {SECOND}; {FIRST}"))
+        );
         assert_eq!(reason(of((true, OTHERS)).0), "nvcc reads the line otherwise");
         assert_eq!(reason(of((false, COMMANDS)).0), "a dry run fails");
     }
@@ -267,7 +294,10 @@ mod tests {
         let runs = runs.unwrap();
         assert_eq!((runs.messages().unwrap(), runs.has_threads()), (b"nvcc warning : x\n".to_vec(), true));
         assert_eq!(asked, format!("{OWN}; {SECOND}; {OWN} --threads 1"));
-        assert_eq!(reason(made(&[(false, &threads), (true, COMMANDS), (false, COMMANDS)], None).0), "a dry run fails");
+        assert_eq!(
+            reason(made(&[(false, &threads), (true, COMMANDS), (false, COMMANDS)], None).0),
+            "a dry run fails"
+        );
     }
 
     #[test]
@@ -281,15 +311,26 @@ mod tests {
 
     #[test]
     fn the_stub_file_is_named_where_it_is_written() {
-        let of = |name: &str| format!("#$ cudafe++ --stub_file_name \"k.cudafe1.stub.c\" x\n#$ cicc --stub_file_name \"{name}\" \"k.cpp1.ii\"\n");
-        let folder = |own: &str| DryRuns::new(own.into(), Vec::new(), Vec::new()).stub_folder().map(String::from);
-        for (name, wanted) in [("k.stub.c", ""), ("./a b/k.stub.c", "./a b/"), ("/t/k.stub.c", "/t/"), ("/k.stub.c", "/")] {
+        let of = |name: &str| {
+            format!(
+                "#$ cudafe++ --stub_file_name \"k.cudafe1.stub.c\" x\n#$ cicc --stub_file_name \"{name}\" \"k.cpp1.ii\"\n"
+            )
+        };
+        let folder =
+            |own: &str| DryRuns::new(own.into(), Vec::new(), Vec::new()).stub_folder().map(String::from);
+        for (name, wanted) in
+            [("k.stub.c", ""), ("./a b/k.stub.c", "./a b/"), ("/t/k.stub.c", "/t/"), ("/k.stub.c", "/")]
+        {
             let lines = of(name);
             assert_eq!(folder(&lines).as_deref(), Some(wanted), "{name}");
             // (an older nvcc runs cicc first)
             let turned: Vec<&str> = lines.lines().rev().collect();
             assert_eq!(folder(&turned.join("\n")).as_deref(), Some(wanted), "{name}");
-            assert_eq!(folder(&lines.replace("#$ cicc", "#$ \"$CICC_PATH/cicc\"")).as_deref(), Some(wanted), "{name}");
+            assert_eq!(
+                folder(&lines.replace("#$ cicc", "#$ \"$CICC_PATH/cicc\"")).as_deref(),
+                Some(wanted),
+                "{name}"
+            );
         }
         assert_eq!(folder("#$ gcc -c k.cpp\n"), None);
     }
@@ -297,7 +338,10 @@ mod tests {
     #[test]
     fn commands_that_run_side_by_side_print_to_files() {
         let cases = [
-            ("#$ _CUDART_=cudart\n#$ gcc -E \"k.cu\"  > /t/tmpxft_1-9_1f_stdout 2>/t/tmpxft_1-9_1f_stderr\n#$ x\n", true),
+            (
+                "#$ _CUDART_=cudart\n#$ gcc -E \"k.cu\"  > /t/tmpxft_1-9_1f_stdout 2>/t/tmpxft_1-9_1f_stderr\n#$ x\n",
+                true,
+            ),
             ("#$ gcc -E \"k.cu\" -o \"a_stdout 2>b_stderr\"\n", false),
             ("gcc > /t/a_stdout 2>/t/a_stderr\n", false),
             ("#$ gcc > /t/a_stdout\n#$ gcc 2>/t/a_stderr\n", false),

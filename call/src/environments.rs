@@ -58,8 +58,11 @@ impl Environment {
         let is_kept = |text: &&CString| !variables.iter().any(|(name, _)| value_of(text, name).is_some());
         let kept = self.0.iter().filter(is_kept).map(|text| Ok(Cow::Borrowed(text.as_c_str())));
         let given = variables.iter().filter_map(|(name, value)| Some((name, value.as_ref()?)));
-        let given =
-            given.map(|(name, value)| assigned(name.as_ref(), value.as_ref()).map(Cow::Owned).ok_or_else(|| io::ErrorKind::InvalidInput.into()));
+        let given = given.map(|(name, value)| {
+            assigned(name.as_ref(), value.as_ref())
+                .map(Cow::Owned)
+                .ok_or_else(|| io::ErrorKind::InvalidInput.into())
+        });
         kept.chain(given).collect()
     }
 }
@@ -71,10 +74,18 @@ mod tests {
     #[test]
     fn variables_take_the_place_of_others() {
         let few = Environment(["A=1", "AB=x=y", "C="].map(|text| CString::new(text).unwrap()).into());
-        assert_eq!((few.get("AB"), few.get("C"), few.get("B")), (Some("x=y".as_ref()), Some("".as_ref()), None));
-        let changed = few.changed(&[("A".into(), None), ("C".into(), Some("2".into())), ("D".into(), Some("3".into()))]).unwrap();
+        assert_eq!(
+            (few.get("AB"), few.get("C"), few.get("B")),
+            (Some("x=y".as_ref()), Some("".as_ref()), None)
+        );
+        let changed = few
+            .changed(&[("A".into(), None), ("C".into(), Some("2".into())), ("D".into(), Some("3".into()))])
+            .unwrap();
         assert_eq!(changed, [c"AB=x=y", c"C=2", c"D=3"].map(Cow::Borrowed));
         assert!(few.changed(&[("A".into(), Some("\0".into()))]).is_err());
-        assert_eq!(few.with("A", "2".as_ref()).changed(&[]).unwrap(), [c"AB=x=y", c"C=", c"A=2"].map(Cow::Borrowed));
+        assert_eq!(
+            few.with("A", "2".as_ref()).changed(&[]).unwrap(),
+            [c"AB=x=y", c"C=", c"A=2"].map(Cow::Borrowed)
+        );
     }
 }

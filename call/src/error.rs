@@ -16,7 +16,8 @@ use texts::fault::Fault;
 pub enum ErrorKind {
     /// An allocation failed.
     OutOfMemory,
-    /// A text isn't UTF-8: a word, a path or a variable. A line of a dry run is [`BadDryRun`](ErrorKind::BadDryRun).
+    /// A text isn't UTF-8: a word, a path or a variable. A line of a dry run is
+    /// [`BadDryRun`](ErrorKind::BadDryRun).
     NotUtf8,
     /// A number has no meaning: too many roots of a key.
     BadNumber,
@@ -203,7 +204,8 @@ enum Cause {
     Io(&'static str, IoError),
 }
 
-/// Why something can't be done. A copy has the system's number, or the kind if there is none: one that is shared would need memory.
+/// Why something can't be done. A copy has the system's number, or the kind if there is none: one that is
+/// shared would need memory.
 struct IoError(io::Error);
 
 impl fmt::Display for IoError {
@@ -302,7 +304,9 @@ impl Error {
     /// The error, with the line of a dry run that lacks a program, and the value of `PATH` there.
     pub(crate) fn in_line(self, run: usize, line: usize, path: String) -> Error {
         let cause = match self.cause {
-            Cause::DryRun(_, BadLine::NotFound(program, _)) => Cause::DryRun(run, BadLine::NotFound(program, Some(path))),
+            Cause::DryRun(_, BadLine::NotFound(program, _)) => {
+                Cause::DryRun(run, BadLine::NotFound(program, Some(path)))
+            }
             other => other,
         };
         Error { cause, ..self }.at_line(run, line)
@@ -325,7 +329,9 @@ impl Error {
             Cause::DryRun(..) => ErrorKind::BadDryRun,
             Cause::Unfit(Unfit::Unmade(_) | Unfit::Dropped) | Cause::ToNvcc(_) => ErrorKind::ToNvcc,
             Cause::Unfit(_) => ErrorKind::NoDryRun,
-            Cause::NoCompilation | Cause::Uncacheable(..) | Cause::Fault(_) | Cause::Nul => ErrorKind::BadLine,
+            Cause::NoCompilation | Cause::Uncacheable(..) | Cause::Fault(_) | Cause::Nul => {
+                ErrorKind::BadLine
+            }
             Cause::Unwritable(_) => ErrorKind::Unwritable,
             Cause::Nvcc(_) => ErrorKind::Nvcc,
             Cause::Io(..) => ErrorKind::Io,
@@ -365,7 +371,11 @@ impl Error {
 
 impl fmt::Debug for Error {
     fn fmt(&self, f: &mut fmt::Formatter<'_>) -> fmt::Result {
-        f.debug_struct("Error").field("kind", &self.kind()).field("message", &self.to_string()).field("place", &self.place).finish_non_exhaustive()
+        f.debug_struct("Error")
+            .field("kind", &self.kind())
+            .field("message", &self.to_string())
+            .field("place", &self.place)
+            .finish_non_exhaustive()
     }
 }
 
@@ -387,9 +397,13 @@ impl fmt::Display for Unfit {
                 write!(f, "the {which} text is no dry run: no line begins with \"#$ \"")
             }
             Unfit::Flag => f.write_str("the flag isn't an option that says what nvcc makes"),
-            Unfit::Differ => f.write_str("the dry runs differ by more than the directory for temporary files"),
+            Unfit::Differ => {
+                f.write_str("the dry runs differ by more than the directory for temporary files")
+            }
             Unfit::Lines => f.write_str("the dry runs have different numbers of lines"),
-            Unfit::OtherDirectory => f.write_str("this dry run doesn't have the directory for temporary files"),
+            Unfit::OtherDirectory => {
+                f.write_str("this dry run doesn't have the directory for temporary files")
+            }
             Unfit::OtherSource(path) => write!(f, "the dry runs were made elsewhere: their source is {path}"),
             Unfit::Unread(path) => write!(f, "{of_another} reads {path}"),
             Unfit::Unwritten(path) => write!(f, "{of_another} writes {path}"),
@@ -408,7 +422,9 @@ impl fmt::Display for BadLine {
             BadLine::Empty => f.write_str("the command has no words"),
             BadLine::NoPath => f.write_str("no line before this one sets PATH"),
             BadLine::NotFound(program, None) => write!(f, "cannot find {program}"),
-            BadLine::NotFound(program, _) if program.contains('/') => write!(f, "cannot find {program}: no such program"),
+            BadLine::NotFound(program, _) if program.contains('/') => {
+                write!(f, "cannot find {program}: no such program")
+            }
             BadLine::NotFound(program, Some(path)) => write!(f, "cannot find {program} in PATH ({path})"),
             BadLine::TooLong(limit) => write!(f, "with this line, the dry run makes over {limit} bytes"),
         }
@@ -423,10 +439,13 @@ impl fmt::Display for What<'_> {
         match self.0 {
             Cause::Plain(kind) => f.write_str(kind.text()),
             Cause::OddDirectory(input) => {
-                let which = if *input == Input::Tmp { "directory for temporary files" } else { "working directory" };
+                let which =
+                    if *input == Input::Tmp { "directory for temporary files" } else { "working directory" };
                 write!(f, "the {which} has to be absolute, without an empty part, . or ..")
             }
-            Cause::ExpandedDirectory => f.write_str("nvcc's dry runs can't have this directory for temporary files"),
+            Cause::ExpandedDirectory => {
+                f.write_str("nvcc's dry runs can't have this directory for temporary files")
+            }
             Cause::DryRun(_, what) => what.fmt(f),
             Cause::Unfit(why) => why.fmt(f),
             Cause::ToNvcc(reason) => write!(f, "goes to nvcc: {reason}"),
@@ -546,12 +565,23 @@ mod tests {
     #[test]
     fn errors_say_where_and_why() {
         let error = Error::dry_run(2, 7, BadLine::Shell);
-        assert_eq!(error.to_string(), "dry run 2, line 7: the command has an open quote or ends in a backslash");
-        assert_eq!((error.kind(), error.place()), (ErrorKind::BadDryRun, Some(Place { input: Input::Second, line: Some(7) })));
+        assert_eq!(
+            error.to_string(),
+            "dry run 2, line 7: the command has an open quote or ends in a backslash"
+        );
+        assert_eq!(
+            (error.kind(), error.place()),
+            (ErrorKind::BadDryRun, Some(Place { input: Input::Second, line: Some(7) }))
+        );
         let error = Error::to_nvcc(Reason::ReadOtherwise);
-        assert_eq!((error.to_string().as_str(), error.reason()), ("goes to nvcc: nvcc reads the line otherwise", Some(&Reason::ReadOtherwise)));
+        assert_eq!(
+            (error.to_string().as_str(), error.reason()),
+            ("goes to nvcc: nvcc reads the line otherwise", Some(&Reason::ReadOtherwise))
+        );
         let error = Error::io("run nvcc", io::ErrorKind::NotFound.into());
-        assert!(std::error::Error::source(&error).and_then(|source| source.downcast_ref::<io::Error>()).is_some());
+        assert!(
+            std::error::Error::source(&error).and_then(|source| source.downcast_ref::<io::Error>()).is_some()
+        );
         assert_eq!(Error::by_nvcc(b"nvcc fatal\n".to_vec()).to_string(), "nvcc fatal");
     }
 }

@@ -31,10 +31,15 @@ pub(crate) fn check_plan(plan: &Plan, outline: &Outline, second: &[u8]) -> Resul
         Fitness::OddDirectory(Directory::Working) => Err(Error::odd_directory(Input::Cwd)),
         Fitness::OddDirectory(Directory::Temporary) => Err(Error::odd_directory(Input::Tmp)),
         Fitness::NoCommand => Err(Error::no_dry_run(Unfit::NoCommand)),
-        Fitness::Dropped => Err(plan.dropped().next().map_or_else(|| of_call(Unfit::Dropped), |command| unfit(Unfit::Dropped, command))),
+        Fitness::Dropped => Err(plan
+            .dropped()
+            .next()
+            .map_or_else(|| of_call(Unfit::Dropped), |command| unfit(Unfit::Dropped, command))),
         Fitness::Unwritten(number, place) => Err(unmade(plan, number, place, second)?),
         Fitness::SourceUnread => Err(of_call(Unfit::Unread(copied(outline.input())?))),
-        Fitness::ProductUnwritten => Err(of_call(Unfit::Unwritten(copied(asked.product.unwrap_or_default())?))),
+        Fitness::ProductUnwritten => {
+            Err(of_call(Unfit::Unwritten(copied(asked.product.unwrap_or_default())?)))
+        }
     }
 }
 
@@ -59,18 +64,29 @@ fn unfit(why: Unfit, command: Command<'_>) -> Error {
     Error::no_dry_run(why).at_line(command.run(), command.line())
 }
 
-/// Two names in words of nvcc's tools. The source's real path shows where a dry run was made, if the source is there. An object includes the
-/// fatbin by the name that cicc got, which no word of the host compiler says.
+/// Two names in words of nvcc's tools. The source's real path shows where a dry run was made, if the source
+/// is there. An object includes the fatbin by the name that cicc got, which no word of the host compiler
+/// says.
 fn check_names(plan: &Plan, outline: &Outline, command: Command<'_>) -> Result<(), Error> {
     let behind = |option: &str| command.arguments().skip_while(|word| *word != option).nth(1);
     if let Some(told) = behind("--orig_src_path_name").filter(|path| path.starts_with('/')) {
         let source = openable(path_in(plan.cwd(), outline.input())?.as_str()).and_then(fs::canonicalize);
-        if source.is_ok_and(|source| openable(told).and_then(fs::canonicalize).map_or(true, |path| path != source)) {
+        if source
+            .is_ok_and(|source| openable(told).and_then(fs::canonicalize).map_or(true, |path| path != source))
+        {
             return Err(unfit(Unfit::OtherSource(copied(told)?), command));
         }
     }
-    let Some(fatbin) = behind("--include_file_name").filter(|_| MAKE_OBJECTS.contains(&plan.flag())) else { return Ok(()) };
+    let Some(fatbin) = behind("--include_file_name").filter(|_| MAKE_OBJECTS.contains(&plan.flag())) else {
+        return Ok(());
+    };
     let fatbin = path_in(command.cwd(), fatbin)?;
-    let is_written = |command: Command<'_>| command.writes().chain(command.may_write()).any(|path| path == fatbin.as_str());
-    if plan.commands().any(is_written) { Ok(()) } else { Err(unfit(Unfit::Unmade(copied(fatbin.as_str())?), command)) }
+    let is_written = |command: Command<'_>| {
+        command.writes().chain(command.may_write()).any(|path| path == fatbin.as_str())
+    };
+    if plan.commands().any(is_written) {
+        Ok(())
+    } else {
+        Err(unfit(Unfit::Unmade(copied(fatbin.as_str())?), command))
+    }
 }

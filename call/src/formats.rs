@@ -64,7 +64,8 @@ impl Format {
             Format::Compdb => return Ok(compdb::text(plan)?),
             Format::Text => plan_texts::Format::Text,
         };
-        let text = plan_formats::plan_file(Global, format, plan.cwd(), plan.tmp(), plan.flag(), plan.proved())?;
+        let text =
+            plan_formats::plan_file(Global, format, plan.cwd(), plan.tmp(), plan.flag(), plan.proved())?;
         Ok(copied(text.as_str())?)
     }
 }

@@ -1,8 +1,8 @@
 //! Which files a preprocessor read.
 use crate::memory::OutOfMemory;
 
-/// The files that a preprocessor's output says it was made from, each once, in the order of its line markers. A path that isn't UTF-8 has
-/// U+FFFD in it.
+/// The files that a preprocessor's output says it was made from, each once, in the order of its line markers.
+/// A path that isn't UTF-8 has U+FFFD in it.
 ///
 /// # Errors
 ///

@@ -1,7 +1,8 @@
-//! A call of nvcc, from its words to its plan: the one way there, over the proved crates. The driver, the crate for Rust and the C library
-//! stand on it.
+//! A call of nvcc, from its words to its plan: the one way there, over the proved crates. The driver, the
+//! crate for Rust and the C library stand on it.
 //!
-//! [`Call`] reads a line, makes its dry runs by an [`Nvcc`], and plans them; [`plan`] plans two dry runs alone.
+//! [`Call`] reads a line, makes its dry runs by an [`Nvcc`], and plans them; [`plan`] plans two dry runs
+//! alone.
 
 mod cache_key;
 mod call;
@@ -41,8 +42,13 @@ pub use lines::{ColorMode, Language, Line, LineCall, Output, Tool, line_records,
 pub use memory::{OutOfMemory, copied, copied_bytes, displayed, listed};
 pub use nvcc_line::{FLAG_VARIABLES, NvccCall, NvccLine};
 pub use outline::{Outline, Run};
-pub use plan::{Command, CommandTool, Commands, DropReason, Group, Groups, HostCompiler, Missing, Plan, PlanCall, Stage, Variables, plan};
-pub use programs::{Disk, FoundProgram, Lookup, ProgramRow, Programs, candidates, find_programs, found_in, lookups};
+pub use plan::{
+    Command, CommandTool, Commands, DropReason, Group, Groups, HostCompiler, Missing, Plan, PlanCall, Stage,
+    Variables, plan,
+};
+pub use programs::{
+    Disk, FoundProgram, Lookup, ProgramRow, Programs, candidates, find_programs, found_in, lookups,
+};
 #[cfg(test)]
 use unix::test_folder;
 pub use variable::{Variable, variables};

@@ -54,8 +54,8 @@ pub struct LineCall<'a, S> {
     pub cwd: &'a Path,
     /// The line's words without the tool's name.
     pub words: &'a [S],
-    /// The environment. nvcc reads `NVCC_PREPEND_FLAGS` and `NVCC_APPEND_FLAGS`, so a line of nvcc without them may say something
-    /// else. The others read none.
+    /// The environment. nvcc reads `NVCC_PREPEND_FLAGS` and `NVCC_APPEND_FLAGS`, so a line of nvcc without
+    /// them may say something else. The others read none.
     pub variables: &'a [Variable<'a>],
 }
 
@@ -119,7 +119,8 @@ impl Texted {
     fn of<S: AsRef<OsStr>>(call: &LineCall<'_, S>) -> Result<Texted, Error> {
         let mut words = Words::new(Global);
         for word in call.words {
-            let word = word.as_ref().to_str().ok_or_else(|| Error::plain(ErrorKind::NotUtf8).at(Input::Words))?;
+            let word =
+                word.as_ref().to_str().ok_or_else(|| Error::plain(ErrorKind::NotUtf8).at(Input::Words))?;
             words.push(text(word)?)?;
         }
         let variables: Vec<(&str, &str)> = listed(call.variables.iter().map(Variable::texts))?;
@@ -130,7 +131,9 @@ impl Texted {
     fn parsed<C: CCompilerImpl>(&self, compiler: &C) -> Result<ParsedArguments, Error> {
         match compiler.parse_arguments(Global, self.words.as_slice(), &self.cwd, &self.variables)? {
             CompilerArguments::Ok(parsed) => Ok(parsed),
-            CompilerArguments::CannotCache(why, word) => Err(Error::uncacheable(why, word.map(|word| copied(word.as_str())).transpose()?)),
+            CompilerArguments::CannotCache(why, word) => {
+                Err(Error::uncacheable(why, word.map(|word| copied(word.as_str())).transpose()?))
+            }
             CompilerArguments::NotCompilation => Err(Error::no_compilation()),
         }
     }
@@ -138,8 +141,12 @@ impl Texted {
     /// The words that a compiler writes the line back as. The input's path is that of the line.
     fn rewritten<C: CCompilerImpl>(&self, compiler: &C) -> Result<Words, Error> {
         let parsed = self.parsed(compiler)?;
-        let places = Places { temp_dir: Text::new(Word::new(Global)), canonical_input: parsed.input.try_clone(Global)? };
-        let (command, _) = compiler.generate_compile_commands(Global, "", &parsed, &self.cwd, &self.variables, &places)?;
+        let places = Places {
+            temp_dir: Text::new(Word::new(Global)),
+            canonical_input: parsed.input.try_clone(Global)?,
+        };
+        let (command, _) =
+            compiler.generate_compile_commands(Global, "", &parsed, &self.cwd, &self.variables, &places)?;
         Ok(Words::copy_of(Global, command.get_arguments())?)
     }
 }
@@ -194,7 +201,11 @@ impl Line {
 
     /// The files that the line makes, in the order of their keys.
     pub fn outputs(&self) -> impl Iterator<Item = Output<'_>> {
-        self.0.outputs.iter().map(|(key, it)| Output { key, path: it.path.as_str(), is_optional: it.optional })
+        self.0.outputs.iter().map(|(key, it)| Output {
+            key,
+            path: it.path.as_str(),
+            is_optional: it.optional,
+        })
     }
 
     /// The input's language, or what the tool makes of it.

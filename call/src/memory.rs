@@ -1,4 +1,5 @@
-//! Copies that report a failed allocation. Inputs may be of any size, so no allocation that grows with one ends the process.
+//! Copies that report a failed allocation. Inputs may be of any size, so no allocation that grows with one
+//! ends the process.
 use rattle_std::alloc::{AllocError, AllocFailed, Global};
 use rattle_std::string::String as Text;
 use rattle_std::vec::Vec as List;
@@ -54,8 +55,9 @@ pub(crate) fn path_from(cwd: &str, path: &str) -> Result<String, OutOfMemory> {
     if path.starts_with('/') { copied(path) } else { joined(&[cwd, "/", path]) }
 }
 
-/// A path that Linux may open. The standard library copies one of 384 bytes or more to open it, and ends the process if that is refused: so
-/// it doesn't get one that is too long to be opened, and what it copies doesn't grow with the input.
+/// A path that Linux may open. The standard library copies one of 384 bytes or more to open it, and ends the
+/// process if that is refused: so it doesn't get one that is too long to be opened, and what it copies
+/// doesn't grow with the input.
 pub(crate) fn openable(path: &str) -> io::Result<&Path> {
     const LONGEST: usize = 4095;
     const TOO_LONG: i32 = 36;
@@ -92,7 +94,9 @@ pub(crate) fn joined(parts: &[&str]) -> Result<String, OutOfMemory> {
 }
 
 /// Copies of names and values.
-pub(crate) fn copied_pairs<'a>(pairs: impl Iterator<Item = &'a (String, String)>) -> Result<Vec<(String, String)>, OutOfMemory> {
+pub(crate) fn copied_pairs<'a>(
+    pairs: impl Iterator<Item = &'a (String, String)>,
+) -> Result<Vec<(String, String)>, OutOfMemory> {
     listed(pairs.map(|(name, value)| Ok((copied(name)?, copied(value)?))))
 }
 

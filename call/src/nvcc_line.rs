@@ -13,7 +13,8 @@ use std::fs::{self, File};
 use std::io::Read;
 use std::path::Path;
 
-/// The variables whose words nvcc adds to a line. What runs for a line gets these words once, so it runs without these variables.
+/// The variables whose words nvcc adds to a line. What runs for a line gets these words once, so it runs
+/// without these variables.
 pub const FLAG_VARIABLES: [&str; 2] = ["NVCC_PREPEND_FLAGS", "NVCC_APPEND_FLAGS"];
 
 /// An nvcc line, and where it is made, as texts of the caller.
@@ -23,8 +24,9 @@ pub struct NvccCall<'a, S> {
     pub nvcc: &'a OsStr,
     /// The line's words without nvcc's name.
     pub words: &'a [S],
-    /// All of the environment: [`variables`](crate::variables()) of [`std::env::vars_os`]. nvcc reads `NVCC_PREPEND_FLAGS` and
-    /// `NVCC_APPEND_FLAGS` there, and the commands run in it, so with another one the plan is that of another call.
+    /// All of the environment: [`variables`](crate::variables()) of [`std::env::vars_os`]. nvcc reads
+    /// `NVCC_PREPEND_FLAGS` and `NVCC_APPEND_FLAGS` there, and the commands run in it, so with another one
+    /// the plan is that of another call.
     pub variables: &'a [Variable<'a>],
     /// The working directory, an absolute path.
     pub cwd: &'a Path,
@@ -70,8 +72,8 @@ pub(crate) fn text_in(text: &OsStr, input: Input) -> Result<String, Error> {
     Ok(copied(text.to_str().ok_or_else(|| Error::plain(ErrorKind::NotUtf8).at(input))?)?)
 }
 
-/// Refuses a directory that isn't absolute and plain. Two commands are taken to use one file if its paths are the same text, so a plan for a
-/// directory that has several texts would lack needs.
+/// Refuses a directory that isn't absolute and plain. Two commands are taken to use one file if its paths are
+/// the same text, so a plan for a directory that has several texts would lack needs.
 pub(crate) fn plain(path: &str, input: Input) -> Result<(), Error> {
     if is_plain(path) { Ok(()) } else { Err(Error::odd_directory(input)) }
 }
@@ -96,8 +98,8 @@ impl NvccLine {
         })
     }
 
-    /// The name of the line's directory for temporary files. The same line has the same one each time, since some commands write its path
-    /// into what they make.
+    /// The name of the line's directory for temporary files. The same line has the same one each time, since
+    /// some commands write its path into what they make.
     ///
     /// # Errors
     ///
@@ -124,7 +126,8 @@ impl NvccLine {
         listed(prepended.chain(self.words.iter().map(String::as_str)).chain(appended).map(copied))
     }
 
-    /// The text of a plain file that the line names. nvcc reads an options file too, and a pipe gives its bytes only once.
+    /// The text of a plain file that the line names. nvcc reads an options file too, and a pipe gives its
+    /// bytes only once.
     fn options_file(&self, name: &str) -> Result<Option<(String, String)>, OutOfMemory> {
         let path = path_from(&self.cwd, name)?;
         let Ok(path) = openable(&path) else { return Ok(None) };
@@ -142,7 +145,8 @@ impl NvccLine {
         Ok(listed(files.filter_map(Result::transpose))?)
     }
 
-    /// What the line says, if its files go to the directory `tmp`. It reads the options files that the line names.
+    /// What the line says, if its files go to the directory `tmp`. It reads the options files that the line
+    /// names.
     ///
     /// # Errors
     ///
@@ -160,7 +164,9 @@ impl NvccLine {
     /// An outline in texts of our own.
     fn outline(&self, outline: &nvcc_calls::Outline) -> Result<Outline, Error> {
         let run = |command: &SingleCompileCommand| self.run_of(command);
-        let own = listed([&self.nvcc, "--dryrun"].into_iter().map(copied).chain(self.all_words()?.into_iter().map(Ok)))?;
+        let own = listed(
+            [&self.nvcc, "--dryrun"].into_iter().map(copied).chain(self.all_words()?.into_iter().map(Ok)),
+        )?;
         Ok(Outline {
             dependencies: outline.dependencies.as_ref().map(run).transpose()?,
             own_dry_run: Run::new(own, copied(&self.cwd)?).within(self.environment()?),
@@ -192,14 +198,20 @@ mod tests {
     use crate::test_folder::TestFolder;
 
     fn line(words: &str, cwd: &str) -> NvccLine {
-        let variables =
-            [("ZIGRUNK_JOBS", "3"), ("A", "1"), ("NVCC_APPEND_FLAGS", "-DX=1  -DY")].map(|(name, value)| (name.to_owned(), value.to_owned()));
-        NvccLine { cwd: cwd.into(), nvcc: "nvcc".into(), words: words.split(' ').map(String::from).collect(), variables: variables.into() }
+        let variables = [("ZIGRUNK_JOBS", "3"), ("A", "1"), ("NVCC_APPEND_FLAGS", "-DX=1  -DY")]
+            .map(|(name, value)| (name.to_owned(), value.to_owned()));
+        NvccLine {
+            cwd: cwd.into(),
+            nvcc: "nvcc".into(),
+            words: words.split(' ').map(String::from).collect(),
+            variables: variables.into(),
+        }
     }
 
     #[test]
     fn a_lines_directory_has_one_name() {
-        let lines = [line("-c k.cu", "/w"), line("-c k.cu", "/w"), line("-c j.cu", "/w"), line("-c k.cu", "/v")];
+        let lines =
+            [line("-c k.cu", "/w"), line("-c k.cu", "/w"), line("-c j.cu", "/w"), line("-c k.cu", "/v")];
         let names = lines.map(|line| line.directory_name().unwrap());
         assert!(names[0] == names[1] && names[0] != names[2] && names[0] != names[3], "{names:?}");
     }
@@ -212,14 +224,27 @@ mod tests {
         let outline = of("-c k.cu --options-file words").unwrap();
         assert_eq!((outline.flag.as_str(), outline.jobs, outline.keep_dir.as_deref()), ("-c", Some(3), None));
         assert_eq!((outline.input(), outline.outputs().collect::<Vec<_>>()), ("k.cu", vec!["k.o", "k.d"]));
-        assert!(outline.dependencies.is_some_and(|rule| rule.words()[0] == "nvcc" && rule.words().contains(&"-M".into())));
+        assert!(
+            outline
+                .dependencies
+                .is_some_and(|rule| rule.words()[0] == "nvcc" && rule.words().contains(&"-M".into()))
+        );
         for run in [&outline.own_dry_run, &outline.first_dry_run, &outline.second_dry_run] {
             assert_eq!((run.cwd(), run.words()[0].as_str()), (scratch.to_str().unwrap(), "nvcc"));
-            assert!(run.words().contains(&"--dryrun".into()) && run.words().contains(&"-DX=1".into()), "{run:?}");
+            assert!(
+                run.words().contains(&"--dryrun".into()) && run.words().contains(&"-DX=1".into()),
+                "{run:?}"
+            );
             assert!(run.environment().iter().map(|(name, _)| name).eq(["ZIGRUNK_JOBS", "A"]), "{run:?}");
         }
-        assert!(outline.second_dry_run.words().contains(&"/t".into()) && !outline.first_dry_run.words().contains(&"/t".into()));
-        assert_eq!(outline.own_dry_run.words()[2..], ["-c", "k.cu", "--options-file", "words", "-DX=1", "-DY"]);
+        assert!(
+            outline.second_dry_run.words().contains(&"/t".into())
+                && !outline.first_dry_run.words().contains(&"/t".into())
+        );
+        assert_eq!(
+            outline.own_dry_run.words()[2..],
+            ["-c", "k.cu", "--options-file", "words", "-DX=1", "-DY"]
+        );
         assert_eq!(of("-c k.cu -o k.o").unwrap().dependencies, None);
         assert!(of("k.o -o k").is_err() && of("-c k.cu --options-file missing").is_err());
     }
@@ -232,6 +257,9 @@ mod tests {
         fs::create_dir(scratch.join("folder")).unwrap();
         let line = line("-c k.cu", scratch.to_str().unwrap());
         assert_eq!(line.options_file("good"), Ok(Some(("good".into(), "-O2".into()))));
-        assert_eq!(["bad", "folder", "missing", "/dev/null"].map(|name| line.options_file(name)), [const { Ok(None) }; 4]);
+        assert_eq!(
+            ["bad", "folder", "missing", "/dev/null"].map(|name| line.options_file(name)),
+            [const { Ok(None) }; 4]
+        );
     }
 }

@@ -33,7 +33,8 @@ impl Run {
         &self.cwd
     }
 
-    /// Its whole environment: that of the call without [`FLAG_VARIABLES`](crate::FLAG_VARIABLES), whose words are among its own.
+    /// Its whole environment: that of the call without [`FLAG_VARIABLES`](crate::FLAG_VARIABLES), whose words
+    /// are among its own.
     #[must_use]
     pub fn environment(&self) -> &[(String, String)] {
         &self.environment
@@ -51,7 +52,11 @@ impl Run {
     /// The same with further words.
     pub(crate) fn with(&self, words: &[&str]) -> Result<Run, OutOfMemory> {
         let all = self.words.iter().map(String::as_str).chain(words.iter().copied());
-        Ok(Run { words: listed(all.map(copied))?, cwd: copied(&self.cwd)?, environment: copied_pairs(self.environment.iter())? })
+        Ok(Run {
+            words: listed(all.map(copied))?,
+            cwd: copied(&self.cwd)?,
+            environment: copied_pairs(self.environment.iter())?,
+        })
     }
 
     /// The word behind an option.

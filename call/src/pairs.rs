@@ -1,9 +1,11 @@
-//! Whether two dry runs are one call's: the second says what the first says, with the directory for temporary files in front of names.
+//! Whether two dry runs are one call's: the second says what the first says, with the directory for temporary
+//! files in front of names.
 use crate::error::{Error, Unfit};
 use dry_run_pairs::without_folder;
 use rattle_std::alloc::Global;
 
-/// The lines of a dry run that say something, without blanks at their ends, each with its number from 1. Which files nvcc removes says nothing.
+/// The lines of a dry run that say something, without blanks at their ends, each with its number from 1.
+/// Which files nvcc removes says nothing.
 fn marked_lines(dry_run: &[u8]) -> impl Iterator<Item = (usize, &[u8])> {
     let lines = (1..).zip(dry_run.split(|byte| *byte == b'\n'));
     let says = |line: &[u8]| line.starts_with(b"#$ ") && !line.starts_with(b"#$ rm ");
@@ -39,9 +41,16 @@ mod tests {
     #[test]
     fn a_pair_differs_by_the_directory_alone() {
         let place = |first: &str, second: &str| {
-            check_pair(first.as_bytes(), second.as_bytes(), "/t").err().map(|error| (error.to_string(), error.place().and_then(|it| it.line)))
+            check_pair(first.as_bytes(), second.as_bytes(), "/t")
+                .err()
+                .map(|error| (error.to_string(), error.place().and_then(|it| it.line)))
         };
-        let differ = |line| Some(("the dry runs differ by more than the directory for temporary files".to_owned(), Some(line)));
+        let differ = |line| {
+            Some((
+                "the dry runs differ by more than the directory for temporary files".to_owned(),
+                Some(line),
+            ))
+        };
         let lines = Some(("the dry runs have different numbers of lines".to_owned(), None));
         let cases = [
             ("#$ cicc \"k.ii\" -o=k.ptx", "#$ cicc \"/t/k.ii\" -o=/t/k.ptx", None),

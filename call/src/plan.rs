@@ -12,7 +12,9 @@ use command_files::{CommandFiles, FilesAndNeeds, files_and_needs, preprocesses};
 use command_groups::{CallToPlan, plan_with_origins, plan_with_origins_within};
 use compilers::command::Cacheable;
 use compilers::compiler::NvccHostCompiler;
-use compilers::plans::{Dropped, NvccGeneratedSubcommand, Origin, PlanWithOrigins, Program, Reason as WhyDropped};
+use compilers::plans::{
+    Dropped, NvccGeneratedSubcommand, Origin, PlanWithOrigins, Program, Reason as WhyDropped,
+};
 use dry_runs::{LimitedFault, is_dry_run, parse_dry_run};
 use rattle_std::alloc::Global;
 use rattle_std::string::String as Text;
@@ -62,7 +64,8 @@ impl HostCompiler {
 /// Two dry runs to plan.
 #[derive(Clone, Copy)]
 pub struct PlanCall<'a> {
-    /// What the call prints with `--dryrun --keep`. Any bytes: a line that isn't UTF-8 is [`ErrorKind::BadDryRun`](crate::ErrorKind).
+    /// What the call prints with `--dryrun --keep`. Any bytes: a line that isn't UTF-8 is
+    /// [`ErrorKind::BadDryRun`](crate::ErrorKind).
     pub dry1: &'a [u8],
     /// What it prints with `--keep-dir TMP --dryrun --keep`.
     pub dry2: &'a [u8],
@@ -72,10 +75,11 @@ pub struct PlanCall<'a> {
     pub tmp: &'a Path,
     /// The option that says what nvcc makes, as `-c`, or empty if it links.
     pub flag: &'a str,
-    /// Whether generated files have the names that nvcc gives those that it keeps. Otherwise they get canonical names.
+    /// Whether generated files have the names that nvcc gives those that it keeps. Otherwise they get
+    /// canonical names.
     pub keeps_names: bool,
-    /// The call's environment: [`variables`](crate::variables()) of [`std::env::vars_os`]. Commands run in it, so an empty one makes
-    /// other products than nvcc does.
+    /// The call's environment: [`variables`](crate::variables()) of [`std::env::vars_os`]. Commands run in
+    /// it, so an empty one makes other products than nvcc does.
     pub variables: &'a [Variable<'a>],
     /// Suffixes of generated files, behind the standard ones.
     pub suffixes: &'a [&'a str],
@@ -83,8 +87,8 @@ pub struct PlanCall<'a> {
     pub programs: &'a dyn Programs,
     /// The compiler of host code.
     pub host_compiler: HostCompiler,
-    /// How many bytes of text reading each dry run may make. Without a limit, 350 bytes of variables that refer to each other can
-    /// turn into gigabytes: give one if someone else wrote the dry runs.
+    /// How many bytes of text reading each dry run may make. Without a limit, 350 bytes of variables that
+    /// refer to each other can turn into gigabytes: give one if someone else wrote the dry runs.
     pub limit: Option<NonZeroUsize>,
 }
 
@@ -95,7 +99,8 @@ impl<'a> PlanCall<'a> {
         PlanCall { cwd: cwd.as_ref(), tmp: tmp.as_ref(), ..self }
     }
 
-    /// Two dry runs in the directory `/`, with files in `/tmp`, and without a flag or an environment. `programs` finds what they name.
+    /// Two dry runs in the directory `/`, with files in `/tmp`, and without a flag or an environment.
+    /// `programs` finds what they name.
     #[must_use]
     pub fn new(dry1: &'a [u8], dry2: &'a [u8], programs: &'a dyn Programs) -> Self {
         PlanCall {
@@ -114,7 +119,8 @@ impl<'a> PlanCall<'a> {
     }
 }
 
-/// Refuses texts that can't be dry runs. One text can be both: nvcc generates no file for a C or C++ source, so it prints the same twice.
+/// Refuses texts that can't be dry runs. One text can be both: nvcc generates no file for a C or C++ source,
+/// so it prints the same twice.
 fn check_texts(call: &PlanCall<'_>) -> Result<(), Error> {
     if let Some((run, _)) = [(1, call.dry1), (2, call.dry2)].into_iter().find(|(_, text)| !is_dry_run(text)) {
         return Err(Error::no_dry_run(Unfit::NoDryRun(run)).at_line(run, 0));
@@ -126,9 +132,10 @@ fn check_texts(call: &PlanCall<'_>) -> Result<(), Error> {
 ///
 /// # Errors
 ///
-/// [`ErrorKind::NotUtf8`](crate::ErrorKind) for a directory or a variable. `OddDirectory` for a directory that isn't absolute and plain. `NoDryRun` for
-/// texts that aren't the dry runs of a call, a flag that is none of nvcc's, and a plan without a command. `BadSuffixes`, `BadDryRun`,
-/// `NotFound` and `OverLimit` for the first bad line of the first run or of the second, `OutOfMemory`. [`Error::place`] says where.
+/// [`ErrorKind::NotUtf8`](crate::ErrorKind) for a directory or a variable. `OddDirectory` for a directory
+/// that isn't absolute and plain. `NoDryRun` for texts that aren't the dry runs of a call, a flag that is
+/// none of nvcc's, and a plan without a command. `BadSuffixes`, `BadDryRun`, `NotFound` and `OverLimit` for
+/// the first bad line of the first run or of the second, `OutOfMemory`. [`Error::place`] says where.
 pub fn plan(call: &PlanCall<'_>) -> Result<Plan, Error> {
     let (cwd, tmp) = (text_in(call.cwd.as_os_str(), Input::Cwd)?, text_in(call.tmp.as_os_str(), Input::Tmp)?);
     plain(&cwd, Input::Cwd)?;
@@ -140,9 +147,18 @@ pub fn plan(call: &PlanCall<'_>) -> Result<Plan, Error> {
 }
 
 /// Plans by the proved crates.
-fn planned(call: &PlanCall<'_>, cwd: &str, tmp: &str, variables: &[(&str, &str)]) -> Result<PlanWithOrigins, Error> {
+fn planned(
+    call: &PlanCall<'_>,
+    cwd: &str,
+    tmp: &str,
+    variables: &[(&str, &str)],
+) -> Result<PlanWithOrigins, Error> {
     // Renaming is faster with the standard suffixes as they are written.
-    let suffixes = if call.suffixes.is_empty() { Suffixes::standard() } else { all_suffixes(Global, &texts(call.suffixes)?)? };
+    let suffixes = if call.suffixes.is_empty() {
+        Suffixes::standard()
+    } else {
+        all_suffixes(Global, &texts(call.suffixes)?)?
+    };
     let env_vars = pairs(variables)?;
     let host_compiler = match call.host_compiler {
         HostCompiler::Gcc => NvccHostCompiler::Gcc,
@@ -150,11 +166,21 @@ fn planned(call: &PlanCall<'_>, cwd: &str, tmp: &str, variables: &[(&str, &str)]
         HostCompiler::Nvhpc => NvccHostCompiler::Nvhpc,
     };
     let keep_dir = call.keeps_names.then_some(tmp);
-    let to_plan = CallToPlan { cwd, tmp, compilation_flag: call.flag, keep_dir, env_vars: &env_vars, host_compiler, suffixes: &suffixes };
+    let to_plan = CallToPlan {
+        cwd,
+        tmp,
+        compilation_flag: call.flag,
+        keep_dir,
+        env_vars: &env_vars,
+        host_compiler,
+        suffixes: &suffixes,
+    };
     let which = Proved(call.programs);
     let planned = match call.limit {
         Some(limit) => plan_with_origins_within(Global, call.dry1, call.dry2, &to_plan, &which, limit.get()),
-        None => plan_with_origins(Global, call.dry1, call.dry2, &to_plan, &which).map_err(LimitedFault::Fault),
+        None => {
+            plan_with_origins(Global, call.dry1, call.dry2, &to_plan, &which).map_err(LimitedFault::Fault)
+        }
     };
     planned.map_err(|fault| placed(call, cwd, fault))
 }
@@ -171,7 +197,8 @@ fn placed(call: &PlanCall<'_>, cwd: &str, fault: LimitedFault) -> Error {
     }
 }
 
-/// The first bad line of the first dry run, or of the second if the first has none, and the value of `PATH` there.
+/// The first bad line of the first dry run, or of the second if the first has none, and the value of `PATH`
+/// there.
 fn bad_line(call: &PlanCall<'_>, cwd: &str) -> Result<Option<(usize, usize, String)>, OutOfMemory> {
     for (run, text) in [(1, call.dry1), (2, call.dry2)] {
         let parsed = parse_dry_run(Global, text, run)?;
@@ -208,7 +235,8 @@ pub enum DropReason {
     Superseded,
 }
 
-/// The tool that a command runs. In other languages the three that lines are of, too, have the numbers of [`Tool`].
+/// The tool that a command runs. In other languages the three that lines are of, too, have the numbers of
+/// [`Tool`].
 #[derive(Clone, Copy, Debug, PartialEq, Eq, Hash)]
 #[non_exhaustive]
 pub enum CommandTool {
@@ -228,8 +256,14 @@ pub enum CommandTool {
 
 impl CommandTool {
     /// All of them, by their numbers in other languages.
-    pub const ALL: [CommandTool; 6] =
-        [CommandTool::Cicc, CommandTool::Ptxas, CommandTool::CudaFe, CommandTool::Fatbinary, CommandTool::NvLink, CommandTool::Host];
+    pub const ALL: [CommandTool; 6] = [
+        CommandTool::Cicc,
+        CommandTool::Ptxas,
+        CommandTool::CudaFe,
+        CommandTool::Fatbinary,
+        CommandTool::NvLink,
+        CommandTool::Host,
+    ];
 
     fn of(program: Program) -> Self {
         match program {
@@ -277,7 +311,8 @@ pub enum Missing {
     Inputs,
 }
 
-/// Where a command of a group is: the group, and its number in that. Also the tool that it runs, which is asked for again and again.
+/// Where a command of a group is: the group, and its number in that. Also the tool that it runs, which is
+/// asked for again and again.
 struct Place {
     group: usize,
     number: usize,
@@ -301,7 +336,8 @@ impl Plan {
         let mut places = Vec::new();
         for (group, commands) in planned.plan.groups.as_slice().iter().enumerate() {
             places.try_reserve(commands.len()).map_err(OutOfMemory::from)?;
-            let tools = commands.as_slice().iter().map(|command| CommandTool::of(Program::at(command.exe.as_str())));
+            let tools =
+                commands.as_slice().iter().map(|command| CommandTool::of(Program::at(command.exe.as_str())));
             places.extend(tools.enumerate().map(|(number, tool)| Place { group, number, tool }));
         }
         if places.is_empty() {
@@ -317,8 +353,8 @@ impl Plan {
         &self.planned
     }
 
-    /// The groups, in plan order: the front group, the device groups, the final group. To run commands side by side, go by
-    /// [`Command::needs`]: device groups may need each other.
+    /// The groups, in plan order: the front group, the device groups, the final group. To run commands side
+    /// by side, go by [`Command::needs`]: device groups may need each other.
     #[must_use]
     pub fn groups(&self) -> Groups<'_> {
         Groups { numbers: 0..self.planned.plan.groups.as_slice().len(), plan: self }
@@ -443,7 +479,9 @@ pub struct Command<'a> {
 impl PartialEq for Command<'_> {
     /// Whether they say the same, also of different plans.
     fn eq(&self, other: &Self) -> bool {
-        let facts = |it: &Self| (it.group(), it.reason(), it.is_cacheable(), it.run(), it.line(), it.tool(), it.missing());
+        let facts = |it: &Self| {
+            (it.group(), it.reason(), it.is_cacheable(), it.run(), it.line(), it.tool(), it.missing())
+        };
         self.program() == other.program()
             && self.cwd() == other.cwd()
             && self.arguments().eq(other.arguments())
@@ -485,7 +523,14 @@ impl<'a> Command<'a> {
 
     fn origin(&self) -> Origin {
         match self.item {
-            Item::Listed(_) => self.plan.planned.origins.as_slice().get(self.number).copied().unwrap_or(Origin { line: 0, run: 0 }),
+            Item::Listed(_) => self
+                .plan
+                .planned
+                .origins
+                .as_slice()
+                .get(self.number)
+                .copied()
+                .unwrap_or(Origin { line: 0, run: 0 }),
             Item::Dropped(dropped) => Origin { line: dropped.line, run: dropped.run },
         }
     }
@@ -496,13 +541,15 @@ impl<'a> Command<'a> {
         self.number
     }
 
-    /// The commands that have to end before it starts: their places in [`Plan::commands`], in ascending order. None if it was dropped.
+    /// The commands that have to end before it starts: their places in [`Plan::commands`], in ascending
+    /// order. None if it was dropped.
     #[must_use]
     pub fn needs(&self) -> &'a [usize] {
         self.plan.facts.needs.as_slice().get(self.number).map_or(&[], |needs| needs.as_slice())
     }
 
-    /// The paths of the files that it reads by its words: see [`missing`](Command::missing). None if it was dropped.
+    /// The paths of the files that it reads by its words: see [`missing`](Command::missing). None if it was
+    /// dropped.
     #[must_use]
     pub fn reads(&self) -> TextsIter<'a> {
         TextsIter::of(self.files().map_or(&[], |files| files.reads.as_slice()))
@@ -526,8 +573,8 @@ impl<'a> Command<'a> {
         self.plan.places.get(self.number).map(|at| at.tool)
     }
 
-    /// Which files it touches that aren't among these, or `None` if they are all (or if it was dropped). Among them may be files that
-    /// commands which it needs write.
+    /// Which files it touches that aren't among these, or `None` if they are all (or if it was dropped).
+    /// Among them may be files that commands which it needs write.
     #[must_use]
     pub fn missing(&self) -> Option<Missing> {
         if self.files()?.complete {
@@ -573,8 +620,8 @@ impl<'a> Command<'a> {
         self.tool() == Some(CommandTool::Host) && preprocesses(self.words_after())
     }
 
-    /// The target that a command of a device is for, such as `compute_80` or `sm_80`, and the targets of what a fatbinary has. Those of a
-    /// preprocessor are those of the cicc commands that read what it writes.
+    /// The target that a command of a device is for, such as `compute_80` or `sm_80`, and the targets of what
+    /// a fatbinary has. Those of a preprocessor are those of the cicc commands that read what it writes.
     ///
     /// # Errors
     ///
@@ -589,15 +636,26 @@ impl<'a> Command<'a> {
         if !self.preprocesses() {
             return self.own_targets();
         }
-        let reads = |it: &Command<'_>| it.tool() == Some(CommandTool::Cicc) && it.reads().any(|path| self.writes().any(|own| own == path));
-        listed(self.plan.commands().filter(reads).filter_map(|reader| reader.architecture()).map(|name| Ok([name, "", ""])))
+        let reads = |it: &Command<'_>| {
+            it.tool() == Some(CommandTool::Cicc)
+                && it.reads().any(|path| self.writes().any(|own| own == path))
+        };
+        listed(
+            self.plan
+                .commands()
+                .filter(reads)
+                .filter_map(|reader| reader.architecture())
+                .map(|name| Ok([name, "", ""])),
+        )
     }
 
     /// The targets that its own words name.
     fn own_targets(&self) -> Result<Vec<[&'a str; 3]>, OutOfMemory> {
         match self.tool() {
             Some(CommandTool::Fatbinary) => listed(self.arguments().filter_map(image_target).map(Ok)),
-            Some(CommandTool::Cicc | CommandTool::Ptxas) => listed(self.architecture().into_iter().map(|name| Ok([name, "", ""]))),
+            Some(CommandTool::Cicc | CommandTool::Ptxas) => {
+                listed(self.architecture().into_iter().map(|name| Ok([name, "", ""])))
+            }
             _ => Ok(Vec::new()),
         }
     }
@@ -617,7 +675,8 @@ impl<'a> Command<'a> {
         None
     }
 
-    /// The environment: names and values. A name may occur twice: the last one counts. None if the command was dropped.
+    /// The environment: names and values. A name may occur twice: the last one counts. None if the command
+    /// was dropped.
     #[must_use]
     pub fn variables(&self) -> Variables<'a> {
         Variables(self.proved().map_or(&[] as &[_], |command| command.env_vars.as_slice()).iter())

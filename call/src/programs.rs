@@ -59,8 +59,8 @@ pub struct FoundProgram {
     pub found: Option<String>,
 }
 
-/// Finds the programs that dry runs name. A list of [`FoundProgram`] answers with the first row of a look-up, and [`Disk`] looks on this
-/// machine's.
+/// Finds the programs that dry runs name. A list of [`FoundProgram`] answers with the first row of a look-up,
+/// and [`Disk`] looks on this machine's.
 pub trait Programs {
     /// The path of a program by the value of `PATH` and the working directory, if there is such a program.
     ///
@@ -76,7 +76,8 @@ impl<P: Programs + ?Sized> Programs for &P {
     }
 }
 
-/// A row of a table of programs: a program, the value of `PATH`, and the path that it has, if it is there. An empty path is none.
+/// A row of a table of programs: a program, the value of `PATH`, and the path that it has, if it is there. An
+/// empty path is none.
 pub type ProgramRow<'a> = (&'a str, &'a str, Option<&'a str>);
 
 /// What a table says of a look-up: the path in its first row.
@@ -84,13 +85,26 @@ pub type ProgramRow<'a> = (&'a str, &'a str, Option<&'a str>);
 /// # Errors
 ///
 /// [`OutOfMemory`].
-pub fn found_in<'a>(mut rows: impl Iterator<Item = ProgramRow<'a>>, program: &str, path: &str) -> Result<Option<String>, OutOfMemory> {
-    rows.find(|row| (row.0, row.1) == (program, path)).and_then(|row| row.2).filter(|path| !path.is_empty()).map(copied).transpose()
+pub fn found_in<'a>(
+    mut rows: impl Iterator<Item = ProgramRow<'a>>,
+    program: &str,
+    path: &str,
+) -> Result<Option<String>, OutOfMemory> {
+    rows.find(|row| (row.0, row.1) == (program, path))
+        .and_then(|row| row.2)
+        .filter(|path| !path.is_empty())
+        .map(copied)
+        .transpose()
 }
 
 impl Programs for [FoundProgram] {
     fn find(&self, program: &str, path: &str, _: &str) -> Result<Option<String>, OutOfMemory> {
-        found_in(self.iter().map(|row| (row.lookup.program.as_str(), row.lookup.path.as_str(), row.found.as_deref())), program, path)
+        found_in(
+            self.iter()
+                .map(|row| (row.lookup.program.as_str(), row.lookup.path.as_str(), row.found.as_deref())),
+            program,
+            path,
+        )
     }
 }
 
@@ -138,26 +152,36 @@ impl Which for Proved<'_> {
     }
 }
 
-/// Lists the look-ups of programs that a plan of two dry runs needs, none twice. With a limit, reading each dry run makes at most so many
-/// bytes of text; each command counts the value of `PATH` too, since looking its program up holds that.
+/// Lists the look-ups of programs that a plan of two dry runs needs, none twice. With a limit, reading each
+/// dry run makes at most so many bytes of text; each command counts the value of `PATH` too, since looking
+/// its program up holds that.
 ///
 /// # Errors
 ///
-/// [`ErrorKind::OverLimit`](crate::ErrorKind) if a line exceeds the limit, `OddDirectory`, `NotUtf8`, `OutOfMemory`. A line that can't be read is an error of
-/// [`plan`](crate::plan()), not of this call.
-pub fn lookups(dry1: &[u8], dry2: &[u8], cwd: &Path, limit: Option<NonZeroUsize>) -> Result<Vec<Lookup>, Error> {
+/// [`ErrorKind::OverLimit`](crate::ErrorKind) if a line exceeds the limit, `OddDirectory`, `NotUtf8`,
+/// `OutOfMemory`. A line that can't be read is an error of [`plan`](crate::plan()), not of this call.
+pub fn lookups(
+    dry1: &[u8],
+    dry2: &[u8],
+    cwd: &Path,
+    limit: Option<NonZeroUsize>,
+) -> Result<Vec<Lookup>, Error> {
     let cwd = text_in(cwd.as_os_str(), Input::Cwd)?;
     plain(&cwd, Input::Cwd)?;
     let runs = parsed(dry1, dry2, &cwd, limit)?;
     let lookups = lookups_of_runs(Global, &runs, &cwd)?;
-    let lookup = |it: &dry_runs::Lookup| Ok(Lookup { program: copied(it.program.as_str())?, path: copied(it.path.as_str())? });
+    let lookup = |it: &dry_runs::Lookup| {
+        Ok(Lookup { program: copied(it.program.as_str())?, path: copied(it.path.as_str())? })
+    };
     Ok(listed(lookups.iter().map(lookup)).map_err(|lack: OutOfMemory| lack)?)
 }
 
 fn parsed(dry1: &[u8], dry2: &[u8], cwd: &str, limit: Option<NonZeroUsize>) -> Result<ParsedRuns, Error> {
     match limit {
         None => Ok(parse_dry_runs(Global, dry1, dry2)?),
-        Some(limit) => parse_within(Global, dry1, dry2, cwd, limit.get()).map_err(|fault| within(fault, limit.get())),
+        Some(limit) => {
+            parse_within(Global, dry1, dry2, cwd, limit.get()).map_err(|fault| within(fault, limit.get()))
+        }
     }
 }
 
@@ -169,7 +193,8 @@ pub(crate) fn within(fault: LimitedFault, limit: usize) -> Error {
     }
 }
 
-/// Lists the paths that a look-up tries from a working directory, in order: the first that is an executable file is the program.
+/// Lists the paths that a look-up tries from a working directory, in order: the first that is an executable
+/// file is the program.
 ///
 /// # Errors
 ///
@@ -180,14 +205,22 @@ pub fn candidates(lookup: &Lookup, cwd: &Path) -> Result<Texts, Error> {
     Ok(Texts::of(dry_runs::candidates(Global, &lookup.program, &lookup.path, &cwd)?))
 }
 
-/// Finds the programs that a plan of two dry runs needs, on this machine: [`Disk`] for each of the [`lookups`].
+/// Finds the programs that a plan of two dry runs needs, on this machine: [`Disk`] for each of the
+/// [`lookups`].
 ///
 /// # Errors
 ///
 /// Those of [`lookups`].
-pub fn find_programs(dry1: &[u8], dry2: &[u8], cwd: &Path, limit: Option<NonZeroUsize>) -> Result<Vec<FoundProgram>, Error> {
+pub fn find_programs(
+    dry1: &[u8],
+    dry2: &[u8],
+    cwd: &Path,
+    limit: Option<NonZeroUsize>,
+) -> Result<Vec<FoundProgram>, Error> {
     let (disk, folder) = (Disk::default(), text_in(cwd.as_os_str(), Input::Cwd)?);
-    let found = |lookup: Lookup| Ok(FoundProgram { found: disk.find(&lookup.program, &lookup.path, &folder)?, lookup });
+    let found = |lookup: Lookup| {
+        Ok(FoundProgram { found: disk.find(&lookup.program, &lookup.path, &folder)?, lookup })
+    };
     listed(lookups(dry1, dry2, cwd, limit)?.into_iter().map(found))
 }
 
@@ -209,7 +242,10 @@ mod tests {
     fn programs_are_files_that_can_be_run() {
         let scratch = TestFolder::new();
         let is = |mode| is_program(&tool(&scratch, mode));
-        assert_eq!([0o755, 0o700, 0o070, 0o001, 0o644, 0o600].map(is), [true, true, true, true, false, false]);
+        assert_eq!(
+            [0o755, 0o700, 0o070, 0o001, 0o644, 0o600].map(is),
+            [true, true, true, true, false, false]
+        );
         assert!(!is_program(&scratch) && !is_program(&scratch.join("missing")));
     }
 
@@ -230,10 +266,18 @@ mod tests {
             lookup: Lookup { program: "cicc".into(), path: path.into() },
             found: found.map(String::from),
         };
-        let rows = vec![row("/a", None), row("/b", Some("/x/cicc")), row("/b", Some("/y/cicc")), row("/d", Some(""))];
+        let rows = vec![
+            row("/a", None),
+            row("/b", Some("/x/cicc")),
+            row("/b", Some("/y/cicc")),
+            row("/d", Some("")),
+        ];
         let found = |program: &str, path: &str| rows.find(program, path, "/").unwrap();
         assert_eq!(found("cicc", "/b"), Some("/x/cicc".into()));
-        assert_eq!([found("cicc", "/a"), found("cicc", "/c"), found("cicc", "/d"), found("gcc", "/b")], [None, None, None, None]);
+        assert_eq!(
+            [found("cicc", "/a"), found("cicc", "/c"), found("cicc", "/d"), found("gcc", "/b")],
+            [None, None, None, None]
+        );
     }
 
     #[test]

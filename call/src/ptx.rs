@@ -3,7 +3,8 @@
 /// By this, PTX names a file for debuggers.
 const FILE: &[u8] = b".file";
 
-/// The file that a directive names, given what follows its word: a number, and the name in quotes. `None` if it may mean another.
+/// The file that a directive names, given what follows its word: a number, and the name in quotes. `None` if
+/// it may mean another.
 fn named(rest: &[u8]) -> Option<&[u8]> {
     let rest = rest.trim_ascii_start();
     let digits = rest.iter().take_while(|byte| byte.is_ascii_digit()).count();
@@ -12,8 +13,9 @@ fn named(rest: &[u8]) -> Option<&[u8]> {
     (!name.contains(&b'\\')).then_some(name)
 }
 
-/// The files that PTX names, wherever the directives stand: code in a source may have some, too. Of each, ptxas writes the size, and when it was
-/// changed. `None` for one that may be named in a way that isn't known here.
+/// The files that PTX names, wherever the directives stand: code in a source may have some, too. Of each,
+/// ptxas writes the size, and when it was changed. `None` for one that may be named in a way that isn't known
+/// here.
 pub fn names_in_ptx(ptx: &[u8]) -> impl Iterator<Item = Option<&[u8]>> {
     let directives = ptx.windows(FILE.len()).enumerate().filter(|(_, word)| *word == FILE);
     directives.map(|(place, _)| named(&ptx[place + FILE.len()..]))

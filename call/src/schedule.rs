@@ -16,7 +16,8 @@ use std::ops::Range;
 pub enum AfterFailure {
     /// Nothing.
     StartNothing,
-    /// Only commands before it. Then you print what the commands print one after the other, up to the first that fails.
+    /// Only commands before it. Then you print what the commands print one after the other, up to the first
+    /// that fails.
     StartEarlier,
     /// Each command whose needs have all succeeded.
     GoOn,
@@ -24,7 +25,8 @@ pub enum AfterFailure {
 
 impl AfterFailure {
     /// All of them, by their numbers in other languages.
-    pub const ALL: [AfterFailure; 3] = [AfterFailure::StartNothing, AfterFailure::StartEarlier, AfterFailure::GoOn];
+    pub const ALL: [AfterFailure; 3] =
+        [AfterFailure::StartNothing, AfterFailure::StartEarlier, AfterFailure::GoOn];
 }
 
 /// How a command ended.
@@ -228,11 +230,14 @@ impl Graph {
             AfterFailure::StartEarlier => schedules::AfterFailure::StartEarlier,
             AfterFailure::GoOn => schedules::AfterFailure::GoOn,
         };
-        Ok(Schedule { inner: schedules::Schedule::new(Global, self.needs, self.priorities, slots, after_failure)? })
+        Ok(Schedule {
+            inner: schedules::Schedule::new(Global, self.needs, self.priorities, slots, after_failure)?,
+        })
     }
 }
 
-/// Which commands of a plan, or of several, may start next, and what has become of each. Commands are numbered from 0.
+/// Which commands of a plan, or of several, may start next, and what has become of each. Commands are
+/// numbered from 0.
 pub struct Schedule {
     inner: schedules::Schedule,
 }
@@ -243,7 +248,11 @@ impl Schedule {
     /// # Errors
     ///
     /// [`BadGraph`].
-    pub fn new(commands: impl IntoIterator<Item = ScheduledCommand>, slots: usize, after_failure: AfterFailure) -> Result<Self, BadGraph> {
+    pub fn new(
+        commands: impl IntoIterator<Item = ScheduledCommand>,
+        slots: usize,
+        after_failure: AfterFailure,
+    ) -> Result<Self, BadGraph> {
         let mut graph = Graph::new();
         for command in commands {
             graph.push(command.needs.into_iter(), command.priority)?;
@@ -251,18 +260,24 @@ impl Schedule {
         graph.schedule(slots, after_failure)
     }
 
-    /// A schedule of the commands of plans, the numbers of each behind those of the plans before it. The plans have to touch different
-    /// files. Of the commands that may start, the one is next for which others wait longest, by how long such commands usually take.
+    /// A schedule of the commands of plans, the numbers of each behind those of the plans before it. The
+    /// plans have to touch different files. Of the commands that may start, the one is next for which others
+    /// wait longest, by how long such commands usually take.
     ///
     /// # Errors
     ///
     /// [`BadGraph`].
-    pub fn of_plans<'a>(plans: impl IntoIterator<Item = &'a Plan>, slots: usize, after_failure: AfterFailure) -> Result<Self, BadGraph> {
+    pub fn of_plans<'a>(
+        plans: impl IntoIterator<Item = &'a Plan>,
+        slots: usize,
+        after_failure: AfterFailure,
+    ) -> Result<Self, BadGraph> {
         let mut graph = Graph::new();
         for plan in plans {
             let first = graph.needs.len();
             for command in plan.commands() {
-                graph.push(command.needs().iter().map(|need| first + need), usual_weight(kind_of(command)))?;
+                graph
+                    .push(command.needs().iter().map(|need| first + need), usual_weight(kind_of(command)))?;
             }
         }
         graph.priorities = chain_weights(Global, &graph.needs, &graph.priorities)?;
@@ -305,8 +320,8 @@ impl Schedule {
         })
     }
 
-    /// The command that may start next: not started, all that it needs have succeeded, no failure holds it back, and fewer run than there
-    /// are slots.
+    /// The command that may start next: not started, all that it needs have succeeded, no failure holds it
+    /// back, and fewer run than there are slots.
     #[must_use]
     pub fn next(&self) -> Option<usize> {
         self.inner.next()
@@ -346,8 +361,8 @@ impl Schedule {
         StartReady { schedule: self }
     }
 
-    /// Which outputs of the commands with these numbers, of one plan or of what hasn't been printed of it, may be printed now: those up to the
-    /// first that hasn't succeeded, and its own if it failed.
+    /// Which outputs of the commands with these numbers, of one plan or of what hasn't been printed of it,
+    /// may be printed now: those up to the first that hasn't succeeded, and its own if it failed.
     #[must_use]
     pub fn told(&self, commands: Range<usize>) -> Told {
         let told = self.inner.told(commands.start, commands.end);

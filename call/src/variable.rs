@@ -3,7 +3,8 @@ use crate::error::{Error, ErrorKind, Input};
 use std::ffi::OsStr;
 use std::fmt;
 
-/// An environment variable, borrowed. One that isn't UTF-8 is an error of the call that reads it ([`ErrorKind::NotUtf8`](crate::ErrorKind)).
+/// An environment variable, borrowed. One that isn't UTF-8 is an error of the call that reads it
+/// ([`ErrorKind::NotUtf8`](crate::ErrorKind)).
 #[derive(Clone, Copy, PartialEq, Eq, Hash)]
 pub struct Variable<'a> {
     name: &'a OsStr,

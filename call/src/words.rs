@@ -108,13 +108,16 @@ impl fmt::Debug for TextsIter<'_> {
     }
 }
 
-/// Splits a text into the words that a POSIX shell reads: quotes and backslashes group characters. Nothing is expanded.
+/// Splits a text into the words that a POSIX shell reads: quotes and backslashes group characters. Nothing is
+/// expanded.
 ///
 /// # Errors
 ///
 /// [`ErrorKind::OpenQuote`] if the text ends inside quotes or in a backslash, `OutOfMemory`.
 pub fn split(text: &str) -> Result<Texts, Error> {
-    shell::split(Global, text)?.map(|words| Texts(Words::from_vec(words))).ok_or_else(|| Error::plain(ErrorKind::OpenQuote))
+    shell::split(Global, text)?
+        .map(|words| Texts(Words::from_vec(words)))
+        .ok_or_else(|| Error::plain(ErrorKind::OpenQuote))
 }
 
 /// Writes words as one text, which a POSIX shell and [`split`] read as these words.
@@ -134,14 +137,16 @@ where
     Ok(copied(shell::quote(Global, list.as_slice())?.as_str())?)
 }
 
-/// Lists words with canonical names for the files that nvcc generates: as many words, in their order. Pass the words of all
-/// commands of a dry run, one command behind the other. The suffixes are behind the standard ones.
+/// Lists words with canonical names for the files that nvcc generates: as many words, in their order. Pass
+/// the words of all commands of a dry run, one command behind the other. The suffixes are behind the standard
+/// ones.
 ///
 /// # Errors
 ///
 /// [`ErrorKind::BadSuffixes`], `OutOfMemory`.
 pub fn remap<S: AsRef<str>, T: AsRef<str>>(words: &[S], suffixes: &[T]) -> Result<Texts, Error> {
-    let suffixes = all_suffixes(Global, &texts(suffixes)?).map_err(|fault| Error::from(fault).at(Input::Suffixes))?;
+    let suffixes =
+        all_suffixes(Global, &texts(suffixes)?).map_err(|fault| Error::from(fault).at(Input::Suffixes))?;
     let mut renames = Renames::new(Global, &suffixes)?;
     let words = texts(words)?;
     Ok(Texts(remap_generated_filenames(Global, &words, &mut renames)?))

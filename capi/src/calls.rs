@@ -1,8 +1,8 @@
 //! Calls of nvcc.
-use crate::given::{collected, copies, zigrunk_text, zigrunk_texts, Environment};
-use crate::made::{answer, freed, give, zigrunk_error, zigrunk_made, Room};
-use crate::plans::{made_plan, zigrunk_found_program, zigrunk_plan, Table};
-use call::{copied_bytes, Call, DryRuns, Error, NvccCall, Processes, Ran, Run};
+use crate::given::{Environment, collected, copies, zigrunk_text, zigrunk_texts};
+use crate::made::{Room, answer, freed, give, zigrunk_error, zigrunk_made};
+use crate::plans::{Table, made_plan, zigrunk_found_program, zigrunk_plan};
+use call::{Call, DryRuns, Error, NvccCall, Processes, Ran, Run, copied_bytes};
 use std::io;
 use std::num::NonZeroUsize;
 use std::ptr;
@@ -15,7 +15,8 @@ pub struct zigrunk_nvcc_call {
     pub nvcc: zigrunk_text,
     /// The words behind it.
     pub words: zigrunk_texts,
-    /// All of the environment, as environ: nvcc reads `NVCC_PREPEND_FLAGS` and `NVCC_APPEND_FLAGS` there, and the commands run in it.
+    /// All of the environment, as environ: nvcc reads `NVCC_PREPEND_FLAGS` and `NVCC_APPEND_FLAGS` there, and
+    /// the commands run in it.
     pub environment: zigrunk_texts,
     /// The working directory, an absolute path.
     pub cwd: zigrunk_text,
@@ -36,8 +37,8 @@ pub struct zigrunk_dry_runs {
     pub programs: *const zigrunk_found_program,
     /// How many there are.
     pub programs_count: usize,
-    /// How many bytes of text reading each dry run may make, or 0. Give a limit if someone else wrote them: 350 bytes of variables that refer
-    /// to each other can turn into gigabytes.
+    /// How many bytes of text reading each dry run may make, or 0. Give a limit if someone else wrote them:
+    /// 350 bytes of variables that refer to each other can turn into gigabytes.
     pub limit: usize,
 }
 
@@ -125,10 +126,15 @@ unsafe fn read(given: &zigrunk_nvcc_call) -> Result<*mut zigrunk_call, Error> {
     give(zigrunk_call { made: freed::<zigrunk_call>(), outline, call, others }, room)
 }
 
-/// Reads the line of a call. `ZIGRUNK_TO_NVCC` if nvcc has to make the call itself: the message has the reason.
+/// Reads the line of a call. `ZIGRUNK_TO_NVCC` if nvcc has to make the call itself: the message has the
+/// reason.
 #[no_mangle]
 #[must_use]
-pub unsafe extern "C" fn zigrunk_call_of(given: *const zigrunk_nvcc_call, made: *mut *mut zigrunk_call, error: *mut *mut zigrunk_error) -> i32 {
+pub unsafe extern "C" fn zigrunk_call_of(
+    given: *const zigrunk_nvcc_call,
+    made: *mut *mut zigrunk_call,
+    error: *mut *mut zigrunk_error,
+) -> i32 {
     // SAFETY: the caller ensures it.
     unsafe { answer(made, error, || read(&*given)) }
 }
@@ -153,9 +159,17 @@ fn end(spawned: Spawned) -> io::Result<Ran> {
 /// Runs nvcc's dry runs, looks on the disk for the programs that they name, and plans.
 #[no_mangle]
 #[must_use]
-pub unsafe extern "C" fn zigrunk_call_plan(call: *const zigrunk_call, made: *mut *mut zigrunk_plan, error: *mut *mut zigrunk_error) -> i32 {
+pub unsafe extern "C" fn zigrunk_call_plan(
+    call: *const zigrunk_call,
+    made: *mut *mut zigrunk_plan,
+    error: *mut *mut zigrunk_error,
+) -> i32 {
     // SAFETY: the caller ensures it.
-    unsafe { answer(made, error, || made_plan((*call).call.plan_by(&mut Processes { start, end })?, &(*call).others)) }
+    unsafe {
+        answer(made, error, || {
+            made_plan((*call).call.plan_by(&mut Processes { start, end })?, &(*call).others)
+        })
+    }
 }
 
 /// # Safety
@@ -170,8 +184,9 @@ unsafe fn plan_given(call: &zigrunk_call, given: &zigrunk_dry_runs) -> Result<*m
     made_plan(call.call.plan_of(&runs, &table, NonZeroUsize::new(given.limit))?, &call.others)
 }
 
-/// Plans what the dry runs of a call printed, here or elsewhere. `ZIGRUNK_NO_DRY_RUN`, and the input that is at fault, if the texts aren't
-/// the dry runs of this call; `ZIGRUNK_TO_NVCC` if nvcc does something else for the line, or a command reads what no command before it writes.
+/// Plans what the dry runs of a call printed, here or elsewhere. `ZIGRUNK_NO_DRY_RUN`, and the input that is
+/// at fault, if the texts aren't the dry runs of this call; `ZIGRUNK_TO_NVCC` if nvcc does something else for
+/// the line, or a command reads what no command before it writes.
 #[no_mangle]
 #[must_use]
 pub unsafe extern "C" fn zigrunk_call_plan_of(

@@ -1,11 +1,12 @@
 //! What callers pass: texts, lists of them, and numbers.
-use call::{copied_bytes, listed, Error, ErrorKind, Variable};
-use std::ffi::{c_char, CStr, OsStr};
+use call::{Error, ErrorKind, Variable, copied_bytes, listed};
+use std::ffi::{CStr, OsStr, c_char};
 use std::os::unix::ffi::OsStrExt;
 use std::path::Path;
 use std::slice;
 
-/// As a length: up to a NUL. As the number of texts: up to a NULL. As a command: none. (cbindgen can't write it: see cbindgen.toml.)
+/// As a length: up to a NUL. As the number of texts: up to a NULL. As a command: none. (cbindgen can't write
+/// it: see cbindgen.toml.)
 pub const ZIGRUNK_ALL: usize = usize::MAX;
 
 /// A text.
@@ -105,7 +106,8 @@ impl zigrunk_texts {
 
     pub(crate) unsafe fn listed<'a>(&self) -> Result<Vec<&'a OsStr>, Error> {
         // SAFETY: the caller ensures it.
-        let (items, lengths) = unsafe { (elements(self.items, self.count()), elements(self.lengths, self.count())) };
+        let (items, lengths) =
+            unsafe { (elements(self.items, self.count()), elements(self.lengths, self.count())) };
         collected(items.iter().enumerate().map(|(number, &item)| {
             let length = lengths.get(number).copied().unwrap_or(ZIGRUNK_ALL);
             // SAFETY: as above; a text that is NULL is empty.
@@ -118,7 +120,8 @@ impl zigrunk_texts {
         listed(unsafe { self.listed()? }.into_iter().map(utf8))
     }
 
-    /// The variables of a list of `NAME=VALUE`, whatever their bytes. What has no `=` behind a first byte is no variable.
+    /// The variables of a list of `NAME=VALUE`, whatever their bytes. What has no `=` behind a first byte is
+    /// no variable.
     pub(crate) unsafe fn variables<'a>(&self) -> Result<Vec<Variable<'a>>, Error> {
         // SAFETY: the caller ensures it.
         collected(unsafe { self.listed()? }.into_iter().filter_map(variable_of))

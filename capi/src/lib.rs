@@ -1,5 +1,6 @@
-//! libzigrunk: the crate for Rust as a C library. Each function copies what it is given, calls one function of the crate, and copies what that
-//! says. cbindgen writes `zigrunk.h` of these files, whose comments are the header's.
+//! libzigrunk: the crate for Rust as a C library. Each function copies what it is given, calls one function
+//! of the crate, and copies what that says. cbindgen writes `zigrunk.h` of these files, whose comments are
+//! the header's.
 //!
 //! Nothing here panics, and what grows with the input reports a refused allocation.
 
@@ -86,7 +87,9 @@ pub extern "C" fn zigrunk_version() -> *const c_char {
 mod tests {
     use crate::{lines as of_lines, plans as of_plans, schedules as of_schedules};
     use call::schedule::{AfterFailure, Outcome, PlanStatus};
-    use call::{ColorMode, CommandTool, DropReason, ErrorKind, HostCompiler, Input, Language, Missing, Stage, Tool};
+    use call::{
+        ColorMode, CommandTool, DropReason, ErrorKind, HostCompiler, Input, Language, Missing, Stage, Tool,
+    };
 
     #[test]
     fn numbers_are_those_of_the_library() {
@@ -94,10 +97,16 @@ mod tests {
             [ErrorKind::OutOfMemory, ErrorKind::ToNvcc, ErrorKind::Io].map(ErrorKind::status),
             [super::ZIGRUNK_OUT_OF_MEMORY, super::ZIGRUNK_TO_NVCC, super::ZIGRUNK_IO]
         );
-        assert_eq!([Input::First, Input::Words].map(Input::number), [super::ZIGRUNK_INPUT_FIRST, super::ZIGRUNK_INPUT_WORDS]);
-        let tools = [of_plans::ZIGRUNK_TOOL_CICC, of_plans::ZIGRUNK_TOOL_PTXAS, of_plans::ZIGRUNK_TOOL_CUDAFE];
-        let of_a_line = [of_plans::ZIGRUNK_TOOL_NVCC, of_plans::ZIGRUNK_TOOL_NVC, of_plans::ZIGRUNK_TOOL_NVCXX];
-        let of_a_command = [of_plans::ZIGRUNK_TOOL_FATBINARY, of_plans::ZIGRUNK_TOOL_NVLINK, of_plans::ZIGRUNK_TOOL_HOST];
+        assert_eq!(
+            [Input::First, Input::Words].map(Input::number),
+            [super::ZIGRUNK_INPUT_FIRST, super::ZIGRUNK_INPUT_WORDS]
+        );
+        let tools =
+            [of_plans::ZIGRUNK_TOOL_CICC, of_plans::ZIGRUNK_TOOL_PTXAS, of_plans::ZIGRUNK_TOOL_CUDAFE];
+        let of_a_line =
+            [of_plans::ZIGRUNK_TOOL_NVCC, of_plans::ZIGRUNK_TOOL_NVC, of_plans::ZIGRUNK_TOOL_NVCXX];
+        let of_a_command =
+            [of_plans::ZIGRUNK_TOOL_FATBINARY, of_plans::ZIGRUNK_TOOL_NVLINK, of_plans::ZIGRUNK_TOOL_HOST];
         assert!(Tool::ALL.map(|tool| tool as u32).into_iter().eq([tools, of_a_line].concat()));
         assert!(CommandTool::ALL.map(|tool| tool as u32).into_iter().eq([tools, of_a_command].concat()));
     }
@@ -105,8 +114,12 @@ mod tests {
     #[test]
     fn numbers_of_plans_are_those_of_the_library() {
         use of_plans::*;
-        assert_eq!([Stage::Front, Stage::Device, Stage::Final].map(|it| it as u32), [ZIGRUNK_FRONT, ZIGRUNK_DEVICE, ZIGRUNK_FINAL]);
-        let reasons = [DropReason::NotCuda, DropReason::NoCiccGroup, DropReason::NoPtxasGroup, DropReason::Superseded];
+        assert_eq!(
+            [Stage::Front, Stage::Device, Stage::Final].map(|it| it as u32),
+            [ZIGRUNK_FRONT, ZIGRUNK_DEVICE, ZIGRUNK_FINAL]
+        );
+        let reasons =
+            [DropReason::NotCuda, DropReason::NoCiccGroup, DropReason::NoPtxasGroup, DropReason::Superseded];
         let wanted = [ZIGRUNK_NOT_CUDA, ZIGRUNK_NO_CICC_GROUP, ZIGRUNK_NO_PTXAS_GROUP, ZIGRUNK_SUPERSEDED];
         assert_eq!(reasons.map(|it| it as u32 + 1), wanted);
         let missing = [Missing::Unread, Missing::Headers, Missing::Inputs].map(|it| it as u32 + 1);
@@ -117,14 +130,28 @@ mod tests {
     #[test]
     fn numbers_of_schedules_and_lines_are_those_of_the_library() {
         use {of_lines::*, of_schedules::*};
-        assert_eq!(AfterFailure::ALL.map(|it| it as u32), [ZIGRUNK_START_NOTHING, ZIGRUNK_START_EARLIER, ZIGRUNK_GO_ON]);
+        assert_eq!(
+            AfterFailure::ALL.map(|it| it as u32),
+            [ZIGRUNK_START_NOTHING, ZIGRUNK_START_EARLIER, ZIGRUNK_GO_ON]
+        );
         assert_eq!(Outcome::ALL.map(|it| it as u32), [ZIGRUNK_SUCCEEDED, ZIGRUNK_FAILED, ZIGRUNK_CANCELLED]);
-        let statuses = [PlanStatus::Unfinished, PlanStatus::Succeeded, PlanStatus::Failed].map(|it| it as u32);
+        let statuses =
+            [PlanStatus::Unfinished, PlanStatus::Succeeded, PlanStatus::Failed].map(|it| it as u32);
         assert_eq!(statuses, [ZIGRUNK_UNFINISHED, ZIGRUNK_ALL_SUCCEEDED, ZIGRUNK_ONE_FAILED]);
-        assert_eq!([ColorMode::Off, ColorMode::On, ColorMode::Auto].map(|it| it as u32), [ZIGRUNK_COLOR_OFF, ZIGRUNK_COLOR_ON, ZIGRUNK_COLOR_AUTO]);
-        let sources = [Language::C, Language::Cxx, Language::ObjectiveC, Language::ObjectiveCxx].map(|it| it as u32);
-        assert_eq!(sources, [ZIGRUNK_LANGUAGE_C, ZIGRUNK_LANGUAGE_CXX, ZIGRUNK_LANGUAGE_OBJC, ZIGRUNK_LANGUAGE_OBJCXX]);
+        assert_eq!(
+            [ColorMode::Off, ColorMode::On, ColorMode::Auto].map(|it| it as u32),
+            [ZIGRUNK_COLOR_OFF, ZIGRUNK_COLOR_ON, ZIGRUNK_COLOR_AUTO]
+        );
+        let sources =
+            [Language::C, Language::Cxx, Language::ObjectiveC, Language::ObjectiveCxx].map(|it| it as u32);
+        assert_eq!(
+            sources,
+            [ZIGRUNK_LANGUAGE_C, ZIGRUNK_LANGUAGE_CXX, ZIGRUNK_LANGUAGE_OBJC, ZIGRUNK_LANGUAGE_OBJCXX]
+        );
         let device = [Language::Cuda, Language::CudaFe, Language::Ptx, Language::Cubin].map(|it| it as u32);
-        assert_eq!(device, [ZIGRUNK_LANGUAGE_CUDA, ZIGRUNK_LANGUAGE_CUDAFE, ZIGRUNK_LANGUAGE_PTX, ZIGRUNK_LANGUAGE_CUBIN]);
+        assert_eq!(
+            device,
+            [ZIGRUNK_LANGUAGE_CUDA, ZIGRUNK_LANGUAGE_CUDAFE, ZIGRUNK_LANGUAGE_PTX, ZIGRUNK_LANGUAGE_CUBIN]
+        );
     }
 }

@@ -1,7 +1,7 @@
 //! Lines of tools, and keys of commands that no plan has.
 use crate::given::{collected, meant, zigrunk_text, zigrunk_texts};
-use crate::made::{answer, freed, give, text, texts, zigrunk_answer, zigrunk_error, zigrunk_made, Room};
-use call::{command_key, line_records, line_words, CommandTool, Error, KeyCall, Line, LineCall, Tool};
+use crate::made::{Room, answer, freed, give, text, texts, zigrunk_answer, zigrunk_error, zigrunk_made};
+use call::{CommandTool, Error, KeyCall, Line, LineCall, Tool, command_key, line_records, line_words};
 use std::ffi::OsStr;
 use std::path::Path;
 
@@ -97,10 +97,14 @@ pub struct zigrunk_key_call {
 /// # Safety
 ///
 /// What a caller ensures.
-unsafe fn with_line<R>(given: &zigrunk_line_call, take: impl FnOnce(&LineCall<'_, &OsStr>) -> Result<R, Error>) -> Result<R, Error> {
+unsafe fn with_line<R>(
+    given: &zigrunk_line_call,
+    take: impl FnOnce(&LineCall<'_, &OsStr>) -> Result<R, Error>,
+) -> Result<R, Error> {
     let tool = meant(&Tool::ALL, given.tool, |tool| tool as u32)?;
     // SAFETY: the caller ensures it.
-    let (words, variables, cwd) = unsafe { (given.words.listed()?, given.environment.variables()?, given.cwd.path()) };
+    let (words, variables, cwd) =
+        unsafe { (given.words.listed()?, given.environment.variables()?, given.cwd.path()) };
     take(&LineCall { tool, cwd, words: &words, variables: &variables })
 }
 
@@ -129,11 +133,15 @@ fn record(line: &Line) -> Result<*mut zigrunk_line, Error> {
     give(record, room)
 }
 
-/// Reads a line of a tool: its input, its outputs, and its words by what they are for. `ZIGRUNK_BAD_LINE` if it compiles nothing or no cache
-/// can serve it.
+/// Reads a line of a tool: its input, its outputs, and its words by what they are for. `ZIGRUNK_BAD_LINE` if
+/// it compiles nothing or no cache can serve it.
 #[no_mangle]
 #[must_use]
-pub unsafe extern "C" fn zigrunk_line_records(given: *const zigrunk_line_call, made: *mut *mut zigrunk_line, error: *mut *mut zigrunk_error) -> i32 {
+pub unsafe extern "C" fn zigrunk_line_records(
+    given: *const zigrunk_line_call,
+    made: *mut *mut zigrunk_line,
+    error: *mut *mut zigrunk_error,
+) -> i32 {
     // SAFETY: the caller ensures it.
     unsafe { answer(made, error, || record(&with_line(&*given, |call| line_records(call))?)) }
 }
@@ -141,7 +149,11 @@ pub unsafe extern "C" fn zigrunk_line_records(given: *const zigrunk_line_call, m
 /// Reads a line of a tool, and lists the words that it is written back as.
 #[no_mangle]
 #[must_use]
-pub unsafe extern "C" fn zigrunk_line_words(given: *const zigrunk_line_call, made: *mut *mut zigrunk_answer, error: *mut *mut zigrunk_error) -> i32 {
+pub unsafe extern "C" fn zigrunk_line_words(
+    given: *const zigrunk_line_call,
+    made: *mut *mut zigrunk_answer,
+    error: *mut *mut zigrunk_error,
+) -> i32 {
     // SAFETY: the caller ensures it.
     unsafe { answer(made, error, || texts(with_line(&*given, |call| line_words(call))?.iter())) }
 }
@@ -152,17 +164,22 @@ pub unsafe extern "C" fn zigrunk_line_words(given: *const zigrunk_line_call, mad
 unsafe fn key_of(given: &zigrunk_key_call) -> Result<Vec<u8>, Error> {
     let tool = meant(&CommandTool::ALL, given.tool, |tool| tool as u32)?;
     // SAFETY: the caller ensures it.
-    let (words, variables, roots) = unsafe { (given.words.listed()?, given.environment.variables()?, given.roots.listed()?) };
+    let (words, variables, roots) =
+        unsafe { (given.words.listed()?, given.environment.variables()?, given.roots.listed()?) };
     let roots = collected(roots.into_iter().map(Path::new))?;
     command_key(&KeyCall { tool, words: &words, variables: &variables, roots: &roots })
 }
 
-/// What a cache hashes of a command together with the contents of its files and whatever tells one version of its tool from another: its
-/// words and the variables that may change what it makes, with a mark in place of each root. `ZIGRUNK_BAD_NUMBER` for more than 26 roots,
-/// `ZIGRUNK_BAD_LINE` for a NUL.
+/// What a cache hashes of a command together with the contents of its files and whatever tells one version of
+/// its tool from another: its words and the variables that may change what it makes, with a mark in place of
+/// each root. `ZIGRUNK_BAD_NUMBER` for more than 26 roots, `ZIGRUNK_BAD_LINE` for a NUL.
 #[no_mangle]
 #[must_use]
-pub unsafe extern "C" fn zigrunk_command_key(given: *const zigrunk_key_call, made: *mut *mut zigrunk_answer, error: *mut *mut zigrunk_error) -> i32 {
+pub unsafe extern "C" fn zigrunk_command_key(
+    given: *const zigrunk_key_call,
+    made: *mut *mut zigrunk_answer,
+    error: *mut *mut zigrunk_error,
+) -> i32 {
     // SAFETY: the caller ensures it.
     unsafe { answer(made, error, || text(key_of(&*given)?)) }
 }

@@ -1,6 +1,6 @@
 //! What callers get: things that `zigrunk_free` frees, with the texts that they have.
 use crate::given::{zigrunk_text, zigrunk_texts};
-use call::{displayed, Error};
+use call::{Error, displayed};
 use std::ffi::{c_char, c_void};
 use std::{iter, mem, ptr};
 
@@ -77,7 +77,8 @@ pub unsafe extern "C" fn zigrunk_free(thing: *mut c_void) {
     }
 }
 
-/// Memory in pieces that never move. Each is twice as large as the one before, since large blocks cost malloc most.
+/// Memory in pieces that never move. Each is twice as large as the one before, since large blocks cost malloc
+/// most.
 struct Pieces<T>(Vec<T>, Vec<Vec<T>>);
 
 impl<T> Pieces<T> {
@@ -126,10 +127,15 @@ impl Room {
     }
 
     /// A list of texts, each of parts, and a NULL.
-    pub(crate) fn list<'a, const N: usize>(&mut self, texts: impl Iterator<Item = [&'a [u8]; N]> + Clone) -> Result<zigrunk_texts, Error> {
+    pub(crate) fn list<'a, const N: usize>(
+        &mut self,
+        texts: impl Iterator<Item = [&'a [u8]; N]> + Clone,
+    ) -> Result<zigrunk_texts, Error> {
         let size = |parts: [&[u8]; N]| parts.iter().map(|part| part.len()).sum::<usize>() + 1;
-        let (count, total) = texts.clone().fold((0, 0), |(count, total), parts| (count + 1, total + size(parts)));
-        let (bytes, items, lengths) = (self.bytes.room(total)?, self.items.room(count + 1)?, self.numbers.room(count)?);
+        let (count, total) =
+            texts.clone().fold((0, 0), |(count, total), parts| (count + 1, total + size(parts)));
+        let (bytes, items, lengths) =
+            (self.bytes.room(total)?, self.items.room(count + 1)?, self.numbers.room(count)?);
         let (first, first_length) = (items.len(), lengths.len());
         for parts in texts {
             let start = bytes.len();
@@ -144,7 +150,10 @@ impl Room {
         Ok(zigrunk_texts { items: items[first..].as_ptr(), lengths: lengths[first_length..].as_ptr(), count })
     }
 
-    pub(crate) fn texts<'a, T: AsRef<[u8]> + ?Sized + 'a>(&mut self, texts: impl Iterator<Item = &'a T> + Clone) -> Result<zigrunk_texts, Error> {
+    pub(crate) fn texts<'a, T: AsRef<[u8]> + ?Sized + 'a>(
+        &mut self,
+        texts: impl Iterator<Item = &'a T> + Clone,
+    ) -> Result<zigrunk_texts, Error> {
         self.list(texts.map(|text| [text.as_ref()]))
     }
 
@@ -196,7 +205,11 @@ fn error_of(error: &Error) -> Result<*mut zigrunk_error, Error> {
 /// # Safety
 ///
 /// Both pointers are NULL or valid.
-pub(crate) unsafe fn answer<T>(made: *mut *mut T, error: *mut *mut zigrunk_error, thing: impl FnOnce() -> Result<*mut T, Error>) -> i32 {
+pub(crate) unsafe fn answer<T>(
+    made: *mut *mut T,
+    error: *mut *mut zigrunk_error,
+    thing: impl FnOnce() -> Result<*mut T, Error>,
+) -> i32 {
     let (thing, why) = match thing() {
         Ok(thing) => (thing, ptr::null_mut()),
         Err(why) => (ptr::null_mut(), error_of(&why).unwrap_or(ptr::addr_of!(LACK.0).cast_mut())),
@@ -216,7 +229,9 @@ pub(crate) unsafe fn answer<T>(made: *mut *mut T, error: *mut *mut zigrunk_error
 }
 
 /// An answer of texts.
-pub(crate) fn texts<'a, T: AsRef<[u8]> + ?Sized + 'a>(texts: impl Iterator<Item = &'a T> + Clone) -> Result<*mut zigrunk_answer, Error> {
+pub(crate) fn texts<'a, T: AsRef<[u8]> + ?Sized + 'a>(
+    texts: impl Iterator<Item = &'a T> + Clone,
+) -> Result<*mut zigrunk_answer, Error> {
     let mut room = Room::default();
     let texts = room.texts(texts)?;
     give(zigrunk_answer { made: freed::<zigrunk_answer>(), texts }, room)

@@ -1,8 +1,9 @@
 //! Plans, as records and as texts.
-use crate::given::{copies, elements, meant, zigrunk_text, zigrunk_texts, Environment};
-use crate::made::{answer, freed, give, text, texts, zigrunk_answer, zigrunk_error, zigrunk_made, Room};
+use crate::given::{Environment, copies, elements, meant, zigrunk_text, zigrunk_texts};
+use crate::made::{Room, answer, freed, give, text, texts, zigrunk_answer, zigrunk_error, zigrunk_made};
 use call::{
-    found_in, listed, Command, CommandTool, Disk, Error, ErrorKind, Format, HostCompiler, OutOfMemory, Plan, PlanCall, ProgramRow, Programs, Stage,
+    Command, CommandTool, Disk, Error, ErrorKind, Format, HostCompiler, OutOfMemory, Plan, PlanCall,
+    ProgramRow, Programs, Stage, found_in, listed,
 };
 use std::num::NonZeroUsize;
 use std::{iter, ptr};
@@ -88,7 +89,8 @@ pub struct zigrunk_plan_call {
     pub environment: zigrunk_texts,
     /// Suffixes of generated files, behind the standard ones.
     pub suffixes: zigrunk_texts,
-    /// Where the programs are that the dry runs name; the first row of a look-up counts. NULL looks for them on this machine's disk.
+    /// Where the programs are that the dry runs name; the first row of a look-up counts. NULL looks for them
+    /// on this machine's disk.
     pub programs: *const zigrunk_found_program,
     /// How many there are.
     pub programs_count: usize,
@@ -100,7 +102,8 @@ pub struct zigrunk_plan_call {
     pub keeps_names: u32,
 }
 
-/// A command of a plan, or one that the plan dropped: of that only its words, its place and the reason say something.
+/// A command of a plan, or one that the plan dropped: of that only its words, its place and the reason say
+/// something.
 #[repr(C)]
 pub struct zigrunk_command {
     /// The program's path, then its words.
@@ -115,7 +118,8 @@ pub struct zigrunk_command {
     pub writes: zigrunk_texts,
     /// Those that it may write or leave out.
     pub may_write: zigrunk_texts,
-    /// Such as `compute_80` or `sm_80`; those of a preprocessor are those of the cicc commands that read what it writes.
+    /// Such as `compute_80` or `sm_80`; those of a preprocessor are those of the cicc commands that read what
+    /// it writes.
     pub targets: zigrunk_texts,
     /// The numbers of the commands that have to end before it starts, ascending.
     pub needs: *const usize,
@@ -178,7 +182,9 @@ impl Table<'_> {
         // SAFETY: the caller ensures it.
         let given = (!programs.is_null()).then(|| unsafe { elements(programs, count) });
         // SAFETY: the caller ensures it.
-        let row_of = |row: &zigrunk_found_program| unsafe { Ok::<_, Error>((row.program.utf8()?, row.path.utf8()?, Some(row.found.utf8()?))) };
+        let row_of = |row: &zigrunk_found_program| unsafe {
+            Ok::<_, Error>((row.program.utf8()?, row.path.utf8()?, Some(row.found.utf8()?)))
+        };
         let rows = given.map(|rows| listed(rows.iter().map(row_of))).transpose()?;
         Ok(Table { rows, disk: Disk::default() })
     }
@@ -191,7 +197,12 @@ impl Programs for Table<'_> {
     }
 }
 
-fn record(room: &mut Room, command: &Command<'_>, stage: u32, environment: zigrunk_texts) -> Result<zigrunk_command, Error> {
+fn record(
+    room: &mut Room,
+    command: &Command<'_>,
+    stage: u32,
+    environment: zigrunk_texts,
+) -> Result<zigrunk_command, Error> {
     Ok(zigrunk_command {
         words: room.texts(iter::once(command.program()).chain(command.arguments()))?,
         environment,
@@ -217,22 +228,28 @@ fn record(room: &mut Room, command: &Command<'_>, stage: u32, environment: zigru
 /// A plan with its records. Commands get the variables that aren't UTF-8, too.
 pub(crate) fn made_plan(plan: Plan, others: &[Vec<u8>]) -> Result<*mut zigrunk_plan, Error> {
     let (mut room, mut last) = (Room::default(), None::<(Command<'_>, zigrunk_texts)>);
-    let grouped = plan.groups().flat_map(|group| group.commands().map(move |command| (command, group.stage())));
+    let grouped =
+        plan.groups().flat_map(|group| group.commands().map(move |command| (command, group.stage())));
     let all = grouped.chain(plan.dropped().map(|command| (command, Stage::Front)));
     let mut records = Vec::new();
     records.try_reserve_exact(plan.commands().len() + plan.dropped().len())?;
     for (command, stage) in all {
         // (most commands have the environment of the one before)
-        let is_same = |before: &Command<'_>| before.reason() == command.reason() && before.variables().eq(command.variables());
+        let is_same = |before: &Command<'_>| {
+            before.reason() == command.reason() && before.variables().eq(command.variables())
+        };
         let environment = match last.filter(|(before, _)| is_same(before)) {
             Some((_, environment)) => environment,
-            None => room.environment(command.variables(), if command.reason().is_none() { others } else { &[] })?,
+            None => {
+                room.environment(command.variables(), if command.reason().is_none() { others } else { &[] })?
+            }
         };
         last = Some((command, environment));
         records.push(record(&mut room, &command, stage as u32, environment)?);
     }
     let (items, count) = (records.as_ptr(), records.len());
-    let commands = zigrunk_commands { items, count, dropped: plan.dropped().len(), groups: plan.groups().len() };
+    let commands =
+        zigrunk_commands { items, count, dropped: plan.dropped().len(), groups: plan.groups().len() };
     give(zigrunk_plan { made: freed::<zigrunk_plan>(), commands, _records: records, plan }, room)
 }
 
@@ -246,7 +263,9 @@ unsafe fn planned(given: &zigrunk_plan_call) -> Result<*mut zigrunk_plan, Error>
     // SAFETY: the caller ensures it.
     let table = unsafe { Table::of(given.programs, given.programs_count)? };
     // SAFETY: the caller ensures it.
-    let (runs, cwd, tmp, flag) = unsafe { ([given.dry1.bytes(), given.dry2.bytes()], given.cwd.path(), given.tmp.path(), given.flag.os()) };
+    let (runs, cwd, tmp, flag) = unsafe {
+        ([given.dry1.bytes(), given.dry2.bytes()], given.cwd.path(), given.tmp.path(), given.flag.os())
+    };
     let plan = call::plan(&PlanCall {
         flag: flag.to_str().unwrap_or("\u{fffd}"),
         keeps_names: given.keeps_names != 0,
@@ -262,7 +281,11 @@ unsafe fn planned(given: &zigrunk_plan_call) -> Result<*mut zigrunk_plan, Error>
 /// Plans two dry runs alone.
 #[no_mangle]
 #[must_use]
-pub unsafe extern "C" fn zigrunk_plan_of(given: *const zigrunk_plan_call, made: *mut *mut zigrunk_plan, error: *mut *mut zigrunk_error) -> i32 {
+pub unsafe extern "C" fn zigrunk_plan_of(
+    given: *const zigrunk_plan_call,
+    made: *mut *mut zigrunk_plan,
+    error: *mut *mut zigrunk_error,
+) -> i32 {
     // SAFETY: the caller ensures it.
     unsafe { answer(made, error, || planned(&*given)) }
 }
@@ -274,8 +297,8 @@ pub unsafe extern "C" fn zigrunk_plan_commands(plan: *const zigrunk_plan) -> *co
     unsafe { ptr::addr_of!((*plan).commands) }
 }
 
-/// The plan as a text: as "json", "ninja", "shell", "compdb" or "text". `ZIGRUNK_BAD_NUMBER` for another format, `ZIGRUNK_UNWRITABLE` if the format
-/// can't represent the plan.
+/// The plan as a text: as "json", "ninja", "shell", "compdb" or "text". `ZIGRUNK_BAD_NUMBER` for another
+/// format, `ZIGRUNK_UNWRITABLE` if the format can't represent the plan.
 #[no_mangle]
 #[must_use]
 pub unsafe extern "C" fn zigrunk_plan_text(
@@ -291,15 +314,17 @@ pub unsafe extern "C" fn zigrunk_plan_text(
 }
 
 fn key_of(plan: &zigrunk_plan, command: usize) -> Result<*mut zigrunk_answer, Error> {
-    let key = plan.plan.commands().nth(command).ok_or(ErrorKind::BadNumber)?.cache_key_by(&unix::real_path)?;
+    let key =
+        plan.plan.commands().nth(command).ok_or(ErrorKind::BadNumber)?.cache_key_by(&unix::real_path)?;
     let files = key.tool.iter().map(|path| path.as_os_str().as_encoded_bytes());
     texts(iter::once(key.text.as_slice()).chain(files))
 }
 
-/// What a cache hashes of a command of a plan, by its number: the first text, then the contents of the files that the others name, which tell
-/// one version of its tool from another, and of what it reads. Two commands for which all that is equal make files of equal contents, in
-/// whatever directories they run; two exceptions are in the manual. `ZIGRUNK_BAD_LINE` if a cache may not serve the command: the message says
-/// why. So ask when the commands that it needs have ended.
+/// What a cache hashes of a command of a plan, by its number: the first text, then the contents of the files
+/// that the others name, which tell one version of its tool from another, and of what it reads. Two commands
+/// for which all that is equal make files of equal contents, in whatever directories they run; two exceptions
+/// are in the manual. `ZIGRUNK_BAD_LINE` if a cache may not serve the command: the message says why. So ask
+/// when the commands that it needs have ended.
 #[no_mangle]
 #[must_use]
 pub unsafe extern "C" fn zigrunk_plan_key(

@@ -1,9 +1,9 @@
 //! Schedules of commands.
-use crate::given::{collected, elements, meant, ZIGRUNK_ALL};
-use crate::made::{answer, freed, give, zigrunk_error, zigrunk_made, Room};
+use crate::given::{ZIGRUNK_ALL, collected, elements, meant};
+use crate::made::{Room, answer, freed, give, zigrunk_error, zigrunk_made};
 use crate::plans::zigrunk_plan;
 use call::schedule::{AfterFailure, Outcome, Refused, Schedule, ScheduledCommand};
-use call::{listed, Error};
+use call::{Error, listed};
 
 /// After a failure nothing starts.
 pub const ZIGRUNK_START_NOTHING: u32 = 0;
@@ -44,7 +44,8 @@ pub struct zigrunk_scheduled_command {
     pub priority: usize,
 }
 
-/// What to run: the commands of plans, the numbers of each behind those of the plans before it, or other commands.
+/// What to run: the commands of plans, the numbers of each behind those of the plans before it, or other
+/// commands.
 #[repr(C)]
 pub struct zigrunk_schedule_call {
     /// Plans that touch different files.
@@ -66,7 +67,8 @@ pub struct zigrunk_schedule_call {
 pub struct zigrunk_progress {
     /// How many commands run.
     pub running: usize,
-    /// The outputs of the commands from the first that you asked for up to this one, which isn't one of them, may be printed.
+    /// The outputs of the commands from the first that you asked for up to this one, which isn't one of them,
+    /// may be printed.
     pub told: usize,
     /// `ZIGRUNK_UNFINISHED` ..
     pub status: u32,
@@ -74,7 +76,8 @@ pub struct zigrunk_progress {
     pub is_over: u32,
 }
 
-/// Which command may start next, what a failure means, and which outputs may be printed. It starts no process.
+/// Which command may start next, what a failure means, and which outputs may be printed. It starts no
+/// process.
 #[repr(C)]
 pub struct zigrunk_schedule {
     made: zigrunk_made,
@@ -87,11 +90,18 @@ pub struct zigrunk_schedule {
 unsafe fn begun(given: &zigrunk_schedule_call) -> Result<*mut zigrunk_schedule, Error> {
     let after_failure = meant(&AfterFailure::ALL, given.after_failure, |after| after as u32)?;
     // SAFETY: the caller ensures it.
-    let (plans, commands) = unsafe { (elements(given.plans, given.plans_count), elements(given.commands, given.commands_count)) };
+    let (plans, commands) =
+        unsafe { (elements(given.plans, given.plans_count), elements(given.commands, given.commands_count)) };
     let schedule = if plans.is_empty() {
         // SAFETY: the caller ensures it.
-        let needs = |command: &zigrunk_scheduled_command| unsafe { elements(command.needs, command.needs_count) };
-        let scheduled = |it| Ok::<_, Error>(ScheduledCommand { needs: collected(needs(it).iter().copied())?, priority: it.priority });
+        let needs =
+            |command: &zigrunk_scheduled_command| unsafe { elements(command.needs, command.needs_count) };
+        let scheduled = |it| {
+            Ok::<_, Error>(ScheduledCommand {
+                needs: collected(needs(it).iter().copied())?,
+                priority: it.priority,
+            })
+        };
         Schedule::new(listed(commands.iter().map(scheduled))?, given.slots, after_failure)?
     } else {
         // SAFETY: the caller ensures it.
@@ -100,8 +110,8 @@ unsafe fn begun(given: &zigrunk_schedule_call) -> Result<*mut zigrunk_schedule, 
     give(zigrunk_schedule { made: freed::<zigrunk_schedule>(), schedule }, Room::default())
 }
 
-/// A schedule of commands of which none has started. `ZIGRUNK_BAD_NUMBER` if there are no slots, a command needs one that isn't before it, or
-/// a number has no meaning.
+/// A schedule of commands of which none has started. `ZIGRUNK_BAD_NUMBER` if there are no slots, a command
+/// needs one that isn't before it, or a number has no meaning.
 #[no_mangle]
 #[must_use]
 pub unsafe extern "C" fn zigrunk_schedule_of(
@@ -113,17 +123,25 @@ pub unsafe extern "C" fn zigrunk_schedule_of(
     unsafe { answer(made, error, || begun(&*given)) }
 }
 
-/// The command to start now, which the schedule notes as started, or `ZIGRUNK_ALL` if none may start: call it until it says so.
+/// The command to start now, which the schedule notes as started, or `ZIGRUNK_ALL` if none may start: call it
+/// until it says so.
 #[no_mangle]
 pub unsafe extern "C" fn zigrunk_schedule_start(schedule: *mut zigrunk_schedule) -> usize {
     // SAFETY: the caller ensures it.
     unsafe { &mut (*schedule).schedule }.start_next().unwrap_or(ZIGRUNK_ALL)
 }
 
-/// Notes how a command ended: `ZIGRUNK_SUCCEEDED` .. 0, or `ZIGRUNK_NO_SUCH_COMMAND` .., and the schedule is unchanged.
+/// Notes how a command ended: `ZIGRUNK_SUCCEEDED` .. 0, or `ZIGRUNK_NO_SUCH_COMMAND` .., and the schedule is
+/// unchanged.
 #[no_mangle]
-pub unsafe extern "C" fn zigrunk_schedule_ended(schedule: *mut zigrunk_schedule, command: usize, outcome: u32) -> i32 {
-    let Ok(outcome) = meant(&Outcome::ALL, outcome, |outcome| outcome as u32) else { return ZIGRUNK_NO_OUTCOME };
+pub unsafe extern "C" fn zigrunk_schedule_ended(
+    schedule: *mut zigrunk_schedule,
+    command: usize,
+    outcome: u32,
+) -> i32 {
+    let Ok(outcome) = meant(&Outcome::ALL, outcome, |outcome| outcome as u32) else {
+        return ZIGRUNK_NO_OUTCOME;
+    };
     // SAFETY: the caller ensures it.
     match unsafe { &mut (*schedule).schedule }.ended(command, outcome) {
         Ok(()) => 0,
@@ -132,12 +150,21 @@ pub unsafe extern "C" fn zigrunk_schedule_ended(schedule: *mut zigrunk_schedule,
     }
 }
 
-/// How far a schedule is, and which outputs of the commands from `first` up to `end`, which isn't one of them, may be printed: those of one
-/// plan, or of what hasn't been printed of it.
+/// How far a schedule is, and which outputs of the commands from `first` up to `end`, which isn't one of
+/// them, may be printed: those of one plan, or of what hasn't been printed of it.
 #[no_mangle]
-pub unsafe extern "C" fn zigrunk_schedule_progress(schedule: *const zigrunk_schedule, first: usize, end: usize) -> zigrunk_progress {
+pub unsafe extern "C" fn zigrunk_schedule_progress(
+    schedule: *const zigrunk_schedule,
+    first: usize,
+    end: usize,
+) -> zigrunk_progress {
     // SAFETY: the caller ensures it.
     let schedule = unsafe { &(*schedule).schedule };
     let told = schedule.told(first..end);
-    zigrunk_progress { running: schedule.running(), told: told.commands.end, status: told.status as u32, is_over: schedule.is_over().into() }
+    zigrunk_progress {
+        running: schedule.running(),
+        told: told.commands.end,
+        status: told.status as u32,
+        is_over: schedule.is_over().into(),
+    }
 }

@@ -37,7 +37,8 @@ fn remove_all(folder: &Path) -> io::Result<()> {
 /// Whether an open file is the one of a path.
 fn is_at(path: &Path, file: &File) -> bool {
     let place = |status: Metadata| (status.dev(), status.ino());
-    matches!((fs::symlink_metadata(path).map(place), file.metadata().map(place)), (Ok(named), Ok(opened)) if named == opened)
+    let (named, opened) = (fs::symlink_metadata(path).map(place), file.metadata().map(place));
+    matches!((named, opened), (Ok(named), Ok(opened)) if named == opened)
 }
 
 /// Whether a folder is the user's, and nobody else may use it.

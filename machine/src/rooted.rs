@@ -13,8 +13,8 @@ use std::io::{self, ErrorKind};
 use std::path::{Path, PathBuf};
 use texts::words::Words;
 
-/// Where a text is that a preprocessor has written: under a root its file has other names in its line markers,
-/// and the text as it was is beside it.
+/// Where a text is that a preprocessor has written: under a root its file has other names in its line
+/// markers, and the text as it was is beside it.
 pub fn as_written(file: &Path) -> PathBuf {
     let kept = kept_place(file).filter(|kept| kept.exists());
     kept.unwrap_or_else(|| file.to_owned())

@@ -149,8 +149,8 @@ fn cache(of: Lookup<'_>) -> Result<AskedCache, String> {
 /// finds sources by it, and no tool does, since none of those that note a source's time and size runs there.
 const USUAL_ROOT: &str = "/proc/self/cwd";
 
-/// A checkout's folder, with `=` and what stands for it or without. Both are in words that gcc cuts at `=`, and
-/// in line markers.
+/// A checkout's folder, with `=` and what stands for it or without. Both are in words that gcc cuts at `=`,
+/// and in line markers.
 fn root(text: &str) -> Option<AskedRoot> {
     let (folder, name) = text.split_once('=').unwrap_or((text, USUAL_ROOT));
     let [folder, name] = [folder, name].map(|path| path.trim_end_matches('/'));

@@ -15,7 +15,8 @@ use std::path::Path;
 const OWNERS: Mode = Mode::RUSR.union(Mode::WUSR);
 /// What everybody may do with a file, but for the modes that new ones lack.
 const EVERYBODYS: Mode = OWNERS.union(Mode::RGRP).union(Mode::WGRP).union(Mode::ROTH).union(Mode::WOTH);
-/// Which signal tells of somebody who waits for a file. (The crate libc has this word for a few machines alone.)
+/// Which signal tells of somebody who waits for a file. (The crate libc has this word for a few machines
+/// alone.)
 const SET_SIGNAL: i32 = 10;
 
 /// A file in memory, which no program that is run inherits by itself.
@@ -40,7 +41,8 @@ pub enum Access {
     Folder,
 }
 
-/// Opens a file by its path. In contrast to std's, a call that is interrupted again and again ends, with that error.
+/// Opens a file by its path. In contrast to std's, a call that is interrupted again and again ends, with that
+/// error.
 pub fn open(path: &Path, access: Access) -> io::Result<File> {
     let flags = match access {
         Access::Read => OFlags::RDONLY,
@@ -153,7 +155,8 @@ pub fn try_lock(file: BorrowedFd<'_>) -> io::Result<bool> {
     }
 }
 
-/// Has whoever opens a file wait, which nobody but this process has open. The kernel's word for this is a lease.
+/// Has whoever opens a file wait, which nobody but this process has open. The kernel's word for this is a
+/// lease.
 /// Errors: those of `fcntl`: the disk has no leases, or somebody else has the file open.
 pub fn withhold(file: BorrowedFd<'_>) -> io::Result<()> {
     // Without another signal the kernel would end this process by IO once somebody waits.
@@ -173,7 +176,8 @@ pub(crate) fn set(file: BorrowedFd<'_>, what: i32, value: i32) -> io::Result<()>
     let answer = unsafe { libc::fcntl(file.as_raw_fd(), what, value) };
     if answer < 0 { Err(io::Error::last_os_error()) } else { Ok(()) }
 }
-/// Where a path really leads. C's library can say so without memory, and the copy reports it if there is none.
+/// Where a path really leads. C's library can say so without memory, and the copy reports it if there is
+/// none.
 /// Errors: those of `realpath`, and `OutOfMemory`.
 pub fn real_path(path: &CStr) -> io::Result<Vec<u8>> {
     let mut real = [0_u8; libc::PATH_MAX as usize];

@@ -1,4 +1,5 @@
-//! Tests in a process of their own: what they do with signals, children and standard streams no other test sees.
+//! Tests in a process of their own: what they do with signals, children and standard streams no other test
+//! sees.
 use crate::streams::{content, write_all};
 use crate::{KILL, Status};
 use std::env;
@@ -21,8 +22,9 @@ const FAILED: i32 = 101;
 /// Whether this process is one of those that `status_of` forks.
 static IS_FORKED: AtomicBool = AtomicBool::new(false);
 
-/// Has panics of forked processes write to a file: another thread may have had the lock of what they usually write to. This can't be said in such a
-/// process, since another thread may have panicked meanwhile, which holds the lock of the hook.
+/// Has panics of forked processes write to a file: another thread may have had the lock of what they usually
+/// write to. This can't be said in such a process, since another thread may have panicked meanwhile, which
+/// holds the lock of the hook.
 fn redirect_panics() {
     static ONCE: Once = Once::new();
     ONCE.call_once(|| {
@@ -37,7 +39,8 @@ fn redirect_panics() {
     });
 }
 
-/// How a process ends that does this. While it lives, it is looked after: `meanwhile` gets its number again and again.
+/// How a process ends that does this. While it lives, it is looked after: `meanwhile` gets its number again
+/// and again.
 pub fn status_of(run: impl FnOnce(), meanwhile: impl Fn(i32)) -> Status {
     redirect_panics();
     let guarded = || {
@@ -81,7 +84,8 @@ pub fn said_by(run: impl FnOnce() -> String) -> String {
     String::from_utf8(content(&file).unwrap()).unwrap()
 }
 
-/// Which of these signals this process blocks, and which it ignores, as the kernel says: a `B` and an `I` for each.
+/// Which of these signals this process blocks, and which it ignores, as the kernel says: a `B` and an `I` for
+/// each.
 pub fn dispositions(signals: &[i32]) -> String {
     let text = fs::read_to_string("/proc/self/status").unwrap();
     let set = |name: &str| {

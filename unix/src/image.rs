@@ -40,7 +40,8 @@ fn pointers<T: Deref<Target = CStr>>(texts: &[T]) -> Vec<*const c_char> {
 }
 
 impl<'a> Image<'a> {
-    /// A program by its path, the words that it gets, its own name first, its environment, and its folder if that isn't this process's.
+    /// A program by its path, the words that it gets, its own name first, its environment, and its folder if
+    /// that isn't this process's.
     #[must_use]
     pub fn new(
         program: CString,
@@ -75,12 +76,14 @@ impl<'a> Image<'a> {
         error
     }
 
-    /// Starts the program with these standard streams, in a process group of its own whose number goes to `group`, a place that other
-    /// processes may see. It gets TERM if this process ends, and has the file `inherited` open too, by its number. Says its number.
+    /// Starts the program with these standard streams, in a process group of its own whose number goes to
+    /// `group`, a place that other processes may see. It gets TERM if this process ends, and has the file
+    /// `inherited` open too, by its number. Says its number.
     ///
-    /// Until it runs the program, the child has this process's memory, and this process waits: to copy the memory would take longer than
-    /// many a command.
-    /// Errors: those of `clone`. If the program can't be run, the child says so on its standard error and ends with 127.
+    /// Until it runs the program, the child has this process's memory, and this process waits: to copy the
+    /// memory would take longer than many a command.
+    /// Errors: those of `clone`. If the program can't be run, the child says so on its standard error and
+    /// ends with 127.
     pub fn start(
         &self,
         streams: [BorrowedFd<'_>; 3],
@@ -128,7 +131,8 @@ struct Child<'a> {
 fn start(child: &Child<'_>) -> io::Result<i32> {
     let mut stack: Vec<u128> = Vec::with_capacity(CHILD_STACK);
     let flags = libc::CLONE_VM | libc::CLONE_VFORK | libc::SIGCHLD;
-    // SAFETY: the stack and what the child uses stay until it has become the program, since this process waits for that.
+    // SAFETY: the stack and what the child uses stay until it has become the program, since this process
+    // waits for that.
     let number = unsafe {
         let top = stack.as_mut_ptr().add(CHILD_STACK);
         libc::clone(become_child, top.cast(), flags, ptr::from_ref(child).cast_mut().cast())
@@ -143,7 +147,8 @@ extern "C" fn become_child(child: *mut c_void) -> c_int {
 }
 
 impl Child<'_> {
-    /// What a child does until it is the program. It allocates nothing, and changes nothing of its parent's memory but the group's place.
+    /// What a child does until it is the program. It allocates nothing, and changes nothing of its parent's
+    /// memory but the group's place.
     fn become_program(&self) -> ! {
         let _ = setpgid(None, None);
         self.group.store(process(), Ordering::SeqCst);

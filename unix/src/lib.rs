@@ -1,7 +1,8 @@
-//! What Linux does for the driver, each call behind a safe function: files below a folder, locks, pipes, signals, processes.
+//! What Linux does for the driver, each call behind a safe function: files below a folder, locks, pipes,
+//! signals, processes.
 //!
-//! This is the one crate with `unsafe`. Most calls are those of `rustix`. `libc` has those that it lacks, and those that change what this
-//! process does with signals, or that start another.
+//! This is the one crate with `unsafe`. Most calls are those of `rustix`. `libc` has those that it lacks, and
+//! those that change what this process does with signals, or that start another.
 mod bounds;
 mod files;
 #[cfg(any(test, feature = "testing"))]

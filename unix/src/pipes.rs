@@ -17,7 +17,8 @@ pub fn pipe() -> io::Result<(OwnedFd, OwnedFd)> {
     Ok(pipe_with(PipeFlags::CLOEXEC)?)
 }
 
-/// Both ends of a pipe that takes a part only if it's empty, and at most `SMALL_PIPE` bytes. No end waits for the other.
+/// Both ends of a pipe that takes a part only if it's empty, and at most `SMALL_PIPE` bytes. No end waits for
+/// the other.
 pub fn small_pipe() -> io::Result<(OwnedFd, OwnedFd)> {
     let (read, write) = pipe()?;
     // (a kernel's page may be larger, but a part always takes a whole one)
@@ -52,8 +53,8 @@ pub fn read_byte(file: BorrowedFd<'_>) -> Option<u8> {
     (rustix::io::read(file, &mut byte) == Ok(1)).then_some(byte[0])
 }
 
-/// Reads a byte as `read_byte` does, but into a place that another process may see: if this process is killed, the byte is in the pipe or there.
-/// Says whether there was one.
+/// Reads a byte as `read_byte` does, but into a place that another process may see: if this process is
+/// killed, the byte is in the pipe or there. Says whether there was one.
 pub fn read_into(file: BorrowedFd<'_>, to: &AtomicU8) -> bool {
     // SAFETY: the place is one byte, which the kernel writes at once, and lasts.
     unsafe { libc::read(file.as_raw_fd(), to.as_ptr().cast(), 1) == 1 }

@@ -112,7 +112,8 @@ pub(crate) fn status_at_end(child: i32) -> io::Result<Status> {
 }
 
 fn send(to: i32, number: i32) -> bool {
-    // SAFETY: a signal to another process touches no memory of this one; to this one it does what its handlers do.
+    // SAFETY: a signal to another process touches no memory of this one; to this one it does what its
+    // handlers do.
     unsafe { libc::kill(to, number) == 0 }
 }
 
@@ -121,13 +122,15 @@ pub fn signal_process(process: i32, number: i32) {
     send(process, number);
 }
 
-/// Sends a signal to a process group, or to its first process if that has no group yet. Says whether there was one.
+/// Sends a signal to a process group, or to its first process if that has no group yet. Says whether there
+/// was one.
 pub fn signal_group(group: i32, number: i32) -> bool {
     send(-group, number) || send(group, number)
 }
 
-/// Sends a signal to what is left of a process group whose first process may have ended. Says whether something was. (That process's number may
-/// be another's by then, but not the group's while somebody is in it.)
+/// Sends a signal to what is left of a process group whose first process may have ended. Says whether
+/// something was. (That process's number may be another's by then, but not the group's while somebody is in
+/// it.)
 pub fn signal_rest(group: i32, number: i32) -> bool {
     send(-group, number)
 }
@@ -155,8 +158,9 @@ impl Drop for EndsHere {
 /// Starts a copy of this process that runs a function and ends. Says its number.
 /// Errors: those of `fork`.
 pub fn fork_to(run: impl FnOnce()) -> io::Result<i32> {
-    // SAFETY: the copy has its own memory and its own numbers of files, and the C library's allocator is right in it. It leaves by `exit`
-    // alone, so nothing that its parent has is dropped twice. A lock that another thread has here stays locked there.
+    // SAFETY: the copy has its own memory and its own numbers of files, and the C library's allocator is
+    // right in it. It leaves by `exit` alone, so nothing that its parent has is dropped twice. A lock that
+    // another thread has here stays locked there.
     let child = unsafe { libc::fork() };
     if child == 0 {
         let _end = EndsHere;
@@ -166,15 +170,16 @@ pub fn fork_to(run: impl FnOnce()) -> io::Result<i32> {
     if child < 0 { Err(io::Error::last_os_error()) } else { Ok(child) }
 }
 
-/// Starts a copy as `fork_to` does, in a group of its own, which no terminal's signal reaches. It has /dev/null in place of the standard streams and of
-/// these files, so nobody waits for it because of them.
+/// Starts a copy as `fork_to` does, in a group of its own, which no terminal's signal reaches. It has
+/// /dev/null in place of the standard streams and of these files, so nobody waits for it because of them.
 /// Errors: those of `fork` and of opening /dev/null.
 pub fn fork_apart(files: &[RawFd], run: impl FnOnce()) -> io::Result<i32> {
     let null = null()?;
     fork_to(|| {
         let _ = setpgid(None, None);
         for &file in files {
-            // SAFETY: this process is the copy. The number stays that of an open file, and its owner is in the parent.
+            // SAFETY: this process is the copy. The number stays that of an open file, and its owner is in
+            // the parent.
             unsafe { libc::dup3(null.as_raw_fd(), file, libc::O_CLOEXEC) };
         }
         let _ = dup2_stdin(&null).and_then(|()| dup2_stdout(&null)).and_then(|()| dup2_stderr(&null));

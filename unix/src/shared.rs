@@ -25,7 +25,8 @@ impl SharedPage {
         if page == libc::MAP_FAILED {
             return Err(io::Error::last_os_error());
         }
-        // SAFETY: the page is as long, begins at a page's border, is never unmapped, and its zeros are atomic numbers.
+        // SAFETY: the page is as long, begins at a page's border, is never unmapped, and its zeros are atomic
+        // numbers.
         Ok(unsafe { &*page.cast() })
     }
 }

@@ -48,7 +48,8 @@ pub(crate) fn change_mask(how: c_int, numbers: &[i32]) {
     unsafe { libc::sigprocmask(how, &raw const set, ptr::null_mut()) };
 }
 
-/// Sets what this process does at a signal: nothing of its own, or `note_continue`. Says what it did until now.
+/// Sets what this process does at a signal: nothing of its own, or `note_continue`. Says what it did until
+/// now.
 pub(crate) fn set_handler(number: i32, handler: sighandler_t) -> sighandler_t {
     // SAFETY: both numbers are words of the kernel, and `note_continue` only sets an atomic truth.
     unsafe { libc::signal(number, handler) }
@@ -59,8 +60,9 @@ fn send_own(number: i32) {
     unsafe { libc::raise(number) };
 }
 
-/// Ends this process by a signal, whatever it does with that signal otherwise: a caller such as a shell's loop then knows that the user ended
-/// it. Comes back only for the first process of a container, which no default action of a signal ends: with the status that says the same.
+/// Ends this process by a signal, whatever it does with that signal otherwise: a caller such as a shell's
+/// loop then knows that the user ended it. Comes back only for the first process of a container, which no
+/// default action of a signal ends: with the status that says the same.
 #[must_use]
 pub fn end_by(number: i32) -> i32 {
     set_handler(number, SIG_DFL);
@@ -86,7 +88,8 @@ pub struct Signals {
 impl Signals {
     /// From now on HUP, INT, TERM, TSTP and CHLD come by the file.
     ///
-    /// TSTP is ignored too: one that a child gets before it has a group of its own is dropped then, and doesn't stop it for ever.
+    /// TSTP is ignored too: one that a child gets before it has a group of its own is dropped then, and
+    /// doesn't stop it for ever.
     /// Errors: those of `signalfd`.
     pub fn open() -> io::Result<Signals> {
         let mut numbers = vec![CHLD];
@@ -121,7 +124,8 @@ impl Signals {
         self.file.as_raw_fd()
     }
 
-    /// The next signal that has come. If it can't be read, that takes a moment: the file says all the time that there is one.
+    /// The next signal that has come. If it can't be read, that takes a moment: the file says all the time
+    /// that there is one.
     #[must_use]
     pub fn next(&self) -> Option<i32> {
         let mut one = [0_u8; SIZE];
@@ -141,12 +145,13 @@ impl Signals {
         }
     }
 
-    /// Stops this process as TSTP does, until it is continued. If CONT has come since TSTP was read, this process goes on: nobody would
-    /// continue it.
+    /// Stops this process as TSTP does, until it is continued. If CONT has come since TSTP was read, this
+    /// process goes on: nobody would continue it.
     pub fn stop() {
         set_handler(TSTP, SIG_DFL);
         send_own(TSTP);
-        // TSTP waits now, and a CONT that comes from here on takes it away. An earlier one has been noted, and to ignore TSTP takes it away.
+        // TSTP waits now, and a CONT that comes from here on takes it away. An earlier one has been noted,
+        // and to ignore TSTP takes it away.
         if CONTINUED.load(Ordering::SeqCst) {
             set_handler(TSTP, SIG_IGN);
         }

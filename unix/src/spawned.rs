@@ -1,6 +1,7 @@
 //! Programs that are started without input, and whose standard error is read.
 //!
-//! What grows with their words and environment reports a refused allocation. The standard library's `Command` ends the process then.
+//! What grows with their words and environment reports a refused allocation. The standard library's `Command`
+//! ends the process then.
 use crate::pipes::pipe;
 use crate::processes::{Status, exit, fork_to, null, status_at_end};
 use crate::streams::read_on;
@@ -58,7 +59,8 @@ struct Program {
 }
 
 impl Program {
-    /// Becomes the program, with the signals of a new one. Gives the number of the error if that can't be done.
+    /// Becomes the program, with the signals of a new one. Gives the number of the error if that can't be
+    /// done.
     ///
     /// # Safety
     ///
@@ -107,8 +109,9 @@ pub struct Spawned {
 }
 
 impl Spawned {
-    /// Starts a program in a folder: its path, or its name for `PATH` of its environment, and its words; and its environment, whose variables are
-    /// of parts. It has nothing to read, and what it prints on standard output is dropped.
+    /// Starts a program in a folder: its path, or its name for `PATH` of its environment, and its words; and
+    /// its environment, whose variables are of parts. It has nothing to read, and what it prints on standard
+    /// output is dropped.
     /// Errors: `OutOfMemory`, `InvalidInput` for a NUL, those of `fork`, and why the program can't be run.
     pub fn start<'a>(
         words: impl Iterator<Item = &'a str> + Clone,

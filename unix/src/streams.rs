@@ -1,4 +1,5 @@
-//! Reading and writing whole files and streams. A call that a signal interrupts again and again ends with an error, and not never.
+//! Reading and writing whole files and streams. A call that a signal interrupts again and again ends with an
+//! error, and not never.
 use crate::bounds::MOST_TRIES;
 use crate::files::{Access, open};
 use crate::waits::wait_to_write;

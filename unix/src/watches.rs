@@ -37,8 +37,8 @@ impl Watch {
         &self.folder
     }
 
-    /// The names that have come into it, whether they are still there or not. `None` if the kernel couldn't note all or tell them, or if the
-    /// folder itself has gone or has another name.
+    /// The names that have come into it, whether they are still there or not. `None` if the kernel couldn't
+    /// note all or tell them, or if the folder itself has gone or has another name.
     pub fn come(&mut self) -> Option<&BTreeSet<OsString>> {
         self.is_lost = self.is_lost || self.take_names().is_err();
         (!self.is_lost).then_some(&self.come)

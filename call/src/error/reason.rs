@@ -80,11 +80,17 @@ impl Reason {
     #[must_use]
     pub fn hint(&self) -> Option<&'static str> {
         match self {
-            Reason::NoTemporaryDirectory | Reason::NoTemporaryRoom => Some("make room for temporary files, or set TMPDIR"),
+            Reason::NoTemporaryDirectory | Reason::NoTemporaryRoom => {
+                Some("make room for temporary files, or set TMPDIR")
+            }
             Reason::NoKeepDirectory => Some("make the directory that --keep-dir names"),
             Reason::TooFewFiles => Some("raise the number of open files, with ulimit -n"),
-            Reason::Line(LineReason::OptionsFile) => Some("set CMAKE_CUDA_USE_RESPONSE_FILE_FOR_INCLUDES to 0, if CMake writes the file"),
-            Reason::Line(LineReason::VariableQuotes) => Some("take quotes out of NVCC_PREPEND_FLAGS and NVCC_APPEND_FLAGS"),
+            Reason::Line(LineReason::OptionsFile) => {
+                Some("set CMAKE_CUDA_USE_RESPONSE_FILE_FOR_INCLUDES to 0, if CMake writes the file")
+            }
+            Reason::Line(LineReason::VariableQuotes) => {
+                Some("take quotes out of NVCC_PREPEND_FLAGS and NVCC_APPEND_FLAGS")
+            }
             _ => None,
         }
     }
@@ -181,8 +187,16 @@ mod tests {
     #[test]
     fn calls_that_link_or_list_compile_nothing() {
         let compiles = |reason: LineReason| Reason::from(reason).compiles();
-        assert!(![LineReason::Links, LineReason::Prints, LineReason::NoInput, LineReason::OtherPhase].map(compiles).contains(&true));
-        assert!(compiles(LineReason::UnknownOption) && compiles(LineReason::SeveralInputs) && Reason::DryRunFails.compiles());
+        assert!(
+            ![LineReason::Links, LineReason::Prints, LineReason::NoInput, LineReason::OtherPhase]
+                .map(compiles)
+                .contains(&true)
+        );
+        assert!(
+            compiles(LineReason::UnknownOption)
+                && compiles(LineReason::SeveralInputs)
+                && Reason::DryRunFails.compiles()
+        );
     }
 
     #[test]
