@@ -540,7 +540,7 @@ ROWS
         by_nvcc 'it links'
         same 'calls by it' "$(grep -c '^sub' "$room/log")" 1
         call ZIGRUNK_NVCC=sub/missing -V
-        same 'one that is missing' "$status $(cat "$room/err")" '127 zigrunk-nvcc: cannot find sub/missing in PATH'
+        same 'one that is missing' "$status $(cat "$room/err")" '127 zigrunk-nvcc: cannot run sub/missing: No such file or directory'
         end
     fi
     if case_of 'which nvcc is the next'; then
@@ -552,9 +552,9 @@ ROWS
         as=$room/bin/nvcc call PATH="$room/bin" -V
         same 'none' "$status $(cat "$room/err")" '127 zigrunk-nvcc: nvcc is zigrunk-nvcc itself, and PATH has no other nvcc'
         call ZIGRUNK_NVCC="$room/missing" -V
-        same 'no nvcc' "$status $(cat "$room/err")" "127 zigrunk-nvcc: cannot find $room/missing in PATH"
+        same 'no nvcc' "$status $(cat "$room/err")" "127 zigrunk-nvcc: cannot run $room/missing: No such file or directory"
         as=$scratch/bin/zigrunk call ZIGRUNK_NVCC="$room/missing" nvcc -V
-        same 'for the other name' "$status $(cat "$room/err")" "127 zigrunk nvcc: cannot find $room/missing in PATH"
+        same 'for the other name' "$status $(cat "$room/err")" "127 zigrunk nvcc: cannot run $room/missing: No such file or directory"
         call ZIGRUNK_NVCC="$room/missing" ZIGRUNK_RUNNER='echo by' -V
         same 'by the runner' "$status $(cat "$room/out" "$room/err")" "0 by $room/missing -V"
         end
@@ -751,14 +751,14 @@ ROWS
     if case_of 'programs that the kernel cannot run'; then
         printf '%s\n' '#!/missing/interpreter' > "$room/odd" && chmod +x "$room/odd"
         call ZIGRUNK_NVCC="$room/odd" -V
-        same 'nvcc' "$status $(cat "$room/err")" "127 zigrunk-nvcc: cannot run $room/odd: No such file or directory (os error 2)"
+        same 'nvcc' "$status $(cat "$room/err")" "127 zigrunk-nvcc: cannot run $room/odd: No such file or directory"
         call ZIGRUNK_LAUNCHER="$room/odd" -c k.cu -o k.o
         same 'a launcher' "$status $(cat "$room/err")" "127 zigrunk-nvcc: cannot run $room/odd"
         end
     fi
     if case_of 'a launcher that is missing'; then
         call ZIGRUNK_LAUNCHER=/missing/launcher -c k.cu -o k.o
-        same 'status and messages' "$status $(cat "$room/err")" '127 zigrunk-nvcc: /missing/launcher: not found'
+        same 'status and messages' "$status $(cat "$room/err")" '127 zigrunk-nvcc: cannot run /missing/launcher: No such file or directory'
         end
     fi
     if case_of 'what nvcc does before version 12'; then
@@ -1416,7 +1416,7 @@ A=b|--options-file missing.rsp -c k.cu -o k.o|set CMAKE_CUDA_USE_RESPONSE_FILE_F
 ROWS
     if case_of 'a log that cannot be written'; then
         call ZIGRUNK_LOG="$room/missing/calls" -c k.cu -o k.o
-        same 'status and messages' "$status $(sed "s,$room,ROOM," "$room/err")" '0 zigrunk-nvcc: cannot write ROOM/missing/calls: No such file or directory (os error 2)'
+        same 'status and messages' "$status $(sed "s,$room,ROOM," "$room/err")" '0 zigrunk-nvcc: cannot write ROOM/missing/calls: No such file or directory'
         end
     fi
     if case_of 'a terminal'; then

@@ -260,7 +260,7 @@ failures() {
         list=$'-c \'a.cu -o a.o\n-c a.cu -o a.o\nmissing-program -c'
         batch
         same 'status and output' "$status $(said)" '2 a'
-        same messages "$(grep '^zigrunk batch' "$room/err" | cut -c 1-40)" $'zigrunk batch: line 1: exit status 2: -c\nzigrunk batch: line 3: exit status 127: '
+        same messages "$(grep '^zigrunk batch' "$room/err" | cut -c 1-40)" $'zigrunk batch: line 1: exit status 2: -c\nzigrunk batch: cannot find missing-progr\nzigrunk batch: line 3: exit status 127: '
         end
     fi
     if case_of 'closed streams'; then
@@ -278,7 +278,7 @@ failures() {
         end
     fi
     if case_of 'wrong usage'; then
-        for words in 'one two:one list at a time, not two too' '-x:unexpected option -x' '-j:-j needs a number' '-j 0:-j needs a number from 1, not 0' '-k 01:-k needs a number from 1, not 01' '--part 3/2 a:--part needs two numbers from 1, such as 3/8' '--missing:--part and --missing need a list in a file'; do
+        for words in 'one two:one list at a time, not two too' '-x:unexpected option -x' '-j:-j needs a number' '-j 0:-j needs a number from 1, not 0' '-k 01:-k needs a number, not 01' '--part 3/2 a:--part needs two numbers from 1, such as 3/8' '--missing:--part and --missing need a list in a file'; do
             # shellcheck disable=SC2086 # several words
             batch ${words%:*}
             same "status and messages, $words" "$status $(cat "$room/err")" "2 zigrunk batch: ${words##*:}"$'\n''usage: zigrunk batch [-j N] [-k N] [--progress] [--incremental] [--part I/N] [--missing] [FILE]'
@@ -293,7 +293,7 @@ FILE          a call on each line, as you would type it, or a compile_commands.j
 -j N          run N commands at once; ZIGRUNK_JOBS says the same
 -k N          start nothing more once N calls have failed; 0, as without it, makes all other calls
 --progress    say how far it is, also if standard error is no terminal
---incremental leave out the calls whose words, products and files are as they were when --incremental made them last
+--incremental  leave out the calls whose words, products and files are as they were when --incremental made them last
 --part I/N    make the calls I, I+N, I+2N .. of FILE, as with --incremental: a task of a scheduler
 --missing     make none; print each call of FILE, or of the part, that --incremental hasn't made, and why
 --unless-made NVCC WORD..    make one call, unless a batch with --incremental has made it in this directory: a launcher for CMake
@@ -306,8 +306,8 @@ HELP
         batch --version
         same 'status and version' "$status $(grep -c '^zigrunk batch [0-9.]*$' "$room/out")" '0 1'
         mkdir directory
-        for name in directory missing; do
-            batch "$name"
+        for name in 'directory: Is a directory' 'missing: No such file or directory'; do
+            batch "${name%%:*}"
             same "status and messages, $name" "$status $(cat "$room/err")" "1 zigrunk batch: cannot read $name"
         done
         write a.cu :
@@ -323,7 +323,7 @@ HELP
         write whole.cu 'echo 5 >> made'
         batch -j 1 -k1 -- -
         same 'status, -k' "$status $(sort made | tr '\n' ' ')" '6 1 '
-        same 'messages, -k' "$(complained)" $'zigrunk-nvcc: a command failed with status 6 and without a message\nzigrunk batch: line 2: exit status 6: -c 2.cu -o 2.o\nzigrunk batch: stopped, 3 of the calls not made'
+        same 'messages, -k' "$(complained)" $'zigrunk batch: a command failed with status 6 and without a message\nzigrunk batch: line 2: exit status 6: -c 2.cu -o 2.o\nzigrunk batch: stopped, 3 of the calls not made'
         rm -f made
         list=${list%$'\n-c 4.cu'*}
         batch -j 1 -k1
@@ -374,7 +374,7 @@ HELP
         write whole.cu ':'
         list='-c whole.cu -o w.o'
         batch ZIGRUNK_EXPLAIN=1 ZIGRUNK_LOG="$room/calls"
-        same 'status and messages' "$status $(complained)" '0 zigrunk-nvcc: nvcc itself: a dry run fails'
+        same 'status and messages' "$status $(complained)" '0 zigrunk batch: nvcc itself: a dry run fails'
         same 'the log' "$(grep -c '"reason":"a dry run fails","commands":\[\],"words":\["nvcc","-c","whole.cu","-o","w.o"\]' "$room/calls")" 1
         end
     fi
@@ -384,7 +384,7 @@ HELP
             'exec "$@"' > "$room/cache" && chmod +x "$room/cache"
         list=$'-c a.cu -o a.o\n-c b.cu -o b.o'
         batch ZIGRUNK_LAUNCHER="$room/cache" -j 1
-        same 'status, and what is said once' "$status $(complained)" "0 zigrunk-nvcc: $room/cache doesn't take cicc, which runs without it"
+        same 'status, and what is said once' "$status $(complained)" "0 zigrunk batch: $room/cache doesn't take cicc, which runs without it"
         same 'how often it was asked' "$(cat "$room"/*.asked)" asked
         end
     fi
@@ -620,14 +620,14 @@ places() {
     if case_of 'no directory, and no nvcc'; then
         write a.cu ':' && list='-c a.cu -o a.o'
         batch TMPDIR="$room/missing"
-        same 'no temporary directory' "$status $(cat "$room/err")" '1 zigrunk batch: no temporary directory: No such file or directory (os error 2)'
+        same 'no temporary directory' "$status $(cat "$room/err")" "1 zigrunk batch: no temporary directory in $room/missing: No such file or directory"
         "$scratch/bin/zigrunk-batch" --unless-made missing-nvcc -c a.cu > said 2>&1
-        same 'no nvcc' "$? $(cat said)" '127 zigrunk batch: cannot run missing-nvcc: not found'
+        same 'no nvcc' "$? $(cat said)" "127 zigrunk batch: cannot find missing-nvcc in PATH; add nvcc's folder to PATH, or set ZIGRUNK_NVCC to its path"
         "$scratch/bin/zigrunk-batch" --unless-made > said 2>&1
-        same 'no words' "$?$(cat said)" 2
+        same 'no words' "$? $(head -n 1 said)" '2 zigrunk batch: --unless-made needs nvcc and its words'
         mkdir "$room/own" && ln -s "$scratch/bin/zigrunk-batch" "$room/own/nvcc"
         batch PATH="$room/own:/usr/bin:/bin"
-        same 'no other nvcc' "$status $(head -n 1 "$room/err")" '127 zigrunk-nvcc: nvcc is zigrunk-nvcc itself, and PATH has no other nvcc'
+        same 'no other nvcc' "$status $(head -n 1 "$room/err")" '127 zigrunk batch: nvcc is zigrunk-nvcc itself, and PATH has no other nvcc'
         mkdir gone && cd gone && rmdir "$room/work/gone"
         batch PWD="$room/work/gone"
         same 'no working directory' "$status $(grep zigrunk "$room/err")" '1 zigrunk batch: there is no working directory'
@@ -871,7 +871,7 @@ nodes() {
         echo '{}' > share/node
         checks 'a file of something else' 1 "share/node isn't of zigrunk check-node --write: missing field \`version\` at line 1 column 2"
         rm -r share
-        checks 'no share' 1 'cannot read share/node (No such file or directory (os error 2)): mount the disk that all machines share'
+        checks 'no share' 1 'cannot read share/node (No such file or directory): mount the disk that all machines share'
         end
     fi
     if case_of 'what check-node cannot write'; then

@@ -9,7 +9,7 @@ use machine::clock::now;
 use machine::folder::{CallFolder, NAME_HINT};
 use machine::jobs::{Ended, Job, Machine};
 use machine::settings::Settings;
-use machine::streams::Said;
+use machine::streams::{Said, called};
 use machine::task::Task;
 use runner::log::{self, LoggedCall};
 use runner::products::keep;
@@ -169,7 +169,7 @@ impl Making<'_> {
             match compiler::compiler(&self.context.settings.caller("zigrunk-nvcc".as_ref()), words) {
                 Ok(found) => found,
                 Err(complaint) => {
-                    self.made.complain(&format!("zigrunk-nvcc: {complaint}"));
+                    self.made.complain(&format!("{}: {complaint}", called()));
                     self.made.status = 127;
                     return Ok(());
                 }
@@ -185,7 +185,7 @@ impl Making<'_> {
             Err(Stop::Signal(_)) => return Err(Signalled),
             Err(Stop::ByNvcc(reason)) => {
                 if self.context.settings.explains && !is_inside {
-                    self.made.complain(&format!("zigrunk-nvcc: nvcc itself: {reason}"));
+                    self.made.complain(&format!("{}: nvcc itself: {reason}", called()));
                 }
                 self.whole(&named)?;
                 (Some(reason), Outcome::default())

@@ -20,6 +20,7 @@ use call::environments::Environment;
 use calls::{Context, Made};
 use graph::{Calls, Graph, Limits, Outcomes};
 use lists::Listed;
+use machine::excerpts::plain;
 use machine::folder::CallFolder;
 use machine::host::{Host, become_program};
 use machine::jobserver::Make;
@@ -144,7 +145,7 @@ fn list(name: Option<&OsString>, settings: &Settings) -> Result<List, String> {
         ),
         None => (io::stdin().read_to_end(&mut text), "standard input".to_owned()),
     };
-    read.map_err(|_| format!("cannot read {shown}"))?;
+    read.map_err(|error| format!("cannot read {shown}: {}", plain(&error)))?;
     let folder = name
         .and_then(|name| Path::new(name).parent())
         .map_or_else(|| cwd.clone(), |above| absolute(&cwd.join(above), &cwd));
@@ -267,9 +268,10 @@ fn make(options: &Options, settings: &Settings) -> Result<Ended, String> {
     }
     let records = (options.incremental || options.part.is_some()).then(|| records_of(&list)).transpose()?;
     let temporary = absolute(settings.plans(), &working_directory().unwrap_or_default());
-    let folder = Rc::new(
-        CallFolder::take(&temporary, "batch").map_err(|error| format!("no temporary directory: {error}"))?,
-    );
+    let folder =
+        Rc::new(CallFolder::take(&temporary, "batch").map_err(|error| {
+            format!("no temporary directory in {}: {}", temporary.display(), plain(&error))
+        })?);
     folder.tell_if_taken(&temporary);
     let scratch = settings.shared.is_none().then(|| folder.path().join("tmp"));
     let made = scratch.as_ref().map_or(Ok(()), fs::create_dir).map_err(|error| error.to_string());
@@ -352,9 +354,7 @@ fn unless_made(words: &[OsString], settings: &Settings) -> i32 {
         return 0;
     }
     let words: Vec<&OsStr> = words.iter().map(OsString::as_os_str).collect();
-    let [first, ..] = words.as_slice() else { return 2 };
-    let reason = become_program(&words, &Environment::own());
-    complain(&format!("zigrunk batch: cannot run {}: {reason}", first.to_string_lossy()));
+    complain(&format!("zigrunk batch: {}", become_program(&words, &Environment::own())));
     127
 }
 
@@ -455,10 +455,10 @@ mod tests {
 
     #[test]
     fn a_list_that_cannot_be_read_is_none() {
-        for name in ["/", "/missing"] {
+        for (name, reason) in [("/", "Is a directory"), ("/missing", "No such file or directory")] {
             assert_eq!(
                 list(Some(&name.into()), &Settings::default()).err(),
-                Some(format!("cannot read {name}"))
+                Some(format!("cannot read {name}: {reason}"))
             );
         }
     }

@@ -1,7 +1,7 @@
 //! The words of zigrunk batch.
 use lexopt::prelude::{Long, Short, Value};
 use lexopt::{Error, Parser};
-use machine::nearest::{unexpected, value};
+use machine::nearest::{shown, unexpected, value};
 use std::ffi::OsString;
 
 pub const USAGE: &str =
@@ -14,7 +14,7 @@ FILE          a call on each line, as you would type it, or a compile_commands.j
 -j N          run N commands at once; ZIGRUNK_JOBS says the same
 -k N          start nothing more once N calls have failed; 0, as without it, makes all other calls
 --progress    say how far it is, also if standard error is no terminal
---incremental leave out the calls whose words, products and files are as they were when --incremental made them last
+--incremental  leave out the calls whose words, products and files are as they were when --incremental made them last
 --part I/N    make the calls I, I+N, I+2N .. of FILE, as with --incremental: a task of a scheduler
 --missing     make none; print each call of FILE, or of the part, that --incremental hasn't made, and why
 --unless-made NVCC WORD..    make one call, unless a batch with --incremental has made it in this directory: a launcher for CMake
@@ -77,18 +77,16 @@ pub fn positive(text: &str) -> Option<usize> {
     is_number.then(|| text.parse().unwrap_or(usize::MAX))
 }
 
-/// What a name of a long option may be meant to be.
-const OPTIONS: [&str; 7] =
-    ["--progress", "--incremental", "--part", "--missing", "--unless-made", "--version", "--help"];
-
 /// The number of `-j` or `-k`; none for `-k 0`.
 fn number(words: &mut Parser, option: &str) -> Result<Option<usize>, Error> {
     let value = value(words, &format!("{option} needs a number"))?;
-    let value = value.to_string_lossy();
-    if option == "-k" && value == "0" {
+    let text = value.to_string_lossy();
+    if option == "-k" && text == "0" {
         return Ok(None);
     }
-    positive(&value).map(Some).ok_or_else(|| format!("{option} needs a number from 1, not {value}").into())
+    let from = if option == "-k" { "" } else { " from 1" };
+    let value = shown(&value);
+    positive(&text).map(Some).ok_or_else(|| format!("{option} needs a number{from}, not {value}").into())
 }
 
 /// Parses the words.
@@ -101,7 +99,13 @@ pub fn parse(words: &[OsString]) -> Result<Wanted, Error> {
         match word {
             Short('h') | Long("help") => return Ok(Wanted::Help),
             Long("version") => return Ok(Wanted::Version),
-            Long("unless-made") => return Ok(Wanted::UnlessMade(words.raw_args()?.collect())),
+            Long("unless-made") => {
+                let words: Vec<OsString> = words.raw_args()?.collect();
+                if words.is_empty() {
+                    return Err("--unless-made needs nvcc and its words".into());
+                }
+                return Ok(Wanted::UnlessMade(words));
+            }
             Long("progress") => options.progress = true,
             Long("incremental") => options.incremental = true,
             Long("missing") => options.missing = true,
@@ -118,7 +122,7 @@ pub fn parse(words: &[OsString]) -> Result<Wanted, Error> {
                 has_list = true;
                 options.list = Some(list).filter(|list| list != "-");
             }
-            option => return Err(unexpected(&option, &OPTIONS)),
+            option => return Err(unexpected(&option, HELP)),
         }
     }
     if options.list.is_none() && (options.missing || options.part.is_some()) {
@@ -130,6 +134,7 @@ pub fn parse(words: &[OsString]) -> Result<Wanted, Error> {
 #[cfg(test)]
 mod tests {
     use super::*;
+    use machine::nearest::options;
 
     fn read(line: &str) -> Result<Wanted, String> {
         parse(&line.split_whitespace().map(OsString::from).collect::<Vec<_>>())
@@ -170,6 +175,14 @@ mod tests {
     }
 
     #[test]
+    fn each_option_of_the_help_is_one() {
+        for option in options(HELP) {
+            assert!(!read(option).err().unwrap_or_default().contains("unexpected"), "{option}");
+        }
+        assert_eq!(options(HELP).count(), 10);
+    }
+
+    #[test]
     fn parts_are_read() {
         let part = |first, parts| Some(Part { first, parts });
         for (text, wanted) in [
@@ -202,8 +215,9 @@ mod tests {
             ("-j", "-j needs a number"),
             ("-j 0", "-j needs a number from 1, not 0"),
             ("-j x", "-j needs a number from 1, not x"),
-            ("-k -1", "-k needs a number from 1, not -1"),
-            ("-k 01", "-k needs a number from 1, not 01"),
+            ("-k -1", "-k needs a number, not -1"),
+            ("-k 01", "-k needs a number, not 01"),
+            ("--unless-made", "--unless-made needs nvcc and its words"),
             ("-jx", "-j needs a number from 1, not x"),
             ("--version1", "unexpected option --version1; did you mean --version?"),
             ("--workers", "unexpected option --workers"),

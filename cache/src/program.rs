@@ -3,6 +3,7 @@ use crate::counts;
 use crate::observer;
 use crate::place::{self, shown};
 use crate::store::Store;
+use machine::excerpts::plain;
 use machine::nearest::{question, shown as excerpt};
 use machine::places::working_directory;
 use machine::settings::{Settings, bytes_of};
@@ -11,8 +12,18 @@ use std::ffi::OsString;
 
 const USAGE: &str = "usage: zigrunk cache stats|clear|limit [SIZE]|observe FILE COMMAND..";
 
+const HELP: &str = "
+stats         show what the cache has, and how often it was of use
+clear         throw all away
+limit [SIZE]  throw away what was of use longest ago, down to a size such as 5G, or the usual one
+observe FILE COMMAND..    run a command, and write to FILE what its processes opened and sought in vain
+-h, --help    print this text
+
+ZIGRUNK_CACHE names its folder. man zigrunk-cache has the rest.
+";
+
 /// The words that it knows.
-const WORDS: [&str; 4] = ["stats", "clear", "limit", "observe"];
+pub const WORDS: [&str; 4] = ["stats", "clear", "limit", "observe"];
 
 fn tell(text: &str) -> i32 {
     i32::from(say(1, text.as_bytes()).is_err())
@@ -46,12 +57,15 @@ fn stats(store: &Store, limit: u64) -> i32 {
 
 fn clear(store: &Store) -> i32 {
     counts::clear(store.folder());
-    store.clear().map_or_else(|error| wrong(&format!("cannot clear {}: {error}", store.folder().display())), |()| 0)
+    store.clear().map_or_else(|error| wrong(&format!("cannot clear {}: {}", store.folder().display(), plain(&error))), |()| 0)
 }
 
 /// Keeps a limit now: the usual one, or another.
 fn limit(store: &Store, usual: u64, size: Option<&str>) -> i32 {
-    let Some(limit) = size.map_or(Some(usual), bytes_of) else { return wrong("a size has digits, and K, M, G or T") };
+    let Some(limit) = size.map_or(Some(usual), bytes_of) else {
+        let size = excerpt(size.unwrap_or_default().as_ref());
+        return misuse(&format!("{size} is no size: it has digits, and K, M, G or T, such as 5G"));
+    };
     Store::new(store.folder().to_owned(), limit).tidy_all();
     0
 }
@@ -60,12 +74,11 @@ fn limit(store: &Store, usual: u64, size: Option<&str>) -> i32 {
 pub fn run(words: &[OsString]) -> i32 {
     let words: Vec<&str> = words.iter().map(|word| word.to_str().unwrap_or_default()).collect();
     if let ["-h" | "--help"] = words[..] {
-        return tell(&format!("{USAGE}\n"));
+        return tell(&format!("{USAGE}\n{HELP}"));
     }
-    if let ["observe", file, command @ ..] = &words[..] {
-        if !command.is_empty() {
-            return observer::run(file, command);
-        }
+    if let ["observe", rest @ ..] = &words[..] {
+        let [file, command @ ..] = rest else { return misuse("observe needs a file and a command") };
+        return if command.is_empty() { misuse("observe needs a command behind the file") } else { observer::run(file, command) };
     }
     let settings = match Settings::of_environment() {
         Ok(settings) => settings,
@@ -97,6 +110,13 @@ mod tests {
     use std::fs::{self, File};
 
     #[test]
+    fn the_help_has_each_word() {
+        for word in WORDS {
+            assert!(HELP.contains(&format!("\n{word} ")), "{word}");
+        }
+    }
+
+    #[test]
     fn a_size_that_is_none_is_said() {
         in_own_process(|| {
             let folder = TestFolder::new();
@@ -104,8 +124,9 @@ mod tests {
             // The next file gets the number of standard error.
             close(2);
             let _errors = File::create(&path).unwrap();
-            assert_eq!(limit(&Store::new("/missing".into(), 1), 1, Some("9x")), 1);
-            assert_eq!(fs::read_to_string(&path).unwrap(), "zigrunk cache: a size has digits, and K, M, G or T\n");
+            assert_eq!(limit(&Store::new("/missing".into(), 1), 1, Some("9x")), 2);
+            let said = fs::read_to_string(&path).unwrap();
+            assert_eq!(said, format!("zigrunk cache: 9x is no size: it has digits, and K, M, G or T, such as 5G\n{USAGE}\n"));
         });
     }
 }

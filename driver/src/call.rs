@@ -7,10 +7,11 @@ use machine::clock::now;
 use machine::folder::{CallFolder, NAME_HINT};
 use machine::host::{Host, become_program};
 use machine::jobserver::Make;
+use machine::lacking::not_found;
 use machine::places::{absolute, working_directory};
 use machine::quota;
 use machine::settings::{Settings, own_variable};
-use machine::streams::{called, complain, say, set_called};
+use machine::streams::{called, complain, say};
 use runner::log::{self, LoggedCall};
 use runner::products;
 use runner::rule::Refusals;
@@ -38,7 +39,6 @@ struct Call<'a> {
 /// Makes a call, given the name by which the program was started and its words. Says its status. If a signal
 /// ends the call, it ends this process too.
 pub fn make(own_name: &OsStr, words: &[OsString]) -> i32 {
-    set_called(own_name);
     let settings = match Settings::of_environment() {
         Ok(settings) => settings,
         Err(complaint) => {
@@ -181,19 +181,26 @@ impl Call<'_> {
         }
     }
 
+    /// A setting that changes nothing if nvcc makes the call for this reason, and that somebody may count on.
+    fn unused(&self, reason: &Reason) -> Option<String> {
+        let Settings { root, shared, .. } = &self.settings;
+        let shared = shared.as_ref().filter(|_| matches!(reason, Reason::NoTemporaryDirectory));
+        let root = root.as_ref().filter(|_| reason.compiles());
+        shared
+            .map(|folder| format!("ZIGRUNK_TMP={}", folder.display()))
+            .or(root.map(|_| "ZIGRUNK_ROOT".into()))
+    }
+
     /// Has nvcc make the call.
     fn by_nvcc(&mut self, reason: &Reason) -> i32 {
         self.leave();
         if self.settings.explains {
             complain(&format!("{}: nvcc itself: {reason}", called()));
-        } else if self.settings.root.is_some() && reason.compiles() {
-            complain(&format!(
-                "{}: ZIGRUNK_ROOT is not used, since nvcc makes this call: {reason}",
-                called()
-            ));
+        } else if let Some(setting) = self.unused(reason) {
+            complain(&format!("{}: {setting} is not used, since nvcc makes this call: {reason}", called()));
         }
         if self.compiler.path.is_none() && self.settings.runner.is_empty() {
-            complain(&format!("{}: cannot find {} in PATH", called(), self.compiler.name.to_string_lossy()));
+            complain(&format!("{}: {}", called(), not_found(&self.compiler.name, Path::new(""))));
             return 127;
         }
         let runner: Vec<OsString> = self.settings.runner.iter().map(OsString::from).collect();
@@ -210,8 +217,7 @@ impl Call<'_> {
         }
         let words: Vec<&OsStr> = runner.iter().map(OsString::as_os_str).chain(self.logged_words()).collect();
         let environment = Environment::own().with("ZIGRUNK_INSIDE", &self.compiler.inside);
-        let error = become_program(&words, &environment);
-        complain(&format!("{}: cannot run {}: {error}", called(), words[0].to_string_lossy()));
+        complain(&format!("{}: {}", called(), become_program(&words, &environment)));
         127
     }
 

@@ -1,7 +1,7 @@
 //! The first words of the program, and its help.
 use crate::{call, plan_program};
 use machine::nearest::{question, shown};
-use machine::streams::{complain, say};
+use machine::streams::{complain, say, set_called};
 use std::ffi::{OsStr, OsString};
 
 /// What the program does.
@@ -77,8 +77,24 @@ impl FirstWord {
         FirstWord::ALL.into_iter().find(|word| word.name() == name)
     }
 
+    /// The program as messages have it, given the name by which it was started. A name that isn't ours, of a
+    /// link, would pass for nvcc.
+    fn program(self, name: &OsStr) -> &'static str {
+        match self {
+            FirstWord::Nvcc if name == "zigrunk" => "zigrunk nvcc",
+            FirstWord::Nvcc => "zigrunk-nvcc",
+            FirstWord::Plan => "zigrunk plan",
+            FirstWord::Batch => "zigrunk batch",
+            FirstWord::Report => "zigrunk report",
+            FirstWord::Cache => "zigrunk cache",
+            FirstWord::CheckNode => "zigrunk check-node",
+            FirstWord::Help => "zigrunk",
+        }
+    }
+
     /// Acts by the words behind it, given the program's name. Says the status.
     pub fn run(self, name: &OsStr, words: &[OsString]) -> i32 {
+        set_called(self.program(name));
         match self {
             FirstWord::Nvcc => call::make(name, words),
             FirstWord::Plan => plan_program::run(words),
@@ -94,7 +110,7 @@ impl FirstWord {
 /// The page of all first words. It fits a screen of 24 lines.
 fn help() -> String {
     let words: Vec<String> =
-        FirstWord::ALL.iter().map(|word| format!("  {:<10} {}\n", word.name(), word.about())).collect();
+        FirstWord::ALL.iter().map(|word| format!("  {:<11} {}\n", word.name(), word.about())).collect();
     format!(
         "{USAGE}
 
@@ -121,9 +137,23 @@ fn misuse(reason: &str) -> i32 {
     2
 }
 
+/// What a word is meant to be that isn't one of the first: one that is nearly alike, a word behind `cache`, or
+/// one for nvcc.
+fn meant(word: &str) -> String {
+    let near = question(word, FirstWord::ALL.map(FirstWord::name).into_iter().chain(["--version", "--help"]));
+    if !near.is_empty() {
+        near
+    } else if cache::program::WORDS.contains(&word) {
+        format!("; did you mean zigrunk cache {word}?")
+    } else if word.starts_with('-') {
+        "; words for nvcc stand behind zigrunk nvcc".into()
+    } else {
+        String::new()
+    }
+}
+
 fn unknown(word: &OsStr) -> i32 {
-    let nearest = question(&word.to_string_lossy(), FirstWord::ALL.map(FirstWord::name));
-    misuse(&format!("unknown word {}{nearest}", shown(word)))
+    misuse(&format!("unknown word {}{}", shown(word), meant(&word.to_string_lossy())))
 }
 
 /// Prints the help of a word, or of all.
@@ -161,6 +191,19 @@ mod tests {
             assert!(USAGE.contains(word.name()));
         }
         assert_eq!(FirstWord::named("Plan"), None);
+    }
+
+    #[test]
+    fn unknown_words_may_be_meant_otherwise() {
+        for (word, wanted) in [
+            ("plam", "; did you mean plan?"),
+            ("--verson", "; did you mean --version?"),
+            ("stats", "; did you mean zigrunk cache stats?"),
+            ("-c", "; words for nvcc stand behind zigrunk nvcc"),
+            ("compile", ""),
+        ] {
+            assert_eq!(meant(word), wanted, "{word}");
+        }
     }
 
     #[test]

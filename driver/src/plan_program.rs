@@ -3,12 +3,14 @@
 use crate::stored_plan::Stored;
 use crate::system::{self, Signals};
 use call::environments::Environment;
+use call::programs;
 use call::{Disk, ErrorKind, Format, MOST_BYTES as MOST_OF_NVCC, NvccLine, Planning};
 use lexopt::Parser;
 use lexopt::prelude::{Long, Short, Value};
 use machine::folder::Folder;
 use machine::guard::Shared;
 use machine::host::Host;
+use machine::lacking::not_found;
 use machine::nearest::{question, shown, unexpected, value};
 use machine::places::{absolute, working_directory};
 use machine::settings::{Settings, own_variable};
@@ -16,6 +18,7 @@ use machine::streams::{complain, say};
 use runner::nvcc_jobs::{Jobs, Stopped};
 use std::ffi::{OsStr, OsString};
 use std::fmt::Display;
+use std::path::Path;
 
 const USAGE: &str = "usage: zigrunk plan FORMAT [--] NVCC WORD..
        zigrunk plan --dry-runs FILE FILE [OPTION].. FORMAT";
@@ -55,19 +58,19 @@ enum Asked {
     Stored(Format, Stored),
 }
 
-/// The options, as they are written.
-const OPTIONS: [&str; 10] = [
-    "--dry-runs",
-    "--cwd",
-    "--tmp",
-    "--flag",
-    "--keep",
-    "--whole",
-    "--limit",
-    "--suffix",
-    "--formats",
-    "--help",
-];
+/// The options, as the help has them.
+const OPTIONS: &str = "\
+--dry-runs FILE FILE  plan the dry runs of a call that are in two files, instead of a call; - is standard input
+--cwd DIR      where nvcc was called; by default the working directory
+--tmp DIR      the DIR of the second dry run; by default that of --cwd
+--flag FLAG    what nvcc makes; by default -c
+--keep         generated files keep nvcc's names
+--whole        fail if the plan drops a command
+--limit BYTES  fail if parsing a dry run takes over so many bytes; by default 2097152
+--suffix S     S, such as .gpu, ends the names of further generated files; give it again for more
+--formats      print the names of the formats
+-h, --help     print this text
+";
 
 /// What the options say of dry runs in files, as far as they say it.
 #[derive(Default)]
@@ -110,7 +113,7 @@ impl Options {
             "limit" => self.limit = Some(limit(&of("a number of bytes")?)?),
             "keep" => self.keeps = true,
             "whole" => self.whole = true,
-            _ => return Err(misuse(unexpected(&Long(option), &OPTIONS))),
+            _ => return Err(misuse(unexpected(&Long(option), OPTIONS))),
         }
         self.first.get_or_insert_with(|| format!("--{option}"));
         Ok(())
@@ -136,11 +139,13 @@ impl Options {
     }
 }
 
-/// The format of a word.
+/// The format of a word. Who forgets it has nvcc's name there.
 fn format_of(word: &OsStr) -> Result<Format, Refusal> {
-    let name = word.to_string_lossy();
+    let (name, names) = (word.to_string_lossy(), Format::ALL.map(Format::name));
     let unknown = || {
-        misuse(format!("unknown format {}{}", shown(word), question(&name, Format::ALL.map(Format::name))))
+        let near = question(&name, names);
+        let list = format!("; a format is one of {}", names.join(", "));
+        misuse(format!("unknown format {}{}", shown(word), if near.is_empty() { list } else { near }))
     };
     Format::named(&name).ok_or_else(unknown)
 }
@@ -163,7 +168,11 @@ fn asked(words: &[OsString]) -> Result<Asked, Refusal> {
                 return Ok(Asked::Call(format, Call { nvcc, words }));
             }
             (Value(_), Some(_)) if options.files.is_none() => break,
-            (word, _) => return Err(misuse(unexpected(&word, &OPTIONS))),
+            (word @ Short(_), Some(_)) if options.first.is_none() => {
+                let unexpected = unexpected(&word, OPTIONS);
+                return Err(misuse(format!("{unexpected}; nvcc's name or path comes before its words")));
+            }
+            (word, _) => return Err(misuse(unexpected(&word, OPTIONS))),
         }
     }
     let format = format.ok_or_else(|| misuse("a format is missing"))?;
@@ -223,8 +232,16 @@ fn refused(error: &call::Error) -> Refusal {
     }
 }
 
+/// Whether the call's nvcc is anywhere.
+fn is_there(nvcc: &OsStr) -> Result<(), Refusal> {
+    let path = own_variable("PATH").unwrap_or_default();
+    let found = programs::find(nvcc, &path, Path::new(""));
+    found.map(|_| ()).ok_or_else(|| refusal(1, format!("zigrunk plan: {}", not_found(nvcc, Path::new("")))))
+}
+
 /// The plan of a call, in a format.
 fn plan_of(format: Format, call: &Call) -> Result<String, Refusal> {
+    is_there(&call.nvcc)?;
     let line = line_of(call)?;
     let tmp = directory_of(&line)?;
     let call = call::Call::read(line, tmp).map_err(|error| refused(&error))?;
@@ -254,20 +271,11 @@ Prints the commands that nvcc runs for these words, and runs none of them.
 FORMAT is one of
 {}
 
-With --dry-runs, the plan is that of two dry runs of a call, which are in files; - is standard input:
+These make two files for --dry-runs, which the options before --formats need:
   nvcc WORD.. --dryrun --keep 2> FILE
   nvcc WORD.. --keep-dir DIR --dryrun --keep 2> FILE
 
---cwd DIR      where nvcc was called; by default the working directory
---tmp DIR      the DIR of the second dry run; by default that of --cwd
---flag FLAG    what nvcc makes; by default -c
---keep         generated files keep nvcc's names
---whole        fail if the plan drops a command
---limit BYTES  fail if parsing a dry run takes over so many bytes; by default {MOST_BYTES}
---suffix S     S, such as .gpu, ends the names of further generated files; give it again for more
---formats      print the names of the formats
--h, --help     print this text
-
+{OPTIONS}
 The status is 1 for an error, 2 for wrong usage, and 3 if zigrunk leaves the call to nvcc. man zigrunk-plan has the rest.
 ",
         formats.join("\n")
@@ -312,11 +320,12 @@ mod tests {
     fn wrong_usage_is_said() {
         let cases = [
             ("", "a format is missing"),
-            ("yaml nvcc", "unknown format yaml"),
+            ("yaml nvcc", "unknown format yaml; a format is one of json, ninja, shell, compdb, text"),
             ("jsn nvcc", "unknown format jsn; did you mean json?"),
             ("json", "nvcc and its words are missing"),
             ("json --", "nvcc and its words are missing"),
-            ("-- nvcc", "unknown format nvcc"),
+            ("-- nvcc", "unknown format nvcc; a format is one of json, ninja, shell, compdb, text"),
+            ("json -c k.cu", "unexpected option -c; nvcc's name or path comes before its words"),
             ("-x nvcc", "unexpected option -x"),
             ("--json nvcc", "unexpected option --json"),
             ("--dry-run a b json", "unexpected option --dry-run; did you mean --dry-runs?"),
@@ -334,6 +343,15 @@ mod tests {
         for (line, wanted) in cases {
             assert_eq!(asked(&words(line)), Err(misuse(wanted)), "{line}");
         }
+    }
+
+    #[test]
+    fn each_option_of_the_help_is_one() {
+        for option in machine::nearest::options(OPTIONS) {
+            let refusal = asked(&words(option)).err().map(|refusal| refusal.text);
+            assert!(!refusal.unwrap_or_default().contains("unexpected"), "{option}");
+        }
+        assert!(OPTIONS.contains(&format!("by default {MOST_BYTES}\n")));
     }
 
     #[test]

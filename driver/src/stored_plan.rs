@@ -1,6 +1,6 @@
 //! Plans of two dry runs that are in files.
 use call::{Disk, Error, ErrorKind, Format, Input, Plan, PlanCall, plan};
-use machine::excerpts::excerpt;
+use machine::excerpts::{excerpt, plain};
 use std::fs;
 use std::io::{self, Read};
 use std::num::NonZeroUsize;
@@ -40,10 +40,7 @@ fn shown(text: &str) -> String {
 fn read(file: &str) -> Result<Vec<u8>, String> {
     let mut bytes = Vec::new();
     let read = if file == "-" { io::stdin().read_to_end(&mut bytes).map(|_| bytes) } else { fs::read(file) };
-    read.map_err(|error| {
-        let error = error.to_string();
-        format!("cannot read {}: {}", shown(file), error.split(" (os error").next().unwrap_or_default())
-    })
+    read.map_err(|error| format!("cannot read {}: {}", shown(file), plain(&error)))
 }
 
 impl Stored {

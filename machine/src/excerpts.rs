@@ -1,4 +1,5 @@
 //! Texts as messages show them: shortened, on one line, and without control characters.
+use std::io;
 
 /// Whether a character shows nothing, or changes where the following ones are shown. With it, a file's name
 /// could make a terminal show another message.
@@ -31,9 +32,21 @@ pub fn excerpt(text: &[u8], most: usize) -> String {
     format!("{}{more}", all[..all.len().min(most)].concat())
 }
 
+/// An error's text without the number that std adds.
+pub fn plain(error: &io::Error) -> String {
+    let text = error.to_string();
+    text.split(" (os error").next().unwrap_or_default().to_owned()
+}
+
 #[cfg(test)]
 mod tests {
     use super::*;
+
+    #[test]
+    fn reasons_have_no_number() {
+        assert_eq!(plain(&io::Error::from_raw_os_error(2)), "No such file or directory");
+        assert_eq!(plain(&io::Error::other("odd")), "odd");
+    }
 
     #[test]
     fn excerpts_are_short_and_visible() {

@@ -4,6 +4,7 @@ use crate::folder::CallFolder;
 use crate::guard::{Guard, MOST_GROUPS, Shared};
 use crate::jobs::{Early, Ended, Event, Job, Machine};
 use crate::jobserver::{Make, Token, Tokens};
+use crate::lacking::{cannot_run, not_found};
 use crate::piped::Piped;
 use crate::quota;
 use crate::settings::{Settings, own_variable};
@@ -88,14 +89,16 @@ pub struct Host {
     beaten: Instant,
 }
 
-/// Becomes a program by its name or path. Comes back with the reason if that can't be done.
+/// Becomes a program by its name or path. Comes back with what to say if that can't be done.
 pub fn become_program(words: &[&OsStr], environment: &Environment) -> String {
     let path = environment.get("PATH").unwrap_or_default();
-    let Some(program) = programs::find(words[0], path, Path::new("")) else { return "not found".into() };
+    let Some(program) = programs::find(words[0], path, Path::new("")) else {
+        return not_found(words[0], Path::new(""));
+    };
     let image = environment
         .changed(&[])
         .and_then(|variables| image(program.as_os_str(), words.iter().copied(), variables, ""));
-    image.map_or_else(|error| error.to_string(), |image| image.become_it().to_string())
+    cannot_run(words[0], &image.map_or_else(|error| error, |image| image.become_it()))
 }
 
 fn size_of(file: &File) -> u64 {
@@ -478,12 +481,12 @@ impl Host {
         let name = job.words.first().map(String::as_str).unwrap_or_default();
         let program = job
             .program(self.environment.get("PATH").unwrap_or_default())
-            .ok_or_else(|| format!("{name}: not found"))?;
+            .ok_or_else(|| not_found(name.as_ref(), Path::new(&job.folder)))?;
         let words = job.words.iter().map(OsStr::new);
         let environment = self.environment.changed(&job.variables);
         environment
             .and_then(|environment| image(program.as_os_str(), words, environment, &job.folder))
-            .map_err(|error| format!("{name}: {error}"))
+            .map_err(|error| cannot_run(name.as_ref(), &error))
     }
 
     /// The streams that a job prints to.
@@ -708,7 +711,10 @@ mod tests {
             start(&mut host, 7, &shell("echo out; echo err >&2; exit 3"));
             assert_eq!(next_end(&mut host), (7, 3, "out\nerr\n".into()));
             start(&mut host, 1, &Job { words: vec!["missing-program".into()], ..Job::default() });
-            assert_eq!(next_end(&mut host), (1, 127, "zigrunk-nvcc: missing-program: not found\n".into()));
+            assert_eq!(
+                next_end(&mut host),
+                (1, 127, "zigrunk-nvcc: cannot find missing-program in PATH\n".into())
+            );
             start(&mut host, 2, &shell("kill -KILL $$"));
             assert_eq!(next_end(&mut host), (2, 137, String::new()));
             let changed = Job {

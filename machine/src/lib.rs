@@ -12,6 +12,7 @@ pub mod host;
 pub mod host_compilers;
 pub mod jobs;
 pub mod jobserver;
+pub mod lacking;
 pub mod nearest;
 pub mod piped;
 pub mod places;

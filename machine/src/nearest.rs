@@ -22,22 +22,25 @@ pub fn question<'a>(word: &str, names: impl IntoIterator<Item = &'a str>) -> Str
     nearest(word, names).map(|name| format!("; did you mean {name}?")).unwrap_or_default()
 }
 
-/// A word as a message shows it.
+/// A word as a message shows it: one that is empty, as a shell has it.
 pub fn shown(word: &OsStr) -> String {
-    excerpt(word.as_bytes(), MOST_SHOWN)
+    if word.is_empty() { "''".into() } else { excerpt(word.as_bytes(), MOST_SHOWN) }
 }
 
-/// Why an option or a word isn't taken, with the nearest of these options.
-pub fn unexpected(arg: &Arg<'_>, options: &[&str]) -> Error {
+/// The options that a help has where its lines begin, as in `-h, --help`. Completion reads them there too.
+pub fn options(help: &str) -> impl Iterator<Item = &str> {
+    let of_line =
+        |line| str::split(line, [' ', ',']).take_while(|word| word.is_empty() || word.starts_with('-'));
+    help.lines().flat_map(of_line).filter(|word| !word.is_empty())
+}
+
+/// Why an option or a word isn't taken, with the nearest of the options in a help.
+pub fn unexpected(arg: &Arg<'_>, help: &str) -> Error {
     match arg {
         Arg::Short(letter) => format!("unexpected option -{letter}"),
         Arg::Long(name) => {
             let option = format!("--{name}");
-            format!(
-                "unexpected option {}{}",
-                shown(option.as_ref()),
-                question(&option, options.iter().copied())
-            )
+            format!("unexpected option {}{}", shown(option.as_ref()), question(&option, options(help)))
         }
         Arg::Value(word) => format!("unexpected word {}", shown(word)),
     }
@@ -71,12 +74,15 @@ mod tests {
             assert_eq!(nearest(word, names), wanted, "{word}");
         }
         assert_eq!(nearest("a", []), None);
-        let said = |arg| unexpected(&arg, &["--part", "--progress"]).to_string();
+        let help = "FILE -x\n\n--part N of many\n-h, --progress  how far\n";
+        assert_eq!(options(help).collect::<Vec<_>>(), ["--part", "-h", "--progress"]);
+        let said = |arg| unexpected(&arg, help).to_string();
         assert_eq!(said(Arg::Long("prat")), "unexpected option --prat; did you mean --part?");
         assert_eq!(
             [Arg::Short('x'), Arg::Value("a\nb".into())].map(said),
             ["unexpected option -x", "unexpected word a\\nb"]
         );
+        assert_eq!(shown("".as_ref()), "''");
         assert_eq!(
             (question("jsn", names).as_str(), question("yaml", names).as_str()),
             ("; did you mean json?", "")

@@ -1,5 +1,6 @@
 //! What the environment says to the driver: the one place that reads variables, and knows which values those
 //! of `ZIGRUNK_..` may have.
+use crate::nearest::nearest;
 use call::compiler::Caller;
 use std::env;
 use std::ffi::{OsStr, OsString};
@@ -160,10 +161,72 @@ fn root(text: &str) -> Option<AskedRoot> {
     (is_path(folder) && is_path(name)).then(asked)
 }
 
-/// A variable's words, as a shell cuts it at its blanks.
+/// The words of a text, as a shell cuts it at its blanks.
+fn cut(text: &str) -> Vec<String> {
+    text.split_whitespace().map(String::from).collect()
+}
+
+/// A variable's words.
 fn words(of: Lookup<'_>, name: &str) -> Vec<String> {
-    let value = of(name).unwrap_or_default();
-    value.to_string_lossy().split_whitespace().map(String::from).collect()
+    cut(&of(name).unwrap_or_default().to_string_lossy())
+}
+
+/// The names by which `ZIGRUNK_LAUNCHED` has commands.
+const LAUNCHED: [&str; 6] = ["-E", "cudafe++", "cicc", "ptxas", "fatbinary", "-c"];
+
+/// The commands that the launcher runs.
+fn launched(text: &str) -> Option<Vec<String>> {
+    let words = cut(text);
+    words.iter().all(|word| LAUNCHED.contains(&word.as_str())).then_some(words)
+}
+
+/// Whether a text has servers. What has to stand behind the name of the protocol `zigrunk-remote` knows.
+fn servers(text: &str) -> Option<bool> {
+    let is_server = |word: &str| word.starts_with("grpc://") || word.starts_with("grpcs://");
+    (text.split_whitespace().count() > 0 && text.split_whitespace().all(is_server)).then_some(true)
+}
+
+/// Our variables: those for users, and those by which our programs hear of each other.
+const VARIABLES: [&str; 30] = [
+    "ZIGRUNK_BATCH",
+    "ZIGRUNK_CACHE",
+    "ZIGRUNK_CACHE_SIZE",
+    "ZIGRUNK_CALLS",
+    "ZIGRUNK_EARLY",
+    "ZIGRUNK_EXPLAIN",
+    "ZIGRUNK_INSIDE",
+    "ZIGRUNK_IN_PLACE",
+    "ZIGRUNK_JOBS",
+    "ZIGRUNK_LATE",
+    "ZIGRUNK_LAUNCHED",
+    "ZIGRUNK_LAUNCHER",
+    "ZIGRUNK_LIBRARY",
+    "ZIGRUNK_LOG",
+    "ZIGRUNK_NODE",
+    "ZIGRUNK_NVCC",
+    "ZIGRUNK_OBSERVED",
+    "ZIGRUNK_REMOTE",
+    "ZIGRUNK_REMOTE_CA",
+    "ZIGRUNK_REMOTE_CERTIFICATE",
+    "ZIGRUNK_REMOTE_FALLBACK",
+    "ZIGRUNK_REMOTE_INSTANCE",
+    "ZIGRUNK_REMOTE_KEY",
+    "ZIGRUNK_REMOTE_PLATFORM",
+    "ZIGRUNK_REMOTE_TOKEN",
+    "ZIGRUNK_REMOTE_USE",
+    "ZIGRUNK_ROOT",
+    "ZIGRUNK_RUNNER",
+    "ZIGRUNK_SLOTS",
+    "ZIGRUNK_TMP",
+];
+
+/// Why a variable isn't ours whose name is nearly that of one: a mistyped name would change nothing, and nobody
+/// would hear of it. Others may have names that begin alike.
+fn mistyped(name: &str) -> Option<String> {
+    if !name.starts_with("ZIGRUNK_") || VARIABLES.contains(&name) {
+        return None;
+    }
+    nearest(name, VARIABLES).map(|meant| format!("unknown variable {name}; did you mean {meant}?"))
 }
 
 /// A variable of this process, also if it is empty: what isn't for us, but counts for us as it does for make,
@@ -201,8 +264,11 @@ pub fn keeps_calls() -> bool {
 
 impl Settings {
     /// Those of this process.
-    /// Errors: the first variable with a value that it can't have, the value, and what is allowed.
+    /// Errors: the first variable with a value that it can't have, the value, and what is allowed; or one whose
+    /// name isn't ours, but nearly.
     pub fn of_environment() -> Result<Settings, String> {
+        let names = env::vars_os().filter_map(|(name, _)| name.into_string().ok());
+        names.filter_map(|name| mistyped(&name)).min().map_or(Ok(()), Err)?;
         Settings::of(&variable)
     }
 
@@ -230,9 +296,11 @@ impl Settings {
                 "a number of bytes, or one with K, M, G or T, such as 5G",
             )?,
             launcher: words(of, "ZIGRUNK_LAUNCHER"),
-            launched: words(of, "ZIGRUNK_LAUNCHED"),
+            launched: read(of, "ZIGRUNK_LAUNCHED", launched, "some of -E cudafe++ cicc ptxas fatbinary -c")?
+                .unwrap_or_default(),
             runner: words(of, "ZIGRUNK_RUNNER"),
-            has_remote: of("ZIGRUNK_REMOTE").is_some(),
+            has_remote: read(of, "ZIGRUNK_REMOTE", servers, "grpc://HOST:PORT or grpcs://HOST:PORT")?
+                .unwrap_or_default(),
             needs_remote: !switch(of, "ZIGRUNK_REMOTE_FALLBACK", true)?,
             jobs: read(of, "ZIGRUNK_JOBS", number, "a number of commands, such as 8")?
                 .filter(|&jobs| jobs > 0),
@@ -376,6 +444,20 @@ mod tests {
     ];
 
     #[test]
+    fn a_mistyped_name_is_said() {
+        let said = |name: &str, meant: &str| Some(format!("unknown variable {name}; did you mean {meant}?"));
+        for (name, wanted) in [
+            ("ZIGRUNK_CAHCE", said("ZIGRUNK_CAHCE", "ZIGRUNK_CACHE")),
+            ("ZIGRUNK_JOB", said("ZIGRUNK_JOB", "ZIGRUNK_JOBS")),
+            ("ZIGRUNK_FIELD", None),
+            ("ZIGRUNK_CACHE", None),
+            ("ZIGRUN_CACHE", None),
+        ] {
+            assert_eq!(mistyped(name), wanted, "{name}");
+        }
+    }
+
+    #[test]
     fn each_variable_has_its_setting() {
         let wanted = Settings {
             nvcc: "/c/nvcc".into(),
@@ -453,6 +535,8 @@ mod tests {
             ("ZIGRUNK_EARLY", "yes or no (or 1, 0, true, false, on, off)", "never 00"),
             ("ZIGRUNK_LATE", "yes or no (or 1, 0, true, false, on, off)", "never 00"),
             ("ZIGRUNK_CALLS", "yes or no (or 1, 0, true, false, on, off)", "never 00"),
+            ("ZIGRUNK_LAUNCHED", "some of -E cudafe++ cicc ptxas fatbinary -c", "ccic gcc CICC cicc,ptxas"),
+            ("ZIGRUNK_REMOTE", "grpc://HOST:PORT or grpcs://HOST:PORT", "here a:1 http://a:1 grpc:a"),
         ];
         for (name, allowed, values) in cases {
             for value in values.split(' ') {

@@ -1,5 +1,4 @@
 //! Whole files and streams, and what messages begin with.
-use std::ffi::OsStr;
 use std::sync::OnceLock;
 
 pub use unix::streams::*;
@@ -10,10 +9,9 @@ pub type Said = Vec<(bool, Vec<u8>)>;
 /// How the program was called.
 static CALLED: OnceLock<&str> = OnceLock::new();
 
-/// Notes the name by which the program was called, for messages of `zigrunk nvcc`. One that isn't ours, of a
-/// link, would pass for nvcc.
-pub fn set_called(name: &OsStr) {
-    let _ = CALLED.set(if name == "zigrunk" { "zigrunk nvcc" } else { "zigrunk-nvcc" });
+/// Notes the program that was called, for messages of calls and commands.
+pub fn set_called(program: &'static str) {
+    let _ = CALLED.set(program);
 }
 
 /// What messages of a call begin with: the program as it was called.

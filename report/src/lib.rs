@@ -14,11 +14,11 @@ mod trace;
 use lexopt::prelude::{Long, Short, Value};
 use lexopt::{Error, Parser};
 use log::Log;
+use machine::excerpts::plain;
 use machine::nearest::{unexpected, value};
 use machine::streams::{complain, say};
 use std::ffi::OsString;
 use std::fs;
-use std::io;
 use std::path::PathBuf;
 
 const USAGE: &str = "usage: zigrunk report [--trace OUT] [--html OUT] FILE..";
@@ -27,6 +27,7 @@ Summarises logs of ZIGRUNK_LOG.
 
 --trace OUT   write a trace for chrome://tracing and Perfetto
 --html OUT    write a page for a browser, in one file
+-h, --help    print this text
 ";
 
 /// What is asked for.
@@ -48,16 +49,10 @@ fn asked(words: &[OsString]) -> Result<Option<Asked>, Error> {
             Long("trace") => asked.trace = Some(value(&mut words, "--trace needs a file")?.into()),
             Long("html") => asked.html = Some(value(&mut words, "--html needs a file")?.into()),
             Value(log) => asked.logs.push(log.into()),
-            option => return Err(unexpected(&option, &["--trace", "--html", "--help"])),
+            option => return Err(unexpected(&option, HELP)),
         }
     }
     if asked.logs.is_empty() { Err("a log is missing".into()) } else { Ok(Some(asked)) }
-}
-
-/// An error without the number that std adds.
-fn plain(error: &io::Error) -> String {
-    let text = error.to_string();
-    text.split(" (os error").next().unwrap_or_default().to_owned()
 }
 
 /// Makes what is asked for.

@@ -4,6 +4,7 @@ use crate::remote::Note;
 use crate::system::{self, Access};
 use call::Reason;
 use machine::clock::now;
+use machine::excerpts::plain;
 use machine::streams::{called, complain, content_of, write_all};
 use machine::task::{Done, Task};
 use serde::Serialize;
@@ -128,7 +129,7 @@ pub fn append(file: &Path, call: &LoggedCall<'_>) {
     }
     let written = system::open(file, Access::Append).and_then(|log| write_all(&log, text.as_bytes()));
     if let Err(error) = written {
-        complain(&format!("{}: cannot write {}: {error}", called(), file.display()));
+        complain(&format!("{}: cannot write {}: {}", called(), file.display(), plain(&error)));
     }
 }
 

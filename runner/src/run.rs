@@ -1,5 +1,6 @@
 //! Runs the commands of a plan on a machine.
 use machine::bytes::contains;
+use machine::excerpts::plain;
 use machine::head_start::{HeadStart, Wait};
 use machine::jobs::{Early, Ended, Event, Job, Machine};
 use machine::piped::Piped;
@@ -523,12 +524,6 @@ impl<'a, M: Machine, W: Watch> Run<'a, M, W> {
         }
         Ok(self.schedule.ended(number, outcome)?)
     }
-}
-
-/// An error's text without the number that std adds.
-fn plain(error: &io::Error) -> String {
-    let text = error.to_string();
-    text.split(" (os error").next().unwrap_or_default().to_owned()
 }
 
 #[cfg(test)]

@@ -5,6 +5,7 @@ use crate::system;
 use lexopt::prelude::{Long, Short, Value};
 use lexopt::{Error, Parser};
 use machine::clock::nanoseconds;
+use machine::excerpts::plain;
 use machine::nearest::{unexpected, value};
 use machine::places::{absolute, working_directory};
 use machine::settings::{Settings, machine_name, own_variable};
@@ -69,7 +70,7 @@ fn parse(words: &[OsString]) -> Result<Wanted, Error> {
                 return Err(format!("one file at a time, not {} too", second.to_string_lossy()).into());
             }
             Value(first) => file = Some(first.into()),
-            option => return Err(unexpected(&option, &["--write", "--version", "--help"])),
+            option => return Err(unexpected(&option, HELP)),
         }
     }
     file.map(Wanted::Check).ok_or_else(|| "a file is missing".into())
@@ -146,8 +147,9 @@ fn write(file: &Path, others: &[PathBuf], settings: &Settings) -> Result<(), Str
 /// Errors: why the file can't be read.
 fn check(file: &Path, settings: &Settings) -> Result<Vec<String>, String> {
     let shown = file.display();
-    let text = content_of(file)
-        .map_err(|error| format!("cannot read {shown} ({error}): mount the disk that all machines share"))?;
+    let text = content_of(file).map_err(|error| {
+        format!("cannot read {shown} ({}): mount the disk that all machines share", plain(&error))
+    })?;
     let wanted: Node = serde_json::from_slice(&text)
         .map_err(|error| format!("{shown} isn't of zigrunk check-node --write: {error}"))?;
     let share = folder_of(file);

@@ -1,0 +1,68 @@
+#!/usr/bin/env bash
+# Completion for bash, and for zsh if that is here: what each offers of the words and options that the help has, which the test reads another way.
+# Prints a line for each failure, and last 'N passed, M failed'.
+#
+#   DRIVER_BIN=FOLDER   where zigrunk is, else where `make rust` leaves it
+set -u
+cd "$(dirname "$0")/.." || exit 1
+. tests/lib.sh
+top=$PWD
+zigrunk=$(realpath "${DRIVER_BIN:-out/rust/target/release}/zigrunk")
+mkdir -p "$scratch/work/folder" && : > "$scratch/work/file"
+cd "$scratch/work" || exit 1
+
+# by_bash WORD..: what bash offers for the last word of a line of zigrunk, sorted.
+by_bash() {
+    bash -c '. "$1"; compopt() { :; }; COMP_WORDS=("${@:2}") COMP_CWORD=$(($# - 2)); _zigrunk "$2"; printf "%s\n" "${COMPREPLY[@]}"' bash \
+        "$top/completions/zigrunk.bash" "$zigrunk" "$@" | LC_ALL=C sort
+}
+
+# by_zsh WORD..: the same, by stand-ins for what zsh calls.
+by_zsh() {
+    # shellcheck disable=SC2016 # for zsh
+    zsh -fc '
+        _describe() { local name=$argv[-1]; print -rl -- ${${(P)name}%%:*} }
+        compadd() { shift; print -rl -- $argv }
+        _files() { if [[ $* == -/ ]]; then print -rl -- *(/); else print -rl -- *; fi }
+        service=zigrunk file=$1; shift; words=("$@") CURRENT=$#
+        f() { source $file }; f
+    ' zsh "$top/completions/_zigrunk" "$zigrunk" "$@" | LC_ALL=C sort
+}
+
+# offers WANTED WORD..: both offer these words for a line that ends in a word to complete. WANTED: words with blanks between them.
+offers() {
+    local wanted
+    wanted=$(tr ' ' '\n' <<< "$1" | LC_ALL=C sort)
+    shift
+    for by in by_bash by_zsh; do
+        [ "$by" = by_bash ] || command -v zsh > /dev/null || { skip "$by" "there is no zsh" && continue; }
+        same "$by: zigrunk $*" "$("$by" "$@" | grep -vxE -- '-h|--help|--version')" "$(grep -vxE -- '-h|--help|--version' <<< "$wanted")"
+    done
+}
+
+first=$(python3 - "$zigrunk" << 'END'
+import re, subprocess, sys
+print(*re.findall(r"^  ([a-z-]+)  +", subprocess.run([sys.argv[1], "help"], capture_output=True, text=True, check=True).stdout, re.MULTILINE))
+END
+)
+same 'first words' "$first" 'nvcc plan batch report cache check-node help'
+offers "$first" ''
+offers "$first" help ''
+for word in $first; do
+    # (bash completes an empty word to all)
+    options=$("$zigrunk" help "$word" | grep -oE '^-[-a-z]+' | tr '\n' ' ')
+    [ "$word" = nvcc ] || [ "$word" = help ] || offers "${options% }" "$word" -
+done
+offers 'json ninja shell compdb text' plan ''
+offers 'json ninja shell compdb text' plan --dry-runs one two ''
+offers 'stats clear limit observe' cache ''
+offers 'folder' plan --cwd ''
+offers 'folder' plan --dry-runs one two --tmp ''
+offers '-c -dc -dw -ptx -cubin -fatbin -optix-ir' plan --flag ''
+offers '' batch -j ''
+offers '' plan --limit ''
+for words in 'plan --dry-runs' 'plan --dry-runs one' 'report --html' 'report' 'batch' 'batch --progress' 'check-node --write' 'plan json' 'nvcc -c'; do
+    # shellcheck disable=SC2086 # words
+    offers 'file folder' $words ''
+done
+summary
