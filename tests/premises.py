@@ -19,6 +19,7 @@ import os
 import re
 import shutil
 import subprocess
+import time
 from collections import Counter
 from collections.abc import Iterator
 from pathlib import Path
@@ -31,6 +32,8 @@ from random_calls import row_of
 ONE_BY_ONE = {"ZIGRUNK_EARLY": "0", "ZIGRUNK_LATE": "0", "ZIGRUNK_SLOTS": "1"}
 # strace's words to have temporary files stay.
 KEEPING = ["-e", "inject=unlinkat:retval=0"]
+# Before a call is made again to see what differs by itself: a precompiled module of gcc's has the time of day, in seconds.
+SECOND = 1.1
 OWN = "zigrunk.tmp/"
 TEMPORARY = f"/zigrunk-{os.getuid()}/"
 MARKER = b'# 1 "%s"\n'
@@ -174,6 +177,7 @@ class Comparer:
         problems = [*one_by_one(room.folder / "log.plan")]
         found = self.unlike(got, want, seen)
         if found:
+            time.sleep(SECOND)
             other = self.by_plan(room, words, cwd, env)
             noise = {*self.unlike(other, want, Counter())}
             seen.update(undecided=len(noise))
@@ -194,5 +198,8 @@ class Comparer:
         plain = {name: value for name, value in env.items() if not name.startswith("ZIGRUNK")}
         want = self.again(room, words, cwd, plain, [self.nvcc])
         found = [one for one in differences(as_ran(want), as_ran(got), room.folder) if not is_known(line, want, got, one, self.version)]
-        noise = differences(as_ran(want), as_ran(self.again(room, words, cwd, plain, [self.nvcc])), room.folder) if found else []
+        if not found:
+            return []
+        time.sleep(SECOND)
+        noise = differences(as_ran(want), as_ran(self.again(room, words, cwd, plain, [self.nvcc])), room.folder)
         return [f"unlike nvcc's: {kind} {text}" for kind, text in found if (kind, text) not in noise]

@@ -256,7 +256,7 @@ impl Call<'_> {
 /// that can't be known.
 fn end_of(child: i32, signals: &Signals) -> Option<Status> {
     loop {
-        system::wait_for(&[signals.number()], LOOK);
+        system::wait_for(&[signals.file()], LOOK);
         while let Some(number) = signals.next() {
             match number {
                 CHLD => {}

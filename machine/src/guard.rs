@@ -3,7 +3,7 @@
 use crate::folder::CallFolder;
 use crate::system::{self, KILL, SharedPage, TERM};
 use std::io;
-use std::os::fd::{AsFd, AsRawFd, OwnedFd, RawFd};
+use std::os::fd::{AsFd, BorrowedFd, OwnedFd};
 use std::sync::atomic::{AtomicI32, AtomicU8, Ordering};
 use std::thread::sleep;
 use std::time::Duration;
@@ -67,10 +67,10 @@ impl Guard {
         shared: Shared,
         folder: &CallFolder,
         tokens: Option<&OwnedFd>,
-        locks: &[RawFd],
+        locks: &[BorrowedFd<'_>],
     ) -> io::Result<Guard> {
         let (gone, alive) = system::pipe()?;
-        let left: Vec<RawFd> = locks.iter().copied().chain([alive.as_raw_fd()]).collect();
+        let left: Vec<BorrowedFd<'_>> = locks.iter().copied().chain([alive.as_fd()]).collect();
         let process = system::fork_apart(&left, || watch(&gone, shared, folder, tokens))?;
         Ok(Guard { alive, shared, process })
     }

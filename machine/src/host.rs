@@ -19,7 +19,7 @@ use std::ffi::{CStr, CString, OsStr};
 use std::fs::File;
 use std::io::{self, Read};
 use std::mem;
-use std::os::fd::{AsFd, AsRawFd, BorrowedFd, OwnedFd, RawFd};
+use std::os::fd::{AsFd, BorrowedFd, OwnedFd};
 use std::os::unix::ffi::OsStrExt;
 use std::path::{Path, PathBuf};
 use std::rc::Rc;
@@ -214,7 +214,7 @@ impl Host {
         let Some(folder) = self.unguarded.take() else { return Ok(()) };
         let permits = self.running.iter().filter_map(|running| running.permit.as_ref()).chain(&self.permit);
         let slots = permits.filter_map(|permit| permit.slot.as_ref()).map(Slot::file);
-        let locks: Vec<RawFd> = slots.chain(self.slots.as_ref().and_then(Slots::file)).collect();
+        let locks: Vec<BorrowedFd<'_>> = slots.chain(self.slots.as_ref().and_then(Slots::file)).collect();
         let tokens = self.tokens.as_ref().map(|tokens| tokens.server().writer());
         self.guard = Some(Guard::start(self.shared, &folder, tokens, &locks)?);
         Ok(())
@@ -231,12 +231,12 @@ impl Host {
     }
 
     /// The files that can be read once something has come.
-    fn files(&self) -> Vec<RawFd> {
+    fn files(&self) -> Vec<BorrowedFd<'_>> {
         let terminals = self.running.iter().filter_map(|running| match &running.errors {
-            Printed::Terminal(file, ..) => Some(file.as_raw_fd()),
+            Printed::Terminal(file, ..) => Some(file.as_fd()),
             Printed::Memory(_) => None,
         });
-        [self.signals.number()].into_iter().chain(terminals).collect()
+        [self.signals.file()].into_iter().chain(terminals).collect()
     }
 
     /// Sends a signal to the job of a number, which goes on if it is stopped.
@@ -325,7 +325,7 @@ impl Host {
 
     /// Waits a moment for jobs to end.
     fn wait_for_ends(&mut self) {
-        system::wait_for(&[self.signals.number()], 20);
+        system::wait_for(&[self.signals.file()], 20);
         self.take_signals();
     }
 
@@ -418,7 +418,8 @@ impl Host {
             -1
         };
         let pipes = self.pipes.iter().filter_map(|(_, piped)| Some((piped.as_ref()?.writer(), true)));
-        let files: Vec<(RawFd, bool)> = files.into_iter().map(|file| (file, false)).chain(pipes).collect();
+        let files: Vec<(BorrowedFd<'_>, bool)> =
+            files.into_iter().map(|file| (file, false)).chain(pipes).collect();
         system::wait_for_streams(&files, longest);
         self.fill_pipes();
         if let Some(slots) = &self.slots {
@@ -648,6 +649,7 @@ mod tests {
     use crate::system::TERM;
     use crate::test_folder::TestFolder;
     use std::fs;
+    use std::os::fd::AsRawFd;
     use std::thread::{self, sleep};
 
     /// A folder of a test, which goes with it.

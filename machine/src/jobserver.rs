@@ -4,7 +4,7 @@ use crate::guard::{MOST_TOKENS, Shared};
 use crate::settings::own_text;
 use crate::system;
 use std::ffi::CString;
-use std::os::fd::{AsFd, AsRawFd, OwnedFd, RawFd};
+use std::os::fd::{AsFd, AsRawFd, BorrowedFd, OwnedFd, RawFd};
 use std::sync::atomic::Ordering;
 
 /// What `MAKEFLAGS` says of jobs.
@@ -141,8 +141,8 @@ impl Tokens {
     }
 
     /// The file that can be read if make may have a job.
-    pub fn file(&self) -> RawFd {
-        self.server.from.as_raw_fd()
+    pub fn file(&self) -> BorrowedFd<'_> {
+        self.server.from.as_fd()
     }
 
     /// Where they are from.

@@ -8,7 +8,7 @@ use crate::system::{self, MOST_TRIES, SMALL_PIPE};
 use std::fs::{self, File};
 use std::io::{self, ErrorKind, Write};
 use std::mem;
-use std::os::fd::{AsFd, AsRawFd, OwnedFd, RawFd};
+use std::os::fd::{AsFd, AsRawFd, BorrowedFd, OwnedFd, RawFd};
 use std::os::unix::fs::symlink;
 use std::path::{Path, PathBuf};
 
@@ -49,8 +49,8 @@ impl Piped {
     }
 
     /// The end that takes the next part once the last one has been read.
-    pub fn writer(&self) -> RawFd {
-        self.writer.as_raw_fd()
+    pub fn writer(&self) -> BorrowedFd<'_> {
+        self.writer.as_fd()
     }
 
     /// Says what the reader is to get.

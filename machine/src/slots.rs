@@ -12,7 +12,7 @@ use crate::system::{self, Opening};
 use std::cell::{Cell, RefCell};
 use std::fs::{self, File};
 use std::io;
-use std::os::fd::{AsFd, AsRawFd, OwnedFd, RawFd};
+use std::os::fd::{AsFd, BorrowedFd, OwnedFd};
 use std::path::{Path, PathBuf};
 use std::time::{Duration, SystemTime};
 
@@ -33,8 +33,8 @@ pub struct Slot {
 
 impl Slot {
     /// Its file. The lock on it is the slot.
-    pub fn file(&self) -> RawFd {
-        self.file.as_raw_fd()
+    pub fn file(&self) -> BorrowedFd<'_> {
+        self.file.as_fd()
     }
 }
 
@@ -285,8 +285,8 @@ impl Slots {
     }
 
     /// The file that can be read if a slot may be free.
-    pub fn file(&self) -> Option<RawFd> {
-        self.ticket.as_ref().map(|ticket| ticket.file.as_raw_fd())
+    pub fn file(&self) -> Option<BorrowedFd<'_>> {
+        self.ticket.as_ref().map(|ticket| ticket.file.as_fd())
     }
 
     /// Takes the bytes out of the ticket.
@@ -558,7 +558,7 @@ mod tests {
         assert!(next.begin_to_wait() && slots.begin_to_wait());
         assert_eq!(names(&slots), [1, 2], "oldest first");
         slots.end_to_wait();
-        assert_eq!((names(&slots), slots.file(), is_awake(&next)), (vec![2], None, true));
+        assert_eq!((names(&slots), slots.file().is_some(), is_awake(&next)), (vec![2], false, true));
         next.awake();
         slots.end_to_wait();
         assert!(!is_awake(&next), "once is enough");

@@ -7,7 +7,7 @@ use rustix::process::{
 };
 use rustix::stdio::{dup2_stderr, dup2_stdin, dup2_stdout, stderr, stdin, stdout};
 use std::io;
-use std::os::fd::{AsRawFd, IntoRawFd, OwnedFd, RawFd};
+use std::os::fd::{AsRawFd, BorrowedFd, IntoRawFd, OwnedFd};
 
 /// The status of a forked process whose function panics.
 const PANICKED: i32 = 101;
@@ -173,14 +173,14 @@ pub fn fork_to(run: impl FnOnce()) -> io::Result<i32> {
 /// Starts a copy as `fork_to` does, in a group of its own, which no terminal's signal reaches. It has
 /// /dev/null in place of the standard streams and of these files, so nobody waits for it because of them.
 /// Errors: those of `fork` and of opening /dev/null.
-pub fn fork_apart(files: &[RawFd], run: impl FnOnce()) -> io::Result<i32> {
+pub fn fork_apart(files: &[BorrowedFd<'_>], run: impl FnOnce()) -> io::Result<i32> {
     let null = null()?;
     fork_to(|| {
         let _ = setpgid(None, None);
         for &file in files {
             // SAFETY: this process is the copy. The number stays that of an open file, and its owner is in
             // the parent.
-            unsafe { libc::dup3(null.as_raw_fd(), file, libc::O_CLOEXEC) };
+            unsafe { libc::dup3(null.as_raw_fd(), file.as_raw_fd(), libc::O_CLOEXEC) };
         }
         let _ = dup2_stdin(&null).and_then(|()| dup2_stdout(&null)).and_then(|()| dup2_stderr(&null));
         run();

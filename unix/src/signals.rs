@@ -3,7 +3,7 @@ use libc::{SIG_BLOCK, SIG_DFL, SIG_IGN, SIG_SETMASK, SIG_UNBLOCK, c_int, sighand
 use rustix::io::Errno;
 use std::io;
 use std::mem::MaybeUninit;
-use std::os::fd::{AsRawFd, FromRawFd, OwnedFd, RawFd};
+use std::os::fd::{AsFd, BorrowedFd, FromRawFd, OwnedFd};
 use std::ptr;
 use std::sync::atomic::{AtomicBool, Ordering};
 use std::thread::sleep;
@@ -118,10 +118,10 @@ impl Signals {
         Signals { file, stop_ignored: true }
     }
 
-    /// The number of the file.
+    /// The file.
     #[must_use]
-    pub fn number(&self) -> RawFd {
-        self.file.as_raw_fd()
+    pub fn file(&self) -> BorrowedFd<'_> {
+        self.file.as_fd()
     }
 
     /// The next signal that has come. If it can't be read, that takes a moment: the file says all the time

@@ -7,7 +7,7 @@ use rustix::io::Errno;
 use rustix::stdio::{stderr, stdout};
 use std::fs::{self, File};
 use std::io::{self, ErrorKind, Read};
-use std::os::fd::{AsFd, AsRawFd};
+use std::os::fd::AsFd;
 use std::os::unix::fs::FileExt;
 use std::path::Path;
 
@@ -67,7 +67,7 @@ pub fn write_all(file: impl AsFd, text: &[u8]) -> io::Result<()> {
             Err(error) if tries >= MOST_TRIES => return Err(error.into()),
             Err(Errno::INTR) => tries += 1,
             Err(Errno::WOULDBLOCK) => {
-                wait_to_write(file.as_raw_fd(), PATIENCE);
+                wait_to_write(file, PATIENCE);
                 tries += 1;
             }
             Err(error) => return Err(error.into()),

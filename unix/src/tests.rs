@@ -106,9 +106,9 @@ fn signals_come_by_a_file() {
         }
         let signals = Signals::open().unwrap();
         let open = dispositions(&ALL);
-        assert_eq!((signals.next(), wait_for(&[signals.number()], 0)), (None, vec![false]));
+        assert_eq!((signals.next(), wait_for(&[signals.file()], 0)), (None, vec![false]));
         [TERM, TSTP, HUP, INT].into_iter().for_each(send_self);
-        assert_eq!(wait_for(&[signals.number()], 0), [true]);
+        assert_eq!(wait_for(&[signals.file()], 0), [true]);
         let mut come: Vec<i32> = std::iter::from_fn(|| signals.next()).collect();
         come.sort_unstable();
         assert_eq!(come, [HUP, INT, TERM, TSTP]);
@@ -211,7 +211,7 @@ fn started(image: &Image<'_>) -> (String, i32) {
         let child = image.start(streams, None, &signals, group, c"it cannot run\n").unwrap();
         assert_eq!(group.load(Ordering::SeqCst), child);
         loop {
-            wait_for(&[signals.number()], 20_000);
+            wait_for(&[signals.file()], 20_000);
             if let Some(status) = end_of(child).unwrap() {
                 return status.code.to_string();
             }
@@ -299,7 +299,7 @@ fn a_process_apart_leaves_its_streams_and_files() {
             let text = format!("{:?} {group}", [0, 1, 2, write.as_raw_fd(), kept].map(is_null));
             (&said).write_all(text.as_bytes()).unwrap();
         };
-        wait_for_child(fork_apart(&[write.as_raw_fd()], apart).unwrap());
+        wait_for_child(fork_apart(&[write.as_fd()], apart).unwrap());
         assert_eq!(content(&said).unwrap(), b"[true, true, true, true, false] true");
         assert_eq!(
             [0, write.as_raw_fd()].map(|number| target(number).to_str() == Some("/dev/null")),
@@ -385,13 +385,10 @@ fn a_small_pipe_takes_a_part_once_it_is_empty() {
     let [mut reader, mut writer] = [read, write].map(File::from);
     let left = |writer: &File| unread(writer.as_fd()).unwrap();
     for size in [1, 100, SMALL_PIPE] {
-        assert_eq!(
-            (left(&writer), wait_for_streams(&[(writer.as_raw_fd(), true)], 0)),
-            (0, vec![[false, true]])
-        );
+        assert_eq!((left(&writer), wait_for_streams(&[(writer.as_fd(), true)], 0)), (0, vec![[false, true]]));
         assert_eq!(writer.write(&vec![7; size]).unwrap(), size);
         assert_eq!(
-            (left(&writer), wait_for_streams(&[(writer.as_raw_fd(), true)], 0)),
+            (left(&writer), wait_for_streams(&[(writer.as_fd(), true)], 0)),
             (size, vec![[false, false]])
         );
         reader.read_exact(&mut vec![0; size]).unwrap();
@@ -484,7 +481,7 @@ fn one_open_file_has_a_lock() {
 #[test]
 fn the_files_that_can_be_read_are_said() {
     let [(first, _first_end), (second, second_end)] = [(); 2].map(|()| pipe().unwrap());
-    let files = [first.as_raw_fd(), second.as_raw_fd()];
+    let files = [first.as_fd(), second.as_fd()];
     let begun = Instant::now();
     assert_eq!(wait_for(&files, 30), [false, false]);
     assert!(begun.elapsed() >= Duration::from_millis(30));
@@ -496,26 +493,26 @@ fn the_files_that_can_be_read_are_said() {
 #[test]
 fn streams_are_waited_for_both_ways() {
     let (read, write) = pipe().unwrap();
-    let files = |writes| [(read.as_raw_fd(), false), (write.as_raw_fd(), writes)];
+    let files = |writes| [(read.as_fd(), false), (write.as_fd(), writes)];
     assert_eq!(wait_for_streams(&files(false), 0), [[false, false]; 2]);
     assert_eq!(wait_for_streams(&files(true), -1), [[false, false], [false, true]]);
     assert!(write_byte(write.as_fd(), b'a'));
     assert_eq!(wait_for_streams(&files(false), -1), [[true, false], [false, false]]);
     drop(read);
-    assert_eq!(wait_for_streams(&[(write.as_raw_fd(), false)], -1), [[true, false]], "its reader is gone");
+    assert_eq!(wait_for_streams(&[(write.as_fd(), false)], -1), [[true, false]], "its reader is gone");
 }
 
 #[test]
 fn a_stream_that_takes_more_is_not_waited_for() {
     let (read, write) = pipe().unwrap();
     let begun = Instant::now();
-    wait_to_write(write.as_raw_fd(), 20_000);
+    wait_to_write(write.as_fd(), 20_000);
     assert!(begun.elapsed() < Duration::from_secs(10), "it takes more");
     set_unblocked(write.as_fd()).unwrap();
     set_unblocked(read.as_fd()).unwrap();
     while write_byte(write.as_fd(), b'a') {}
     let begun = Instant::now();
-    wait_to_write(write.as_raw_fd(), 30);
+    wait_to_write(write.as_fd(), 30);
     assert!(begun.elapsed() >= Duration::from_millis(30), "it is full");
     while read_byte(read.as_fd()).is_some() {}
 }
@@ -545,7 +542,7 @@ fn a_terminal_hands_over_lines_as_they_are() {
     let (mut owner, program) = terminal().unwrap();
     File::from(program.try_clone().unwrap()).write_all(b"a\nb\n").unwrap();
     assert!(io::IsTerminal::is_terminal(&program));
-    wait_for(&[owner.as_raw_fd()], 10_000);
+    wait_for(&[owner.as_fd()], 10_000);
     let mut text = [0; 64];
     let size = owner.read(&mut text).unwrap();
     assert_eq!(&text[..size], b"a\nb\n");
