@@ -63,8 +63,8 @@ help:
 	@echo 'make field            build the CUDA code of real projects by nvcc and by zigrunk-nvcc, and compare; needs nvcc and CMake;'
 	@echo '                      downloads 80 MB from Debian; PROJECTS="bart ceres" builds only these. No part of the gate'
 	@echo 'make cluster          make lists on a Slurm that it starts on this machine, whose nodes die, and over ssh; needs nvcc, slurm-wlm, munge, iproute2; root'
-	@echo 'make remote           build zigrunk-remote, and calls of nvcc by Debian'\''s buildbox, which it downloads (120 MB) and lets die; SEED=1 DEATHS=12;'
-	@echo '                      make vendor REMOTE=yes fetches its crates. No part of the gate'
+	@echo 'make remote           build zigrunk-remote, and calls of nvcc by Debian'\''s buildbox, which it downloads (120 MB) and lets die; SEED=1 DEATHS=60;'
+	@echo '                      make vendor REMOTE=yes fetches its crates; root. No part of the gate'
 	@echo 'make platforms        build the plain Rust for other platforms in a root of Debian 13, and run the cases there; needs root'
 	@echo 'make check-docs       check links, quoted code and names in the pages, and the version number'
 	@echo 'make lint             check shell, Python and Rust: shellcheck, mypy, flake8, clippy and rustfmt, as far as they are installed'
@@ -107,14 +107,15 @@ header: rust-sources
 # The proved sources as crates of plain Rust (docs/proof/PLAIN_RUST.md), and programs and library of them: no kit, and no network if crates are there.
 rust: rust-sources
 	cd out/rust && cargo build --release
-	$(if $(REMOTE),cd out/rust && cargo build --release -p zigrunk-remote)
+	$(if $(REMOTE),cd out/rust && cargo build --release -p zigrunk-remote $(if $(filter zstd,$(REMOTE)),--features zstd))
 	for name in zigrunk zigrunk-nvcc; do ln -sf zigrunk-driver out/rust/target/release/$$name; done
 
 # Commands by a server of the Remote Execution API.
 remote:
 	@SEED=$(SEED) tests/remote.sh --buildbox
 
-# Crates of others come from vendor/, else from Debian's packages, else from Cargo's registry. REMOTE=yes adds the crate remote, and those that it needs.
+# Crates of others come from vendor/, else from Debian's packages, else from Cargo's registry. REMOTE=yes adds the crate remote, and those that it needs;
+# with REMOTE=zstd contents travel compressed, which takes libzstd-dev, 1.5.6 or later, and libclang-dev.
 # One at a time: the gate installs and packs side by side, and both begin here.
 REMOTE ?=
 rust-sources:

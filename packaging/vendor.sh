@@ -57,6 +57,8 @@ fill() {
     rm -rf vendor.new
     mkdir vendor.new
     packaging/locked.sh "$scratch/rust/Cargo.lock" | while read -r crate; do
+        # (what stands behind a + is in no name of Debian's folders)
+        crate=${crate%%+*}
         cp -r "$cache/registry/$crate" vendor.new
         echo '{"package":null,"files":{}}' > "vendor.new/$crate/.cargo-checksum.json"
     done

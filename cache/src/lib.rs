@@ -15,7 +15,7 @@ mod marked;
 pub mod observed;
 pub mod observer;
 pub mod place;
-mod processor;
+pub mod processor;
 pub mod program;
 mod recipe;
 mod session;

@@ -4,7 +4,8 @@ use crate::api::v2::action_cache_client::ActionCacheClient;
 use crate::api::v2::capabilities_client::CapabilitiesClient;
 use crate::api::v2::content_addressable_storage_client::ContentAddressableStorageClient;
 use crate::api::v2::execution_client::ExecutionClient;
-use crate::api::v2::{GetCapabilitiesRequest, ServerCapabilities, compressor, digest_function};
+use crate::api::v2::{GetCapabilitiesRequest, ServerCapabilities, digest_function};
+use crate::compression::{self, Form};
 use crate::failure::{Failure, is_transient, with_causes};
 use crate::settings::{Server, Settings};
 use std::fs;
@@ -37,8 +38,14 @@ pub struct Abilities {
     pub takes_results: bool,
     /// How many bytes of contents a message may have.
     pub most_in_message: usize,
-    /// Whether contents may come compressed by zstd.
+    /// Whether contents may travel compressed by zstd in streams and from there, and in messages to there.
     pub has_zstd: bool,
+    pub takes_zstd: bool,
+}
+
+/// Whether zstd is among a server's compressors, and this build has it.
+fn knows_zstd(compressors: &[i32]) -> bool {
+    compression::IS_HERE && compressors.contains(&Form::Zstd.number())
 }
 
 impl Abilities {
@@ -57,7 +64,8 @@ impl Abilities {
                 .is_some_and(|execution| execution.exec_enabled),
             takes_results: cache.action_cache_update_capabilities.is_some_and(|update| update.update_enabled),
             most_in_message: most.unwrap_or(MOST_IN_MESSAGE).min(MOST_IN_MESSAGE),
-            has_zstd: cache.supported_compressors.contains(&(compressor::Value::Zstd as i32)),
+            has_zstd: knows_zstd(&cache.supported_compressors),
+            takes_zstd: knows_zstd(&cache.supported_batch_update_compressors),
         })
     }
 }
@@ -117,6 +125,12 @@ fn unreached(why: String) -> Failure {
     if is_of_tls { Failure::Certificate(why) } else { Failure::Unreachable(why) }
 }
 
+/// Why the first call behind a handshake wasn't answered. A server that doesn't take this user's certificate
+/// says so only then, and may close the connection before that is read.
+fn unanswered(why: String, is_secure: bool) -> Failure {
+    if is_secure && why.contains("connection closed") { Failure::Certificate(why) } else { unreached(why) }
+}
+
 impl Connection {
     /// Reaches a server, and asks what it can do.
     pub async fn open(server: &Server, settings: &Settings) -> Result<Connection, Failure> {
@@ -130,12 +144,12 @@ impl Connection {
             takes_results: false,
             most_in_message: MOST_IN_MESSAGE,
             has_zstd: false,
+            takes_zstd: false,
         };
         let (name, instance) = (server.name.clone(), settings.instance.clone());
         let mut connection = Connection { name, instance, abilities, channel, bearer, sent: 0, received: 0 };
         let capabilities = connection.capabilities().await.map_err(|failure| match failure {
-            // (a server that doesn't take this user's certificate says so after the handshake)
-            Failure::Unreachable(why) => unreached(why),
+            Failure::Unreachable(why) => unanswered(why, server.is_secure),
             other => other,
         })?;
         connection.abilities = Abilities::of(&capabilities)?;
@@ -200,5 +214,25 @@ impl Connection {
 
     pub fn execution(&self) -> ExecutionClient<Channel> {
         ExecutionClient::new(self.channel.clone())
+    }
+}
+
+#[cfg(test)]
+mod tests {
+    use super::*;
+
+    #[test]
+    fn a_connection_that_ends_behind_the_handshake_is_of_certificates() {
+        let closed = "transport error: operation was canceled: connection closed";
+        for (why, is_secure, is_of_certificates) in [
+            (closed, true, true),
+            (closed, false, false),
+            ("no answer in time", true, false),
+            ("received fatal alert: CertificateRequired", true, true),
+            ("tcp connect error: Connection refused (os error 111)", true, false),
+        ] {
+            let failure = unanswered(why.into(), is_secure);
+            assert_eq!(matches!(failure, Failure::Certificate(_)), is_of_certificates, "{why}");
+        }
     }
 }

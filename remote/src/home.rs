@@ -1,11 +1,21 @@
 //! A command that runs here.
 use crate::words::Command;
+use std::fs;
 use std::io;
 use std::os::unix::process::{CommandExt, ExitStatusExt};
 use std::process::{self, ExitStatus, Stdio};
 
 /// What a shell adds to the number of a signal that ended a command.
 const BY_SIGNAL: i32 = 128;
+
+/// Where Linux has this machine's name.
+const NAME: &str = "/proc/sys/kernel/hostname";
+
+/// This machine's name; empty if nothing says it.
+#[must_use]
+pub fn machine() -> String {
+    fs::read_to_string(NAME).unwrap_or_default().trim().to_owned()
+}
 
 /// Becomes the command. Comes back with an error only.
 pub fn become_it(command: &Command) -> io::Error {

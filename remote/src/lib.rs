@@ -2,6 +2,7 @@
 //! cache.
 pub mod action;
 pub mod api;
+pub mod compression;
 pub mod connection;
 pub mod digest;
 pub mod failure;

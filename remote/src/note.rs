@@ -22,11 +22,18 @@ pub struct Note {
     pub way: Way,
     /// The server, or empty.
     pub server: String,
+    /// The machine where the command ran, or had run; empty if nobody says so.
+    pub machine: String,
     /// How many bytes of contents went there and came from there.
     pub sent: u64,
     pub received: u64,
     /// Why no server was of help, or why it is no action; or empty.
     pub reason: String,
+}
+
+/// A name as one word.
+fn word(name: &str) -> String {
+    if name.is_empty() { "-".to_owned() } else { name.replace(char::is_whitespace, "_") }
 }
 
 impl Display for Note {
@@ -38,9 +45,9 @@ impl Display for Note {
             Way::Home => "home",
             Way::Own => "own",
         };
-        let server = if self.server.is_empty() { "-" } else { &self.server };
+        let [server, machine] = [&self.server, &self.machine].map(|name| word(name));
         let reason = self.reason.replace('\n', " ");
-        writeln!(to, "{way} {server} {} {} {reason}", self.sent, self.received)
+        writeln!(to, "{way} {server} {machine} {} {} {reason}", self.sent, self.received)
     }
 }
 
@@ -50,8 +57,14 @@ mod tests {
 
     #[test]
     fn a_note_is_one_line() {
-        let note =
-            Note { way: Way::Home, server: String::new(), sent: 0, received: 7, reason: "a\nb".into() };
-        assert_eq!(note.to_string(), "home - 0 7 a b\n");
+        let note = Note {
+            way: Way::Home,
+            server: String::new(),
+            machine: "a\nworker".into(),
+            sent: 0,
+            received: 7,
+            reason: "a\nb".into(),
+        };
+        assert_eq!(note.to_string(), "home - a_worker 0 7 a b\n");
     }
 }

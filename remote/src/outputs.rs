@@ -1,9 +1,10 @@
 //! What a command made: its files, and what it said.
 use crate::action::{Action, Output};
-use crate::api::v2::{ActionResult, Digest, OutputFile};
+use crate::api::v2::{ActionResult, Digest, ExecutedActionMetadata, OutputFile};
 use crate::connection::Connection;
 use crate::digest::Blob;
 use crate::failure::Failure;
+use crate::home::machine;
 use std::fs;
 use std::io::{self, ErrorKind, Write};
 
@@ -14,6 +15,8 @@ const MOST_SAID: usize = 1 << 10;
 #[derive(Clone, PartialEq, Eq, Debug, Default)]
 pub struct Made {
     pub status: i32,
+    /// The name of the machine where it ran; empty if nobody says so.
+    pub machine: String,
     /// The paths of its files, with their contents.
     pub files: Vec<(String, Vec<u8>)>,
     pub out: Vec<u8>,
@@ -72,7 +75,8 @@ impl Made {
             Source::Here(raw) => raw,
             Source::There(_) => contents.next().unwrap_or_default(),
         });
-        Ok(Some(Made { status: result.exit_code, files, out, errors }))
+        let machine = result.execution_metadata.clone().unwrap_or_default().worker;
+        Ok(Some(Made { status: result.exit_code, machine, files, out, errors }))
     }
 
     /// Puts the files in their places, as the command would.
@@ -101,7 +105,9 @@ pub fn result_of(
     out: &[u8],
     errors: &[u8],
 ) -> Result<Option<(ActionResult, Vec<Blob>)>, Failure> {
-    let (mut result, mut blobs) = (ActionResult::default(), Vec::new());
+    let execution_metadata = Some(ExecutedActionMetadata { worker: machine() });
+    let (mut result, mut blobs) =
+        (ActionResult { execution_metadata, ..ActionResult::default() }, Vec::new());
     for output in &action.outputs {
         let content = match fs::read(&output.path) {
             Ok(content) => content,

@@ -90,7 +90,7 @@ impl Job<'_> {
             write_note(self.command, &note(Way::Home, Some(&connection), String::new()));
             return become_it(self.command);
         };
-        let made = Made { status: 0, files: Vec::new(), out, errors };
+        let made = Made { out, errors, ..Made::default() };
         let (way, reason) = self.kept(&mut connection, &made).await;
         write_note(self.command, &note(way, Some(&connection), reason));
         if made.say().is_err() { NOT_RUN } else { 0 }
@@ -132,7 +132,8 @@ impl Job<'_> {
         if let Err(failure) = made.put() {
             return self.become_it(&failure.to_string());
         }
-        write_note(self.command, &note(way, Some(connection), String::new()));
+        let there = Note { machine: made.machine.clone(), ..note(way, Some(connection), String::new()) };
+        write_note(self.command, &there);
         if made.say().is_err() { NOT_RUN } else { made.status }
     }
 
@@ -145,10 +146,11 @@ impl Job<'_> {
     }
 }
 
+/// The note of a command that ran on this machine.
 fn note(way: Way, connection: Option<&Connection>, reason: String) -> Note {
     let (server, sent, received) =
         connection.map_or((String::new(), 0, 0), |it| (it.name.clone(), it.sent, it.received));
-    Note { way, server, sent, received, reason }
+    Note { way, server, machine: home::machine(), sent, received, reason }
 }
 
 /// Notes what became of a command. Without a file for that, a reason goes to standard error.
@@ -218,10 +220,11 @@ pub fn check() -> i32 {
                 let has = |ability: bool, name: &'static str| if ability { name } else { "" };
                 let abilities = connection.abilities;
                 println!(
-                    "{}: contents, results{}{}",
+                    "{}: contents, results{}{}{}",
                     server.name,
                     has(abilities.takes_results, ", takes results"),
-                    has(abilities.executes, ", runs actions")
+                    has(abilities.executes, ", runs actions"),
+                    has(abilities.has_zstd, ", zstd")
                 );
             }
             Err(failure) => {

@@ -1,8 +1,10 @@
 //! Contents that go to a server and come from there.
 use crate::api::bytestream::{ReadRequest, WriteRequest};
 use crate::api::rpc;
+use crate::api::v2::batch_read_blobs_response::Response;
 use crate::api::v2::batch_update_blobs_request::Request;
 use crate::api::v2::{BatchReadBlobsRequest, BatchUpdateBlobsRequest, Digest, FindMissingBlobsRequest};
+use crate::compression::{Form, packed, unpacked};
 use crate::connection::Connection;
 use crate::digest::{Blob, digest_of};
 use crate::failure::{Failure, is_transient};
@@ -71,9 +73,14 @@ impl Connection {
     }
 
     /// A content's name in a stream.
-    fn resource(&self, before: &str, digest: &Digest) -> String {
+    fn resource(&self, before: &str, form: Form, digest: &Digest) -> String {
         let instance = if self.instance.is_empty() { String::new() } else { format!("{}/", self.instance) };
-        format!("{instance}{before}blobs/{}/{}", digest.hash, digest.size_bytes)
+        format!("{instance}{before}{}/{}/{}", form.folder(), digest.hash, digest.size_bytes)
+    }
+
+    /// The form in which contents may come, and large ones go.
+    fn form(&self) -> Form {
+        if self.abilities.has_zstd { Form::Zstd } else { Form::Plain }
     }
 
     /// Which of these contents the server lacks.
@@ -104,10 +111,11 @@ impl Connection {
 
     async fn send_message(&mut self, blobs: &[&Blob]) -> Result<(), Failure> {
         let request = |blob: &&Blob| {
-            let data = bytes_of(blob)?;
-            Ok(Request { digest: Some(blob.digest.clone()), data, compressor: 0 })
+            let (data, form) = packed(bytes_of(blob)?, self.abilities.takes_zstd);
+            Ok(Request { digest: Some(blob.digest.clone()), data, compressor: form.number() })
         };
         let requests = blobs.iter().map(request).collect::<Result<Vec<_>, Failure>>()?;
+        let size: u64 = requests.iter().map(|request| request.data.len() as u64).sum();
         let message = BatchUpdateBlobsRequest { instance_name: self.instance.clone(), requests };
         let ask = || async { self.contents().batch_update_blobs(self.request(message.clone())).await };
         let answer = self.call(ask).await?;
@@ -117,15 +125,15 @@ impl Connection {
         for response in answer.responses {
             check(&response.digest.unwrap_or_default(), response.status)?;
         }
-        self.sent += blobs.iter().map(|blob| blob.size() as u64).sum::<u64>();
+        self.sent += size;
         Ok(())
     }
 
     async fn send_stream(&mut self, blob: &Blob) -> Result<(), Failure> {
-        let content = bytes_of(blob)?;
+        let (content, form) = packed(bytes_of(blob)?, self.abilities.has_zstd);
         let mut tried = 1;
         let committed = loop {
-            let name = self.resource(&format!("uploads/{}/", own_name(tried)), &blob.digest);
+            let name = self.resource(&format!("uploads/{}/", own_name(tried)), form, &blob.digest);
             let parts = parts_of(name, &content);
             let mut streams = self.streams();
             let sent = timeout(SILENCE * 10, streams.write(self.request(tokio_stream::iter(parts)))).await;
@@ -136,9 +144,10 @@ impl Connection {
             }
             tried += 1;
         };
-        // (-1: of a compressed content that the server had by then)
-        if committed != blob.digest.size_bytes && committed != -1 {
-            return Err(Failure::Odd(format!("it took {committed} bytes of {}", blob.digest.size_bytes)));
+        // (-1: of a compressed content that the server had by then; some count what it was before)
+        let size = i64::try_from(content.len()).unwrap_or(i64::MAX);
+        if ![size, blob.digest.size_bytes, -1].contains(&committed) {
+            return Err(Failure::Odd(format!("it took {committed} bytes of {size}")));
         }
         self.sent += content.len() as u64;
         Ok(())
@@ -160,33 +169,40 @@ impl Connection {
             let content = self.fetch_stream(&digest).await?;
             contents.insert(digest.hash, content);
         }
-        self.received += contents.values().map(|content| content.len() as u64).sum::<u64>();
         let content =
             |digest: &Digest| fitting(digest, contents.get(&digest.hash).cloned().unwrap_or_default());
         digests.iter().map(content).collect()
     }
 
-    async fn fetch_message(&self, digests: Vec<Digest>) -> Result<BTreeMap<String, Vec<u8>>, Failure> {
+    async fn fetch_message(&mut self, digests: Vec<Digest>) -> Result<BTreeMap<String, Vec<u8>>, Failure> {
         let message = BatchReadBlobsRequest {
             instance_name: self.instance.clone(),
             digests,
-            acceptable_compressors: Vec::new(),
+            acceptable_compressors: vec![self.form().number()],
         };
         let ask = || async { self.contents().batch_read_blobs(self.request(message.clone())).await };
         let answer = self.call(ask).await?;
-        let content = |response: crate::api::v2::batch_read_blobs_response::Response| {
+        self.received += answer.responses.iter().map(|response| response.data.len() as u64).sum::<u64>();
+        let content = |response: Response| {
             let digest = response.digest.unwrap_or_default();
             check(&digest, response.status)?;
-            Ok((digest.hash, response.data))
+            let content = Form::of(response.compressor)
+                .and_then(|form| unpacked(response.data, form, size_of(&digest)))
+                .ok_or_else(|| Failure::Mismatch(digest.clone()))?;
+            Ok((digest.hash, content))
         };
         answer.responses.into_iter().map(content).collect()
     }
 
-    async fn fetch_stream(&self, digest: &Digest) -> Result<Vec<u8>, Failure> {
-        let mut tried = 1;
+    async fn fetch_stream(&mut self, digest: &Digest) -> Result<Vec<u8>, Failure> {
+        let (mut tried, form) = (1, self.form());
         loop {
-            match self.try_fetch_stream(digest).await {
-                Ok(content) => return Ok(content),
+            match self.try_fetch_stream(digest, form).await {
+                Ok(content) => {
+                    self.received += content.len() as u64;
+                    let content = unpacked(content, form, size_of(digest));
+                    return content.ok_or_else(|| Failure::Mismatch(digest.clone()));
+                }
                 Err(status) if status.code() == Code::NotFound => {
                     return Err(Failure::Evicted(digest.clone()));
                 }
@@ -197,16 +213,18 @@ impl Connection {
         }
     }
 
-    async fn try_fetch_stream(&self, digest: &Digest) -> Result<Vec<u8>, Status> {
+    /// A content as it comes in a form, or the beginning of what is too long.
+    async fn try_fetch_stream(&self, digest: &Digest, form: Form) -> Result<Vec<u8>, Status> {
         let silent = |_| Status::deadline_exceeded("no answer in time");
-        let message = ReadRequest { resource_name: self.resource("", digest), read_offset: 0, read_limit: 0 };
+        let resource_name = self.resource("", form, digest);
+        let message = ReadRequest { resource_name, read_offset: 0, read_limit: 0 };
         let mut streams = self.streams();
         let mut parts =
             timeout(SILENCE, streams.read(self.request(message))).await.map_err(silent)??.into_inner();
         let mut content = Vec::new();
         while let Some(part) = timeout(SILENCE, parts.message()).await.map_err(silent)?? {
             content.extend(part.data);
-            if content.len() > size_of(digest) {
+            if content.len() > form.most(digest) {
                 // (its digest says that it isn't the one)
                 return Ok(content);
             }

@@ -3,9 +3,12 @@ mod fake;
 
 use fake::{Fake, State};
 use std::fs;
+use std::io::{Read, Write};
+use std::net::{Shutdown, SocketAddr, TcpListener, TcpStream};
 use std::os::unix::fs::PermissionsExt;
 use std::path::PathBuf;
 use std::process::{Command, Output};
+use std::sync::{Arc, Mutex};
 use std::thread;
 use tempfile::TempDir;
 use tonic::transport::{Certificate, Identity, ServerTlsConfig};
@@ -107,6 +110,11 @@ impl Call {
     }
 }
 
+/// This machine's name.
+fn here() -> String {
+    fs::read_to_string("/proc/sys/kernel/hostname").unwrap().trim().to_owned()
+}
+
 fn name(server: &Fake) -> String {
     format!("grpc://{}", server.address)
 }
@@ -114,12 +122,12 @@ fn name(server: &Fake) -> String {
 #[test]
 fn what_one_call_made_another_finds() {
     let (server, call) = (Fake::new(State::default()), Call::new());
-    let name = name(&server);
-    assert!(call.runs_well(&name, "cache").starts_with(&format!("kept {name} ")));
+    let (name, here) = (name(&server), here());
+    assert!(call.runs_well(&name, "cache").starts_with(&format!("kept {name} {here} ")));
     let call = call.again();
     assert_eq!(
         (call.runs_well(&name, "cache"), call.runs()),
-        (format!("found {name} 0 9 \n"), 1),
+        (format!("found {name} {here} 0 9 \n"), 1),
         "nothing is sent"
     );
     call.reads("k.ptx", b"another text");
@@ -129,10 +137,11 @@ fn what_one_call_made_another_finds() {
 #[test]
 fn a_server_runs_commands() {
     let (server, call) = (Fake::new(State::default()), Call::new());
-    assert!(call.runs_well(&name(&server), "run").starts_with("ran "));
+    let name = name(&server);
+    assert!(call.runs_well(&name, "run").starts_with(&format!("ran {name} the_worker ")));
     assert!(server.state().calls.contains(&"execute"));
     let call = call.again();
-    assert!(call.runs_well(&name(&server), "run").starts_with("found "));
+    assert!(call.runs_well(&name, "run").starts_with(&format!("found {name} the_worker ")));
     assert_eq!((call.runs(), server.state().calls.iter().filter(|call| **call == "execute").count()), (1, 1));
 }
 
@@ -144,10 +153,96 @@ fn large_contents_go_in_streams() {
     assert!(["write stream", "read stream"].iter().all(|name| server.state().calls.contains(name)));
 }
 
+#[cfg(feature = "zstd")]
+#[test]
+fn contents_travel_compressed_to_and_from_a_server_that_can_that() {
+    for (lines, most) in [(5_000, 10_000), (500_000, 100_000)] {
+        let state = State { has_zstd: true, ..State::default() };
+        let (server, call) = (Fake::new(state), Call::new());
+        let text = b"some text\n".repeat(lines);
+        call.reads("k.ptx", &text);
+        let bytes = |note: &str| {
+            note.split(' ').skip(3).take(2).map(|word| word.parse::<usize>().unwrap()).sum::<usize>()
+        };
+        assert!(bytes(&call.runs_well(&name(&server), "run")) < most);
+        let call = call.again();
+        call.reads("k.ptx", &text);
+        let note = call.runs_well(&name(&server), "cache");
+        assert!(
+            note.starts_with("found ") && bytes(&note) < most && server.state().compressed == 3,
+            "{note}"
+        );
+        server.state().spoils = true;
+        assert!(call.runs_well(&name(&server), "cache").starts_with("kept "));
+    }
+}
+
+/// What goes over a connection to a server, both ways.
+struct Listener {
+    address: SocketAddr,
+    heard: Arc<Mutex<Vec<u8>>>,
+}
+
+impl Listener {
+    fn new(server: SocketAddr) -> Listener {
+        let socket = TcpListener::bind("127.0.0.1:0").unwrap();
+        let (address, heard) = (socket.local_addr().unwrap(), Arc::new(Mutex::new(Vec::new())));
+        let all = heard.clone();
+        thread::spawn(move || {
+            for client in socket.incoming() {
+                let (client, server) = (client.unwrap(), TcpStream::connect(server).unwrap());
+                let (back, forth) = (server.try_clone().unwrap(), client.try_clone().unwrap());
+                for (from, to) in [(client, server), (back, forth)] {
+                    let all = all.clone();
+                    thread::spawn(move || pass_on(from, to, &all));
+                }
+            }
+        });
+        Listener { address, heard }
+    }
+
+    fn hears(&self, text: &str) -> bool {
+        self.heard.lock().unwrap().windows(text.len()).any(|part| part == text.as_bytes())
+    }
+}
+
+/// Passes on what comes, to the end, and keeps it.
+fn pass_on(mut from: TcpStream, mut to: TcpStream, all: &Mutex<Vec<u8>>) {
+    let mut part = [0; 4096];
+    while let Ok(size @ 1..) = from.read(&mut part) {
+        all.lock().unwrap().extend(&part[..size]);
+        if to.write_all(&part[..size]).is_err() {
+            break;
+        }
+    }
+    let _ = to.shutdown(Shutdown::Write);
+}
+
+/// What shows in a connection without TLS: a word, a content, what it makes, and a message's name.
+const SHOWN: [&str; 4] = ["-arch=sm_80", "some text", "SOME TEXT", "k.cubin"];
+
+#[test]
+fn a_listener_sees_no_word_or_content() {
+    let (server, call) = (Fake::new(State::default()), Call::new());
+    let listener = Listener::new(server.address);
+    assert!(call.runs_well(&format!("grpc://{}", listener.address), "run").starts_with("ran "));
+    for text in SHOWN {
+        assert!(listener.hears(text), "without TLS {text} shows");
+    }
+    let certificates = Certificates::new();
+    let server = certificates.server(State { token: Some("secret".into()), ..State::default() });
+    let listener = Listener::new(server.address);
+    let note = certificates.note(listener.address, "ca", Some("user"), Some("secret"));
+    assert!(note.starts_with("kept grpcs://") && !listener.heard.lock().unwrap().is_empty(), "{note}");
+    for text in SHOWN.into_iter().chain(["secret", "google", "bazel"]) {
+        assert!(!listener.hears(text), "{text}");
+    }
+}
+
 #[test]
 fn what_fails_at_a_server_runs_here() {
     let (server, call) = (Fake::new(State { lacks_tools: true, ..State::default() }), Call::new());
-    assert!(call.runs_well(&name(&server), "run").starts_with("home - 0 0 grpc://"));
+    assert!(call.runs_well(&name(&server), "run").starts_with(&format!("home - {} 0 0 grpc://", here())));
     call.reads("bad.ptx", b"");
     let name = name(&server);
     for usage in ["cache", "run"] {
@@ -312,8 +407,8 @@ impl Certificates {
 
     /// How a command goes by a server, given whom it trusts, whose certificate it shows, and its token. It
     /// says why it went by none.
-    fn note(&self, server: &Fake, authority: &str, user: Option<&str>, token: Option<&str>) -> String {
-        let (call, server) = (Call::new(), format!("grpcs://{}", server.address));
+    fn note(&self, server: SocketAddr, authority: &str, user: Option<&str>, token: Option<&str>) -> String {
+        let (call, server) = (Call::new(), format!("grpcs://{server}"));
         let [authority, token_file] =
             [format!("{authority}.pem"), "token".into()].map(|name: String| self.path(&name));
         let identity =
@@ -337,8 +432,9 @@ impl Certificates {
 fn nothing_goes_to_or_from_a_stranger() {
     let certificates = Certificates::new();
     let server = certificates.server(State { token: Some("secret".into()), ..State::default() });
-    let note =
-        |authority: &str, user: Option<&str>, token| certificates.note(&server, authority, user, token);
+    let note = |authority: &str, user: Option<&str>, token| {
+        certificates.note(server.address, authority, user, token)
+    };
     for (authority, user, wanted) in [
         ("other", Some("user"), "certificate"),
         ("ca", None, "certificate"),

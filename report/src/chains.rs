@@ -97,6 +97,7 @@ mod tests {
             status: 0,
             hit: None,
             needs: Some(needs.to_vec()),
+            remote: None,
         };
         Call {
             begin: 0.0,

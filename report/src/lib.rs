@@ -4,6 +4,7 @@
 mod chains;
 mod log;
 mod log_lines;
+mod machines;
 mod page;
 #[cfg(test)]
 mod small;

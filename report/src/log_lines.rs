@@ -45,6 +45,23 @@ pub struct Command {
     pub hit: Option<bool>,
     /// The earlier commands of the call that it waited for, by their numbers, if the log says so.
     pub needs: Option<Vec<usize>>,
+    /// What became of it by a server, if it went by one.
+    pub remote: Option<Remote>,
+}
+
+/// What became of a command by a server of the Remote Execution API.
+#[derive(Clone, PartialEq, Eq, Debug, Deserialize)]
+pub struct Remote {
+    /// `found`, `ran`, `kept`, `home` or `own`.
+    pub way: String,
+    /// The server, or `-`.
+    pub server: String,
+    /// The machine where the command ran, earlier if it was found; `-` if nobody says so.
+    #[serde(default = "dash")]
+    pub machine: String,
+    /// How many bytes of contents went to the server, and came from there.
+    pub sent: u64,
+    pub received: u64,
 }
 
 impl Call {
@@ -83,6 +100,10 @@ impl Command {
 
 fn truth() -> bool {
     true
+}
+
+fn dash() -> String {
+    "-".to_owned()
 }
 
 /// The entry that a line is, if it is one. Bytes that aren't UTF-8 become U+FFFD.

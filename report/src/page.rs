@@ -3,6 +3,7 @@
 use super::chains::{Link, longest_chain, own_seconds, seconds_of};
 use super::log::{Log, number, sum};
 use super::log_lines::{Call, Command};
+use super::machines::{self, Work, megabytes};
 use super::summary::{slowest, words_of};
 use super::timeline::{Phase, drawing, target};
 use std::collections::BTreeMap;
@@ -28,6 +29,7 @@ pub fn page(log: &Log) -> String {
         phases(log),
         sources(log),
         commands(log),
+        machines(log),
         own(log),
         chain(log),
         bad(log),
@@ -248,6 +250,22 @@ fn commands(log: &Log) -> String {
         String::new()
     } else {
         section("Slowest commands", &table(&["Source", "Command", "", "Ran", "Waited for a slot"], 3, &rows))
+    }
+}
+
+/// The machines of commands by servers.
+fn machines(log: &Log) -> String {
+    let row = |((machine, server), work): (&(&str, &str), &Work)| {
+        let names = [machine, server].map(|name| format!("<code>{}</code>", escaped(name)));
+        let counts = [work.ran.to_string(), seconds(work.seconds), work.found.to_string()];
+        [&names[..], &counts, &[work.sent, work.received].map(megabytes)].concat()
+    };
+    let rows: Vec<Vec<String>> = machines::machines(log).iter().map(row).collect();
+    let heads = ["Machine", "Server", "Ran", "For", "Found", "MB sent", "MB received"];
+    if rows.is_empty() {
+        String::new()
+    } else {
+        section("Machines of commands by servers", &table(&heads, 2, &rows))
     }
 }
 

@@ -1,6 +1,7 @@
 //! A log in a few lines of text.
 use super::log::{Log, number, share, sum};
 use super::log_lines::{Call, Command};
+use super::machines;
 use std::fmt::Write;
 
 /// How many of the slowest commands are shown.
@@ -52,6 +53,7 @@ fn write_all(text: &mut String, log: &Log) -> std::fmt::Result {
     if log.commands().next().is_some() {
         write_commands(text, log)?;
     }
+    machines::write(text, log)?;
     if !log.calls.is_empty() {
         write_times(text, log)?;
     }

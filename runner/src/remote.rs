@@ -1,5 +1,7 @@
 //! Commands by servers of the Remote Execution API, through the program `zigrunk-remote`, which decides what
 //! goes to them.
+use cache::digest::{Digest, Hasher};
+use cache::processor::instructions;
 use cache::tool::{Kind, Run, Tools};
 use machine::folder::OWN;
 use machine::jobs::Job;
@@ -22,6 +24,8 @@ pub struct Note {
     pub way: String,
     /// The server, or `-`.
     pub server: String,
+    /// The machine where the command ran, earlier if the server had what it makes; `-` if nobody says so.
+    pub machine: String,
     /// How many bytes of contents went there.
     pub sent: u64,
     /// How many came from there.
@@ -33,12 +37,13 @@ pub struct Note {
 impl Note {
     /// A note by its line.
     fn read(line: &str) -> Option<Note> {
-        let mut words = line.trim_end_matches('\n').splitn(5, ' ');
+        let mut words = line.trim_end_matches('\n').splitn(6, ' ');
         let mut word = || words.next().map(String::from);
-        let (way, server, sent, received) = (word()?, word()?, word()?, word()?);
+        let (way, server, machine, sent, received) = (word()?, word()?, word()?, word()?, word()?);
         Some(Note {
             way,
             server,
+            machine,
             sent: sent.parse().ok()?,
             received: received.parse().ok()?,
             reason: word()?,
@@ -62,14 +67,24 @@ fn program() -> Option<PathBuf> {
     Some(env::current_exe().ok()?.with_file_name(PROGRAM)).filter(|program| program.is_file())
 }
 
-/// The digest of the tool that a job runs, if it is one of nvcc's.
+/// The digest of a tool and of the processor's instructions of which its products may depend: machines that
+/// differ in these make different actions.
+fn with_processor(tool: &Digest, instructions: &str) -> Digest {
+    let mut all = Hasher::default();
+    all.update(&tool.0);
+    all.add(instructions.as_bytes());
+    all.finish()
+}
+
+/// The digest of the tool that a job runs on such a processor, if it is one of nvcc's.
 fn tool_of(job: &Job, tools: &mut Tools) -> Option<String> {
     let kind = Kind::of_nvccs(Path::new(job.words.first()?).file_name()?.to_str()?)?;
     let is_given = |name: &OsString| job.variables.iter().any(|(other, _)| name == other.as_str());
     let given = job.variables.iter().filter_map(|(name, value)| Some((name.into(), value.as_ref()?.into())));
     let environment: Vec<(OsString, OsString)> =
         own_variables().filter(|(name, _)| !is_given(name)).chain(given).collect();
-    tools.identity(&Run::of(kind, job, &environment)?).map(|digest| digest.to_string())
+    let tool = tools.identity(&Run::of(kind, job, &environment)?)?;
+    Some(with_processor(&tool, &instructions()).to_string())
 }
 
 /// A job as the program runs it.
@@ -126,28 +141,39 @@ pub fn complain_of(tasks: &[Task]) {
 #[cfg(test)]
 mod tests {
     use super::*;
+    use std::collections::HashSet;
 
     #[test]
     fn a_note_says_what_became_of_a_command() {
         let note = |way: &str, server: &str, reason: &str| Note {
             way: way.into(),
             server: server.into(),
+            machine: "n1".into(),
             sent: 1,
             received: 2,
             reason: reason.into(),
         };
         let cases = [
-            ("found grpc://a:1 1 2 \n", Some(note("found", "grpc://a:1", "")), Some(true)),
-            ("home - 1 2 a b\n", Some(note("home", "-", "a b")), None),
-            ("kept grpc://a:1 1 2 \n", Some(note("kept", "grpc://a:1", "")), Some(false)),
-            ("found grpc://a:1 1\n", None, None),
-            ("found grpc://a:1 x 2 \n", None, None),
+            ("found grpc://a:1 n1 1 2 \n", Some(note("found", "grpc://a:1", "")), Some(true)),
+            ("home - n1 1 2 a b\n", Some(note("home", "-", "a b")), None),
+            ("kept grpc://a:1 n1 1 2 \n", Some(note("kept", "grpc://a:1", "")), Some(false)),
+            ("found grpc://a:1 n1 1\n", None, None),
+            ("found grpc://a:1 n1 x 2 \n", None, None),
             ("", None, None),
         ];
         for (line, wanted, is_hit) in cases {
             let read = Note::read(line);
             assert_eq!((read.as_ref().and_then(Note::is_hit), read), (is_hit, wanted), "{line}");
         }
+    }
+
+    #[test]
+    fn processors_that_compute_otherwise_make_other_actions() {
+        let (one, other) = (Digest::of(b"one"), Digest::of(b"other"));
+        let all = [(&one, "avx2 fma"), (&one, "avx2"), (&one, ""), (&other, "avx2 fma")];
+        let digests: HashSet<String> =
+            all.iter().map(|(tool, has)| with_processor(tool, has).to_string()).collect();
+        assert_eq!(digests.len(), all.len());
     }
 
     #[test]

@@ -26,6 +26,7 @@ use zigrunk_remote::api::v2::content_addressable_storage_server::{
 };
 use zigrunk_remote::api::v2::execution_server::{Execution, ExecutionServer};
 use zigrunk_remote::api::v2::{self, batch_read_blobs_response, batch_update_blobs_response, *};
+use zigrunk_remote::compression::{Form, packed, unpacked};
 use zigrunk_remote::digest::digest_of;
 
 type Answers<T> = Pin<Box<dyn Stream<Item = Result<T, Status>> + Send>>;
@@ -53,6 +54,9 @@ pub struct State {
     pub executes: bool,
     pub takes_results: bool,
     pub is_full: bool,
+    /// Whether contents may travel compressed, and how many did.
+    pub has_zstd: bool,
+    pub compressed: usize,
     /// Whether contents come with a changed byte.
     pub spoils: bool,
     /// Whether workers lack the tools.
@@ -74,6 +78,8 @@ impl Default for State {
             executes: true,
             takes_results: true,
             is_full: false,
+            has_zstd: false,
+            compressed: 0,
             spoils: false,
             lacks_tools: false,
             token: None,
@@ -113,10 +119,23 @@ impl State {
         Ok(content)
     }
 
-    fn keep(&mut self, digest: &Digest, content: Vec<u8>) -> Result<(), Status> {
+    /// A content in the form in which it goes to whoever takes that.
+    fn packed(&mut self, content: Vec<u8>, form: Form) -> (Vec<u8>, Form) {
+        let (content, form) = packed(content, self.has_zstd && form == Form::Zstd);
+        self.compressed += usize::from(form == Form::Zstd);
+        (content, form)
+    }
+
+    fn keep(&mut self, digest: &Digest, content: Vec<u8>, form: Form) -> Result<(), Status> {
         if self.is_full {
             return Err(Status::resource_exhausted("no room"));
         }
+        if form == Form::Zstd && !self.has_zstd {
+            return Err(Status::invalid_argument("a compressor that isn't offered"));
+        }
+        self.compressed += usize::from(form == Form::Zstd);
+        let size = usize::try_from(digest.size_bytes).unwrap();
+        let content = unpacked(content, form, size).ok_or_else(|| Status::invalid_argument("no zstd"))?;
         if digest_of(&content) != *digest {
             return Err(Status::invalid_argument("another content"));
         }
@@ -168,6 +187,7 @@ impl State {
         let mut result = ActionResult {
             exit_code: ran.status.code().unwrap_or(255),
             stdout_raw: ran.stdout,
+            execution_metadata: Some(ExecutedActionMetadata { worker: "the worker".into() }),
             ..ActionResult::default()
         };
         let errors = digest_of(&ran.stderr);
@@ -284,9 +304,12 @@ impl Capabilities for Service {
         let state = self.called("capabilities", &request)?;
         let sha256 = digest_function::Value::Sha256 as i32;
         let update = ActionCacheUpdateCapabilities { update_enabled: state.takes_results };
+        let compressors = if state.has_zstd { vec![Form::Zstd.number()] } else { Vec::new() };
         let cache = CacheCapabilities {
             digest_functions: vec![sha256],
             action_cache_update_capabilities: Some(update),
+            supported_compressors: compressors.clone(),
+            supported_batch_update_compressors: compressors,
             ..CacheCapabilities::default()
         };
         let execution = ExecutionCapabilities { digest_function: sha256, exec_enabled: state.executes };
@@ -320,8 +343,9 @@ impl ContentAddressableStorage for Service {
         let mut state = self.called("update", &request)?;
         let update = |one: batch_update_blobs_request::Request| {
             let digest = one.digest.unwrap_or_default();
+            let form = Form::of(one.compressor).unwrap();
             let status = state
-                .keep(&digest, one.data)
+                .keep(&digest, one.data, form)
                 .err()
                 .map(|status| rpc::Status { code: status.code() as i32, message: status.message().into() });
             batch_update_blobs_response::Response { digest: Some(digest), status }
@@ -335,9 +359,14 @@ impl ContentAddressableStorage for Service {
         request: Request<BatchReadBlobsRequest>,
     ) -> Result<Response<BatchReadBlobsResponse>, Status> {
         let mut state = self.called("read", &request)?;
+        let request = request.into_inner();
+        let takes_zstd = request.acceptable_compressors.contains(&Form::Zstd.number());
+        let form = if takes_zstd { Form::Zstd } else { Form::Plain };
         let read = |digest: Digest| match state.content(&digest) {
-            Ok(data) => {
-                batch_read_blobs_response::Response { digest: Some(digest), data, ..Default::default() }
+            Ok(content) => {
+                let (data, form) = state.packed(content, form);
+                let (digest, compressor) = (Some(digest), form.number());
+                batch_read_blobs_response::Response { digest, data, compressor, ..Default::default() }
             }
             Err(status) => {
                 let status =
@@ -345,7 +374,7 @@ impl ContentAddressableStorage for Service {
                 batch_read_blobs_response::Response { digest: Some(digest), status, ..Default::default() }
             }
         };
-        let responses = request.into_inner().digests.into_iter().map(read).collect();
+        let responses = request.digests.into_iter().map(read).collect();
         Ok(Response::new(BatchReadBlobsResponse { responses }))
     }
 }
@@ -440,7 +469,9 @@ impl ByteStream for Service {
 
     async fn read(&self, request: Request<ReadRequest>) -> Result<Response<Answers<ReadResponse>>, Status> {
         let mut state = self.called("read stream", &request)?;
-        let content = state.content(&digest_in(&request.get_ref().resource_name)?)?;
+        let (digest, form) = digest_in(&request.get_ref().resource_name)?;
+        let content = state.content(&digest)?;
+        let (content, _) = state.packed(content, form);
         let mut parts: Vec<Result<ReadResponse, Status>> =
             content.chunks(1 << 20).map(|part| Ok(ReadResponse { data: part.to_vec() })).collect();
         if state.fails() {
@@ -470,19 +501,20 @@ impl ByteStream for Service {
         if !is_whole || !name.contains("uploads/") {
             return Err(Status::invalid_argument("no whole upload"));
         }
-        self.0.lock().unwrap().keep(&digest_in(&name)?, content)?;
+        let (digest, form) = digest_in(&name)?;
+        self.0.lock().unwrap().keep(&digest, content, form)?;
         Ok(Response::new(WriteResponse { committed_size }))
     }
 }
 
-/// The digest in a content's name.
-fn digest_in(name: &str) -> Result<Digest, Status> {
-    let parts: Vec<&str> = name.rsplit('/').take(3).collect();
-    match parts.as_slice() {
-        [size, hash, "blobs"] => Ok(Digest {
-            hash: (*hash).to_owned(),
-            size_bytes: size.parse().map_err(|_| Status::invalid_argument("no size"))?,
-        }),
-        _ => Err(Status::invalid_argument("no content's name")),
-    }
+/// The digest in a content's name, and the form in which it travels.
+fn digest_in(name: &str) -> Result<(Digest, Form), Status> {
+    let parts: Vec<&str> = name.rsplit('/').collect();
+    let (size, hash, form) = match parts.as_slice() {
+        [size, hash, "blobs", ..] => (size, hash, Form::Plain),
+        [size, hash, "zstd", "compressed-blobs", ..] => (size, hash, Form::Zstd),
+        _ => return Err(Status::invalid_argument("no content's name")),
+    };
+    let size_bytes = size.parse().map_err(|_| Status::invalid_argument("no size"))?;
+    Ok((Digest { hash: (*hash).to_owned(), size_bytes }, form))
 }
