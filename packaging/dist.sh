@@ -2,7 +2,8 @@
 # Packs what anyone can build, which is plain Rust (docs/proof/PLAIN_RUST.md), and what is proved, if it is built:
 #
 #   dist/zigrunk-VERSION.tar.gz                the sources and the crates that they need, with a Makefile that needs cargo
-#   dist/zigrunk_VERSION_ARCHITECTURE.deb      packages of them: amd64, and arm64 if rustc and gcc can make it
+#   dist/PACKAGE_VERSION_ARCHITECTURE.deb      packages of them, zigrunk, libzigrunk2 and libzigrunk-dev for amd64, and for arm64 if rustc and gcc
+#                                              can make it; and python3-zigrunk
 #   dist/zigrunk-VERSION-py3-none-PLATFORM.whl  the package for Python with the library of each
 #   dist/zigrunk-VERSION-x86_64-linux.tar.gz   the proved cudaplan with the others, if crates/cudaplan/out has what these sources make
 #   dist/SHA256SUMS
@@ -91,43 +92,34 @@ newest_glibc() {
     readelf -V "$1" | sed -n 's/.*Name: GLIBC_\([0-9.]*\) .*/\1/p' | sort -V | tail -n 1
 }
 
-# The control file of the package of an architecture.
+# control PACKAGE ARCHITECTURE SECTION [FIELD..]: the control file of a package, whose files are in $scratch, but for what it is.
 control() {
-    cat << END
-Package: zigrunk
-Version: $version
-Architecture: $1
-Maintainer: Zigrunk maintainers <maintainers@users.noreply.zigrunk.example>
-Installed-Size: $(find "$2/usr" -type f -printf '%s\n' | awk '{ size += $1 } END { print int(size / 1024) + 1 }')
-Depends: libc6 (>= $(newest_glibc "$2/usr/lib/libzigrunk.so.2"))
-Suggests: python3, sccache
-Section: devel
-Priority: optional
-Description: split nvcc calls into their commands
+    printf '%s\n' "Package: $1" "Version: $version" "Architecture: $2" 'Maintainer: Zigrunk maintainers <maintainers@users.noreply.zigrunk.example>' \
+        "Installed-Size: $(find "$scratch/$1" -type f -printf '%s\n' | awk '{ size += $1 } END { print int(size / 1024) + 1 }')" \
+        "Section: $3" 'Priority: optional' "${@:4}"
+}
+
+# about: what a control file says at its end of the whole.
+about() {
+    cat << 'END'
  nvcc is a driver: for each GPU architecture it runs a preprocessor, cicc and
  ptxas, and then joins the results into one object. Zigrunk parses nvcc's two
  dry runs and splits the call into those commands, so that independent ones run
  in parallel and cacheable ones go through a compiler cache.
  .
- zigrunk-nvcc does so in place of nvcc, in one program; zigrunk writes Ninja
- files, shell scripts and JSON. libzigrunk is for programs in C, C++, Go,
- Rust and Python.
 END
 }
 
 # needs_libc_alone FILE: whether a shared object needs nothing but glibc, which Depends names.
 needs_libc_alone() {
-    readelf -d "$1" | sed -n 's/.*(NEEDED).*\[\(.*\)\]/\1/p' | grep -vE '^(libc\.so\.6|ld-linux.*)$' && return 1
+    readelf -d "$1" | sed -n 's/.*(NEEDED).*\[\(.*\)\]/\1/p' | grep -vE '^(libc\.so\.6|libpthread\.so\.0|ld-linux.*)$' && return 1
     return 0
 }
 
-# debianize ROOT: an installation, as Debian has manual pages, completions, shared objects and documents.
+# debianize ROOT: an installation, as Debian has manual pages, completions, shared objects and documents. Debian has our license itself.
 debianize() {
-    local root=$1 page program
-    mkdir -p "$root/usr/share/zsh/vendor-completions" "$root/usr/share/lintian/overrides"
-    for program in cudaplan zigrunk; do
-        echo "zigrunk: statically-linked-binary [usr/bin/$program]"
-    done > "$root/usr/share/lintian/overrides/zigrunk"
+    local root=$1 page
+    mkdir -p "$root/usr/share/zsh/vendor-completions"
     mv "$root/usr/share/zsh/site-functions/_zigrunk" "$root/usr/share/zsh/vendor-completions"
     rmdir "$root/usr/share/zsh/site-functions"
     chmod 644 "$root/usr/lib/libzigrunk.so.2"
@@ -138,32 +130,113 @@ debianize() {
             gzip -n -9 "$page"
         fi
     done
-    install -m 644 packaging/copyright NOTICE "$root/usr/share/doc/zigrunk"
-    {
-        printf 'zigrunk (%s) unstable; urgency=medium\n\n  * See https://keepachangelog.com: CHANGELOG.md of the sources.\n\n' "$version"
-        printf ' -- Zigrunk maintainers <maintainers@users.noreply.zigrunk.example>  %s\n' "$(date -u -R -d "@$SOURCE_DATE_EPOCH")"
-    } | gzip -n -9 > "$root/usr/share/doc/zigrunk/changelog.gz"
-    gzip -n -9 < CHANGELOG.md > "$root/usr/share/doc/zigrunk/CHANGELOG.md.gz"
+    sed -i 's,\[LICENSE\](LICENSE),/usr/share/common-licenses/Apache-2.0,' "$root/usr/share/doc/zigrunk/README.md"
+    rm "$root/usr/share/doc/zigrunk/LICENSE"
 }
 
-# package ARCHITECTURE TARGET PREFIX: the Debian package of an architecture, and a wheel with its library.
+# changes PACKAGE: the changelog of a package, which has the part of CHANGELOG.md on this version.
+changes() {
+    printf '%s (%s) unstable; urgency=medium\n\n' "$1" "$version"
+    sed -n "/^## \[$version\]/,/^## \[/p" CHANGELOG.md | sed -E '/^## /d; s/\[([^]]*)\]\([^)]*\)/\1/g' |
+        awk 'function put() { if (item != "") print item; item = "" }
+            /^### / { put(); item = "  * " substr($0, 5) ":"; next }
+            /^- / { put(); item = "    - " substr($0, 3); next }
+            /^  / { item = item " " substr($0, 3); next }
+            { put() }
+            END { put() }' |
+        while IFS= read -r line; do fold -s -w 72 <<< "$line" | sed '2,$s/^/      /; s/ *$//'; done
+    printf '\n -- Zigrunk maintainers <maintainers@users.noreply.zigrunk.example>  %s\n' "$(date -u -R -d "@$SOURCE_DATE_EPOCH")"
+}
+
+# begin PACKAGE ROOT PATH..: begins a package with these files of an installation.
+begin() {
+    local path
+    mkdir -p "$scratch/$1/DEBIAN" "$scratch/$1/usr/share/doc/$1"
+    for path in "${@:3}"; do
+        mkdir -p "$scratch/$1/$(dirname "$path")"
+        cp -a "$2/$path" "$scratch/$1/$(dirname "$path")"
+    done
+    install -m 644 packaging/copyright "$scratch/$1/usr/share/doc/$1"
+    changes "$1" | gzip -n -9 > "$scratch/$1/usr/share/doc/$1/changelog.gz"
+}
+
+# end PACKAGE ARCHITECTURE: makes a package of its files.
+end() {
+    (cd "$scratch/$1" && find usr -type f -print0 | sort -z | xargs -0 md5sum > DEBIAN/md5sums)
+    date_all "$scratch/$1"
+    dpkg-deb --root-owner-group -Zxz --build "$scratch/$1" "dist/$1_${version}_$2.deb" > /dev/null
+    rm -r "${scratch:?}/$1"
+}
+
+# of_programs ROOT ARCHITECTURE: the package with programs and pages.
+of_programs() {
+    local program
+    begin zigrunk "$1" usr/bin usr/share/man/man1 usr/share/doc/zigrunk usr/share/zigrunk/examples usr/share/zsh usr/share/bash-completion
+    mkdir -p "$scratch/zigrunk/usr/share/lintian/overrides"
+    # (lintian takes a static program that can be anywhere in memory for a library, too)
+    for program in cudaplan zigrunk; do
+        printf 'zigrunk: %s [usr/bin/%s]\n' statically-linked-binary "$program" shared-library-lacks-prerequisites "$program"
+    done > "$scratch/zigrunk/usr/share/lintian/overrides/zigrunk"
+    {
+        control zigrunk "$2" devel 'Suggests: libzigrunk-dev, python3, sccache' 'Description: split nvcc calls into their commands'
+        about
+        printf '%s\n' ' zigrunk-nvcc does so in place of nvcc, in one program; zigrunk writes Ninja' ' files, shell scripts and JSON.'
+    } > "$scratch/zigrunk/DEBIAN/control"
+    end zigrunk "$2"
+}
+
+# of_library ROOT ARCHITECTURE: the packages with the library, and with what its users need.
+of_library() {
+    begin libzigrunk2 "$1" usr/lib/libzigrunk.so.2
+    echo "libzigrunk 2 libzigrunk2 (>= $version)" > "$scratch/libzigrunk2/DEBIAN/shlibs"
+    echo 'activate-noawait ldconfig' > "$scratch/libzigrunk2/DEBIAN/triggers"
+    {
+        control libzigrunk2 "$2" libs "Depends: libc6 (>= $(newest_glibc "$1/usr/lib/libzigrunk.so.2"))" 'Description: plan the commands of nvcc calls, shared library'
+        about
+        echo ' This is the library for C, C++, Go and Python.'
+    } > "$scratch/libzigrunk2/DEBIAN/control"
+    end libzigrunk2 "$2"
+    begin libzigrunk-dev "$1" usr/include usr/lib/libzigrunk.a usr/lib/libzigrunk.so usr/lib/pkgconfig usr/lib/cmake usr/share/man/man3 \
+        usr/share/zigrunk/c usr/share/zigrunk/cpp usr/share/zigrunk/go usr/share/zigrunk/python usr/share/zigrunk/rust
+    {
+        control libzigrunk-dev "$2" libdevel "Depends: libzigrunk2 (= $version)" 'Description: plan the commands of nvcc calls, development files'
+        about
+        printf '%s\n' ' These are header, archive, the layers for C++, Go and Python, the crate for' ' Rust, and examples.'
+    } > "$scratch/libzigrunk-dev/DEBIAN/control"
+    end libzigrunk-dev "$2"
+}
+
+# of_python ROOT: the package for Python, the same for each architecture.
+of_python() {
+    local folder=$scratch/python3-zigrunk/usr/lib/python3/dist-packages
+    begin python3-zigrunk "$1"
+    mkdir -p "$folder"
+    cp -r "$1/usr/share/zigrunk/python/zigrunk" "$folder"
+    printf '%s\n' '#!/bin/sh' 'set -e' 'if command -v py3compile > /dev/null 2>&1; then py3compile -p python3-zigrunk; fi' > "$scratch/python3-zigrunk/DEBIAN/postinst"
+    printf '%s\n' '#!/bin/sh' 'set -e' 'if command -v py3clean > /dev/null 2>&1; then py3clean -p python3-zigrunk; fi' > "$scratch/python3-zigrunk/DEBIAN/prerm"
+    chmod 755 "$scratch/python3-zigrunk/DEBIAN/postinst" "$scratch/python3-zigrunk/DEBIAN/prerm"
+    {
+        control python3-zigrunk all python "Depends: libzigrunk2 (>= $version), python3:any" 'Description: plan the commands of nvcc calls, Python module'
+        about
+        echo ' This is the module for Python.'
+    } > "$scratch/python3-zigrunk/DEBIAN/control"
+    end python3-zigrunk all
+}
+
+# package ARCHITECTURE TARGET PREFIX: the Debian packages of an architecture, and a wheel with its library.
 package() {
-    local root=$scratch/$1
+    local root=$scratch/root.$1
     build "$2" "$3"
-    install_built "$2" "$3" "$root" /usr
+    OLDER_GLIBC=yes install_built "$2" "$3" "$root" /usr
     debianize "$root"
     if ! needs_libc_alone "$root/usr/lib/libzigrunk.so.2"; then
         echo 'Depends names libc6, but libzigrunk.so.2 needs the above too' >&2
         exit 1
     fi
     bindings/python/wheel.py "$root/usr/lib/libzigrunk.so.2" dist > /dev/null
-    mkdir "$root/DEBIAN"
-    echo "libzigrunk 2 zigrunk (>= $version)" > "$root/DEBIAN/shlibs"
-    echo 'activate-noawait ldconfig' > "$root/DEBIAN/triggers"
-    control "$1" "$root" > "$root/DEBIAN/control"
-    (cd "$root" && find usr -type f -print0 | sort -z | xargs -0 md5sum > DEBIAN/md5sums)
-    date_all "$root"
-    dpkg-deb --root-owner-group -Zxz --build "$root" "dist/zigrunk_${version}_$1.deb" > /dev/null
+    of_programs "$root" "$1"
+    of_library "$root" "$1"
+    [ -f "dist/python3-zigrunk_${version}_all.deb" ] || of_python "$root"
 }
 
 # pack_proved: the proved program, and the others. The kit's linker asks for symbols of glibc 2.34, so its object file is linked once more.

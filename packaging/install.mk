@@ -30,7 +30,7 @@ install-library:
 	@$(library_from)
 	umask 022 && bindings/c/library.sh $(archive) "$(target)"
 	install -D -m 644 man/zigrunk.h.3 "$(target)/share/man/man3/zigrunk.h.3"
-	find bindings/c bindings/cpp bindings/go bindings/python -type f ! -path '*/c/library.sh' ! -path '*/c/zigrunk.h' ! -name zigrunk.hpp ! -path '*/__pycache__/*' | while read -r file; do \
+	find bindings/c bindings/cpp bindings/go bindings/python -type f ! -path '*/c/library.sh' ! -path '*/c/older_glibc.c' ! -path '*/c/zigrunk.h' ! -name zigrunk.hpp ! -path '*/__pycache__/*' | while read -r file; do \
 		install -D -m 644 "$$file" "$(target)/share/zigrunk/$${file#bindings/}" || exit 1; done
 
 # The crate for Rust, with the crates that it is made of: `cargo add --path PREFIX/share/zigrunk/rust/zigrunk`.

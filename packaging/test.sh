@@ -1,6 +1,6 @@
 #!/usr/bin/env bash
-# Fresh roots of Debian and Ubuntu. In each it installs dist/*.deb, runs the programs, builds the C example with the library, looks for what the
-# installed pages name, removes the package, and sees that nothing stays. Where the release has rustc 1.85, it then builds and installs a
+# Fresh roots of Debian and Ubuntu. In each it installs dist/*.deb and the wheel, runs programs, builds the C example, looks for what the
+# installed pages name, removes the packages, and sees that nothing stays. Where the release has rustc 1.85, it then builds and installs a
 # clone by the two commands of README, and the source tarball, and plans by the crate for Rust in a new project: there is no kit and, while
 # they build, no network. Needs root, debootstrap and the network, else it is skipped with a message. The last line is "N passed, M failed".
 #
@@ -67,7 +67,7 @@ offline() {
 
 # pages: the text of the installed pages.
 pages() {
-    gzip -dcf "$root"/usr/share/man/man[13]/*zigrunk* "$root"/usr/share/man/man1/cudaplan* "$root"/usr/share/doc/zigrunk/*.* | sed 's/\\-/-/g'
+    gzip -dcf "$root"/usr/share/man/man[13]/*zigrunk* "$root"/usr/share/man/man1/cudaplan* "$root"/usr/share/doc/zigrunk/{,proof/}*.* | sed 's/\\-/-/g'
 }
 
 # named_files: what the installed pages name is installed too: this project's files, and its pages.
@@ -121,21 +121,39 @@ in_c() {
     check "$1: what that prints" planned /none ./archived
 }
 
-# package NAME FILE: the Debian package.
+# debs ARCHITECTURE: the Debian packages, as apt-get in the root has them.
+debs() {
+    printf '/root/%s.deb\n' "zigrunk_${version}_$1" "libzigrunk2_${version}_$1" "libzigrunk-dev_${version}_$1" "python3-zigrunk_${version}_all"
+}
+
+# package NAME ARCHITECTURE: the Debian packages.
 package() {
-    cp "$2" "$root/root"
-    check "$1: the package installs" inside apt-get install -y --no-install-recommends "/root/${2##*/}"
+    local files
+    cp dist/*.deb "$root/root"
+    mapfile -t files < <(debs "$2")
+    check "$1: the packages install" inside apt-get install -y --no-install-recommends "${files[@]}"
     programs "$1"
     check "$1: Ninja" inside apt-get install -y --no-install-recommends ninja-build
     check "$1: a plan that Ninja runs" inside sh -c 'zigrunk plan --dry-runs one_target.dry1 one_target.dry2 --tmp /root/t ninja > build.ninja && ninja'
     check "$1: zigrunk-nvcc, for a call that isn't split" prints '--preprocess k.cu' inside env ZIGRUNK_NVCC=echo zigrunk-nvcc --preprocess k.cu
     check "$1: what the library needs" all_found inside ldd -r /usr/lib/libzigrunk.so.2
+    check "$1: the module for Python" prints "$version" inside python3 -c 'import zigrunk; print(zigrunk.version())'
+    wheel "$1" "$2"
     check "$1: a compiler" inside apt-get install -y --no-install-recommends gcc libc6-dev pkg-config
     in_c "$1" /usr
     check "$1: what its pages name" named_files
-    check "$1: removing it" inside apt-get purge -y zigrunk
+    check "$1: removing them" inside apt-get purge -y zigrunk libzigrunk2 libzigrunk-dev python3-zigrunk
     check "$1: nothing stays" nothing_stays
     check "$1: the linker has forgotten it" no_mention inside ldconfig -p
+}
+
+# wheel NAME ARCHITECTURE: the wheel, unpacked into a folder as pip does it.
+wheel() {
+    local processor=x86_64
+    [ "$2" = amd64 ] || processor=aarch64
+    cp dist/*_"$processor".whl "$root/root"
+    check "$1: the wheel" inside sh -c 'rm -rf wheel && python3 -m zipfile -e *_"$1".whl wheel' sh "$processor"
+    check "$1: the library of the wheel" prints "$version" inside env PYTHONPATH=wheel python3 -c 'import zigrunk; print(zigrunk.version())'
 }
 
 # proved NAME: the tarball of the proved programs, which are for x86-64.
@@ -250,7 +268,7 @@ for release in "$@"; do
     prepare
     check "$release: apt-get update" inside apt-get update
     if [ -f "dist/zigrunk_${version}_$architecture.deb" ]; then
-        package "$release" "dist/zigrunk_${version}_$architecture.deb"
+        package "$release" "$architecture"
     elif [ "$architecture" = "$here" ]; then
         count "$release, the package" 'dist has none; make dist makes it'
     else

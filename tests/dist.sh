@@ -1,6 +1,6 @@
 #!/usr/bin/env bash
-# Packs twice, and sees that the packages have the same bytes, good checksums, what belongs into them, and nothing that lintian calls
-# an error; that the source tarball builds and installs by cargo alone; and the same of the proved tarball if `make build`
+# Packs twice, and sees that the packages have the same bytes, good checksums, what belongs into them, and nothing of which lintian
+# warns; that the source tarball builds and installs by cargo alone; and the same of the proved tarball if `make build`
 # or the gate left cudaplan. It proves nothing. The last line is "N passed, M failed".
 set -u
 cd "$(dirname "$0")/.." || exit 1
@@ -67,24 +67,32 @@ of_sources() {
     check 'nothing stays' prints '' find "$scratch/in here" -type f
 }
 
-# of_package FILE: a Debian package.
-of_package() {
-    local name=${1##*/} root=$scratch/${1##*/}.root glibc program
-    check "unpacking $name" dpkg-deb -x "$1" "$root"
-    check "the version of $name" test "$(dpkg-deb -f "$1" Version)" = "$version"
-    check "the library of $name" has_library "$root/usr"
+# names_of ARCHITECTURE: the packages of an architecture, and those of all.
+names_of() {
+    printf 'dist/%s.deb\n' "libzigrunk-dev_${version}_$1" "libzigrunk2_${version}_$1" "python3-zigrunk_${version}_all" "zigrunk_${version}_$1"
+}
+
+# of_packages ARCHITECTURE: its Debian packages, each by itself, and then all of them as they are installed.
+of_packages() {
+    local package name root=$scratch/root.$1 glibc program
+    for package in $(names_of "$1"); do
+        name=${package##*/}
+        check "unpacking $name" dpkg-deb -x "$package" "$root"
+        check "the version of $name" test "$(dpkg-deb -f "$package" Version)" = "$version"
+        if command -v lintian > /dev/null; then
+            check "lintian of $name" lintian --fail-on error,warning --allow-root "$package"
+        else
+            skip "lintian of $name" "it isn't installed"
+        fi
+    done
+    check "the library for $1" has_library "$root/usr"
+    check "the links of the pages for $1" tests/docs.py --links "$root/usr/share/doc/zigrunk"
     for program in cudaplan zigrunk zigrunk-nvcc; do
-        check "$program of $name needs no library" needs_no_library "$root/usr/bin/$program"
+        check "$program for $1 needs no library" needs_no_library "$root/usr/bin/$program"
     done
     glibc=$(newest_glibc "$root/usr/lib/libzigrunk.so.2")
-    check "libzigrunk.so.2 of $name asks for a version of glibc" test -n "$glibc"
-    check 'it is at most 2.35' sh -c 'printf "%s\n" "$1" 2.35 | sort -C -V' _ "$glibc"
-    same "Depends of $name" "$(dpkg-deb -f "$1" Depends)" "libc6 (>= $glibc)"
-    if command -v lintian > /dev/null; then
-        check "lintian of $name" lintian --fail-on error --allow-root "$1"
-    else
-        skip "lintian of $name" "it isn't installed"
-    fi
+    same "the glibc that libzigrunk.so.2 for $1 asks for" "$glibc" 2.28
+    same "Depends of libzigrunk2 for $1" "$(dpkg-deb -f "dist/libzigrunk2_${version}_$1.deb" Depends)" "libc6 (>= $glibc)"
 }
 
 # of_wheel PROCESSOR FILE: the wheel for Python with the library of a package.
@@ -92,7 +100,8 @@ of_wheel() {
     local architecture=amd64 at=$scratch/${2##*/}.files
     [ "$1" = x86_64 ] || architecture=arm64
     check "unpacking the wheel for $1" python3 -m zipfile -e "$2" "$at"
-    check 'its library is that of the package' cmp "$at/zigrunk/libzigrunk.so.2" "$scratch/zigrunk_${version}_$architecture.deb.root/usr/lib/libzigrunk.so.2"
+    check 'its library is that of the package' cmp "$at/zigrunk/libzigrunk.so.2" "$scratch/root.$architecture/usr/lib/libzigrunk.so.2"
+    check 'it is for glibc 2.28' test "${2#*manylinux_2_28_}" != "$2"
     [ "$1" = "$(uname -m)" ] || return 0
     check 'the version of its library' prints "$version" env -C "$scratch" ZIGRUNK_LIBRARY='' PYTHONPATH="$at" PYTHONDONTWRITEBYTECODE=1 \
         python3 -c 'import zigrunk; print(zigrunk.version())'
@@ -121,10 +130,9 @@ check 'the packages again' packaging/dist.sh
 check 'the same bytes' cmp dist/SHA256SUMS "$scratch/SHA256SUMS"
 check 'good checksums' env -C "$folder" sha256sum -c SHA256SUMS
 of_sources
-for package in dist/*.deb; do
-    of_package "$package"
-done
-check 'a wheel for each package' test "$(find dist -name '*.whl' | wc -l)" = "$(find dist -name '*.deb' | wc -l)"
+of_packages amd64
+[ ! -f "dist/zigrunk_${version}_arm64.deb" ] || of_packages arm64
+check 'a wheel for each architecture' test "$(find dist -name '*.whl' | wc -l)" = "$(find dist -name 'zigrunk_*.deb' | wc -l)"
 for wheel in dist/*.whl; do
     processor=${wheel##*manylinux_2_??_}
     of_wheel "${processor%.whl}" "$wheel"

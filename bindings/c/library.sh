@@ -2,6 +2,8 @@
 # library.sh ARCHIVE FOLDER: makes libzigrunk in FOLDER, with its headers and the files of pkg-config and CMake, of the archive that cargo leaves in
 # out/rust/target/release (libzigrunk_c.a).
 #
+# With OLDER_GLIBC, the shared object runs with glibc 2.28 and newer; otherwise with the glibc of the machine that links it, and newer.
+#
 # The names of that archive are all global, and it has Rust's whole library, most of which nothing here needs. So it becomes one object, in which only
 # the functions of the header are.
 set -eu
@@ -24,7 +26,20 @@ grep -o '\bzigrunk_[a-z_0-9]*(' zigrunk.h | tr -d '(' | LC_ALL=C sort -u > "$wor
 
 rm -f "$folder/lib/libzigrunk.a"
 "$AR" rcsD "$folder/lib/libzigrunk.a" "$work/zigrunk.o"
-${CC:-cc} -shared -o "$folder/lib/libzigrunk.so.2" "$work/zigrunk.o" -s -Wl,--gc-sections \
+# Before 2.34, glibc had threads in a library of their own, which newer ones still have in name. The linker takes the names that are wanted from a
+# stand-in for it, so that it asks for their first version.
+set --
+if [ -n "${OLDER_GLIBC-}" ]; then
+    case $(${CC:-cc} -dumpmachine) in x86_64*) first=GLIBC_2.2.5 ;; *) first=GLIBC_2.17 ;; esac
+    echo "$first { global: *; };" > "$work/threads"
+    for name in once key_create key_delete setspecific getspecific; do echo "void pthread_$name(void) {}"; done > "$work/threads.c"
+    echo 'void __pthread_key_create(void) {}' >> "$work/threads.c"
+    ${CC:-cc} -shared -nostdlib -fno-builtin -w -o "$work/libpthread.so.0" "$work/threads.c" -Wl,-soname,libpthread.so.0 \
+        -Wl,--version-script="$work/threads"
+    ${CC:-cc} -O2 -fPIC -c -o "$work/older_glibc.o" older_glibc.c
+    set -- "$work/older_glibc.o" "$work/libpthread.so.0"
+fi
+${CC:-cc} -shared -o "$folder/lib/libzigrunk.so.2" "$work/zigrunk.o" "$@" -s -Wl,--gc-sections \
     -Wl,-soname,libzigrunk.so.2 -Wl,--version-script="$work/map" -static-libgcc -Wl,--no-undefined -Wl,-z,relro,-z,now,-z,noexecstack
 ln -sf libzigrunk.so.2 "$folder/lib/libzigrunk.so"
 cp zigrunk.h ../cpp/zigrunk.hpp "$folder/include"
