@@ -1,0 +1,146 @@
+#!/usr/bin/env python3
+"""What zigrunk report says of many logged calls, beside their log: no call's longest chain takes longer than the call, the columns of a page have the
+sum that the log has, and its counts are the log's. The calls are made by a batch with the stand-ins of tests/driver, and some by nvcc, if it is here.
+Prints a line for each finding, and last 'N passed, M failed'.
+
+    tests/report_calls.py [--count N] [--real N]    N calls with stand-ins, 60 unless said; N calls of nvcc, 4 unless said
+    tests/report_calls.py LOG..                     looks at these logs instead
+
+DRIVER_BIN is where zigrunk is, by default where `make rust` leaves it.
+"""
+
+import argparse
+import html
+import json
+import os
+import re
+import shutil
+import subprocess
+import sys
+import tempfile
+from pathlib import Path
+from typing import Any
+
+from runner import TOOLS, Counts
+
+TOP = Path(__file__).resolve().parent.parent
+# A page has seconds with two digits behind the point.
+ROUNDING = 0.005
+
+Entry = dict[str, Any]
+
+
+def stand_ins(room: Path) -> dict[str, str]:
+    """A toolkit of stand-ins below a folder, and the variables for it. Its tools take up to 20 ms, so commands overlap in many ways."""
+    bin_, nvvm = room / "cuda/bin", room / "cuda/nvvm/bin"
+    bin_.mkdir(parents=True)
+    nvvm.mkdir(parents=True)
+    subprocess.run(["cc", "-O1", "-o", bin_ / "gcc", TOP / "tests/driver_cache/program.c"], check=True)
+    for link in [bin_ / "cudafe++", bin_ / "ptxas", bin_ / "fatbinary", nvvm / "cicc"]:
+        link.symlink_to(TOP / "tests/driver/tool")
+    (bin_ / "nvcc").symlink_to(TOP / "tests/driver/nvcc")
+    return {"CUDA": f"{room}/cuda", "DATA": str(TOP / "tests/drivers/test_plans/data/dry_runs"), "STAND_IN": str(TOP / "tests/driver/tool"),
+            "LOG": "/dev/null", "PATH": f"{bin_}:{os.environ['PATH']}", "ZIGRUNK_LATE": "0", "TOOL_DOES": "sleep 0.0$(($$ % 3))", "CHILDLESS": "1"}
+
+
+def make(room: Path, count: int, variables: dict[str, str], log: Path) -> None:
+    """Makes so many calls by a batch, each ninth of which fails or links."""
+    (room / "work").mkdir(exist_ok=True)
+    lines = []
+    for number in range(count):
+        shutil.copy(room / "k.cu", room / f"work/k{number}.cu")
+        lines.append(f"nvcc k{number}.cu -o k{number}" if number % 9 == 8 else f"nvcc -c k{number}.cu -o k{number}.o")
+    (room / "list").write_text("\n".join(lines) + "\n", encoding="utf-8")
+    kept = {name: value for name, value in os.environ.items() if not name.startswith(("ZIGRUNK_", "NVCC_"))}
+    environment = {**kept, **variables, "ZIGRUNK_LOG": str(log), "TMPDIR": str(room)}
+    subprocess.run([TOOLS / "zigrunk", "batch", room / "list"], cwd=room / "work", env=environment, capture_output=True, check=False, timeout=900)
+
+
+def report(log: str, folder: Path) -> tuple[str, str]:
+    """What the program says of a log, and its page."""
+    (folder / "log").write_text(log, encoding="utf-8")
+    words = [TOOLS / "zigrunk", "report", "--html", folder / "page", folder / "log"]
+    ended = subprocess.run(words, capture_output=True, encoding="utf-8", check=True)
+    return ended.stdout, (folder / "page").read_text(encoding="utf-8")
+
+
+def text_of(page: str) -> str:
+    return html.unescape(re.sub(r"<[^>]*>", " ", page)).replace("\xa0", " ")
+
+
+def seconds(command: Entry) -> float:
+    return float(command["end"]) - float(command["begin"])
+
+
+def chain_findings(line: str, folder: Path) -> list[str]:
+    """What is wrong with the chain of a call."""
+    call = json.loads(line)
+    if not call.get("commands"):
+        return []
+    found = re.search(r"took (\d+\.\d+) s\. Its commands that wait for each other take (\d+\.\d+) s", text_of(report(line + "\n", folder)[1]))
+    if not found:
+        return ["the page has no chain"]
+    took, chain, ran = float(found[1]), float(found[2]), call["end"] - call["begin"]
+    wrong = [] if abs(took - ran) <= 2 * ROUNDING else [f"the page says {took} s, and the log {ran:.3f} s"]
+    longest = max(seconds(command) for command in call["commands"])
+    if not longest - 2 * ROUNDING <= chain <= ran + 2 * ROUNDING:
+        wrong.append(f"its chain takes {chain} s, the call {ran:.3f} s, and its longest command {longest:.3f} s")
+    return wrong
+
+
+def sum_findings(log: list[Entry], page: str, text: str) -> list[str]:
+    """What is wrong with sums and counts of all calls."""
+    wrong = []
+    commands = [command for call in log for command in call.get("commands", [])]
+    table = re.search(r"Preprocessing and each target</h2>.*?</table>", page, re.DOTALL)
+    rows = [float(cell) for cell in re.findall(r"<b>([\d.]+)[^<]*</b>", table[0])] if table else []
+    cells = [float(cell) for cell in re.findall(r'--heat:[\d.]+">([\d.]+)', table[0])] if table else []
+    work = sum(map(seconds, commands))
+    for name, sums in (("columns", cells), ("rows", rows)):
+        if abs(sum(sums) - work) > ROUNDING * (len(sums) + 1):
+            wrong.append(f"the {name} have {sum(sums):.2f} s, and the log {work:.2f} s")
+    failed = sum(call["status"] != 0 for call in log)
+    if f"calls: {len(log)}, failed: {failed}\n" not in text:
+        wrong.append(f"there are {len(log)} calls, of which {failed} failed: {text[:60]!r}")
+    said = re.search(r"^commands of split calls, one after the other: ([\d.]+) s", text, re.MULTILINE)
+    if not said or abs(float(said[1]) - work) > 2 * ROUNDING:
+        wrong.append(f"the text has {said[1] if said else None} s, and the log {work:.2f} s")
+    return wrong
+
+
+def look(log: Path, least: int, counts: Counts) -> None:
+    """Looks at a log, which has to have so many calls."""
+    lines = [line for line in log.read_text(encoding="utf-8").splitlines() if "begin" in json.loads(line)]
+    counts.case(f"{log.name}: calls", [] if len(lines) >= least else [f"{len(lines)}, not {least}"])
+    with tempfile.TemporaryDirectory() as name:
+        folder = Path(name)
+        for number, line in enumerate(lines):
+            counts.case(f"{log.name}, call {number}", chain_findings(line, folder))
+        text, page = report("\n".join(lines) + "\n", folder)
+        counts.case(f"{log.name}: sums", sum_findings([json.loads(line) for line in lines], page, text))
+
+
+def main() -> int:
+    words = argparse.ArgumentParser(usage=__doc__, formatter_class=argparse.RawDescriptionHelpFormatter)
+    words.add_argument("--count", type=int, default=60)
+    words.add_argument("--real", type=int, default=4)
+    words.add_argument("logs", nargs="*", type=Path)
+    asked = words.parse_args()
+    counts = Counts()
+    for log in asked.logs:
+        look(log, 1, counts)
+    with tempfile.TemporaryDirectory() as name:
+        room = Path(name).resolve()
+        if not asked.logs:
+            (room / "k.cu").write_text("__global__ void k() {}\n", encoding="utf-8")
+            make(room, asked.count, stand_ins(room), room / "stand-ins")
+            look(room / "stand-ins", asked.count, counts)
+        if not asked.logs and asked.real and shutil.which("nvcc"):
+            shutil.copy(TOP / "tests/small/cuda_runtime.h", room)
+            make(room, asked.real, {"NVCC_APPEND_FLAGS": f"-I{room}"}, room / "nvcc")
+            look(room / "nvcc", asked.real, counts)
+    return counts.summary()
+
+
+if __name__ == "__main__":
+    sys.exit(main())
