@@ -116,9 +116,14 @@ needs_libc_alone() {
     return 0
 }
 
-# debianize ROOT: an installation, as Debian has manual pages, completions, shared objects and documents. Debian has our license itself.
+# debianize ROOT TARGET: an installation, as Debian has manual pages, completions, shared objects, documents and the files of pkg-config. Debian has
+# our license itself.
 debianize() {
-    local root=$1 page
+    local root=$1 page libraries
+    libraries=$root/usr/lib/${2/-unknown-/-}
+    mkdir -p "$libraries"
+    mv "$root/usr/lib/pkgconfig" "$libraries"
+    sed -i 's,^prefix=.*,&/..,' "$libraries/pkgconfig/zigrunk.pc"
     mkdir -p "$root/usr/share/zsh/vendor-completions"
     mv "$root/usr/share/zsh/site-functions/_zigrunk" "$root/usr/share/zsh/vendor-completions"
     rmdir "$root/usr/share/zsh/site-functions"
@@ -185,7 +190,7 @@ of_programs() {
     end zigrunk "$2"
 }
 
-# of_library ROOT ARCHITECTURE: the packages with the library, and with what its users need.
+# of_library ROOT ARCHITECTURE TARGET: the packages with the library, and with what its users need.
 of_library() {
     begin libzigrunk2 "$1" usr/lib/libzigrunk.so.2
     echo "libzigrunk 2 libzigrunk2 (>= $version)" > "$scratch/libzigrunk2/DEBIAN/shlibs"
@@ -196,7 +201,7 @@ of_library() {
         echo ' This is the library for C, C++, Go and Python.'
     } > "$scratch/libzigrunk2/DEBIAN/control"
     end libzigrunk2 "$2"
-    begin libzigrunk-dev "$1" usr/include usr/lib/libzigrunk.a usr/lib/libzigrunk.so usr/lib/pkgconfig usr/lib/cmake usr/share/man/man3 \
+    begin libzigrunk-dev "$1" usr/include usr/lib/libzigrunk.a usr/lib/libzigrunk.so "usr/lib/${3/-unknown-/-}" usr/lib/cmake usr/share/man/man3 \
         usr/share/zigrunk/c usr/share/zigrunk/cpp usr/share/zigrunk/go usr/share/zigrunk/python usr/share/zigrunk/rust
     {
         control libzigrunk-dev "$2" libdevel "Depends: libzigrunk2 (= $version)" 'Description: plan the commands of nvcc calls, development files'
@@ -228,14 +233,14 @@ package() {
     local root=$scratch/root.$1
     build "$2" "$3"
     OLDER_GLIBC=yes install_built "$2" "$3" "$root" /usr
-    debianize "$root"
+    debianize "$root" "$2"
     if ! needs_libc_alone "$root/usr/lib/libzigrunk.so.2"; then
         echo 'Depends names libc6, but libzigrunk.so.2 needs the above too' >&2
         exit 1
     fi
     bindings/python/wheel.py "$root/usr/lib/libzigrunk.so.2" dist > /dev/null
     of_programs "$root" "$1"
-    of_library "$root" "$1"
+    of_library "$root" "$1" "$2"
     [ -f "dist/python3-zigrunk_${version}_all.deb" ] || of_python "$root"
 }
 

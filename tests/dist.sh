@@ -20,10 +20,11 @@ newest_glibc() {
 # has_library PREFIX: whether an installation has the files of the library.
 has_library() {
     local file
-    for file in lib/libzigrunk.a lib/libzigrunk.so lib/libzigrunk.so.2 lib/pkgconfig/zigrunk.pc include/zigrunk.h share/zigrunk/c/plan.c \
+    for file in lib/libzigrunk.a lib/libzigrunk.so lib/libzigrunk.so.2 include/zigrunk.h share/zigrunk/c/plan.c \
         share/zigrunk/rust/zigrunk/src/lib.rs share/zigrunk/examples/cluster/slurm.sh share/doc/zigrunk/CLUSTER.md share/doc/zigrunk/plan.schema.json; do
         [ -f "$1/$file" ] || { echo "missing: $file" && return 1; }
     done
+    compgen -G "$1/lib/pkgconfig/zigrunk.pc" > /dev/null || compgen -G "$1/lib/*-linux-gnu/pkgconfig/zigrunk.pc" > /dev/null || { echo 'missing: zigrunk.pc' && return 1; }
     [ -s "$1/share/man/man3/zigrunk.h.3" ] || [ -s "$1/share/man/man3/zigrunk.h.3.gz" ]
 }
 

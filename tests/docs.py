@@ -7,7 +7,7 @@ Prints a line for each finding, and last 'N passed, M failed': a page or a kind 
     tests/docs.py --links FOLDER    checks the links of the pages below a folder alone, such as those that are installed
 
 The sum of all pages has README, CONTRIBUTING, packaging/README, those below docs, driver/*.md and bindings/*/README.md. It leaves out the
-changelog, the manuals, and what tests/ says of its files of cases.
+changelog, the man pages, which have a sum of their own, and what tests/ says of its files of cases.
 """
 
 import glob
@@ -28,9 +28,11 @@ PAGES = [*READ, "CHANGELOG.md", "tests/LONG_INPUT.md", *sorted(glob.glob("tests/
 # The pages of those who build with Zigrunk or call it. Those of docs/proof are for who asks what is proved, the others for contributors.
 USERS = ["README.md", *(f"docs/{name}.md" for name in ("CLUSTER", "DIFFERENCES", "EMBEDDING", "PERFORMANCE", "REPRODUCIBLE", "TRIED"))]
 PROOF = [page for page in READ if page.startswith("docs/proof/")]
+MANUALS = sorted(glob.glob("man/*", root_dir=TOP))
 
 # Who builds with Zigrunk should have read its pages in 40 minutes, who reads all pages in two hours, and who reads README in two minutes.
-MOST = (("users' pages", USERS, 8_000), ("users' pages and docs/proof", [*USERS, *PROOF], 18_000), ("all pages", READ, 24_000))
+MOST = (("users' pages", USERS, 8_000), ("users' pages and docs/proof", [*USERS, *PROOF], 18_000), ("all pages", READ, 24_000),
+        ("man pages", MANUALS, 7_550))
 MOST_LINES = 90
 
 # An exported function that only tests cover: std's contracts don't say which errors a file can give.
@@ -260,7 +262,7 @@ def needed() -> Iterator[str]:
 
 
 def print_words() -> int:
-    for page in READ:
+    for page in [*READ, *MANUALS]:
         print(f"{words_of(page):6} {page}")
     for name, pages, most in MOST:
         print(f"{sum(map(words_of, pages)):6} {name}, of {most}")
