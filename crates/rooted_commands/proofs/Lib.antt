@@ -1,3 +1,4 @@
+pub mod CheckoutLemmas
 pub mod LineLemmas
 pub mod MapLemmas
 pub mod MarkLemmas
@@ -5,3 +6,4 @@ pub mod OwnLemmas
 pub mod PathLemmas
 pub mod StepLemmas
 pub mod Utf8Lemmas
+pub mod WrittenLemmas

@@ -10,7 +10,7 @@ use Rattle.rooted_commands.specs.Laws.{CheckoutsAgree, PathsStayDistinct, OneFol
 use Rattle.rooted_commands.specs.declared.paths.Root.{Root}
 
 -- a text with what follows it
-rest_after-whole : (p s rest : List ℕ) → rest_after p s ≡ Some rest → s ≡ p ++ rest
+pub rest_after-whole : (p s rest : List ℕ) → rest_after p s ≡ Some rest → s ≡ p ++ rest
 rest_after-whole [] s rest h = cc
 rest_after-whole (c ∷ cs) [] rest h = cc
 rest_after-whole (c ∷ cs) (d ∷ ds) rest h =
@@ -37,7 +37,7 @@ behind-parts folder path rest h =
       | Some q ↦ λ e k. let parts = ended q rest k in (rest_after-whole folder path rest (e ∙ ap Some parts.0), parts.1)
     ] refl h
 
-first-ends : (folders : List (List ℕ)) (path rest : List ℕ) → behind_first folders path ≡ Some rest → ends_name rest ≡ true
+pub first-ends : (folders : List (List ℕ)) (path rest : List ℕ) → behind_first folders path ≡ Some rest → ends_name rest ≡ true
 first-ends [] path rest h = cc
 first-ends (folder ∷ folders) path rest h =
     elim (behind folder path) as (λ o. behind folder path ≡ o → option_or o (behind_first folders path) ≡ Some rest → ends_name rest ≡ true) [

@@ -23,6 +23,13 @@ use Rattle.rooted_commands.specs.declared.paths.Root.{Root}
 same-files : (f g : CommandFiles) → are_same f g ≡ true → f ≡ g
 same-files f g e = grind (arith, and_parts, (lists bytes_eq bytes_eq-Decides), bools)
 
+pub keeps-files : (c d : NvccGeneratedSubcommand) → keeps_record c d ≡ true → files_of c ≡ files_of d
+keeps-files c d e = same-files (files_of c) (files_of d) (and_parts (are_same (files_of c) (files_of d)) (beq (preprocesses c.args) (preprocesses d.args)) e).0
+
+pub keeps-preprocessing : (c d : NvccGeneratedSubcommand) → keeps_record c d ≡ true → preprocesses c.args ≡ preprocesses d.args
+keeps-preprocessing c d e =
+    (bools (preprocesses c.args) (preprocesses d.args)).0 (and_parts (are_same (files_of c) (files_of d)) (beq (preprocesses c.args) (preprocesses d.args)) e).1
+
 same-step : (count group : ℕ) (c : NvccGeneratedSubcommand) (words : List (List ℕ)) → files_of (with_words c words) ≡ files_of c → preprocesses words ≡ preprocesses c.args → step_of count group (with_words c words) ≡ step_of count group c
 same-step count group c words files prep = grind arith
 

@@ -1,6 +1,8 @@
 //! Laws of rooted names.
 
 ghost use Rattle.rooted_commands.specs.Laws.{CheckoutsAgree, PathsStayDistinct, OneFolderIsExact, RootKeepsSteps, OwnPathsComeBack};
+ghost use Rattle.rooted_commands.specs.Checkouts.{AlikePlansRunAlike};
+ghost use Rattle.rooted_commands.specs.WrittenNames.{HostsWriteGeneratedPaths, HostsWriteRootedPaths};
 ghost use Rattle.rooted_commands.specs.MarkerExamples.{NamesAreRooted, RawStringsStay, DoubtfulLinesStay};
 
 /// What the root does for all paths and commands.
@@ -15,6 +17,18 @@ pub fn roots()
     ensures exact { OneFolderIsExact }
     ensures steps { RootKeepsSteps }
     ensures back { OwnPathsComeBack }
+{}
+
+/// What runs in two checkouts of a project, by the plans of two calls.
+///
+/// What a host compiler writes for a path that is clear to its prefix maps is the rooted path (`hosts`), and for a generated file a path
+/// below `/tmp` (`generated`). Where the commands of two plans are alike but for the checkouts' folders, place by place, each tool of nvcc
+/// runs as one command in both, with one program, words, folder and variables, and each host compiler writes the same for clear paths of one
+/// place, its own folder among them (`checkouts`).
+pub fn plans()
+    ensures hosts { HostsWriteRootedPaths }
+    ensures generated { HostsWriteGeneratedPaths }
+    ensures checkouts { AlikePlansRunAlike }
 {}
 
 /// What comes of some preprocessed texts.

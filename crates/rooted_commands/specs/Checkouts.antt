@@ -1,0 +1,255 @@
+-- One project in two checkouts: which commands of two calls are alike but for the checkouts' folders, and that alike ones run alike.
+use Rattle.std.specs.Prelude.{◌≡◌, ℕ, List, [], ◌∷◌, Bool, true, false, not, ◌&&◌, ◌||◌, if◌then◌else◌, Option, Some, None, map, codes, refl, bytes_eq}
+use Rattle.std.specs.Cmp.Lexicographic.{pointwise}
+use Rattle.std.specs.List.{AllZip}
+use Rattle.std.specs.Option.{is_some}
+use Rattle.texts.specs.Lists.{rest_after}
+use Rattle.texts.specs.Rows.{Gives, spaced}
+use Rattle.compilers.specs.Programs.{program_at}
+use Rattle.compilers.specs.declared.command.Cacheable.TheVariants.{Yes}
+use Rattle.compilers.specs.declared.plans.plan.NvccGeneratedSubcommand.{NvccGeneratedSubcommand}
+use Rattle.compilers.specs.declared.plans.plan.Plan.{Plan}
+use Rattle.compilers.specs.declared.plans.program.Program.{Program}
+use Rattle.compilers.specs.declared.plans.program.Program.TheVariants as programs
+use Rattle.placed_commands.specs.PlacedCommands.{files_of, moved}
+use Rattle.rooted_commands.specs.Paths.{call_in, place_of}
+use Rattle.rooted_commands.specs.Commands.{keeps_record, names_source, rooted_command, tool_words, with_words, writes_names}
+use Rattle.rooted_commands.specs.WrittenNames.{can_be_told, has_maps, is_clear, written_name}
+use Rattle.rooted_commands.specs.declared.paths.Root.{Root}
+
+-- whether two paths of two calls are one place of the project, or one path outside both checkouts, given their places
+abbrev pub are_one : Option (List ℕ) → Option (List ℕ) → Bool → Bool
+are_one None None same = same
+are_one (Some rest) (Some other) same = bytes_eq rest other
+are_one _ _ same = false
+
+abbrev pub is_one_place : Root → Root → List ℕ → List ℕ → Bool
+is_one_place r s path name = are_one (place_of r path) (place_of s name) (bytes_eq path name)
+
+-- Words are alike if they are equal, or name one place where the root is put in.
+
+-- behind the options of cicc and cudafe++ for the source's name, which isn't called like one of these
+abbrev pub are_names : Root → Root → List ℕ → List ℕ → Bool
+are_names r s word other = (not (names_source word) && not (names_source other)) && is_one_place r s word other
+
+abbrev pub source_words_alike : Root → Root → List ℕ → List (List ℕ) → List (List ℕ) → Bool
+source_words_alike r s before [] [] = true
+source_words_alike r s before (w ∷ ws) (v ∷ vs) = (if names_source before then are_names r s w v else bytes_eq w v) && source_words_alike r s w ws vs
+source_words_alike r s before _ _ = false
+
+-- what is behind `--ident=` in a word of fatbinary
+abbrev pub ident_of : List ℕ → Option (List ℕ)
+ident_of word = rest_after (codes "--ident=") word
+
+-- two names behind a text, or else words without it
+abbrev pub names_or_words : Root → Root → Option (List ℕ) → Option (List ℕ) → Bool → Bool
+names_or_words r s None None same = same
+names_or_words r s (Some name) (Some other) same = is_one_place r s name other
+names_or_words r s _ _ same = false
+
+abbrev pub ident_words_alike : Root → Root → List (List ℕ) → List (List ℕ) → Bool
+ident_words_alike r s words others = pointwise (λ w v. names_or_words r s (ident_of w) (ident_of v) (bytes_eq w v)) words others
+
+-- of a host compiler, all of a word that is no option, or what is behind `-I`: gcc looks there, and its maps say what it writes
+abbrev pub is_option : List ℕ → Bool
+is_option word = is_some (rest_after (codes "-") word)
+
+abbrev pub are_paths : Root → Root → List ℕ → List ℕ → Bool
+are_paths r s word other = (not (is_option word) && not (is_option other)) && is_one_place r s word other
+
+abbrev pub host_word_alike : Root → Root → List ℕ → List ℕ → Bool
+host_word_alike r s word other =
+    bytes_eq word other || (are_paths r s word other || names_or_words r s (rest_after (codes "-I") word) (rest_after (codes "-I") other) false)
+
+abbrev pub host_words_alike : Root → Root → List (List ℕ) → List (List ℕ) → Bool
+host_words_alike r s words others = pointwise (host_word_alike r s) words others
+
+-- What is asked of a tool's command, so that the root is put in: its record stays when names are rooted, as it stands and once its files have
+-- whole paths, and its source's names stay when they get these.
+
+-- the words, behind another, that name the source
+abbrev pub names_among : List ℕ → List (List ℕ) → List (Option (List ℕ))
+names_among before [] = []
+names_among before (w ∷ ws) = (if names_source before then Some w else None) ∷ names_among w ws
+
+abbrev pub names_of : Program → List (List ℕ) → List (Option (List ℕ))
+names_of programs.Cicc words = names_among [] words
+names_of programs.Cudafe words = names_among [] words
+names_of programs.Fatbinary words = map ident_of words
+names_of programs.Ptxas words = []
+names_of programs.Nvlink words = []
+names_of programs.Other words = []
+
+-- a command with rooted names, and one in `/`, its files with whole paths
+abbrev pub with_root : Root → Program → NvccGeneratedSubcommand → NvccGeneratedSubcommand
+with_root r tool c = with_words c (tool_words r tool c.args)
+
+abbrev pub in_top : NvccGeneratedSubcommand → NvccGeneratedSubcommand
+in_top c = moved (files_of c) (codes "/") c
+
+pub record TakesRoot (r : Root) (tool : Program) (c : NvccGeneratedSubcommand) : Type 0 where
+  pub keeps_record_here : keeps_record (with_root r tool c) c ≡ true
+  pub keeps_names : names_of tool (in_top c).args ≡ names_of tool c.args
+  pub keeps_record_there : keeps_record (with_root r tool (in_top c)) (in_top c) ≡ true
+
+-- Commands are alike.
+
+-- of a tool, given whether their words are
+pub record AlikeTools (r s : Root) (tool : Program) (c d : NvccGeneratedSubcommand) (words : Bool) : Type 0 where
+  pub exe : c.exe ≡ d.exe
+  pub cwd : c.cwd ≡ d.cwd
+  pub env_vars : c.env_vars ≡ d.env_vars
+  pub cacheable : c.cacheable ≡ d.cacheable
+  pub alike : words ≡ true
+  pub first : TakesRoot r tool c
+  pub second : TakesRoot s tool d
+
+-- of a host compiler, which may run in another folder
+pub record AlikeHosts (r s : Root) (c d : NvccGeneratedSubcommand) : Type 0 where
+  pub exe : c.exe ≡ d.exe
+  pub env_vars : c.env_vars ≡ d.env_vars
+  pub alike : host_words_alike r s c.args d.args ≡ true
+  pub own_maps : has_maps c.args ≡ false
+
+abbrev pub AlikeBy : Program → Root → Root → NvccGeneratedSubcommand → NvccGeneratedSubcommand → Type 0
+AlikeBy programs.Cicc r s c d = AlikeTools r s programs.Cicc c d (source_words_alike r s [] c.args d.args)
+AlikeBy programs.Cudafe r s c d = AlikeTools r s programs.Cudafe c d (source_words_alike r s [] c.args d.args)
+AlikeBy programs.Fatbinary r s c d = AlikeTools r s programs.Fatbinary c d (ident_words_alike r s c.args d.args)
+AlikeBy programs.Ptxas r s c d = c ≡ d
+AlikeBy programs.Nvlink r s c d = c ≡ d
+AlikeBy programs.Other r s c d = AlikeHosts r s c d
+
+abbrev pub Alike : Root → Root → NvccGeneratedSubcommand → NvccGeneratedSubcommand → Type 0
+Alike r s c d = AlikeBy (program_at c.exe) r s c d
+
+-- What runs in their place: of a tool, one command. Host compilers are one program with the same variables; both write names or neither, and
+-- what they write for two clear paths of one place is one text.
+pub record WriteAlike (r s : Root) (c d : NvccGeneratedSubcommand) : Type 0 where
+  pub exe : (rooted_command r c).exe ≡ (rooted_command s d).exe
+  pub env_vars : (rooted_command r c).env_vars ≡ (rooted_command s d).env_vars
+  pub both : writes_names c.args ≡ writes_names d.args
+  pub names :
+      (path name : List ℕ) → writes_names c.args ≡ true → is_clear r c.cwd path ≡ true → is_clear s d.cwd name ≡ true → is_one_place r s path name ≡ true
+      → written_name (rooted_command r c).args path ≡ written_name (rooted_command s d).args name
+
+abbrev pub RunAlikeBy : Program → Root → Root → NvccGeneratedSubcommand → NvccGeneratedSubcommand → Type 0
+RunAlikeBy programs.Cicc r s c d = rooted_command r c ≡ rooted_command s d
+RunAlikeBy programs.Cudafe r s c d = rooted_command r c ≡ rooted_command s d
+RunAlikeBy programs.Fatbinary r s c d = rooted_command r c ≡ rooted_command s d
+RunAlikeBy programs.Ptxas r s c d = rooted_command r c ≡ rooted_command s d
+RunAlikeBy programs.Nvlink r s c d = rooted_command r c ≡ rooted_command s d
+RunAlikeBy programs.Other r s c d = WriteAlike r s c d
+
+abbrev pub RunAlike : Root → Root → NvccGeneratedSubcommand → NvccGeneratedSubcommand → Type 0
+RunAlike r s c d = RunAlikeBy (program_at c.exe) r s c d
+
+-- Two calls in two checkouts, with one root that gcc can be told of, and one folder of generated files: if their plans' commands are
+-- alike, place by place, so is what runs. Generated files have canonical names, so calls differ in that folder's own name alone: take the second
+-- call as it is with the first one's folder. Keys have a mark in its place.
+abbrev pub AlikePlansRunAlike : Type 0
+AlikePlansRunAlike =
+    (r s : Root) (plan other : Plan) → r.root ≡ s.root → r.tmp ≡ s.tmp → can_be_told r ≡ true
+    → AllZip (AllZip (Alike r s)) plan.groups other.groups → AllZip (AllZip (RunAlike r s)) plan.groups other.groups
+
+-- Examples, of calls in two checkouts: one that a link names too, and one with a longer name.
+abbrev one : Root
+one = call_in (codes "/data/p/a") (codes "/t")
+
+abbrev another : Root
+another = record { folders = codes "/build/x/p" ∷ []; root = codes "/src"; cwd = codes "/build/x/p/a"; tmp = codes "/t" }
+
+abbrev line : List ℕ → List (List ℕ) → List ℕ → NvccGeneratedSubcommand
+line program words cwd = record { exe = program; args = words; cwd = cwd; env_vars = []; cacheable = Yes }
+
+pub places_in_two_checkouts : Gives (λ (paths : List ℕ × List ℕ). is_one_place one another paths.0 paths.1) (
+    ((codes "k.cu", codes "k.cu"), true)
+    ∷ ((codes "/home/u/p/a/k.cu", codes "k.cu"), true)
+    ∷ ((codes "/data/p/a/k.cu", codes "/build/x/p/a/k.cu"), true)
+    ∷ ((codes "/data/p/a/k.cu", codes "/build/x/p/k.cu"), false)
+    ∷ ((codes "/usr/include/stdio.h", codes "/usr/include/stdio.h"), true)
+    ∷ ((codes "/data/p/a/k.cu", codes "/data/p/a/k.cu"), false)
+    ∷ [])
+places_in_two_checkouts = refl
+
+pub words_of_host_compilers : Gives (λ (words : List ℕ × List ℕ). host_word_alike one another words.0 words.1) (
+    ((codes "-I/data/p/inc", codes "-I/build/x/p/inc"), true)
+    ∷ ((codes "/home/u/p/sys", codes "/build/x/p/sys"), true)
+    ∷ ((codes "-I/data/p/inc", codes "-I/build/x/p/lib"), false)
+    ∷ ((codes "-DTOP=/data/p", codes "-DTOP=/build/x/p"), false)
+    ∷ [])
+words_of_host_compilers = refl
+
+-- a preprocessor, cicc and fatbinary
+abbrev cicc_line : List (List ℕ) → NvccGeneratedSubcommand
+cicc_line words = line (codes "/c/cicc") words (codes "/t")
+
+abbrev fatbinary_line : List (List ℕ) → NvccGeneratedSubcommand
+fatbinary_line words = line (codes "/c/fatbinary") words (codes "/t")
+
+abbrev some_commands : List NvccGeneratedSubcommand
+some_commands =
+    line (codes "gcc") (spaced "-E -I/data/p/inc -isystem /home/u/p/sys k.cu -o /t/x_0.cpp1.ii") (codes "/data/p/a")
+    ∷ cicc_line (spaced "--orig_src_file_name k.cu --orig_src_path_name /data/p/a/k.cu -m64 x_0.cpp1.ii -o k.ptx")
+    ∷ fatbinary_line (spaced "--create=k.fatbin --ident=k.cu --image3=kind=elf,sm=80,file=k.cubin")
+    ∷ []
+
+abbrev other_commands : List NvccGeneratedSubcommand
+other_commands =
+    line (codes "gcc") (spaced "-E -I/build/x/p/inc -isystem /build/x/p/sys k.cu -o /t/x_0.cpp1.ii") (codes "/build/x/p/a")
+    ∷ cicc_line (spaced "--orig_src_file_name k.cu --orig_src_path_name /build/x/p/a/k.cu -m64 x_0.cpp1.ii -o k.ptx")
+    ∷ fatbinary_line (spaced "--create=k.fatbin --ident=/build/x/p/a/k.cu --image3=kind=elf,sm=80,file=k.cubin")
+    ∷ []
+
+pub alike_commands : AllZip (Alike one another) some_commands other_commands
+alike_commands = (
+  record { exe = refl; env_vars = refl; alike = refl; own_maps = refl },
+  (
+    record { exe = refl; cwd = refl; env_vars = refl; cacheable = refl; alike = refl; first = record { keeps_record_here = refl; keeps_names = refl; keeps_record_there = refl }; second = record { keeps_record_here = refl; keeps_names = refl; keeps_record_there = refl } },
+    (record { exe = refl; cwd = refl; env_vars = refl; cacheable = refl; alike = refl; first = record { keeps_record_here = refl; keeps_names = refl; keeps_record_there = refl }; second = record { keeps_record_here = refl; keeps_names = refl; keeps_record_there = refl } }, tt),
+  ),
+)
+
+-- Without a premise what runs differs. A name that is also cicc's input stays: the record would be another
+abbrev run_by : Root → List (List ℕ) → List (List ℕ)
+run_by r words = (rooted_command r (cicc_line words)).args
+
+pub names_that_are_read :
+    let here = spaced "--orig_src_file_name /data/p/l.cpp1.ii -o k.ptx" in
+    let there = spaced "--orig_src_file_name /build/x/p/l.cpp1.ii -o k.ptx" in
+    (source_words_alike one another [] here there ≡ true)
+    × (run_by one here ≡ spaced "--orig_src_file_name /data/p/l.cpp1.ii -o /t/k.ptx")
+    × (run_by another there ≡ spaced "--orig_src_file_name /build/x/p/l.cpp1.ii -o /t/k.ptx")
+names_that_are_read = (refl, refl, refl)
+
+-- a name that is called like an option would have the next word rooted in one checkout alone
+pub name_like_an_option :
+    let here = spaced "--orig_src_file_name --orig_src_file_name k.cu" in
+    let there = spaced "--orig_src_file_name /build/x/p/a/--orig_src_file_name k.cu" in
+    (source_words_alike one another [] here there ≡ false)
+    × (tool_words one programs.Cicc here ≡ spaced "--orig_src_file_name /src/a/--orig_src_file_name /src/a/k.cu")
+    × (tool_words another programs.Cicc there ≡ spaced "--orig_src_file_name /src/a/--orig_src_file_name k.cu")
+name_like_an_option = (refl, refl, refl)
+
+-- a name whose end is a generated file's gets that file's whole path, and then it may be below the checkout no more
+abbrev pub with_equals : Root
+with_equals = record { folders = codes "/w=b" ∷ []; root = codes "/src"; cwd = codes "/w=b"; tmp = codes "/t" }
+
+pub names_that_end_in_a_file :
+    let here = spaced "--orig_src_path_name /w=b/k.cu x_0.cpp1.ii -o b/k.cu" in
+    let there = spaced "--orig_src_path_name /build/x/p/k.cu x_0.cpp1.ii -o b/k.cu" in
+    (source_words_alike with_equals another [] here there ≡ true)
+    × (run_by with_equals here ≡ spaced "--orig_src_path_name /w=/t/b/k.cu /t/x_0.cpp1.ii -o /t/b/k.cu")
+    × (run_by another there ≡ spaced "--orig_src_path_name /src/k.cu /t/x_0.cpp1.ii -o /t/b/k.cu")
+names_that_end_in_a_file = (refl, refl, refl)
+
+-- gcc can't be told of a root with a `=`, nor of a name that a command's own map names
+abbrev pub root_with_equals : Root
+root_with_equals = record { folders = codes "/w" ∷ []; root = codes "/s=rc"; cwd = codes "/w"; tmp = codes "/t" }
+
+abbrev written_by : Root → List (List ℕ) → List ℕ → List ℕ
+written_by r words name = written_name (rooted_command r (line (codes "gcc") words (codes "/w/a"))).args name
+
+pub names_that_gcc_writes :
+    (written_by root_with_equals (spaced "-E k.cu") (codes "/w/a/k.cu") ≡ codes "/w/a/k.cu")
+    × (written_by another (spaced "-E -ffile-prefix-map=/build/=/own/ k.cu") (codes "/build/x/p/k.cu") ≡ codes "/own/x/p/k.cu")
+names_that_gcc_writes = (refl, refl)
