@@ -8,6 +8,7 @@
 #   GENERATORS='Ninja'           only these of Ninja, make and own; make is CMake's too, and own is a project's own make
 #   OBJECTS=PATTERN              only the objects whose paths match, for each project; some projects' files name such a part themselves
 #   SEED=N                       draws other objects of the projects of which only some are built, else 1
+#   CHECKOUTS=N                  in place of all that, builds N objects of each project in two checkouts under ZIGRUNK_ROOT, and compares them
 #   ZIGRUNK_FIELD=FOLDER         what it downloads and builds, else zigrunk/field in your cache folder
 #   SCCACHE=PATH                 sccache, if it isn't the one on the path; one before 0.9 doesn't know nvcc's tools
 #   JOBS=N                       so many processes at once, else as many as there are processors
@@ -172,6 +173,27 @@ try() {
     rm -rf "$place" "$place.nvcc"
 }
 
+# in_checkout NAME: builds by zigrunk-nvcc in a checkout of its own, which is the root, with a folder of its own for temporary files.
+in_checkout() {
+    local name=${1##*/}
+    place=$folder/build/$project.$1
+    mkdir -p "$folder/tmp/$name"
+    (
+        export TMPDIR=$folder/tmp/$name ZIGRUNK_ROOT=$place FIELD_COMPILER=$ours
+        unpack && cd "$place" && configure && FIELD_CALLS=$results/$name.calls build "$jobs"
+    ) > "$results/$name.said" 2>&1
+    "$tools/compare.py" sums "$results/$name.calls" | sed -n "/\.d$/d; s,$place/,,p" > "$results/$name.sums"
+    [ -s "$results/$name.sums" ] || { echo "nothing is built in $place" && tail -n 5 "$results/$name.said"; }
+}
+
+# checkouts: what is made in two checkouts with names of other lengths. Dependency files, which name the checkout, don't count.
+checkouts() {
+    results=$folder/results/$project.checkouts
+    rm -rf "$results" "$folder/build/$project".* && mkdir -p "$results"
+    in_checkout one && in_checkout "longer/another" && diff "$results/one.sums" "$results/another.sums"
+    rm -rf "$folder/build/$project".*
+}
+
 # one PROJECT: its cases, one for each generator.
 one() {
     local generators='Ninja make' within=. only='' drawn='' changed='' change='' settings=() files=() patches=()
@@ -186,6 +208,12 @@ one() {
     3) skip "$project" "Debian's archive doesn't have it, or can't be reached" && return ;;
     *) count "$project" 'a file differs from the one that was tried' && return ;;
     esac
+    if [ -n "${CHECKOUTS:-}" ]; then
+        drawn=$CHECKOUTS generator=${generators%% *}
+        count "$project, two checkouts" "$(checkouts 2>&1)"
+        echo "$project: $(grep -vc '^none ' "$folder/results/$project.checkouts/one.sums") products in each checkout"
+        return
+    fi
     for generator in $generators; do
         [[ " ${GENERATORS:-$generator} " = *" $generator "* ]] || continue
         count "$project, $generator" "$(try 2>&1)"
@@ -205,12 +233,12 @@ reachable() {
 reachable || skip_all "$what" "Debian's archive can't be reached"
 [ -n "$sccache" ] || skip 'builds through a cache' "sccache 0.9 or later isn't at hand"
 rm -rf "${folder:?}/results"
-mkdir -p "$folder/build" "$folder/results" "$TMPDIR"
+mkdir -p "$folder/build" "$folder/results" "$folder/tmp"
 for project in ${PROJECTS:-$(cd tests/field && printf '%s\n' *.sh | sed 's/\.sh$//')}; do
     (in_lane "$project" one "$project") > "$scratch/said"
     add "$?" "$scratch/said" || echo "$project has no counts"
     [[ ! $(tail -n 1 "$scratch/said") =~ ([0-9]+)\ skipped$ ]] || skipped=$((skipped + BASH_REMATCH[1]))
     sed '$d' "$scratch/said"
 done
-"$tools/compare.py" table "$folder/results"
+[ -n "${CHECKOUTS:-}" ] || "$tools/compare.py" table "$folder/results"
 summary
