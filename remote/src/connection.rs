@@ -26,6 +26,10 @@ const ANSWERING: Duration = Duration::from_secs(30);
 const TRIES: u32 = 3;
 const PAUSE: Duration = Duration::from_millis(100);
 
+/// How many bytes a server may send before it hears that some have come: with HTTP/2's own 64 KiB, a stream has
+/// no more for each round trip.
+const WINDOW: u32 = 4 << 20;
+
 /// How many bytes of contents a message has at most: that of gRPC's own limit, 4 MiB, without room for the
 /// rest.
 const MOST_IN_MESSAGE: usize = (4 << 20) - (64 << 10);
@@ -110,7 +114,11 @@ fn endpoint(server: &Server, settings: &Settings) -> Result<Endpoint, Failure> {
     let scheme = if server.is_secure { "https" } else { "http" };
     let endpoint = Endpoint::from_shared(format!("{scheme}://{}", server.authority))
         .map_err(|error| Failure::Unreachable(with_causes(&error)))?;
-    let endpoint = endpoint.connect_timeout(REACHING).tcp_nodelay(true);
+    let endpoint = endpoint
+        .connect_timeout(REACHING)
+        .tcp_nodelay(true)
+        .initial_stream_window_size(WINDOW)
+        .initial_connection_window_size(2 * WINDOW);
     if !server.is_secure {
         return Ok(endpoint);
     }

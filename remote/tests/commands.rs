@@ -240,6 +240,30 @@ fn a_listener_sees_no_word_or_content() {
 }
 
 #[test]
+fn all_calls_are_for_the_instance_that_is_asked_for() {
+    for text in [b"some text\n".repeat(10), b"some text\n".repeat(500_000)] {
+        let server = Fake::new(State::default());
+        let mut call = Call::new();
+        for usage in ["run", "cache", "cache"] {
+            call.reads("k.ptx", &text);
+            let name = name(&server);
+            let variables = [
+                ("ZIGRUNK_REMOTE", name.as_str()),
+                ("ZIGRUNK_REMOTE_USE", usage),
+                ("ZIGRUNK_REMOTE_INSTANCE", "team/main"),
+            ];
+            assert_eq!(call.came("k.ptx", &variables).status, Some(0));
+            server.state().results.retain(|_, _| usage == "run");
+            call = call.again();
+        }
+        assert_eq!(server.state().instances.iter().collect::<Vec<_>>(), ["team/main"]);
+        for wanted in ["execute", "keep", "result", "missing"] {
+            assert!(server.state().calls.contains(&wanted), "{wanted}");
+        }
+    }
+}
+
+#[test]
 fn what_fails_at_a_server_runs_here() {
     let (server, call) = (Fake::new(State { lacks_tools: true, ..State::default() }), Call::new());
     assert!(call.runs_well(&name(&server), "run").starts_with(&format!("home - {} 0 0 grpc://", here())));

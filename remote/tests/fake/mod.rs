@@ -62,8 +62,9 @@ pub struct State {
     /// Whether workers lack the tools.
     pub lacks_tools: bool,
     pub token: Option<String>,
-    /// The calls that came, by their names.
+    /// The calls that came, by their names, and the instances that they were for.
     pub calls: Vec<&'static str>,
+    pub instances: BTreeSet<String>,
     /// One call of so many fails, by the numbers of a seed; 0 for none.
     pub fails_one_of: u64,
     pub lot: Lot,
@@ -84,6 +85,7 @@ impl Default for State {
             lacks_tools: false,
             token: None,
             calls: Vec::new(),
+            instances: BTreeSet::new(),
             fails_one_of: 0,
             lot: Lot(1),
         }
@@ -241,8 +243,9 @@ impl Fake {
     }
 }
 
-async fn serve(mut server: Server, service: Service, listener: TcpListener, ended: oneshot::Receiver<()>) {
+async fn serve(server: Server, service: Service, listener: TcpListener, ended: oneshot::Receiver<()>) {
     let server = server
+        .initial_stream_window_size(4 << 20)
         .add_service(CapabilitiesServer::new(service.clone()))
         .add_service(ContentAddressableStorageServer::new(service.clone()))
         .add_service(ActionCacheServer::new(service.clone()))
@@ -301,7 +304,8 @@ impl Capabilities for Service {
         &self,
         request: Request<GetCapabilitiesRequest>,
     ) -> Result<Response<ServerCapabilities>, Status> {
-        let state = self.called("capabilities", &request)?;
+        let mut state = self.called("capabilities", &request)?;
+        state.instances.insert(request.get_ref().instance_name.clone());
         let sha256 = digest_function::Value::Sha256 as i32;
         let update = ActionCacheUpdateCapabilities { update_enabled: state.takes_results };
         let compressors = if state.has_zstd { vec![Form::Zstd.number()] } else { Vec::new() };
@@ -326,7 +330,8 @@ impl ContentAddressableStorage for Service {
         &self,
         request: Request<FindMissingBlobsRequest>,
     ) -> Result<Response<FindMissingBlobsResponse>, Status> {
-        let state = self.called("missing", &request)?;
+        let mut state = self.called("missing", &request)?;
+        state.instances.insert(request.get_ref().instance_name.clone());
         let asked: BTreeSet<String> =
             request.get_ref().blob_digests.iter().map(|digest| digest.hash.clone()).collect();
         assert_eq!(asked.len(), request.get_ref().blob_digests.len(), "each content is asked for once");
@@ -341,6 +346,7 @@ impl ContentAddressableStorage for Service {
         request: Request<BatchUpdateBlobsRequest>,
     ) -> Result<Response<BatchUpdateBlobsResponse>, Status> {
         let mut state = self.called("update", &request)?;
+        state.instances.insert(request.get_ref().instance_name.clone());
         let update = |one: batch_update_blobs_request::Request| {
             let digest = one.digest.unwrap_or_default();
             let form = Form::of(one.compressor).unwrap();
@@ -359,6 +365,7 @@ impl ContentAddressableStorage for Service {
         request: Request<BatchReadBlobsRequest>,
     ) -> Result<Response<BatchReadBlobsResponse>, Status> {
         let mut state = self.called("read", &request)?;
+        state.instances.insert(request.get_ref().instance_name.clone());
         let request = request.into_inner();
         let takes_zstd = request.acceptable_compressors.contains(&Form::Zstd.number());
         let form = if takes_zstd { Form::Zstd } else { Form::Plain };
@@ -385,7 +392,8 @@ impl ActionCache for Service {
         &self,
         request: Request<GetActionResultRequest>,
     ) -> Result<Response<ActionResult>, Status> {
-        let state = self.called("result", &request)?;
+        let mut state = self.called("result", &request)?;
+        state.instances.insert(request.get_ref().instance_name.clone());
         let hash = request.into_inner().action_digest.unwrap_or_default().hash;
         state.results.get(&hash).cloned().map(Response::new).ok_or_else(|| Status::not_found("no result"))
     }
@@ -395,6 +403,7 @@ impl ActionCache for Service {
         request: Request<UpdateActionResultRequest>,
     ) -> Result<Response<ActionResult>, Status> {
         let mut state = self.called("keep", &request)?;
+        state.instances.insert(request.get_ref().instance_name.clone());
         let message = request.into_inner();
         let result = message.action_result.unwrap_or_default();
         let lacks =
@@ -439,6 +448,7 @@ impl Execution for Service {
         request: Request<ExecuteRequest>,
     ) -> Result<Response<Answers<Operation>>, Status> {
         let mut state = self.called("execute", &request)?;
+        state.instances.insert(request.get_ref().instance_name.clone());
         if !state.executes {
             return Err(Status::unimplemented("no execution"));
         }
@@ -469,6 +479,7 @@ impl ByteStream for Service {
 
     async fn read(&self, request: Request<ReadRequest>) -> Result<Response<Answers<ReadResponse>>, Status> {
         let mut state = self.called("read stream", &request)?;
+        state.instances.insert(instance_in(&request.get_ref().resource_name));
         let (digest, form) = digest_in(&request.get_ref().resource_name)?;
         let content = state.content(&digest)?;
         let (content, _) = state.packed(content, form);
@@ -502,7 +513,9 @@ impl ByteStream for Service {
             return Err(Status::invalid_argument("no whole upload"));
         }
         let (digest, form) = digest_in(&name)?;
-        self.0.lock().unwrap().keep(&digest, content, form)?;
+        let mut state = self.0.lock().unwrap();
+        state.instances.insert(instance_in(&name));
+        state.keep(&digest, content, form)?;
         Ok(Response::new(WriteResponse { committed_size }))
     }
 }
@@ -517,4 +530,11 @@ fn digest_in(name: &str) -> Result<(Digest, Form), Status> {
     };
     let size_bytes = size.parse().map_err(|_| Status::invalid_argument("no size"))?;
     Ok((Digest { hash: (*hash).to_owned(), size_bytes }, form))
+}
+
+/// The instance in a content's name.
+fn instance_in(name: &str) -> String {
+    let parts: Vec<&str> = name.split('/').collect();
+    let end = parts.iter().position(|part| ["uploads", "blobs", "compressed-blobs"].contains(part));
+    parts[..end.unwrap_or_default()].join("/")
 }
