@@ -4,9 +4,9 @@
 # clone by the two commands of README, and the source tarball, and plans by the crate for Rust in a new project: there is no kit and, while
 # they build, no network. Needs root, debootstrap and the network, else it is skipped with a message. The last line is "N passed, M failed".
 #
-#   packaging/test.sh [ROOT..]     ROOT: a release, or RELEASE:ARCHITECTURE, or the folder of a root, which is copied. By default four
-#                                  releases, and arm64 if the kernel has an emulator. For an arm64 root that is named here, the script
-#                                  lends the kernel that of the package qemu-user-static
+#   packaging/test.sh [ROOT..]     ROOT: a release, or RELEASE:ARCHITECTURE, or the folder of a root, which is copied. By default five
+#                                  releases, of which bullseye has glibc 2.31, and arm64 if the kernel has an emulator. For an arm64
+#                                  root that is named here, the script lends the kernel that of the package qemu-user-static
 #
 # QUICK, if set, leaves out `make test`, which takes most of the time.
 set -u
@@ -117,7 +117,7 @@ in_c() {
     check "$1: the example in C" inside env "PKG_CONFIG_PATH=$2/lib/pkgconfig" sh -c \
         'cc -o example "$1/share/zigrunk/c/plan.c" $(pkg-config --cflags --libs zigrunk)' _ "$2"
     check "$1: what it prints" planned "$2" ./example
-    check "$1: the example with the archive" inside cc -o archived "-I$2/include" "$2/share/zigrunk/c/plan.c" "$2/lib/libzigrunk.a"
+    check "$1: the example with the archive" inside cc -pthread -o archived "-I$2/include" "$2/share/zigrunk/c/plan.c" "$2/lib/libzigrunk.a"
     check "$1: what that prints" planned /none ./archived
 }
 
@@ -232,6 +232,11 @@ tarball() {
     check "$1: nothing of the tarball stays" nothing_stays
 }
 
+# is_new_enough PACKAGE: whether the root can have rustc 1.85 by this package.
+is_new_enough() {
+    inside apt-cache policy "$1" | grep -qE 'Candidate: 1\.(8[5-9]|9)'
+}
+
 # sources NAME TOOL..: a clone and the source tarball, with the packages that have rustc and cargo.
 sources() {
     local name=$1 profile=()
@@ -249,7 +254,7 @@ sources() {
 }
 
 if [ $# -eq 0 ]; then
-    set -- bookworm trixie jammy noble
+    set -- bullseye bookworm trixie jammy noble
     ! grep -qs enabled "$handlers/qemu-aarch64" || set -- "$@" bookworm:arm64
 fi
 [[ $* != *arm64* ]] || lend_emulator
@@ -275,10 +280,10 @@ for release in "$@"; do
         skip "$release, the package" "dist has none for $architecture"
     fi
     [ "$architecture" != amd64 ] || proved "$release"
-    if inside apt-cache show cargo-web > /dev/null 2>&1 && ! inside apt-cache policy rustc | grep -q 'Candidate: 1\.[89]'; then
-        sources "$release" rustc-web cargo-web
-    elif inside apt-cache policy rustc | grep -qE 'Candidate: 1\.(8[5-9]|9)'; then
+    if is_new_enough rustc; then
         sources "$release" rustc cargo
+    elif is_new_enough rustc-web; then
+        sources "$release" rustc-web cargo-web
     else
         skip "$release, the sources" 'it has no rustc 1.85'
     fi

@@ -63,4 +63,5 @@ Description: Plans the commands of one nvcc call
 Version: $version
 Cflags: -I\${prefix}/include
 Libs: -L\${libdir} -lzigrunk
+Libs.private: -pthread
 END
