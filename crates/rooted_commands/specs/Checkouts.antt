@@ -1,10 +1,10 @@
 -- One project in two checkouts: which commands of two calls are alike but for the checkouts' folders, and that alike ones run alike.
-use Rattle.std.specs.Prelude.{◌≡◌, ℕ, List, [], ◌∷◌, Bool, true, false, not, ◌&&◌, ◌||◌, if◌then◌else◌, Option, Some, None, map, codes, refl, bytes_eq}
+use Rattle.std.specs.Prelude.{◌≡◌, ℕ, List, [], ◌∷◌, ◌++◌, Bool, true, false, not, ◌&&◌, ◌||◌, if◌then◌else◌, Option, Some, None, map, codes, refl, bytes_eq}
 use Rattle.std.specs.Cmp.Lexicographic.{pointwise}
 use Rattle.std.specs.List.{AllZip}
 use Rattle.std.specs.Option.{is_some}
 use Rattle.texts.specs.Lists.{rest_after}
-use Rattle.texts.specs.Rows.{Gives, spaced}
+use Rattle.texts.specs.Rows.{Gives, blank_separated, spaced}
 use Rattle.compilers.specs.Programs.{program_at}
 use Rattle.compilers.specs.declared.command.Cacheable.TheVariants.{Yes}
 use Rattle.compilers.specs.declared.plans.plan.NvccGeneratedSubcommand.{NvccGeneratedSubcommand}
@@ -179,33 +179,36 @@ pub words_of_host_compilers : Gives (λ (words : List ℕ × List ℕ). host_wor
     ∷ [])
 words_of_host_compilers = refl
 
--- a preprocessor, cicc and fatbinary
+-- What nvcc plans for a source with `-G`, in a folder, with fewer words for host compilers.
 abbrev cicc_line : List (List ℕ) → NvccGeneratedSubcommand
-cicc_line words = line (codes "/c/cicc") words (codes "/t")
+cicc_line words = line (codes "/c/nvvm/bin/cicc") words (codes "/t")
 
-abbrev fatbinary_line : List (List ℕ) → NvccGeneratedSubcommand
-fatbinary_line words = line (codes "/c/fatbinary") words (codes "/t")
+abbrev names_of_source : List ℕ → List ℕ
+names_of_source folder = codes "--orig_src_file_name " ++ (folder ++ (codes "/k.cu --orig_src_path_name " ++ (folder ++ codes "/k.cu ")))
 
-abbrev some_commands : List NvccGeneratedSubcommand
-some_commands =
-    line (codes "gcc") (spaced "-E -I/data/p/inc -isystem /home/u/p/sys k.cu -o /t/x_0.cpp1.ii") (codes "/data/p/a")
-    ∷ cicc_line (spaced "--orig_src_file_name k.cu --orig_src_path_name /data/p/a/k.cu -m64 x_0.cpp1.ii -o k.ptx")
-    ∷ fatbinary_line (spaced "--create=k.fatbin --ident=k.cu --image3=kind=elf,sm=80,file=k.cubin")
+abbrev commands_in : List ℕ → List NvccGeneratedSubcommand
+commands_in folder =
+    line (codes "gcc") (blank_separated (codes "-E -x c++ -I" ++ (folder ++ (codes "/inc -isystem " ++ (folder ++ (codes "/sys -m64 " ++ (folder ++ codes "/k.cu -o /t/x_0.cpp4.ii"))))))) folder
+    ∷ line (codes "/c/bin/cudafe++")
+    (blank_separated (codes "--c++17 --static-host-stub --device-hidden-visibility --gnu_version=120200 --display_error_number " ++ (names_of_source folder
+    ++ codes "--allow_managed --debug_mode --m64 --parse_templates --gen_c_file_name x_0.cudafe1.cpp --stub_file_name x_0.cudafe1.stub.c --gen_module_id_file --module_id_file_name k.module_id x_0.cpp4.ii")))
+    (codes "/t")
+    ∷ cicc_line
+    (blank_separated (codes "--c++17 --static-host-stub --device-hidden-visibility --gnu_version=120200 --display_error_number " ++ (names_of_source folder
+    ++ codes "--allow_managed --debug_mode -arch compute_75 -m64 --no-version-ident -ftz=0 -prec_div=1 -prec_sqrt=1 -fmad=1 --include_file_name k.fatbin.c -g -O0 -tused --module_id_file_name k.module_id --gen_c_file_name x_0.cudafe1.c --stub_file_name x_0.cudafe1.stub.c --gen_device_file_name k.cudafe1.gpu x_0.cpp1.ii -o k.ptx")))
+    ∷ line (codes "/c/bin/ptxas") (spaced "-arch=sm_75 -m64 -g --dont-merge-basicblocks --return-at-end k.ptx -o k.sm_75.cubin") (codes "/t")
+    ∷ line (codes "/c/bin/fatbinary")
+    (blank_separated (codes "--create=k.fatbin -64 --ident=" ++ (folder ++ codes "/k.cu --image3=kind=elf,sm=75,file=k.sm_75.cubin --image3=kind=ptx,sm=75,file=k.ptx --embedded-fatbin=k.fatbin.c")))
+    (codes "/t")
+    ∷ line (codes "gcc") (blank_separated (codes "-c -x c++ -Wno-psabi -I" ++ (folder ++ codes "/inc -m64 /t/x_0.cudafe1.cpp -o k.o"))) folder
     ∷ []
 
-abbrev other_commands : List NvccGeneratedSubcommand
-other_commands =
-    line (codes "gcc") (spaced "-E -I/build/x/p/inc -isystem /build/x/p/sys k.cu -o /t/x_0.cpp1.ii") (codes "/build/x/p/a")
-    ∷ cicc_line (spaced "--orig_src_file_name k.cu --orig_src_path_name /build/x/p/a/k.cu -m64 x_0.cpp1.ii -o k.ptx")
-    ∷ fatbinary_line (spaced "--create=k.fatbin --ident=/build/x/p/a/k.cu --image3=kind=elf,sm=80,file=k.cubin")
-    ∷ []
-
-pub alike_commands : AllZip (Alike one another) some_commands other_commands
+pub alike_commands : AllZip (Alike one another) (commands_in (codes "/data/p/a")) (commands_in (codes "/build/x/p/a"))
 alike_commands = (
   record { exe = refl; env_vars = refl; alike = refl; own_maps = refl },
   (
     record { exe = refl; cwd = refl; env_vars = refl; cacheable = refl; alike = refl; first = record { keeps_record_here = refl; keeps_names = refl; keeps_record_there = refl }; second = record { keeps_record_here = refl; keeps_names = refl; keeps_record_there = refl } },
-    (record { exe = refl; cwd = refl; env_vars = refl; cacheable = refl; alike = refl; first = record { keeps_record_here = refl; keeps_names = refl; keeps_record_there = refl }; second = record { keeps_record_here = refl; keeps_names = refl; keeps_record_there = refl } }, tt),
+    (record { exe = refl; cwd = refl; env_vars = refl; cacheable = refl; alike = refl; first = record { keeps_record_here = refl; keeps_names = refl; keeps_record_there = refl }; second = record { keeps_record_here = refl; keeps_names = refl; keeps_record_there = refl } }, (refl, (record { exe = refl; cwd = refl; env_vars = refl; cacheable = refl; alike = refl; first = record { keeps_record_here = refl; keeps_names = refl; keeps_record_there = refl }; second = record { keeps_record_here = refl; keeps_names = refl; keeps_record_there = refl } }, (record { exe = refl; env_vars = refl; alike = refl; own_maps = refl }, tt)))),
   ),
 )
 
