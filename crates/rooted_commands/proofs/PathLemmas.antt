@@ -37,7 +37,7 @@ behind-parts folder path rest h =
       | Some q ↦ λ e k. let parts = ended q rest k in (rest_after-whole folder path rest (e ∙ ap Some parts.0), parts.1)
     ] refl h
 
-pub first-ends : (folders : List (List ℕ)) (path rest : List ℕ) → behind_first folders path ≡ Some rest → ends_name rest ≡ true
+first-ends : (folders : List (List ℕ)) (path rest : List ℕ) → behind_first folders path ≡ Some rest → ends_name rest ≡ true
 first-ends [] path rest h = cc
 first-ends (folder ∷ folders) path rest h =
     elim (behind folder path) as (λ o. behind folder path ≡ o → option_or o (behind_first folders path) ≡ Some rest → ends_name rest ≡ true) [

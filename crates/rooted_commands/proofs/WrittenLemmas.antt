@@ -1,22 +1,23 @@
 -- What gcc writes under the root's maps is the rooted path.
-use Rattle.std.proofs.Common.{◌≡◌, ◌⊎◌, inl, inr, ℕ, Bool, true, false, not, ◌&&◌, ◌||◌, cond, eqb, eqb-true, List, [], ◌∷◌, ◌++◌, Option, Some, None, refl, ap, sym, ◌∙◌, subst, codes, append_assoc, append-nil, option_map, option_and_then}
-use Rattle.std.specs.List.{flat_map, list_all}
-use Rattle.std.specs.Option.{option_or, is_some}
+use Rattle.std.proofs.Common.{◌≡◌, ℕ, Bool, true, false, not, ◌&&◌, ◌||◌, cond, bytes_eq, eqb, eqb-true, List, [], ◌∷◌, ◌++◌, Option, Some, None, refl, ap, sym, ◌∙◌, subst, codes, append_assoc, append-nil, option_map, option_and_then}
+use Rattle.std.specs.List.{flat_map}
+use Rattle.std.specs.Option.{is_some, option_eq}
 use Rattle.std.proofs.lemmas.Bool.{false≢true, and_parts, or_parts}
-use Rattle.std.proofs.lemmas.List.{append_cancel_left}
+use Rattle.std.proofs.lemmas.Bool.Decides.{Decides-eqb}
 use Rattle.std.proofs.lemmas.Slice.Eq.{bytes_eq-Decides}
 use Rattle.texts.specs.Lists.{latest, rest_after}
-use Rattle.texts.specs.Path.{is_absolute_path, joined, lacks, separator_after}
+use Rattle.texts.specs.Path.{lacks}
+use Rattle.texts.proofs.EqualityLemmas.{options}
 use Rattle.texts.proofs.RestLemmas.{rest_after-append}
 use Rattle.compilers.specs.Programs.{program_at}
 use Rattle.compilers.specs.declared.plans.program.Program.TheVariants as programs
 use Rattle.compilers.specs.declared.plans.plan.NvccGeneratedSubcommand.{NvccGeneratedSubcommand}
 use Rattle.command_files.specs.Files.{is_among}
-use Rattle.rooted_commands.specs.Paths.{ends_name, if_name_ends, behind, behind_first, place, place_of, put, rooted_path}
+use Rattle.rooted_commands.specs.Paths.{place_of, put, rooted_path}
 use Rattle.rooted_commands.specs.Commands.{file_map, folder_maps, file_maps, mapped_host, rooted_by, rooted_command, writes_names}
-use Rattle.rooted_commands.specs.WrittenNames.{HostsWriteGeneratedPaths, HostsWriteRootedPaths, can_be_told, cut_at_equals, has_maps, is_clear, is_map, is_that_place, is_told, last_new_name, name_or, new_name, with_beginning, with_front, written_name}
+use Rattle.rooted_commands.specs.WrittenNames.{HostsWriteGeneratedPaths, HostsWriteRootedPaths, can_be_told, cut_at_equals, has_maps, if_told, is_clear, is_map, last_new_name, last_told, told_by, name_or, new_name, with_beginning, with_front, written_name}
 use Rattle.rooted_commands.specs.declared.paths.Root.{Root}
-use Rattle.rooted_commands.proofs.PathLemmas.{behind-below, first-ends, rest_after-whole}
+use Rattle.rooted_commands.proofs.PathLemmas.{rest_after-whole}
 
 -- a map is cut where its new beginning begins
 no-equals : (b : Bool) → not b ≡ true → b ≡ false
@@ -52,13 +53,10 @@ longer-none (c ∷ cs) e [] h = refl
 longer-none (c ∷ cs) e (d ∷ ds) h =
     elim (eqb c d) as (λ b. cond b (rest_after cs ds) None ≡ None → cond b (rest_after (cs ++ e) ds) None ≡ None) [ true ↦ λ k. longer-none cs e ds k | false ↦ λ _. refl ] h
 
--- nor does a folder and `/` begin the folder
-none-behind : (p : List ℕ) → rest_after (p ++ 47 ∷ []) (p ++ []) ≡ None
-none-behind p =
-    elim (rest_after (p ++ 47 ∷ []) (p ++ [])) as (λ o. rest_after (p ++ 47 ∷ []) (p ++ []) ≡ o → o ≡ None) [
-      | None ↦ λ _. refl
-      | Some y ↦ λ e. let k : [] ≡ 47 ∷ y = append_cancel_left p [] (47 ∷ y) (rest_after-whole (p ++ 47 ∷ []) (p ++ []) y e ∙ append_assoc p (47 ∷ []) y) in cc
-    ] refl
+-- a text in front of both doesn't count
+rest-past : (p e s : List ℕ) → rest_after (p ++ e) (p ++ s) ≡ rest_after e s
+rest-past [] e s = refl
+rest-past (c ∷ cs) e s = let same : eqb c c ≡ true = (Decides-eqb c c).1 refl in rw same (rest-past cs e s)
 
 -- the last of two lists of words
 latest-none : (o : Option (List ℕ)) → latest None o ≡ o
@@ -73,6 +71,14 @@ last-append : (name : List ℕ) (xs ys : List (List ℕ)) → last_new_name name
 last-append name [] ys = sym (latest-none (last_new_name name ys))
 last-append name (x ∷ xs) ys =
     ap (latest (new_name name x)) (last-append name xs ys) ∙ sym (latest-assoc (new_name name x) (last_new_name name xs) (last_new_name name ys))
+
+-- two bytes that differ, the other way round
+other-way : (c d : ℕ) → eqb c d ≡ false → eqb d c ≡ false
+other-way c d e =
+    elim (eqb d c) as (λ b. eqb d c ≡ b → b ≡ false) [
+      | true ↦ λ k. let same : d ≡ c = eqb-true d c k in absurd (false≢true (sym e ∙ (Decides-eqb c d).1 (sym same)))
+      | false ↦ λ _. refl
+    ] refl
 
 -- the words for one folder: nothing fits a name that it doesn't begin
 module _ (r : Root) (top : Bool) (h : lacks 61 r.root ≡ true) (g : List ℕ) where
@@ -94,91 +100,53 @@ module _ (r : Root) (top : Bool) (h : lacks 61 r.root ≡ true) (g : List ℕ) w
         | false ↦ here
       ]
 
-  folder-below : (y : List ℕ) → last_new_name (g ++ 47 ∷ y) (folder_maps r top g) ≡ Some (r.root ++ 47 ∷ y)
-  folder-below y =
-      let found : rest_after (g ++ 47 ∷ []) (g ++ 47 ∷ y) ≡ Some y = ap (rest_after (g ++ 47 ∷ [])) (sym (append_assoc g (47 ∷ []) y)) ∙ rest_after-append (g ++ 47 ∷ []) y in
-      let here : new_name (g ++ 47 ∷ y) (file_map g r.root (codes "/")) ≡ Some (r.root ++ 47 ∷ y) =
-      below-map (g ++ 47 ∷ y) ∙ ap (option_map (λ rest. (r.root ++ 47 ∷ []) ++ rest)) found ∙ ap Some (append_assoc r.root (47 ∷ []) y) in
-      let there : new_name (g ++ 47 ∷ y) (file_map g r.root []) ≡ Some (r.root ++ 47 ∷ y) =
-      top-map (g ++ 47 ∷ y) ∙ ap (option_map (λ rest. r.root ++ rest)) (rest_after-append g (47 ∷ y)) in
-      elim top as (λ b. last_new_name (g ++ 47 ∷ y) (folder_maps r b g) ≡ Some (r.root ++ 47 ∷ y)) [
-        | true ↦ ap (latest (new_name (g ++ 47 ∷ y) (file_map g r.root (codes "/")))) there
+  -- what is behind it, as its maps tell it
+  abbrev below-rest : List ℕ → List ℕ
+  below-rest rest = (r.root ++ 47 ∷ []) ++ rest
+
+  abbrev Slash : List ℕ → Type 0
+  Slash q = option_map below-rest (rest_after (47 ∷ []) q) ≡ option_map (λ t. r.root ++ t) (if_told false q)
+
+  slash : (q : List ℕ) → Slash q
+  slash [] = refl
+  slash (c ∷ cs) =
+      let here : Bool → Option (List ℕ) = λ b. option_map below-rest (cond b (Some cs) None) in
+      let there : Bool → Option (List ℕ) = λ b. option_map (λ t. r.root ++ t) (cond b (Some (c ∷ cs)) None) in
+      elim (eqb c 47) as (λ b. eqb c 47 ≡ b → Slash (c ∷ cs)) [
+        | true ↦ λ e. subst (λ d. Slash (d ∷ cs)) (sym (eqb-true c 47 e)) (ap Some (append_assoc r.root (47 ∷ []) cs))
+        | false ↦ λ e. ap here (other-way c 47 e) ∙ sym (ap there e)
+      ] refl
+
+  folder-rest : (q : List ℕ) → last_new_name (g ++ q) (folder_maps r top g) ≡ option_map (λ t. r.root ++ t) (if_told top q)
+  folder-rest q =
+      let here : new_name (g ++ q) (file_map g r.root (codes "/")) ≡ option_map (λ t. r.root ++ t) (if_told false q) =
+      below-map (g ++ q) ∙ ap (option_map below-rest) (rest-past g (47 ∷ []) q) ∙ slash q in
+      let there : new_name (g ++ q) (file_map g r.root []) ≡ Some (r.root ++ q) = top-map (g ++ q) ∙ ap (option_map (λ rest. r.root ++ rest)) (rest_after-append g q) in
+      elim top as (λ b. last_new_name (g ++ q) (folder_maps r b g) ≡ option_map (λ t. r.root ++ t) (if_told b q)) [
+        | true ↦ ap (latest (new_name (g ++ q) (file_map g r.root (codes "/")))) there
         | false ↦ here
       ]
 
-  folder-itself : top ≡ true → last_new_name (g ++ []) (folder_maps r top g) ≡ Some (r.root ++ [])
-  folder-itself is =
-      let there : new_name (g ++ []) (file_map g r.root []) ≡ Some (r.root ++ []) = top-map (g ++ []) ∙ ap (option_map (λ rest. r.root ++ rest)) (rest_after-append g []) in
-      ap (λ b. last_new_name (g ++ []) (folder_maps r b g)) is ∙ ap (latest (new_name (g ++ []) (file_map g r.root (codes "/")))) there
+  folder-tells : (name : List ℕ) → last_new_name name (folder_maps r top g) ≡ option_map (λ t. r.root ++ t) (told_by top name g)
+  folder-tells name =
+      elim (rest_after g name)
+      as (λ o. rest_after g name ≡ o → last_new_name name (folder_maps r top g) ≡ option_map (λ t. r.root ++ t) (option_and_then (if_told top) o)) [
+        | None ↦ λ e. folder-none name e
+        | Some q ↦ λ e. ap (λ t. last_new_name t (folder_maps r top g)) (rest_after-whole g name q e) ∙ folder-rest q
+      ] refl
 
-  folder-told : (x : List ℕ) → ends_name x ≡ true → (x ≡ [] → top ≡ true) → last_new_name (g ++ x) (folder_maps r top g) ≡ Some (r.root ++ x)
-  folder-told [] ends itself = folder-itself (itself refl)
-  folder-told (c ∷ cs) ends itself =
-      let is : c ≡ 47 = eqb-true c 47 ends in
-      subst (λ d. last_new_name (g ++ d ∷ cs) (folder_maps r top g) ≡ Some (r.root ++ d ∷ cs)) (sym is) (folder-below cs)
+-- all folders
+map-latest : (f : List ℕ → List ℕ) (a b : Option (List ℕ)) → option_map f (latest a b) ≡ latest (option_map f a) (option_map f b)
+map-latest f a None = refl
+map-latest f a (Some x) = refl
 
--- a place is behind all folders that begin the name, and gcc writes the root in place of the last
-that-place : (x q : List ℕ) → is_that_place (Some x) (Some q) ≡ true → q ≡ x
-that-place x q h = (bytes_eq-Decides q x).0 h
-
-module _ (r : Root) (top : Bool) (lack : lacks 61 r.root ≡ true) (name x : List ℕ) (ends : ends_name x ≡ true) (itself : x ≡ [] → top ≡ true) where
-  abbrev Told : List (List ℕ) → Type 0
-  Told fs =
-      ((last_new_name name (flat_map (folder_maps r top) fs) ≡ None) × (behind_first fs name ≡ None))
-      ⊎ ((last_new_name name (flat_map (folder_maps r top) fs) ≡ Some (r.root ++ x)) × (behind_first fs name ≡ Some x))
-
-  one-more : (g : List ℕ) (fs : List (List ℕ)) → is_that_place (Some x) (rest_after g name) ≡ true → Told fs → Told (g ∷ fs)
-  one-more g fs that told =
-      elim (rest_after g name) as (λ o. rest_after g name ≡ o → is_that_place (Some x) o ≡ true → Told (g ∷ fs)) [
-        | None ↦ λ e _.
-            let front : last_new_name name (flat_map (folder_maps r top) (g ∷ fs)) ≡ last_new_name name (flat_map (folder_maps r top) fs) =
-            last-append name (folder_maps r top g) (flat_map (folder_maps r top) fs)
-            ∙ ap (λ o. latest o (last_new_name name (flat_map (folder_maps r top) fs))) (folder-none r top lack g name e)
-            ∙ latest-none (last_new_name name (flat_map (folder_maps r top) fs)) in
-            let back : behind_first (g ∷ fs) name ≡ behind_first fs name = ap (λ o. option_or (option_and_then if_name_ends o) (behind_first fs name)) e in
-            elim told as (λ _. Told (g ∷ fs)) [ inl (a, b) ↦ inl (front ∙ a, back ∙ b) | inr (a, b) ↦ inr (front ∙ a, back ∙ b) ]
-        | Some q ↦ λ e k.
-            let whole : name ≡ g ++ x = rest_after-whole g name x (e ∙ ap Some (that-place x q k)) in
-            let written : last_new_name name (folder_maps r top g) ≡ Some (r.root ++ x) =
-            ap (λ t. last_new_name t (folder_maps r top g)) whole ∙ folder-told r top lack g x ends itself in
-            let back : behind_first (g ∷ fs) name ≡ Some x = ap (λ o. option_or o (behind_first fs name)) (ap (behind g) whole ∙ behind-below g x ends) in
-            let front : last_new_name name (flat_map (folder_maps r top) (g ∷ fs)) ≡ latest (Some (r.root ++ x)) (last_new_name name (flat_map (folder_maps r top) fs)) =
-            last-append name (folder_maps r top g) (flat_map (folder_maps r top) fs)
-            ∙ ap (λ o. latest o (last_new_name name (flat_map (folder_maps r top) fs))) written in
-            elim told as (λ _. Told (g ∷ fs)) [
-              | inl (a, b) ↦ inr (front ∙ ap (latest (Some (r.root ++ x))) a, back)
-              | inr (a, b) ↦ inr (front ∙ ap (latest (Some (r.root ++ x))) a, back)
-            ]
-      ] refl that
-
-  all-told : (fs : List (List ℕ)) → list_all (λ g. is_that_place (Some x) (rest_after g name)) fs ≡ true → Told fs
-  all-told [] k = inl (refl, refl)
-  all-told (g ∷ fs) k =
-      let that = and_parts (is_that_place (Some x) (rest_after g name)) (list_all (λ f. is_that_place (Some x) (rest_after f name)) fs) k in
-      one-more g fs that.0 (all-told fs that.1)
-
-  at-place : (fs : List (List ℕ)) → list_all (λ g. is_that_place (Some x) (rest_after g name)) fs ≡ true → behind_first fs name ≡ Some x
-      → last_new_name name (flat_map (folder_maps r top) fs) ≡ Some (r.root ++ x)
-  at-place fs k is =
-      elim (all-told fs k) as (λ _. last_new_name name (flat_map (folder_maps r top) fs) ≡ Some (r.root ++ x)) [
-        | inl (a, b) ↦ let none : None ≡ Some x = sym b ∙ is in cc
-        | inr (a, b) ↦ a
-      ]
-
--- nothing begins a name that has no place
-begins-none : (o : Option (List ℕ)) → is_that_place None o ≡ true → o ≡ None
-begins-none None h = refl
-begins-none (Some q) h = absurd (false≢true h)
-
-outside : (r : Root) (top : Bool) (lack : lacks 61 r.root ≡ true) (name : List ℕ) (fs : List (List ℕ)) → list_all (λ g. is_that_place None (rest_after g name)) fs ≡ true
-    → last_new_name name (flat_map (folder_maps r top) fs) ≡ None
-outside r top lack name [] k = refl
-outside r top lack name (g ∷ fs) k =
-    let that = and_parts (is_that_place None (rest_after g name)) (list_all (λ f. is_that_place None (rest_after f name)) fs) k in
+folders-tell : (r : Root) (top : Bool) (lack : lacks 61 r.root ≡ true) (name : List ℕ) (fs : List (List ℕ))
+    → last_new_name name (flat_map (folder_maps r top) fs) ≡ option_map (λ t. r.root ++ t) (last_told top name fs)
+folders-tell r top lack name [] = refl
+folders-tell r top lack name (g ∷ fs) =
     last-append name (folder_maps r top g) (flat_map (folder_maps r top) fs)
-    ∙ ap (λ o. latest o (last_new_name name (flat_map (folder_maps r top) fs))) (folder-none r top lack g name (begins-none (rest_after g name) that.0))
-    ∙ latest-none (last_new_name name (flat_map (folder_maps r top) fs))
-    ∙ outside r top lack name fs that.1
+    ∙ (λ i. latest (folder-tells r top lack g name i) (folders-tell r top lack name fs i))
+    ∙ sym (map-latest (λ t. r.root ++ t) (told_by top name g) (last_told top name fs))
 
 -- nor do words that are no maps change it
 no-map : (name word : List ℕ) → is_map word ≡ false → new_name name word ≡ None
@@ -211,28 +179,22 @@ folders-count r cwd name ws none own =
     ∙ ap (latest (last_new_name name maps)) tmp
 
 -- a clear path
-told-itself : (r : Root) (cwd x : List ℕ) → is_told r cwd (Some x) ≡ true → x ≡ [] → is_among r.folders cwd ≡ true
-told-itself r cwd [] told e = told
-told-itself r cwd (c ∷ cs) told e = cc
+put-name : (root path : List ℕ) (place : Option (List ℕ)) → name_or path (option_map (λ t. root ++ t) place) ≡ put root path place
+put-name root path None = refl
+put-name root path (Some rest) = refl
 
 rooted-at : (r : Root) (cwd path : List ℕ) (ws : List (List ℕ)) → has_maps ws ≡ false → can_be_told r ≡ true → is_clear r cwd path ≡ true
     → name_or path (last_new_name path (file_maps r cwd ++ ws)) ≡ rooted_path r path
 rooted-at r cwd path ws own can clear =
-    let parts = and_parts (is_absolute_path path && not (is_some (rest_after r.tmp path))) (list_all (λ folder. is_that_place (place_of r path) (rest_after folder path)) r.folders && is_told r cwd (place_of r path)) clear in
-    let from = and_parts (is_absolute_path path) (not (is_some (rest_after r.tmp path))) parts.0 in
-    let to = and_parts (list_all (λ folder. is_that_place (place_of r path) (rest_after folder path)) r.folders) (is_told r cwd (place_of r path)) parts.1 in
-    let none : rest_after r.tmp path ≡ None = none-of (rest_after r.tmp path) from.1 in
-    let whole : joined r.cwd path ≡ path = ap (λ b. cond b path ((r.cwd ++ separator_after r.cwd) ++ path)) from.0 in
-    let apart : behind r.tmp path ≡ None = ap (option_and_then if_name_ends) none in
-    let at : place_of r path ≡ behind_first r.folders path = ap (place r) whole ∙ ap (λ o. cond (is_some o) None (behind_first r.folders path)) apart in
-    let count = folders-count r cwd path ws none own in
-    elim (place_of r path)
-    as (λ o. place_of r path ≡ o → list_all (λ folder. is_that_place o (rest_after folder path)) r.folders ≡ true → is_told r cwd o ≡ true → name_or path (last_new_name path (file_maps r cwd ++ ws)) ≡ put r.root path o) [
-      | None ↦ λ _ k _. ap (name_or path) (count ∙ outside r (is_among r.folders cwd) can path r.folders k)
-      | Some x ↦ λ e k told.
-          let ends : ends_name x ≡ true = first-ends r.folders path x (sym at ∙ e) in
-          ap (name_or path) (count ∙ at-place r (is_among r.folders cwd) can path x ends (told-itself r cwd x told) r.folders k (sym at ∙ e))
-    ] refl to.0 to.1
+    let told = last_told (is_among r.folders cwd) path r.folders in
+    let parts = and_parts (not (is_some (rest_after r.tmp path))) (option_eq bytes_eq told (place_of r path)) clear in
+    let none : rest_after r.tmp path ≡ None = none-of (rest_after r.tmp path) parts.0 in
+    let same : told ≡ place_of r path = (options bytes_eq bytes_eq-Decides told (place_of r path)).0 parts.1 in
+    ap (name_or path)
+    (folders-count r cwd path ws none own
+    ∙ folders-tell r (is_among r.folders cwd) can path r.folders
+    ∙ ap (option_map (λ t. r.root ++ t)) same)
+    ∙ put-name r.root path (place_of r path)
 
 -- a host compiler's command that writes names
 mapped : (r : Root) (c : NvccGeneratedSubcommand) → program_at c.exe ≡ programs.Other → writes_names c.args ≡ true → rooted_command r c ≡ mapped_host r c

@@ -1,7 +1,7 @@
 -- What gcc writes for the name of a file: its prefix maps are in the order of its words, and the last one that fits counts.
 use Rattle.std.specs.Prelude.{◌≡◌, ℕ, List, [], ◌∷◌, ◌++◌, Bool, true, false, not, ◌==◌, ◌&&◌, ◌||◌, if◌then◌else◌, Option, Some, None, codes, refl, bytes_eq, option_map, option_and_then}
-use Rattle.std.specs.List.{list_all, list_any}
-use Rattle.std.specs.Option.{is_some}
+use Rattle.std.specs.List.{list_any}
+use Rattle.std.specs.Option.{is_some, option_eq}
 use Rattle.texts.specs.Lists.{latest, rest_after}
 use Rattle.texts.specs.Path.{is_absolute_path, lacks}
 use Rattle.texts.specs.Rows.{Gives, spaced}
@@ -51,26 +51,25 @@ is_map word =
 abbrev pub has_maps : List (List ℕ) → Bool
 has_maps words = list_any is_map words
 
--- which whole paths the maps of a root name rightly
+-- Which paths are clear to a command's maps.
 
--- whether a folder that begins a path is one that the path is below, given the path's place
-abbrev pub is_that_place : Option (List ℕ) → Option (List ℕ) → Bool
-is_that_place place None = true
-is_that_place None (Some rest) = false
-is_that_place (Some behind) (Some rest) = bytes_eq rest behind
+-- what is behind a folder in a path, as far as the maps of a command in some directory tell it: they compare bytes, and those of a command
+-- that doesn't run at the checkout's top have a `/` behind the folder
+abbrev pub if_told : Bool → List ℕ → Option (List ℕ)
+if_told at_top rest = if at_top || is_absolute_path rest then Some rest else None
 
--- whether gcc is told of a place where it runs in a directory: of the checkout's top itself it's told only there
-abbrev pub is_told : Root → List ℕ → Option (List ℕ) → Bool
-is_told r cwd None = true
-is_told r cwd (Some []) = is_among r.folders cwd
-is_told r cwd (Some (c ∷ cs)) = true
+abbrev pub told_by : Bool → List ℕ → List ℕ → Option (List ℕ)
+told_by at_top path folder = option_and_then (if_told at_top) (rest_after folder path)
 
--- Whether a path is clear to gcc where it runs in a directory. It is absolute; each folder that begins it, byte by byte, is one that it is
--- below, with the same behind it; it isn't below a folder that begins like that of generated files
+-- the same of the last folder that counts
+abbrev pub last_told : Bool → List ℕ → List (List ℕ) → Option (List ℕ)
+last_told at_top path [] = None
+last_told at_top path (folder ∷ folders) = latest (told_by at_top path folder) (last_told at_top path folders)
+
+-- Whether a path is clear to a command that runs in a directory: what is told of it is its place, and it doesn't begin like the folder of
+-- generated files
 abbrev pub is_clear : Root → List ℕ → List ℕ → Bool
-is_clear r cwd path =
-    (is_absolute_path path && not (is_some (rest_after r.tmp path)))
-    && (list_all (λ folder. is_that_place (place_of r path) (rest_after folder path)) r.folders && is_told r cwd (place_of r path))
+is_clear r cwd path = not (is_some (rest_after r.tmp path)) && option_eq bytes_eq (last_told (is_among r.folders cwd) path r.folders) (place_of r path)
 
 -- whether gcc can be told of the root
 abbrev pub can_be_told : Root → Bool
@@ -90,7 +89,7 @@ HostsWriteGeneratedPaths =
     → program_at c.exe ≡ programs.Other → writes_names c.args ≡ true → has_maps c.args ≡ false
     → written_name (rooted_command r c).args (r.tmp ++ rest) ≡ codes "/tmp" ++ rest
 
--- examples: in a folder of the checkout, and at its top, where a folder beside it that begins so isn't clear
+-- examples: in a folder of the checkout, and at its top, where the path of a folder beside it that begins so isn't clear
 abbrev below : Root
 below = call_in (codes "/data/p/a") (codes "/t")
 
@@ -116,12 +115,23 @@ pub clear_below_a_checkout : Gives (is_clear below (codes "/data/p/a")) (
     (codes "/data/p/a/k.cu", true)
     ∷ (codes "/data/p/a", true)
     ∷ (codes "/data/p", false)
-    ∷ (codes "/data/pq/k.cu", false)
+    ∷ (codes "/data/pq/k.cu", true)
     ∷ (codes "/usr/include/stdio.h", true)
     ∷ (codes "/tx/k.cu", false)
     ∷ (codes "k.cu", false)
     ∷ [])
 clear_below_a_checkout = refl
+
+pub clear_at_its_top : Gives (is_clear at_top (codes "/data/p")) ((codes "/data/p/k.cu", true) ∷ (codes "/data/p", true) ∷ (codes "/data/pq/k.cu", false) ∷ [])
+clear_at_its_top = refl
+
+-- a link's name that the folder's own begins is clear if it is last, too
+abbrev linked : List (List ℕ) → Root
+linked folders = record { folders = folders; root = codes "/src"; cwd = codes "/data/p"; tmp = codes "/t" }
+
+pub clear_by_a_link : Gives (λ (folders : List (List ℕ)). is_clear (linked folders) (codes "/data/p") (codes "/data/p2/k.cu")) (
+    (codes "/data/p2" ∷ codes "/data/p" ∷ [], false) ∷ (codes "/data/p2" ∷ codes "/data/p" ∷ codes "/data/p2" ∷ [], true) ∷ [])
+clear_by_a_link = refl
 
 -- the last map counts, and so a command's own
 pub own_maps_count : written_name (spaced "-ffile-prefix-map=/w=a/=/src/ -ffile-prefix-map=/w=a/b/=/own/") (codes "/w=a/b/k.cu") ≡ codes "/own/k.cu"
