@@ -67,7 +67,8 @@ const FREE_BEGINNINGS: [&str; 9] = ["CCACHE_", "CMAKE_", "DBUS_", "GITHUB_", "SL
 /// The one among these that counts: products are others under a root.
 const COUNTING: &[u8] = b"ZIGRUNK_ROOT";
 
-fn is_free(name: &OsStr) -> bool {
+/// Whether nothing of what a call makes depends on a variable, unless a process asks for it.
+pub fn is_free(name: &OsStr) -> bool {
     let name = name.as_bytes();
     if name == COUNTING {
         return false;

@@ -28,6 +28,7 @@ mod ways;
 mod words;
 
 pub use inputs::Refusal;
+pub use recipe::environment_of;
 pub use session::{Beginning, Finished, Session};
 
 use unix as system;

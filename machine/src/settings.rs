@@ -71,6 +71,8 @@ pub struct Settings {
     pub explains: bool,
     /// What commands wait for.
     pub waits: Waits,
+    /// The folder that gets a record of each call.
+    pub records: Option<PathBuf>,
     /// The checkout that products don't name, if one is set.
     pub root: Option<AskedRoot>,
     /// The nvccs through which this call came.
@@ -187,7 +189,7 @@ fn servers(text: &str) -> Option<bool> {
 }
 
 /// Our variables: those for users, and those by which our programs hear of each other.
-const VARIABLES: [&str; 30] = [
+const VARIABLES: [&str; 31] = [
     "ZIGRUNK_BATCH",
     "ZIGRUNK_CACHE",
     "ZIGRUNK_CACHE_SIZE",
@@ -205,6 +207,7 @@ const VARIABLES: [&str; 30] = [
     "ZIGRUNK_NODE",
     "ZIGRUNK_NVCC",
     "ZIGRUNK_OBSERVED",
+    "ZIGRUNK_RECORDS",
     "ZIGRUNK_REMOTE",
     "ZIGRUNK_REMOTE_CA",
     "ZIGRUNK_REMOTE_CERTIFICATE",
@@ -274,7 +277,10 @@ impl Settings {
 
     fn of(of: Lookup<'_>) -> Result<Settings, String> {
         switch(of, "ZIGRUNK_CALLS", true)?;
-        let settings = Settings::each(of)?;
+        let mut settings = Settings::each(of)?;
+        // (records are of the plan's own commands)
+        settings.waits.for_needs |= settings.records.is_some();
+        settings.waits.for_fatbin |= settings.records.is_some();
         if settings.root.is_some() && !settings.launcher.is_empty() {
             return Err(
                 "ZIGRUNK_ROOT and ZIGRUNK_LAUNCHER cannot both be set: a launcher gets the plan's own words"
@@ -313,6 +319,7 @@ impl Settings {
                 for_needs: !switch(of, "ZIGRUNK_EARLY", true)?,
                 for_fatbin: !switch(of, "ZIGRUNK_LATE", true)?,
             },
+            records: of("ZIGRUNK_RECORDS").map(PathBuf::from),
             root: read(
                 of,
                 "ZIGRUNK_ROOT",
@@ -421,7 +428,7 @@ mod tests {
         }
     }
 
-    const VARIABLES: [(&str, &str); 19] = [
+    const VARIABLES: [(&str, &str); 20] = [
         ("ZIGRUNK_NVCC", "/c/nvcc"),
         ("ZIGRUNK_CACHE", "./c"),
         ("ZIGRUNK_CACHE_SIZE", "2K"),
@@ -439,6 +446,7 @@ mod tests {
         ("ZIGRUNK_CALLS", "no"),
         ("ZIGRUNK_REMOTE", "grpc://a:1"),
         ("ZIGRUNK_REMOTE_FALLBACK", "no"),
+        ("ZIGRUNK_RECORDS", "records"),
         ("ZIGRUNK_ROOT", "/w/p/=/src"),
         ("ZIGRUNK_INSIDE", "/a:/b"),
     ];
@@ -475,6 +483,7 @@ mod tests {
             log: Some("log".into()),
             explains: true,
             waits: Waits { for_needs: true, for_fatbin: true },
+            records: Some("records".into()),
             root: Some(AskedRoot { folder: "/w/p".into(), name: "/src".into() }),
             inside: "/a:/b".into(),
         };

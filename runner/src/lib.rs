@@ -6,6 +6,7 @@ pub mod late;
 pub mod log;
 pub mod nvcc_jobs;
 pub mod products;
+pub mod records;
 pub mod remote;
 pub mod rule;
 pub mod run;

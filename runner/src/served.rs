@@ -16,7 +16,8 @@ use std::path::Path;
 /// Makes what the cache has of a whole call, which has begun at a time, in seconds. Gives what it said and
 /// what has come of it, or `None` if the call has to be made.
 pub fn serve(settings: &Settings, line: &NvccLine, begun: f64) -> Option<(Said, Outcome)> {
-    if !calls::is_on() || !settings.launcher.is_empty() || !settings.runs_here() {
+    let is_asked = calls::is_on() && settings.launcher.is_empty() && settings.records.is_none();
+    if !is_asked || !settings.runs_here() {
         return None;
     }
     let store = place::store_of(settings, &line.cwd)?;

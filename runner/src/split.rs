@@ -5,6 +5,7 @@ use crate::late::{self, Halves};
 use crate::log::{self, LoggedCommand};
 use crate::nvcc_jobs::{self, Jobs};
 use crate::products;
+use crate::records;
 use crate::remote;
 use crate::rule::{Refusals, RuleMaker};
 use crate::run::{self, Stopped};
@@ -292,6 +293,9 @@ impl Call<'_> {
         if status != 0 && is_silent {
             say(true, self.words_of_silence(status).as_bytes());
         }
+        if status == 0 {
+            self.record(tmp, commands);
+        }
         if let Some(cache) = cache.as_mut().filter(|_| status == 0 && !is_made_whole) {
             let kept = cache.keep_call(&Finished { line, commands, tasks, rule: made, said });
             if let (Err(refusal), true) = (kept, self.settings.explains) {
@@ -299,6 +303,14 @@ impl Call<'_> {
             }
         }
         Ok(Outcome { status, commands: logged, counted })
+    }
+
+    /// Writes a record of the call, if one is asked for. Says so if it can't.
+    fn record(&self, tmp: &str, commands: &[PlannedCommand]) {
+        let Some(folder) = &self.settings.records else { return };
+        if let Err(error) = records::write(folder, &records::Finished { line: self.line, commands, tmp }) {
+            complain(&format!("{}: cannot write a record to {}: {error}", called(), folder.display()));
+        }
     }
 
     /// What to say of a call of which a command failed without a message.

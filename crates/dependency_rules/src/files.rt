@@ -119,7 +119,8 @@ fn listed<'a>(of_system: bool, name: &'a [u8], flags: &'a [u8]) -> Option<&'a [u
     }
 }
 
-// The file that a rule lists by a line.
+/// The file that a rule lists by a line of a preprocessed text, if the line is the marker of a file's beginning: a file of the system only if
+/// these are listed too.
 pub fn file_listed(of_system: bool, line: &[u8]) -> Option<&[u8]>
     ensures { option_copied result ≡ spec.file_listed of_system line.now }
 {

@@ -10,6 +10,7 @@ mod rules;
 mod warnings;
 
 pub use asking::{Rule, rule_asked};
+pub use files::file_listed;
 pub use orders::order_of;
 pub use rules::rule_text;
 pub use warnings::without_warnings;
