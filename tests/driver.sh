@@ -163,7 +163,7 @@ end_to_end() {
         for words in odd '' 'odd nvcc'; do
             # shellcheck disable=SC2086 # several words, or none
             as=$driver call $words
-            same "status and usage with '$words'" "$status $(tail -n 1 "$room/err")" '2 usage: zigrunk nvcc|plan|batch|report|cache|check-node|help WORD..'
+            same "status and usage with '$words'" "$status $(tail -n 1 "$room/err")" '2 usage: zigrunk nvcc|plan|batch|report|why|cache|check-node|help WORD..'
         done
         end
     fi

@@ -1,5 +1,5 @@
 //! The first words of the program, and its help.
-use crate::{call, plan_program};
+use crate::{call, own_options, plan_program};
 use machine::nearest::{question, shown};
 use machine::streams::{complain, say, set_called};
 use std::ffi::{OsStr, OsString};
@@ -11,19 +11,23 @@ pub enum FirstWord {
     Plan,
     Batch,
     Report,
+    Why,
     Cache,
     CheckNode,
     Help,
 }
 
-const USAGE: &str = "usage: zigrunk nvcc|plan|batch|report|cache|check-node|help WORD..";
+const USAGE: &str = "usage: zigrunk nvcc|plan|batch|report|why|cache|check-node|help WORD..";
 
 /// What `zigrunk help nvcc` prints: nvcc's words are all nvcc's own, `--help` too.
-const NVCC_HELP: &str = "usage: zigrunk nvcc [NVCC] WORD..
+const NVCC_HELP: &str = "usage: zigrunk nvcc [--root FOLDER] [--check-twice] [NVCC] WORD..
        zigrunk-nvcc [NVCC] WORD..
 
 Does what nvcc does with these words. If they compile one source, its commands run in parallel.
 NVCC is nvcc's name or path, if it isn't the nvcc on the path.
+
+--root FOLDER             name files below FOLDER as in any other checkout
+--check-twice             make the call twice, and say what isn't deterministic
 
 ZIGRUNK_CACHE=yes         look each command up in the cache
 ZIGRUNK_LAUNCHER=sccache  look each command up with sccache
@@ -36,11 +40,12 @@ man zigrunk-nvcc has the rest.
 
 impl FirstWord {
     /// All of them, in the order in which the help and completion show them.
-    pub const ALL: [FirstWord; 7] = [
+    pub const ALL: [FirstWord; 8] = [
         FirstWord::Nvcc,
         FirstWord::Plan,
         FirstWord::Batch,
         FirstWord::Report,
+        FirstWord::Why,
         FirstWord::Cache,
         FirstWord::CheckNode,
         FirstWord::Help,
@@ -53,6 +58,7 @@ impl FirstWord {
             FirstWord::Plan => "plan",
             FirstWord::Batch => "batch",
             FirstWord::Report => "report",
+            FirstWord::Why => "why",
             FirstWord::Cache => "cache",
             FirstWord::CheckNode => "check-node",
             FirstWord::Help => "help",
@@ -66,6 +72,7 @@ impl FirstWord {
             FirstWord::Plan => "print the commands of a call: for Ninja, a shell or a program",
             FirstWord::Batch => "make many calls of nvcc in one process",
             FirstWord::Report => "summarise what ZIGRUNK_LOG has noted of calls",
+            FirstWord::Why => "say why two builds differ",
             FirstWord::CheckNode => "compare a machine with the one that hands out calls",
             FirstWord::Cache => "show, clear or shrink the cache of commands",
             FirstWord::Help => "print this text, or the help of one of these words",
@@ -86,6 +93,7 @@ impl FirstWord {
             FirstWord::Plan => "zigrunk plan",
             FirstWord::Batch => "zigrunk batch",
             FirstWord::Report => "zigrunk report",
+            FirstWord::Why => "zigrunk why",
             FirstWord::Cache => "zigrunk cache",
             FirstWord::CheckNode => "zigrunk check-node",
             FirstWord::Help => "zigrunk",
@@ -100,6 +108,7 @@ impl FirstWord {
             FirstWord::Plan => plan_program::run(words),
             FirstWord::Batch => batch::main(words),
             FirstWord::Report => report::run(words),
+            FirstWord::Why => report::why::run(words),
             FirstWord::Cache => cache::program::run(words),
             FirstWord::CheckNode => batch::node::program::run(words),
             FirstWord::Help => help_of(words),
@@ -174,6 +183,9 @@ pub fn run(words: &[OsString]) -> i32 {
         Some("-h" | "--help") => print(&help()),
         Some("--version") => print(&format!("zigrunk {}\n", env!("CARGO_PKG_VERSION"))),
         name => match name.and_then(FirstWord::named) {
+            Some(first @ (FirstWord::Nvcc | FirstWord::Batch)) => {
+                own_options::run(first.name(), rest).unwrap_or_else(|| first.run("zigrunk".as_ref(), rest))
+            }
             Some(first) => first.run("zigrunk".as_ref(), rest),
             None => unknown(word),
         },

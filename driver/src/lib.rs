@@ -3,7 +3,9 @@
 #![forbid(unsafe_code)]
 
 mod call;
+mod check_twice;
 mod first_words;
+mod own_options;
 mod plan_program;
 mod stored_plan;
 

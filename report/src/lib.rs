@@ -1,16 +1,21 @@
-//! zigrunk report: summarises the log that zigrunk-nvcc and zigrunk batch write to `ZIGRUNK_LOG`.
+//! zigrunk report: summarises the log that zigrunk-nvcc and zigrunk batch write to `ZIGRUNK_LOG`. zigrunk why: compares
+//! records of `ZIGRUNK_RECORDS`.
 #![forbid(unsafe_code)]
 
+mod causes;
 mod chains;
 mod log;
 mod log_lines;
 mod machines;
 mod page;
+mod places;
+mod recorded;
 #[cfg(test)]
 mod small;
 mod summary;
 mod timeline;
 mod trace;
+pub mod why;
 
 use lexopt::prelude::{Long, Short, Value};
 use lexopt::{Error, Parser};
