@@ -175,6 +175,27 @@ def words(page: str) -> Iterator[str]:
             yield f"{page} names {word}, which isn't there"
 
 
+# How each language's source has the names of EMBEDDING's table. C++ has those of Python.
+RUST = ["bindings/rust/src/lib.rs", *(f"call/src/{name}.rs" for name in ("cache_key", "call", "plan", "schedule"))]
+GO, PYTHON, CPP = ["bindings/go/zigrunk.go"], ["bindings/python/zigrunk/__init__.py"], ["bindings/cpp/zigrunk.hpp"]
+
+
+def embedding() -> Iterator[str]:
+    """Functions of libzigrunk that EMBEDDING's table lacks, and names of its columns that a language doesn't have."""
+    table = re.search(r"^\| C \| Rust .*\n\|[-|]+\n((?:\|.*\n)+)", text_of("docs/EMBEDDING.md"), re.MULTILINE)
+    rows = [[words_in_code(cell) for cell in line.split("|")[1:5]] for line in (table[1] if table else "").splitlines()]
+    of_c = {f"zigrunk_schedule{name[2:]}" if name.startswith("..") else name for row in rows for name in row[0]}
+    exports = {*re.findall(r"\b(zigrunk_\w+)\(", text_of("bindings/c/zigrunk.h"))} - {"zigrunk_free", "zigrunk_version", "zigrunk_abi_version"}
+    yield from (f"EMBEDDING's table lacks {name}" for name in exports - of_c)
+    yield from (f"EMBEDDING's table has {name}, which zigrunk.h lacks" for name in of_c - exports)
+    for column, files_of in ((1, RUST), (2, GO), (3, PYTHON), (3, CPP)):
+        text = "\n".join(map(text_of, files_of))
+        # (where the page says that names are the same, C's begin with `zigrunk_`)
+        for name in (name for row in rows for name in (row[column] or [name.removeprefix("zigrunk_") for name in row[0]])):
+            if not re.search(rf"\b{name.split('::')[-1]}\b", text):
+                yield f"EMBEDDING's table has {name}, which {files_of[0]} lacks"
+
+
 def words_of(page: str) -> int:
     return len(text_of(page).split())
 
@@ -301,7 +322,7 @@ def version() -> Iterator[str]:
 def main() -> int:
     checks: list[tuple[str, Iterable[str]]] = [(page, links(page)) for page in PAGES]
     checks += [(page, commands(page)) for page in READ]
-    checks += [("", check()) for check in (calling, files, contracts, architecture, definitions, premises, needed, lengths, version)]
+    checks += [("", check()) for check in (calling, files, contracts, architecture, definitions, embedding, premises, needed, lengths, version)]
     checks += [("", words(page)) for page in ("docs/proof/DEFINITIONS.md", "docs/proof/GUARANTEES.md")]
     counts = Counts()
     for name, findings in checks:
