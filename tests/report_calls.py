@@ -5,6 +5,7 @@ Prints a line for each finding, and last 'N passed, M failed'.
 
     tests/report_calls.py [--count N] [--real N]    N calls with stand-ins, 60 unless said; N calls of nvcc, 4 unless said
     tests/report_calls.py LOG..                     looks at these logs instead
+    .. --shots FOLDER                               also has chromium draw the page of the last log there: 400, 700 and 1,100 pixels wide, and dark
 
 DRIVER_BIN is where zigrunk is, by default where `make rust` leaves it.
 """
@@ -44,12 +45,14 @@ def stand_ins(room: Path) -> dict[str, str]:
 
 
 def make(room: Path, count: int, variables: dict[str, str], log: Path) -> None:
-    """Makes so many calls by a batch, each ninth of which fails or links."""
+    """Makes so many calls by a batch, each ninth of which links, and one that nvcc refuses."""
     (room / "work").mkdir(exist_ok=True)
     lines = []
     for number in range(count):
         shutil.copy(room / "k.cu", room / f"work/k{number}.cu")
         lines.append(f"nvcc k{number}.cu -o k{number}" if number % 9 == 8 else f"nvcc -c k{number}.cu -o k{number}.o")
+    (room / "work/bad.cu").write_text("__global__ void k() { undeclared(); }\n", encoding="utf-8")
+    lines.append("nvcc -c bad.cu -o bad.o")
     (room / "list").write_text("\n".join(lines) + "\n", encoding="utf-8")
     kept = {name: value for name, value in os.environ.items() if not name.startswith(("ZIGRUNK_", "NVCC_"))}
     environment = {**kept, **variables, "ZIGRUNK_LOG": str(log), "TMPDIR": str(room)}
@@ -59,9 +62,9 @@ def make(room: Path, count: int, variables: dict[str, str], log: Path) -> None:
 def report(log: str, folder: Path) -> tuple[str, str]:
     """What the program says of a log, and its page."""
     (folder / "log").write_text(log, encoding="utf-8")
-    words = [TOOLS / "zigrunk", "report", "--html", folder / "page", folder / "log"]
+    words = [f"{TOOLS}/zigrunk", "report", "--html", f"{folder}/page.html", f"{folder}/log"]
     ended = subprocess.run(words, capture_output=True, encoding="utf-8", check=True)
-    return ended.stdout, (folder / "page").read_text(encoding="utf-8")
+    return ended.stdout, (folder / "page.html").read_text(encoding="utf-8")
 
 
 def text_of(page: str) -> str:
@@ -108,7 +111,22 @@ def sum_findings(log: list[Entry], page: str, text: str) -> list[str]:
     return wrong
 
 
-def look(log: Path, least: int, counts: Counts) -> None:
+# The words of chromium for each, but for those of all.
+SHOTS: dict[str, list[str]] = {"400": [], "700": [], "1100": [], "dark": ["--blink-settings=preferredColorScheme=0"]}
+
+
+def draw(page: Path, folder: Path, counts: Counts) -> None:
+    """Has chromium draw a page."""
+    folder.mkdir(parents=True, exist_ok=True)
+    for name, more in SHOTS.items():
+        shot = folder.resolve() / f"{name}.png"
+        size = f"--window-size={name if name.isdigit() else 1100},1600"
+        words = ["chromium", "--headless", "--no-sandbox", "--disable-gpu", "--hide-scrollbars", size, f"--screenshot={shot}", *more]
+        subprocess.run([*words, f"file://{page}"], capture_output=True, check=False, timeout=120)
+        counts.case(f"{shot}", [] if shot.is_file() else ["it isn't there"])
+
+
+def look(log: Path, least: int, counts: Counts, shots: Path | None = None) -> None:
     """Looks at a log, which has to have so many calls."""
     lines = [line for line in log.read_text(encoding="utf-8").splitlines() if "begin" in json.loads(line)]
     counts.case(f"{log.name}: calls", [] if len(lines) >= least else [f"{len(lines)}, not {least}"])
@@ -118,17 +136,20 @@ def look(log: Path, least: int, counts: Counts) -> None:
             counts.case(f"{log.name}, call {number}", chain_findings(line, folder))
         text, page = report("\n".join(lines) + "\n", folder)
         counts.case(f"{log.name}: sums", sum_findings([json.loads(line) for line in lines], page, text))
+        if shots:
+            draw(folder / "page.html", shots, counts)
 
 
 def main() -> int:
     words = argparse.ArgumentParser(usage=__doc__, formatter_class=argparse.RawDescriptionHelpFormatter)
     words.add_argument("--count", type=int, default=60)
     words.add_argument("--real", type=int, default=4)
+    words.add_argument("--shots", type=Path)
     words.add_argument("logs", nargs="*", type=Path)
     asked = words.parse_args()
     counts = Counts()
     for log in asked.logs:
-        look(log, 1, counts)
+        look(log, 1, counts, asked.shots)
     with tempfile.TemporaryDirectory() as name:
         room = Path(name).resolve()
         if not asked.logs:
@@ -138,7 +159,7 @@ def main() -> int:
         if not asked.logs and asked.real and shutil.which("nvcc"):
             shutil.copy(TOP / "tests/small/cuda_runtime.h", room)
             make(room, asked.real, {"NVCC_APPEND_FLAGS": f"-I{room}"}, room / "nvcc")
-            look(room / "nvcc", asked.real, counts)
+            look(room / "nvcc", asked.real + 1, counts, asked.shots)
     return counts.summary()
 
 
