@@ -248,7 +248,7 @@ package() {
 pack_proved() {
     local kit folder=$scratch/$name-x86_64-linux
     kit=$(dirname "$(dirname "$(readlink -f "$(command -v rt)")")")
-    make -s install BUILT=proved DESTDIR="$scratch/" PREFIX="$(basename "$folder")"
+    OLDER_GLIBC=yes make -s install BUILT=proved DESTDIR="$scratch/" PREFIX="$(basename "$folder")"
     cc -static -s -o "$folder/bin/cudaplan" crates/cudaplan/out/cudaplan.o "$kit/c/libos_c.a" "$kit/c/liblibc_c.a"
     install -m 755 out/dist/static/x86_64-unknown-linux-gnu/release/zigrunk-driver "$folder/bin/zigrunk"
     install -m 644 packaging/README LICENSE NOTICE CHANGELOG.md "$folder"
