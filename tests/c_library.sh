@@ -54,6 +54,22 @@ if command -v cbindgen > /dev/null; then
 else
     skip 'the header beside its sources' 'cbindgen is not on the path'
 fi
+# older: the library for glibc 2.28 names no newer version, and its functions answer as those of the other one.
+older() {
+    OLDER_GLIBC=yes bindings/c/library.sh "$archive" "$scratch/older" &&
+        [ "$(readelf -V "$scratch/older/lib/libzigrunk.so.2" | sed -n 's/.*Name: GLIBC_\([0-9.]*\) .*/\1/p' | sort -V | tail -n 1)" = 2.28 ] &&
+        cc "${strict[@]}" tests/callers/answers.c -o "$scratch/answers_older" "-L$scratch/older/lib" -lzigrunk &&
+        LD_LIBRARY_PATH=$scratch/older/lib answers "$scratch/answers_older"
+}
+
+# unwinds: exceptions are caught by the unwinder of gcc's own library with what it needs of glibc 2.35.
+unwinds() {
+    cc -O2 -fPIC -c -o "$scratch/older_glibc.o" bindings/c/older_glibc.c &&
+        c++ -O2 -static-libgcc -static-libstdc++ -o "$scratch/unwinding" tests/c/unwinding.cpp "$scratch/older_glibc.o" && "$scratch/unwinding"
+}
+
+check 'the library for glibc 2.28' older
+if command -v c++ > /dev/null; then check 'unwinding with glibc 2.28' unwinds; fi
 check 'the header as C99' header cc -std=c99
 for compiler in c++ clang++; do
     if command -v "$compiler" > /dev/null; then
