@@ -4,38 +4,53 @@
 # 'N passed, M failed'; the status is 1 if one failed.
 #
 #   tests/remote.sh               by the server of the crate's tests
-#   tests/remote.sh --buildbox    by Debian sid's buildbox, which it downloads (120 MB), and lets it die by the numbers of SEED, DEATHS times
+#   tests/remote.sh --buildbox    by Debian sid's buildbox, which it downloads (120 MB): here, and on machines in network namespaces, which takes root.
+#                                 DEATHS of them, 60 unless set, are drawn by SEED, on LANES of three servers each, 3 unless set
 #
-# ONLY=TEXT runs the cases whose names have this text. BIN=FOLDER has the programs, so that none is built. It is skipped if the crates of others aren't there: make vendor REMOTE=yes fetches them.
+# ONLY=TEXT runs the cases whose names have this text, and PARTS names the parts: others calls costs machines run deaths. BIN=FOLDER has the programs,
+# so that none is built. It is skipped if the crates of others aren't there: make vendor REMOTE=yes fetches them.
 cd "$(dirname "$0")/.." || exit 1
 . tests/lib.sh
 require 'remote execution' cargo gcc openssl python3
 unset "${!ZIGRUNK@}"
 crates=${XDG_CACHE_HOME:-$HOME/.cache}/zigrunk/crates/registry
-[ -n "${BIN-}" ] || compgen -G "$crates/tonic-*" > /dev/null ||
+[ -n "${BIN-}" ] || { compgen -G "$crates/tonic-*" && compgen -G "$crates/zstd-[0-9]*"; } > /dev/null ||
     skip_all 'remote execution' 'there are no crates for it; make vendor REMOTE=yes fetches them'
-server=
-trap '[ -z "$server" ] || kill -KILL "$server" 2> /dev/null; rm -rf "$scratch"' EXIT
+server='' boxes='' here=$PWD/tests
 workspace=$PWD/out/remote
-bin=${BIN:-$workspace/target/debug}
+# (what the client costs is measured with what users have)
+release=$([ "${1-}" != --buildbox ] || echo --release)
+bin=${BIN:-$workspace/target/$([ -n "$release" ] && echo release || echo debug)}
+stop() {
+    [ -z "$server" ] || kill -KILL "$server" 2> /dev/null
+    [ -z "${machines-}" ] || stop_machines
+    rm -rf "$scratch"
+}
+trap stop EXIT
+trap 'exit 130' HUP INT TERM
 
 # build: driver, client and the tests' server, in a workspace of their own.
 build() {
+    local features=zigrunk-remote/server
+    ! pkg-config --exists 'libzstd >= 1.5.6' 2> /dev/null || features+=,zigrunk-remote/zstd
     cargo run --quiet --manifest-path rust/Cargo.toml -p eraser -- --unformatted --remote "--crates=$crates" . "$workspace" &&
-        (cd "$workspace" && cargo build --quiet -p zigrunk-driver -p zigrunk-remote --features zigrunk-remote/server --bins --examples) &&
-        ln -sf zigrunk-driver "$bin/zigrunk-nvcc"
+        (cd "$workspace" && cargo build --quiet ${release:+"$release"} -p zigrunk-driver -p zigrunk-remote --features "$features" --bins --examples) &&
+        ln -sf zigrunk-driver "$bin/zigrunk-nvcc" && ln -sf zigrunk-driver "$bin/zigrunk"
 }
 
 # (what it prints would hide the last line)
-own_tests() { (cd "$workspace" && cargo test --quiet -p zigrunk-remote --features server); }
+own_tests() {
+    local features=server
+    ! pkg-config --exists 'libzstd >= 1.5.6' 2> /dev/null || features+=,zstd
+    (cd "$workspace" && cargo test --quiet -p zigrunk-remote --features "$features")
+}
 
-boxes=''
 [ "${1-}" != --buildbox ] || boxes=$(tests/remote/buildbox.sh out/buildbox) || exit 1
 [ -n "${BIN-}" ] || build > "$scratch/built" 2>&1 || { tail -n 30 "$scratch/built"; count build 'it failed'; summary; exit 1; }
 [ -n "$boxes${BIN-}" ] || check 'tests of the crate' own_tests
 command -v nvcc > /dev/null || { skip 'calls by a server' 'nvcc is not on the path'; summary; exit; }
 
-# start: a server, whose address is $address.
+# start: a server here, whose address is $address.
 start() {
     if [ -n "$boxes" ]; then
         address=grpc://127.0.0.1:50571
@@ -99,105 +114,92 @@ END_OF_PROGRAM
 alike() { cmp -s "$1" "$2" || problems+="  $1 and $2 differ"$'\n'; }
 device_code() { objcopy -O binary -j .nv_fatbin "$1" "$1.device"; }
 
-start || { count 'a server' 'it did not start'; summary; exit 1; }
-
-if case_of 'what one machine made another finds'; then
-    call alone.o
-    nvcc "${targets[@]}" -c k.cu -o nvcc.o
-    call first.o "ZIGRUNK_REMOTE=$address"
-    same 'status and words' "$status $(cat err)" '0 '
-    same 'first ways' "$(ways | sed 's/ sent.*//')" 'kept 6'
-    mkdir "$room/elsewhere"
-    call second.o "ZIGRUNK_REMOTE=$address" "TMPDIR=$room/elsewhere" HOME=/nowhere
-    same 'second ways' "$(ways)" 'found 6 sent 0'
-    alike alone.o first.o && alike alone.o second.o
-    for object in nvcc second; do device_code "$object.o"; done
-    alike nvcc.o.device second.o.device
-    end_case
-fi
-
-if case_of 'a server runs commands'; then
-    call alone.o
-    call run.o "ZIGRUNK_REMOTE=$address" ZIGRUNK_REMOTE_USE=run
-    same 'status and words' "$status $(cat err)" '0 '
-    same ways "$(ways | sed 's/ sent.*//')" 'ran 6'
-    alike alone.o run.o
-    call again.o "ZIGRUNK_REMOTE=$address"
-    same 'ways of the cache' "$(ways)" 'found 6 sent 0'
-    alike alone.o again.o
-    end_case
-fi
-
-if case_of 'where names reach the code nothing is sent'; then
-    call alone.o -lineinfo
-    call lines.o "ZIGRUNK_REMOTE=$address" -lineinfo
-    same 'status and words' "$status $(cat err)" '0 '
-    same ways "$(ways | grep -o 'own [0-9]*')" 'own 4'
-    alike alone.o lines.o
-    end_case
-fi
-
-if case_of 'errors are those of here'; then
-    echo '__global__ void k() { unknown(); }' > k.cu
-    call alone.o
-    wanted="$status $(cat err)"
-    for use in cache run; do
-        call broken.o "ZIGRUNK_REMOTE=$address" "ZIGRUNK_REMOTE_USE=$use"
-        same "status and words with $use" "$status $(grep -v '^zigrunk-nvcc: a command ran here: .* it failed there' err)" "$wanted"
-    done
-    end_case
-fi
-
-if case_of 'without a server commands run here'; then
-    call alone.o
-    call lone.o ZIGRUNK_REMOTE=grpc://127.0.0.1:1
-    same status "$status" 0
-    same 'words' "$(grep -c 'a command ran here: .*cannot be reached' err) $(wc -l < err)" '1 1'
-    alike alone.o lone.o
-    call none.o ZIGRUNK_REMOTE=grpc://127.0.0.1:1 ZIGRUNK_REMOTE_FALLBACK=no
-    same 'status without falling back' "$status $(ls none.o 2> /dev/null)" '125 '
-    call bad.o ZIGRUNK_REMOTE=http://a
-    same 'status with a bad address' "$status $(grep -c 'expected grpc://HOST:PORT' err)" '2 1'
-    end_case
-fi
-
-# befall HOW: what befalls a server.
-befall() {
-    case $1 in
-    0) kill -KILL "$server" ;;
-    1) kill -STOP "$server" && sleep 3 && kill -CONT "$server" ;;
-    2) find "$scratch/storage/cas/objects" -type f -delete ;;
-    3) find "$scratch/storage" -path '*/ac/*' -type f -delete ;;
-    4) pkill -KILL -P "$server" ;;
-    5) kill -KILL "$call" ;;
-    esac
-} 2> /dev/null
-
-if [ -n "$boxes" ]; then
-    RANDOM=${SEED:-1}
-    for death in $(seq "${DEATHS:-12}"); do
-        case_of "death $death of seed ${SEED:-1}" || continue
+calls() {
+    if case_of 'what one machine made another finds'; then
         call alone.o
-        use=$([ $((RANDOM % 3)) = 0 ] && echo cache || echo run) how=$((RANDOM % 6)) wait=$((RANDOM % 15))
-        same "status alone" "$status" 0
-        (call dead.o "ZIGRUNK_REMOTE=$address" "ZIGRUNK_REMOTE_USE=$use"; echo "$status" > "$room/status") 2> /dev/null &
-        of_call=$!
-        sleep "$((wait / 10)).$((wait % 10))"
-        call=$(pgrep -f "^$bin/zigrunk-nvcc .*-o dead.o" | head -n 1)
-        befall "$how"
-        wait "$of_call"
-        if [ "$how" = 5 ]; then
-            call dead.o "ZIGRUNK_REMOTE=$address" "ZIGRUNK_REMOTE_USE=$use"
-        else
-            status=$(cat "$room/status")
-        fi
-        same "status with $use, $how after 0.1 s times $wait" "$status" 0
-        alike alone.o dead.o
-        kill -0 "$server" 2> /dev/null || start || break
-        call again.o "ZIGRUNK_REMOTE=$address" ZIGRUNK_REMOTE_FALLBACK=no
-        same "status by the server that is there again" "$status" 0
+        nvcc "${targets[@]}" -c k.cu -o nvcc.o
+        call first.o "ZIGRUNK_REMOTE=$address"
+        same 'status and words' "$status $(cat err)" '0 '
+        same 'first ways' "$(ways | sed 's/ sent.*//')" 'kept 6'
+        mkdir "$room/elsewhere"
+        call second.o "ZIGRUNK_REMOTE=$address" "TMPDIR=$room/elsewhere" HOME=/nowhere
+        same 'second ways' "$(ways)" 'found 6 sent 0'
+        alike alone.o first.o && alike alone.o second.o
+        for object in nvcc second; do device_code "$object.o"; done
+        alike nvcc.o.device second.o.device
+        end_case
+    fi
+
+    if case_of 'a server runs commands'; then
+        call alone.o
+        call run.o "ZIGRUNK_REMOTE=$address" ZIGRUNK_REMOTE_USE=run
+        same 'status and words' "$status $(cat err)" '0 '
+        same ways "$(ways | sed 's/ sent.*//')" 'ran 6'
+        alike alone.o run.o
+        call again.o "ZIGRUNK_REMOTE=$address"
+        same 'ways of the cache' "$(ways)" 'found 6 sent 0'
         alike alone.o again.o
         end_case
-    done
+    fi
+
+    if case_of 'where names reach the code nothing is sent'; then
+        call alone.o -lineinfo
+        call lines.o "ZIGRUNK_REMOTE=$address" -lineinfo
+        same 'status and words' "$status $(cat err)" '0 '
+        same ways "$(ways | grep -o 'own [0-9]*')" 'own 4'
+        alike alone.o lines.o
+        end_case
+    fi
+
+    if case_of 'errors are those of here'; then
+        echo '__global__ void k() { unknown(); }' > k.cu
+        call alone.o
+        wanted="$status $(cat err)"
+        for use in cache run; do
+            call broken.o "ZIGRUNK_REMOTE=$address" "ZIGRUNK_REMOTE_USE=$use"
+            same "status and words with $use" "$status $(grep -v '^zigrunk-nvcc: a command ran here: .* it failed there' err)" "$wanted"
+        done
+        end_case
+    fi
+
+    if case_of 'without a server commands run here'; then
+        call alone.o
+        call lone.o ZIGRUNK_REMOTE=grpc://127.0.0.1:1
+        same status "$status" 0
+        same 'words' "$(grep -c 'a command ran here: .*cannot be reached' err) $(wc -l < err)" '1 1'
+        alike alone.o lone.o
+        call none.o ZIGRUNK_REMOTE=grpc://127.0.0.1:1 ZIGRUNK_REMOTE_FALLBACK=no
+        same 'status without falling back' "$status $(ls none.o 2> /dev/null)" '125 '
+        call bad.o ZIGRUNK_REMOTE=http://a
+        same 'status with a bad address' "$status $(grep -c 'expected grpc://HOST:PORT' err)" '2 1'
+        end_case
+    fi
+}
+
+. tests/remote/builds.bash
+parts=${PARTS:-calls}
+[ -z "$boxes" ] || parts=${PARTS:-others calls costs machines run deaths}
+if [[ $parts =~ machines|run|deaths ]]; then
+    [ "$(id -u)" = 0 ] || skip_all 'machines for servers' 'network namespaces take root'
+    . tests/remote/machines.bash
+    . tests/remote/deaths.bash
+    start_machines "${LANES:-3}" || { count machines 'they do not start'; summary; exit 1; }
 fi
+if [[ $parts =~ calls|costs|others ]]; then start || { count 'a server' 'it did not start'; summary; exit 1; }; fi
+for part in $parts; do
+    [ "$(type -t "$part")" = function ] || { count "$part" 'no such part' && continue; }
+    begun=$SECONDS
+    rm -f "$scratch/part"
+    # (what it sets goes with it)
+    (
+        # shellcheck disable=SC2030 # they go to a file
+        passed=0 failed=0 skipped=0
+        "$part"
+        echo "$passed $failed $skipped" > "$scratch/part"
+    )
+    read -r good bad absent 2> /dev/null < "$scratch/part" || good=0 bad=1 absent=0
+    # shellcheck disable=SC2031
+    passed=$((passed + good)) failed=$((failed + bad)) skipped=$((skipped + absent))
+    [ -z "$boxes" ] || echo "$part: $((SECONDS - begun)) s"
+done
 summary
