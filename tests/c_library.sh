@@ -28,7 +28,8 @@ symbols() {
 
 few_functions() { [ "$(exports | wc -l)" -le 25 ]; }
 
-few_lines() { [ "$(cat "$workspace"/capi/src/*.rs | grep -vcE "^ *(//|$)")" -le 900 ]; }
+# Of at most 110 characters each.
+few_lines() { [ "$(cat "$workspace"/capi/src/*.rs | grep -vcE "^ *(//|$)")" -le 1050 ]; }
 
 # as_written: the header is what cbindgen writes of the sources.
 as_written() { (cd "$workspace/capi" && cbindgen -q --config cbindgen.toml --crate capi .) | diff bindings/c/zigrunk.h -; }
@@ -48,7 +49,7 @@ answers() { "$@" "$room" < "$scratch/rows" > "$scratch/answers" && are_answered 
 check 'the library and its files' bindings/c/library.sh "$archive" "$installed"
 check 'its symbols' symbols
 check 'at most 25 functions' few_functions
-check 'at most 900 lines of code' few_lines
+check 'at most 1,050 lines of code' few_lines
 if command -v cbindgen > /dev/null; then
     check 'the header is what cbindgen writes' as_written
 else

@@ -298,7 +298,8 @@ typedef struct zigrunk_nvcc_call {
     struct zigrunk_text nvcc;
     // The words behind it.
     struct zigrunk_texts words;
-    // All of the environment, as environ: nvcc reads `NVCC_PREPEND_FLAGS` and `NVCC_APPEND_FLAGS` there, and the commands run in it.
+    // All of the environment, as environ: nvcc reads `NVCC_PREPEND_FLAGS` and `NVCC_APPEND_FLAGS` there, and
+    // the commands run in it.
     struct zigrunk_texts environment;
     // The working directory, an absolute path.
     struct zigrunk_text cwd;
@@ -380,8 +381,8 @@ typedef struct zigrunk_dry_runs {
     const struct zigrunk_found_program *programs;
     // How many there are.
     size_t programs_count;
-    // How many bytes of text reading each dry run may make, or 0. Give a limit if someone else wrote them: 350 bytes of variables that refer
-    // to each other can turn into gigabytes.
+    // How many bytes of text reading each dry run may make, or 0. Give a limit if someone else wrote them:
+    // 350 bytes of variables that refer to each other can turn into gigabytes.
     size_t limit;
 } zigrunk_dry_runs;
 
@@ -469,7 +470,8 @@ typedef struct zigrunk_plan_call {
     struct zigrunk_texts environment;
     // Suffixes of generated files, behind the standard ones.
     struct zigrunk_texts suffixes;
-    // Where the programs are that the dry runs name; the first row of a look-up counts. NULL looks for them on this machine's disk.
+    // Where the programs are that the dry runs name; the first row of a look-up counts. NULL looks for them
+    // on this machine's disk.
     const struct zigrunk_found_program *programs;
     // How many there are.
     size_t programs_count;
@@ -481,7 +483,8 @@ typedef struct zigrunk_plan_call {
     uint32_t keeps_names;
 } zigrunk_plan_call;
 
-// A command of a plan, or one that the plan dropped: of that only its words, its place and the reason say something.
+// A command of a plan, or one that the plan dropped: of that only its words, its place and the reason say
+// something.
 typedef struct zigrunk_command {
     // The program's path, then its words.
     struct zigrunk_texts words;
@@ -495,7 +498,8 @@ typedef struct zigrunk_command {
     struct zigrunk_texts writes;
     // Those that it may write or leave out.
     struct zigrunk_texts may_write;
-    // Such as `compute_80` or `sm_80`; those of a preprocessor are those of the cicc commands that read what it writes.
+    // Such as `compute_80` or `sm_80`; those of a preprocessor are those of the cicc commands that read what
+    // it writes.
     struct zigrunk_texts targets;
     // The numbers of the commands that have to end before it starts, ascending.
     const size_t *needs;
@@ -543,7 +547,8 @@ typedef struct zigrunk_scheduled_command {
     size_t priority;
 } zigrunk_scheduled_command;
 
-// What to run: the commands of plans, the numbers of each behind those of the plans before it, or other commands.
+// What to run: the commands of plans, the numbers of each behind those of the plans before it, or other
+// commands.
 typedef struct zigrunk_schedule_call {
     // Plans that touch different files.
     const zigrunk_plan *const *plans;
@@ -563,7 +568,8 @@ typedef struct zigrunk_schedule_call {
 typedef struct zigrunk_progress {
     // How many commands run.
     size_t running;
-    // The outputs of the commands from the first that you asked for up to this one, which isn't one of them, may be printed.
+    // The outputs of the commands from the first that you asked for up to this one, which isn't one of them,
+    // may be printed.
     size_t told;
     // `ZIGRUNK_UNFINISHED` ..
     uint32_t status;
@@ -581,7 +587,8 @@ uint32_t zigrunk_abi_version(void);
 // The library's version, such as "0.2.0".
 const char *zigrunk_version(void);
 
-// Reads the line of a call. `ZIGRUNK_TO_NVCC` if nvcc has to make the call itself: the message has the reason.
+// Reads the line of a call. `ZIGRUNK_TO_NVCC` if nvcc has to make the call itself: the message has the
+// reason.
 ZIGRUNK_CHECK_RESULT
 int32_t zigrunk_call_of(const struct zigrunk_nvcc_call *given,
                         zigrunk_call **made,
@@ -596,16 +603,17 @@ int32_t zigrunk_call_plan(const zigrunk_call *call,
                           zigrunk_plan **made,
                           struct zigrunk_error **error);
 
-// Plans what the dry runs of a call printed, here or elsewhere. `ZIGRUNK_NO_DRY_RUN`, and the input that is at fault, if the texts aren't
-// the dry runs of this call; `ZIGRUNK_TO_NVCC` if nvcc does something else for the line, or a command reads what no command before it writes.
+// Plans what the dry runs of a call printed, here or elsewhere. `ZIGRUNK_NO_DRY_RUN`, and the input that is
+// at fault, if the texts aren't the dry runs of this call; `ZIGRUNK_TO_NVCC` if nvcc does something else for
+// the line, or a command reads what no command before it writes.
 ZIGRUNK_CHECK_RESULT
 int32_t zigrunk_call_plan_of(const zigrunk_call *call,
                              const struct zigrunk_dry_runs *given,
                              zigrunk_plan **made,
                              struct zigrunk_error **error);
 
-// Reads a line of a tool: its input, its outputs, and its words by what they are for. `ZIGRUNK_BAD_LINE` if it compiles nothing or no cache
-// can serve it.
+// Reads a line of a tool: its input, its outputs, and its words by what they are for. `ZIGRUNK_BAD_LINE` if
+// it compiles nothing or no cache can serve it.
 ZIGRUNK_CHECK_RESULT
 int32_t zigrunk_line_records(const struct zigrunk_line_call *given,
                              struct zigrunk_line **made,
@@ -617,9 +625,9 @@ int32_t zigrunk_line_words(const struct zigrunk_line_call *given,
                            struct zigrunk_answer **made,
                            struct zigrunk_error **error);
 
-// What a cache hashes of a command together with the contents of its files and whatever tells one version of its tool from another: its
-// words and the variables that may change what it makes, with a mark in place of each root. `ZIGRUNK_BAD_NUMBER` for more than 26 roots,
-// `ZIGRUNK_BAD_LINE` for a NUL.
+// What a cache hashes of a command together with the contents of its files and whatever tells one version of
+// its tool from another: its words and the variables that may change what it makes, with a mark in place of
+// each root. `ZIGRUNK_BAD_NUMBER` for more than 26 roots, `ZIGRUNK_BAD_LINE` for a NUL.
 ZIGRUNK_CHECK_RESULT
 int32_t zigrunk_command_key(const struct zigrunk_key_call *given,
                             struct zigrunk_answer **made,
@@ -637,45 +645,46 @@ int32_t zigrunk_plan_of(const struct zigrunk_plan_call *given,
 // The commands of a plan. They are freed with it.
 const struct zigrunk_commands *zigrunk_plan_commands(const zigrunk_plan *plan);
 
-// The plan as a text: as "json", "ninja", "shell", "compdb" or "text". `ZIGRUNK_BAD_NUMBER` for another format, `ZIGRUNK_UNWRITABLE` if the format
-// can't represent the plan.
+// The plan as a text: as "json", "ninja", "shell", "compdb" or "text". `ZIGRUNK_BAD_NUMBER` for another
+// format, `ZIGRUNK_UNWRITABLE` if the format can't represent the plan.
 ZIGRUNK_CHECK_RESULT
 int32_t zigrunk_plan_text(const zigrunk_plan *plan,
                           struct zigrunk_text format,
                           struct zigrunk_answer **made,
                           struct zigrunk_error **error);
 
-// What a cache hashes of a command of a plan, by its number: the first text, then the contents of the files that the others name, which tell
-// one version of its tool from another, and of what it reads. Two commands for which all that is equal make files of equal contents, in
-// whatever directories they run; two exceptions are in the manual. `ZIGRUNK_BAD_LINE` if a cache may not serve the command: the message says
-// why. So ask when the commands that it needs have ended.
+// What a cache hashes of a command of a plan, by its number: the first text, then the contents of the files
+// that the others name, which tell one version of its tool from another, and of what it reads. Two commands
+// for which all that is equal make files of equal contents, in whatever directories they run; two exceptions
+// are in the manual. `ZIGRUNK_BAD_LINE` if a cache may not serve the command: the message says why. So ask
+// when the commands that it needs have ended.
 ZIGRUNK_CHECK_RESULT
 int32_t zigrunk_plan_key(const zigrunk_plan *plan,
                          size_t command,
                          struct zigrunk_answer **made,
                          struct zigrunk_error **error);
 
-// A schedule of commands of which none has started. `ZIGRUNK_BAD_NUMBER` if there are no slots, a command needs one that isn't before it, or
-// a number has no meaning.
+// A schedule of commands of which none has started. `ZIGRUNK_BAD_NUMBER` if there are no slots, a command
+// needs one that isn't before it, or a number has no meaning.
 ZIGRUNK_CHECK_RESULT
 int32_t zigrunk_schedule_of(const struct zigrunk_schedule_call *given,
                             zigrunk_schedule **made,
                             struct zigrunk_error **error);
 
-// The command to start now, which the schedule notes as started, or `ZIGRUNK_ALL` if none may start: call it until it says so.
+// The command to start now, which the schedule notes as started, or `ZIGRUNK_ALL` if none may start: call it
+// until it says so.
 size_t zigrunk_schedule_start(zigrunk_schedule *schedule);
 
-// Notes how a command ended: `ZIGRUNK_SUCCEEDED` .. 0, or `ZIGRUNK_NO_SUCH_COMMAND` .., and the schedule is unchanged.
+// Notes how a command ended: `ZIGRUNK_SUCCEEDED` .. 0, or `ZIGRUNK_NO_SUCH_COMMAND` .., and the schedule is
+// unchanged.
 int32_t zigrunk_schedule_ended(zigrunk_schedule *schedule, size_t command, uint32_t outcome);
 
-// How far a schedule is, and which outputs of the commands from `first` up to `end`, which isn't one of them, may be printed: those of one
-// plan, or of what hasn't been printed of it.
-struct zigrunk_progress zigrunk_schedule_progress(const zigrunk_schedule *schedule,
-                                                  size_t first,
-                                                  size_t end);
+// How far a schedule is, and which outputs of the commands from `first` up to `end`, which isn't one of
+// them, may be printed: those of one plan, or of what hasn't been printed of it.
+struct zigrunk_progress zigrunk_schedule_progress(const zigrunk_schedule *schedule, size_t first, size_t end);
 
-// Splits a text into the words that a POSIX shell reads: quotes and backslashes group characters, and nothing is expanded.
-// `ZIGRUNK_OPEN_QUOTE` if it ends inside quotes or in a backslash.
+// Splits a text into the words that a POSIX shell reads: quotes and backslashes group characters, and
+// nothing is expanded. `ZIGRUNK_OPEN_QUOTE` if it ends inside quotes or in a backslash.
 ZIGRUNK_CHECK_RESULT
 int32_t zigrunk_split(struct zigrunk_text text,
                       struct zigrunk_answer **made,
@@ -687,16 +696,17 @@ int32_t zigrunk_quote(struct zigrunk_texts words,
                       struct zigrunk_answer **made,
                       struct zigrunk_error **error);
 
-// Lists words with canonical names for the files that nvcc generates: as many words, in their order. Pass the words of all commands of a dry
-// run, one command behind the other. The suffixes are behind the standard ones.
+// Lists words with canonical names for the files that nvcc generates: as many words, in their order. Pass
+// the words of all commands of a dry run, one command behind the other. The suffixes are behind the standard
+// ones.
 ZIGRUNK_CHECK_RESULT
 int32_t zigrunk_remap(struct zigrunk_texts words,
                       struct zigrunk_texts suffixes,
                       struct zigrunk_answer **made,
                       struct zigrunk_error **error);
 
-// Lists the look-ups of programs that a plan of two dry runs needs, none twice: a program, then the value of PATH there, and so on. The limit
-// is that of `zigrunk_dry_runs`.
+// Lists the look-ups of programs that a plan of two dry runs needs, none twice: a program, then the value of
+// PATH there, and so on. The limit is that of `zigrunk_dry_runs`.
 ZIGRUNK_CHECK_RESULT
 int32_t zigrunk_lookups(struct zigrunk_text dry1,
                         struct zigrunk_text dry2,
@@ -705,7 +715,8 @@ int32_t zigrunk_lookups(struct zigrunk_text dry1,
                         struct zigrunk_answer **made,
                         struct zigrunk_error **error);
 
-// Lists the paths that a look-up tries from a working directory, in order: the first that is an executable file is the program.
+// Lists the paths that a look-up tries from a working directory, in order: the first that is an executable
+// file is the program.
 ZIGRUNK_CHECK_RESULT
 int32_t zigrunk_candidates(struct zigrunk_text program,
                            struct zigrunk_text path,
