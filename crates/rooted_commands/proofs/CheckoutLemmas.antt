@@ -178,17 +178,17 @@ rooted-as-they-stand r s tool c d rooting =
     ∙ ap (tool_words s tool) (walk-same [] d.args)
 
 -- equal words with rooted names show that the records are one
-one-record : (r s : Root) (tool : Program) (c d : NvccGeneratedSubcommand) (words : Bool) → AlikeTools r s tool c d words → Rooting r s tool c d → files_of c ≡ files_of d
-one-record r s tool c d words alike rooting =
+one-record : (r s : Root) (tool : Program) (c d : NvccGeneratedSubcommand) → AlikeTools r s tool c d → Rooting r s tool c d → files_of c ≡ files_of d
+one-record r s tool c d alike rooting =
     let here = keeps-files (with_root r tool c) c alike.first.keeps_record_here in
     let there = keeps-files (with_root s tool d) d alike.second.keeps_record_here in
     let same = rooted-as-they-stand r s tool c d rooting in
     sym here ∙ (λ i. files_of_words (alike.exe i) (same i) (alike.cwd i)) ∙ there
 
-placed-alike : (r s : Root) (tool : Program) (c d : NvccGeneratedSubcommand) (words : Bool) → AlikeTools r s tool c d words → Rooting r s tool c d
+placed-alike : (r s : Root) (tool : Program) (c d : NvccGeneratedSubcommand) → AlikeTools r s tool c d → Rooting r s tool c d
     → tool_words r tool (in_top c).args ≡ tool_words s tool (in_top d).args
-placed-alike r s tool c d words alike rooting =
-    let record-is = one-record r s tool c d words alike rooting in
+placed-alike r s tool c d alike rooting =
+    let record-is = one-record r s tool c d alike rooting in
     let here : (in_top c).args ≡ walk (word_behind (files_of c) c.cwd) [] c.args = walk-placed (files_of c) c.cwd [] c.args in
     let there : (in_top d).args ≡ walk (word_behind (files_of c) c.cwd) [] d.args =
     sym (λ i. placed_words (record-is i) (alike.cwd i) [] d.args) ∙ walk-placed (files_of c) c.cwd [] d.args in
@@ -209,16 +209,16 @@ either-placed r s tool c p d q true true here there = there
 either-placed r s tool c p d q true false here there = here
 either-placed r s tool c p d q false b here there = here
 
-tools-run-alike : (r s : Root) (tool : Program) (c d : NvccGeneratedSubcommand) (words : Bool) → r.tmp ≡ s.tmp → AlikeTools r s tool c d words → Rooting r s tool c d
+tools-run-alike : (r s : Root) (tool : Program) (c d : NvccGeneratedSubcommand) → r.tmp ≡ s.tmp → AlikeTools r s tool c d → Rooting r s tool c d
     → placed_tool r tool c ≡ placed_tool s tool d
-tools-run-alike r s tool c d words tmp alike rooting =
+tools-run-alike r s tool c d tmp alike rooting =
     let same-here : tool_words r tool c.args ≡ tool_words s tool d.args = rooted-as-they-stand r s tool c d rooting in
-    let same-there : tool_words r tool (in_top c).args ≡ tool_words s tool (in_top d).args = placed-alike r s tool c d words alike rooting in
+    let same-there : tool_words r tool (in_top c).args ≡ tool_words s tool (in_top d).args = placed-alike r s tool c d alike rooting in
     let keeps-c = alike.first.keeps_record_here in
     let keeps-d = alike.second.keeps_record_here in
     let keeps-p = alike.first.keeps_record_there in
     let keeps-q = alike.second.keeps_record_there in
-    let record-is = one-record r s tool c d words alike rooting in
+    let record-is = one-record r s tool c d alike rooting in
     let placed-record-is : files_of (in_top c) ≡ files_of (in_top d) =
     sym (keeps-files (with_root r tool (in_top c)) (in_top c) keeps-p)
     ∙ (λ i. files_of_words (alike.exe i) (same-there i) (codes "/"))
@@ -318,7 +318,7 @@ module _ (r s : Root) (root : r.root ≡ s.root) (tmp : r.tmp ≡ s.tmp) (can : 
       let also : program_at d.exe ≡ programs.Other = ap program_at (sym alike.exe) ∙ is in
       let here : rooted_command r c ≡ rooted_host r c = ap (λ p. rooted_by r p c) is in
       let there : rooted_command s d ≡ rooted_host s d = ap (λ p. rooted_by s p d) also in
-      let same = all-ask-the-same r s c.args d.args alike.alike in
+      let same = all-ask-the-same r s c.args d.args alike.words in
       let both : writes_names c.args ≡ writes_names d.args = λ i. same.0 i || same.1 i in
       record {
         exe = ap (λ x. x.exe) here ∙ exe-stays r c ∙ alike.exe ∙ sym (ap (λ x. x.exe) there ∙ exe-stays s d);
@@ -331,12 +331,12 @@ module _ (r s : Root) (root : r.root ≡ s.root) (tmp : r.tmp ≡ s.tmp) (can : 
       }
 
   -- a tool's command, once its words are
-  tools-run : (tool : Program) (words : Bool) → program_at c.exe ≡ tool → ((q : Root) (x : NvccGeneratedSubcommand) → rooted_by q tool x ≡ placed_tool q tool x)
-      → AlikeTools r s tool c d words → Rooting r s tool c d → rooted_command r c ≡ rooted_command s d
-  tools-run tool words is by alike rooting =
+  tools-run : (tool : Program) → program_at c.exe ≡ tool → ((q : Root) (x : NvccGeneratedSubcommand) → rooted_by q tool x ≡ placed_tool q tool x)
+      → AlikeTools r s tool c d → Rooting r s tool c d → rooted_command r c ≡ rooted_command s d
+  tools-run tool is by alike rooting =
       ap (λ p. rooted_by r p c) is
       ∙ by r c
-      ∙ tools-run-alike r s tool c d words tmp alike rooting
+      ∙ tools-run-alike r s tool c d tmp alike rooting
       ∙ sym (ap (λ p. rooted_by s p d) (ap program_at (sym alike.exe) ∙ is) ∙ by s d)
 
   -- one that the root leaves alone
@@ -353,15 +353,15 @@ module _ (r s : Root) (root : r.root ≡ s.root) (tmp : r.tmp ≡ s.tmp) (can : 
   commands-run-alike alike =
       elim (program_at c.exe) as (λ p. program_at c.exe ≡ p → AlikeBy p r s c d → RunAlikeBy p r s c d) [
         | programs.Cicc ↦ λ is it.
-            tools-run programs.Cicc (source_words_alike r s [] c.args d.args) is (λ q x. refl) it
-            (λ f f-same here there. same-sources r s root f f-same [] [] [] [] c.args d.args refl here there it.alike)
+            tools-run programs.Cicc is (λ q x. refl) it
+            (λ f f-same here there. same-sources r s root f f-same [] [] [] [] c.args d.args refl here there it.words)
         | programs.Cudafe ↦ λ is it.
-            tools-run programs.Cudafe (source_words_alike r s [] c.args d.args) is (λ q x. refl) it
-            (λ f f-same here there. same-sources r s root f f-same [] [] [] [] c.args d.args refl here there it.alike)
+            tools-run programs.Cudafe is (λ q x. refl) it
+            (λ f f-same here there. same-sources r s root f f-same [] [] [] [] c.args d.args refl here there it.words)
         | programs.Ptxas ↦ λ is it. one-runs programs.Ptxas is (λ q x. refl) (λ x. refl) it
         | programs.Fatbinary ↦ λ is it.
-            tools-run programs.Fatbinary (ident_words_alike r s c.args d.args) is (λ q x. refl) it
-            (λ f f-same here there. same-idents r s root f f-same [] [] c.args d.args refl here there it.alike)
+            tools-run programs.Fatbinary is (λ q x. refl) it
+            (λ f f-same here there. same-idents r s root f f-same [] [] c.args d.args refl here there it.words)
         | programs.Nvlink ↦ λ is it. one-runs programs.Nvlink is (λ q x. refl) (λ x. refl) it
         | programs.Other ↦ λ is it. hosts-write-alike is it
       ] refl alike

@@ -3,6 +3,7 @@ use Rattle.std.specs.Prelude.{◌≡◌, ℕ, List, [], ◌∷◌, ◌++◌, Boo
 use Rattle.std.specs.Cmp.Lexicographic.{pointwise}
 use Rattle.std.specs.List.{AllZip}
 use Rattle.std.specs.Option.{is_some}
+use Rattle.texts.specs.Equality.{words_eq}
 use Rattle.texts.specs.Lists.{rest_after}
 use Rattle.texts.specs.Rows.{Gives, blank_separated, spaced}
 use Rattle.compilers.specs.Programs.{program_at}
@@ -64,6 +65,15 @@ host_word_alike r s word other =
 abbrev pub host_words_alike : Root → Root → List (List ℕ) → List (List ℕ) → Bool
 host_words_alike r s words others = pointwise (host_word_alike r s) words others
 
+-- the words of two commands of a program
+abbrev pub words_alike : Root → Root → Program → List (List ℕ) → List (List ℕ) → Bool
+words_alike r s programs.Cicc words others = source_words_alike r s [] words others
+words_alike r s programs.Cudafe words others = source_words_alike r s [] words others
+words_alike r s programs.Fatbinary words others = ident_words_alike r s words others
+words_alike r s programs.Ptxas words others = words_eq words others
+words_alike r s programs.Nvlink words others = words_eq words others
+words_alike r s programs.Other words others = host_words_alike r s words others
+
 -- What is asked of a tool's command, so that the root is put in: its record stays when names are rooted, as it stands and once its files have
 -- whole paths, and its source's names stay when they get these.
 
@@ -92,15 +102,13 @@ pub record TakesRoot (r : Root) (tool : Program) (c : NvccGeneratedSubcommand) :
   pub keeps_names : names_of tool (in_top c).args ≡ names_of tool c.args
   pub keeps_record_there : keeps_record (with_root r tool (in_top c)) (in_top c) ≡ true
 
--- Commands are alike.
-
--- of a tool, given whether their words are
-pub record AlikeTools (r s : Root) (tool : Program) (c d : NvccGeneratedSubcommand) (words : Bool) : Type 0 where
+-- Commands are alike: of a tool, which runs in one folder in both calls.
+pub record AlikeTools (r s : Root) (tool : Program) (c d : NvccGeneratedSubcommand) : Type 0 where
   pub exe : c.exe ≡ d.exe
   pub cwd : c.cwd ≡ d.cwd
   pub env_vars : c.env_vars ≡ d.env_vars
   pub cacheable : c.cacheable ≡ d.cacheable
-  pub alike : words ≡ true
+  pub words : words_alike r s tool c.args d.args ≡ true
   pub first : TakesRoot r tool c
   pub second : TakesRoot s tool d
 
@@ -108,13 +116,13 @@ pub record AlikeTools (r s : Root) (tool : Program) (c d : NvccGeneratedSubcomma
 pub record AlikeHosts (r s : Root) (c d : NvccGeneratedSubcommand) : Type 0 where
   pub exe : c.exe ≡ d.exe
   pub env_vars : c.env_vars ≡ d.env_vars
-  pub alike : host_words_alike r s c.args d.args ≡ true
+  pub words : words_alike r s programs.Other c.args d.args ≡ true
   pub own_maps : has_maps c.args ≡ false
 
 abbrev pub AlikeBy : Program → Root → Root → NvccGeneratedSubcommand → NvccGeneratedSubcommand → Type 0
-AlikeBy programs.Cicc r s c d = AlikeTools r s programs.Cicc c d (source_words_alike r s [] c.args d.args)
-AlikeBy programs.Cudafe r s c d = AlikeTools r s programs.Cudafe c d (source_words_alike r s [] c.args d.args)
-AlikeBy programs.Fatbinary r s c d = AlikeTools r s programs.Fatbinary c d (ident_words_alike r s c.args d.args)
+AlikeBy programs.Cicc r s c d = AlikeTools r s programs.Cicc c d
+AlikeBy programs.Cudafe r s c d = AlikeTools r s programs.Cudafe c d
+AlikeBy programs.Fatbinary r s c d = AlikeTools r s programs.Fatbinary c d
 AlikeBy programs.Ptxas r s c d = c ≡ d
 AlikeBy programs.Nvlink r s c d = c ≡ d
 AlikeBy programs.Other r s c d = AlikeHosts r s c d
@@ -205,10 +213,10 @@ commands_in folder =
 
 pub alike_commands : AllZip (Alike one another) (commands_in (codes "/data/p/a")) (commands_in (codes "/build/x/p/a"))
 alike_commands = (
-  record { exe = refl; env_vars = refl; alike = refl; own_maps = refl },
+  record { exe = refl; env_vars = refl; words = refl; own_maps = refl },
   (
-    record { exe = refl; cwd = refl; env_vars = refl; cacheable = refl; alike = refl; first = record { keeps_record_here = refl; keeps_names = refl; keeps_record_there = refl }; second = record { keeps_record_here = refl; keeps_names = refl; keeps_record_there = refl } },
-    (record { exe = refl; cwd = refl; env_vars = refl; cacheable = refl; alike = refl; first = record { keeps_record_here = refl; keeps_names = refl; keeps_record_there = refl }; second = record { keeps_record_here = refl; keeps_names = refl; keeps_record_there = refl } }, (refl, (record { exe = refl; cwd = refl; env_vars = refl; cacheable = refl; alike = refl; first = record { keeps_record_here = refl; keeps_names = refl; keeps_record_there = refl }; second = record { keeps_record_here = refl; keeps_names = refl; keeps_record_there = refl } }, (record { exe = refl; env_vars = refl; alike = refl; own_maps = refl }, tt)))),
+    record { exe = refl; cwd = refl; env_vars = refl; cacheable = refl; words = refl; first = record { keeps_record_here = refl; keeps_names = refl; keeps_record_there = refl }; second = record { keeps_record_here = refl; keeps_names = refl; keeps_record_there = refl } },
+    (record { exe = refl; cwd = refl; env_vars = refl; cacheable = refl; words = refl; first = record { keeps_record_here = refl; keeps_names = refl; keeps_record_there = refl }; second = record { keeps_record_here = refl; keeps_names = refl; keeps_record_there = refl } }, (refl, (record { exe = refl; cwd = refl; env_vars = refl; cacheable = refl; words = refl; first = record { keeps_record_here = refl; keeps_names = refl; keeps_record_there = refl }; second = record { keeps_record_here = refl; keeps_names = refl; keeps_record_there = refl } }, (record { exe = refl; env_vars = refl; words = refl; own_maps = refl }, tt)))),
   ),
 )
 
