@@ -4,6 +4,7 @@ use Rattle.std.specs.List.{AllZip, list_any, starts_with}
 use Rattle.std.specs.Option.{is_some}
 use Rattle.std.proofs.lemmas.Bool.{false≢true, and_parts, or_parts}
 use Rattle.std.proofs.lemmas.Slice.Eq.{bytes_eq-Decides}
+use Rattle.texts.proofs.EqualityLemmas.{lists}
 use Rattle.texts.specs.Lists.{rest_after}
 use Rattle.texts.specs.Path.{lacks}
 use Rattle.compilers.specs.Programs.{program_at}
@@ -18,7 +19,7 @@ use Rattle.placed_commands.specs.PlacedWords.{placed_word, placed_words, word_be
 use Rattle.rooted_commands.specs.Paths.{place_of, put, rooted_path}
 use Rattle.rooted_commands.specs.Commands.{ident_word, keeps_record, is_for_debuggers, mapped_host, names_source, placed_tool, rooted_by, rooted_command, rooted_host, rooted_tool, source_words, tool_words, with_ident, writes_names}
 use Rattle.rooted_commands.specs.WrittenNames.{can_be_told, has_maps, is_map}
-use Rattle.rooted_commands.specs.Checkouts.{Alike, AlikeBy, AlikeHosts, AlikePlansRunAlike, AlikeTools, RunAlike, RunAlikeBy, WriteAlike, are_names, are_one, are_paths, host_word_alike, host_words_alike, ident_of, ident_words_alike, in_top, is_one_place, is_option, names_among, names_of, names_or_words, source_words_alike, with_root}
+use Rattle.rooted_commands.specs.Checkouts.{Alike, AlikeBy, AlikeHosts, AlikePlansRunAlike, AlikeTools, RunAlike, RootedWordsAgree, RunAlikeBy, WriteAlike, are_names, are_one, are_paths, host_word_alike, host_words_alike, ident_of, ident_words_alike, in_top, is_one_place, is_option, names_among, names_of, names_or_words, source_words_alike, with_root}
 use Rattle.rooted_commands.specs.declared.paths.Root.{Root}
 use Rattle.rooted_commands.proofs.PathLemmas.{rest_after-whole}
 use Rattle.rooted_commands.proofs.StepLemmas.{keeps-files, keeps-preprocessing}
@@ -163,6 +164,27 @@ module _ (r s : Root) (root : r.root ≡ s.root) (f : List ℕ → List ℕ → 
                   λ i. head i ∷ tail i
             ] refl
       ] refl parts.0
+
+-- alike words with rooted names
+sources-agree : (r s : Root) (ws vs : List (List ℕ)) → r.root ≡ s.root → source_words_alike r s [] ws vs ≡ true → source_words r [] ws ≡ source_words s [] vs
+sources-agree r s ws vs root alike =
+    ap (source_words r []) (sym (walk-same [] ws))
+    ∙ same-sources r s root (λ _ w. w) (λ w0 v0 w e. refl) [] [] [] [] ws vs refl (ap (names_among []) (walk-same [] ws)) (ap (names_among []) (walk-same [] vs)) alike
+    ∙ ap (source_words s []) (walk-same [] vs)
+
+idents-agree : (r s : Root) (ws vs : List (List ℕ)) → r.root ≡ s.root → ident_words_alike r s ws vs ≡ true → map (ident_word r) ws ≡ map (ident_word s) vs
+idents-agree r s ws vs root alike =
+    ap (map (ident_word r)) (sym (walk-same [] ws))
+    ∙ same-idents r s root (λ _ w. w) (λ w0 v0 w e. refl) [] [] ws vs refl (ap (map ident_of) (walk-same [] ws)) (ap (map ident_of) (walk-same [] vs)) alike
+    ∙ ap (map (ident_word s)) (walk-same [] vs)
+
+pub rooted-words-agree : RootedWordsAgree
+rooted-words-agree r s programs.Cicc ws vs tool root alike = sources-agree r s ws vs root alike
+rooted-words-agree r s programs.Cudafe ws vs tool root alike = sources-agree r s ws vs root alike
+rooted-words-agree r s programs.Fatbinary ws vs tool root alike = idents-agree r s ws vs root alike
+rooted-words-agree r s programs.Ptxas ws vs tool root alike = (lists bytes_eq bytes_eq-Decides ws vs).0 alike
+rooted-words-agree r s programs.Nvlink ws vs tool root alike = (lists bytes_eq bytes_eq-Decides ws vs).0 alike
+rooted-words-agree r s programs.Other ws vs tool root alike = absurd (false≢true tool)
 
 -- What a tool's words are with rooted names, by a function of each word: first as they stand, then with whole paths of files.
 abbrev Rooting : Root → Root → Program → NvccGeneratedSubcommand → NvccGeneratedSubcommand → Type 0

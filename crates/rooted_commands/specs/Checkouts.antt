@@ -74,6 +74,20 @@ words_alike r s programs.Ptxas words others = words_eq words others
 words_alike r s programs.Nvlink words others = words_eq words others
 words_alike r s programs.Other words others = host_words_alike r s words others
 
+abbrev pub is_tool : Program → Bool
+is_tool programs.Cicc = true
+is_tool programs.Cudafe = true
+is_tool programs.Fatbinary = true
+is_tool programs.Ptxas = true
+is_tool programs.Nvlink = true
+is_tool programs.Other = false
+
+-- With rooted names, alike words of a tool of nvcc are equal, whatever the calls' folders of generated files are called.
+abbrev pub RootedWordsAgree : Type 0
+RootedWordsAgree =
+    (r s : Root) (tool : Program) (words others : List (List ℕ))
+    → is_tool tool ≡ true → r.root ≡ s.root → words_alike r s tool words others ≡ true → tool_words r tool words ≡ tool_words s tool others
+
 -- What is asked of a tool's command, so that the root is put in: its record stays when names are rooted, as it stands and once its files have
 -- whole paths, and its source's names stay when they get these.
 

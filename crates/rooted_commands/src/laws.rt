@@ -1,7 +1,7 @@
 //! Laws of rooted names.
 
 ghost use Rattle.rooted_commands.specs.Laws.{CheckoutsAgree, PathsStayDistinct, OneFolderIsExact, RootKeepsSteps, OwnPathsComeBack};
-ghost use Rattle.rooted_commands.specs.Checkouts.{AlikePlansRunAlike};
+ghost use Rattle.rooted_commands.specs.Checkouts.{AlikePlansRunAlike, RootedWordsAgree};
 ghost use Rattle.rooted_commands.specs.WrittenNames.{HostsWriteGeneratedPaths, HostsWriteRootedPaths};
 ghost use Rattle.rooted_commands.specs.MarkerExamples.{NamesAreRooted, RawStringsStay, DoubtfulLinesStay};
 
@@ -22,12 +22,14 @@ pub fn roots()
 /// What runs in two checkouts of a project, by the plans of two calls.
 ///
 /// What a host compiler writes for a path that is clear to its prefix maps is the rooted path (`hosts`), and for a generated file a path
-/// below `/tmp` (`generated`). Where the commands of two plans are alike but for the checkouts' folders, place by place, each tool of nvcc
-/// runs as one command in both, with one program, words, folder and variables, and each host compiler writes the same for clear paths of one
-/// place, its own folder among them (`checkouts`).
+/// below `/tmp` (`generated`). Words of a tool of nvcc that are alike but for the checkouts' folders are equal with rooted names, whatever
+/// the calls' folders of generated files are called (`words`). Where these have one name, and the commands of two plans are alike, place by
+/// place, each tool runs as one command in both, with one program, words, folder and variables, and each host compiler writes the same for
+/// clear paths of one place, its own folder among them (`checkouts`).
 pub fn plans()
     ensures hosts { HostsWriteRootedPaths }
     ensures generated { HostsWriteGeneratedPaths }
+    ensures words { RootedWordsAgree }
     ensures checkouts { AlikePlansRunAlike }
 {}
 
