@@ -13,6 +13,6 @@ mod needs;
 mod task;
 mod tasks;
 
-pub use needs::{TaskNeeds, head_needs_of, needs_of};
+pub use needs::{head_needs_of, needs_of};
 pub use task::{Asks, Head, Task, Wait};
 pub use tasks::{Tasks, tasks_of};

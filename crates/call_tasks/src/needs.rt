@@ -1,48 +1,14 @@
 //! What each task needs, and what its head does.
 
-ghost use Rattle.std.specs.Prelude.{◌≡◌, ◌++◌, IfOk, map, vec_items};
+ghost use Rattle.std.specs.Prelude.{◌≡◌, ◌++◌, IfOk};
 ghost use Rattle.command_files.specs.Order.{numbers_where};
-ghost use Rattle.command_files.specs.PlanNeeds.{role_needs, step_needs};
+ghost use Rattle.command_files.specs.PlanNeeds.{step_needs};
 ghost use Rattle.call_tasks.specs.Needs as spec;
 
 use crate::task::{Head, Task};
-use command_files::{Role, Step};
+use command_files::{CommandNeeds, Step, needs_role};
 use early_starts::follows;
 use std::alloc::{AllocError, Global};
-use std::marker::Model;
-
-/// What each of some tasks needs, by their numbers, in ascending order.
-#[derive(Debug, Drop)]
-pub struct TaskNeeds {
-    needs: Vec<Vec<usize>>,
-}
-
-impl Model for TaskNeeds {
-    ghost use Rattle.std.specs.Prelude.{List, ℕ, map, vec_items};
-
-    ghost Value = { List (List ℕ) };
-
-    ghost view = { λ n. map vec_items n.needs.items };
-}
-
-impl TaskNeeds {
-    /// What each task needs.
-    pub fn as_slice(&self) -> &[Vec<usize>]
-        ensures { map vec_items result.now ≡ self.now }
-    {
-        self.needs.as_slice()
-    }
-}
-
-// Whether a role needs an earlier one whatever the files.
-fn needs_role(role: Role, earlier: Role) -> bool
-    ensures { result ≡ role_needs role earlier }
-{
-    matches!(
-        (role, earlier),
-        (Role::DeviceStep, Role::FrontStep) | (Role::Final, _)
-    )
-}
 
 fn needs_step(earlier: &Step, later: &Step) -> bool
     ensures { result ≡ step_needs earlier.now later.now }
@@ -89,7 +55,7 @@ fn numbers(
 /// A task needs an earlier one if either writes a file that the other touches, or by their roles, as
 /// [`needs`](command_files::needs) says. If preprocessors are free (`frees`), they need each other by their files alone. What makes the
 /// dependency file needs all that preprocess, and what is behind it needs it.
-pub fn needs_of(alloc: Global, frees: bool, tasks: &[Task]) -> Result<TaskNeeds, AllocError>
+pub fn needs_of(alloc: Global, frees: bool, tasks: &[Task]) -> Result<CommandNeeds, AllocError>
     ensures { IfOk result (λ needs. needs ≡ spec.needs_of frees tasks.now) }
 {
     let mut needs = Vec::with_capacity(alloc, tasks.len())?;
@@ -97,7 +63,7 @@ pub fn needs_of(alloc: Global, frees: bool, tasks: &[Task]) -> Result<TaskNeeds,
         let earlier = &tasks[..number];
         needs.push(numbers(alloc, frees, task.is_rule, earlier, &task.step)?)?;
     }
-    Ok(TaskNeeds { needs })
+    Ok(CommandNeeds::new(needs))
 }
 
 fn head_numbers(
@@ -116,12 +82,12 @@ fn head_numbers(
 
 /// What the head of each task needs before it may begin, and nothing for a task without one. It may begin beside all else that the task
 /// needs: it touches no file that one of these writes, nor the other way round.
-pub fn head_needs_of(alloc: Global, frees: bool, tasks: &[Task]) -> Result<TaskNeeds, AllocError>
+pub fn head_needs_of(alloc: Global, frees: bool, tasks: &[Task]) -> Result<CommandNeeds, AllocError>
     ensures { IfOk result (λ needs. needs ≡ spec.head_needs_of frees tasks.now) }
 {
     let mut needs = Vec::with_capacity(alloc, tasks.len())?;
     for (number, task) in tasks.iter().enumerate() {
         needs.push(head_numbers(alloc, frees, &tasks[..number], &task.head)?)?;
     }
-    Ok(TaskNeeds { needs })
+    Ok(CommandNeeds::new(needs))
 }

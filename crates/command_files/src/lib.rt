@@ -8,5 +8,5 @@ mod steps;
 mod touched;
 
 pub use files::{CommandFiles, files_of};
-pub use needed::{CommandNeeds, FilesAndNeeds, files_and_needs, keeps_orders, needs};
+pub use needed::{CommandNeeds, FilesAndNeeds, files_and_needs, keeps_orders, needs, needs_role};
 pub use steps::{Role, Step, files_of_plan, has_word, preprocesses, step_of};

@@ -15,8 +15,8 @@ use compilers::plans::Plan;
 use std::alloc::{AllocError, Global};
 use std::marker::Model;
 
-/// What each command of a plan needs, in plan order: the numbers of the earlier commands that have to run before it, in
-/// ascending order, seen in contracts as the list of these lists.
+/// What each command of a plan, or each of other tasks, needs, in order: the numbers of the earlier ones that have to run before it,
+/// in ascending order, seen in contracts as the list of these lists.
 #[derive(Debug, Drop)]
 pub struct CommandNeeds {
     needs: Vec<Vec<usize>>,
@@ -31,6 +31,13 @@ impl Model for CommandNeeds {
 }
 
 impl CommandNeeds {
+    /// From the list of what each command needs.
+    pub fn new(needs: Vec<Vec<usize>>) -> CommandNeeds
+        ensures { result ≡ map vec_items needs.items }
+    {
+        CommandNeeds { needs }
+    }
+
     /// What each command needs.
     pub fn as_slice(&self) -> &[Vec<usize>]
         ensures { map vec_items result.now ≡ self.now }
@@ -39,8 +46,8 @@ impl CommandNeeds {
     }
 }
 
-// Whether a role needs an earlier one whatever the files.
-fn needs_role(role: Role, earlier: Role) -> bool
+/// Whether a command's role needs that of an earlier one, whatever the files of both.
+pub fn needs_role(role: Role, earlier: Role) -> bool
     ensures { result ≡ role_needs role earlier }
 {
     matches!(

@@ -29,8 +29,8 @@ fn moved(
     })
 }
 
-// Whether two records name the same files.
-fn are_same(files: &CommandFiles, others: &CommandFiles) -> bool
+/// Whether two records name the same files.
+pub fn are_same(files: &CommandFiles, others: &CommandFiles) -> bool
     ensures { result ≡ spec.are_same files.now others.now }
 {
     files.reads == others.reads

@@ -8,4 +8,4 @@
 mod command;
 pub mod laws;
 
-pub use command::placed_command;
+pub use command::{are_same, placed_command};

@@ -2,13 +2,12 @@
 
 ghost use Rattle.std.specs.Prelude.{◌≡◌, ◌++◌, [], IfOk, OnOk, map, string_bytes};
 ghost use Rattle.std.specs.List.{flat_map, list_any};
-ghost use Rattle.placed_commands.specs.PlacedCommands.{are_same};
 ghost use Rattle.rooted_commands.specs.Commands as spec;
 
 use crate::paths::{Root, rest_of, rooted_path};
-use command_files::{CommandFiles, files_of, has_word, preprocesses};
+use command_files::{files_of, has_word, preprocesses};
 use compilers::plans::{NvccGeneratedSubcommand, Program};
-use placed_commands::placed_command;
+use placed_commands::{are_same, placed_command};
 use std::alloc::{AllocError, Global};
 use texts::words::Words;
 
@@ -73,16 +72,6 @@ fn tool_words(
         Program::Fatbinary => ident_words(alloc, root, words),
         Program::Ptxas | Program::Nvlink | Program::Other => Words::copy_of(alloc, words),
     }
-}
-
-// Whether two records name the same files.
-fn are_same(files: &CommandFiles, others: &CommandFiles) -> bool
-    ensures { result ≡ are_same files.now others.now }
-{
-    files.reads == others.reads
-        && files.writes == others.writes
-        && files.may_write == others.may_write
-        && files.complete == others.complete
 }
 
 // Whether a command has the record of another, and preprocesses if that does.
