@@ -1397,6 +1397,40 @@ logs() {
         same 'a signal of nvcc' "$status $(tail -n 1 "$room/calls" | grep -o '"status":[0-9]*')" '143 "status":143'
         end
     fi
+    if case_of 'records, and why two calls differ'; then
+        # what the last command adds to its product: a variable, and how often it has run
+        adds='[ "$name" != gcc-c ] || trap "printf \"%s\\n\" \"$CPATH\" \"$(wc -l < "$LOG.count")\" >> k.o" EXIT'
+        : > "$room/log.count"
+        for salt in 1 1 2; do
+            call CHILDLESS=1 CPATH="$salt" TOOL_DOES="$adds" ZIGRUNK_RECORDS="$room/records.$salt" ZIGRUNK_LOG="$room/calls" -c k.cu -o k.o
+            splits "$salt"
+        done
+        why() { "$scratch/bin/zigrunk" why "$@" 2>&1 && echo same; }
+        same 'equal calls' "$(why "$room/calls:1" "$room/calls:2")" $'0 of 1 calls differ\nsame'
+        differ=$'1 of 1 calls differ\nk.o: variable CPATH\n  command: gcc for k.o (10 of 10)\n  A: 1\n  B: 2'
+        for pair in "$room/records.1 $room/records.2" "$room/calls:1 $room/calls:3"; do
+            # shellcheck disable=SC2086 # two paths
+            same "another variable, $pair" "$(why $pair)" "$differ"
+        done
+        same 'for programs' "$(why --json "$room/records.1" "$room/records.2" | grep '"kind"\|"name"' | tr -d ' \n')" '"kind":"variable","name":"CPATH",'
+        echo >> "$room/log.count"
+        call CHILDLESS=1 CPATH=1 TOOL_DOES="$adds" ZIGRUNK_RECORDS="$room/later" -c k.cu -o k.o
+        differ=$'1 of 1 calls differ\nk.o: unknown k.o\n  command: gcc for k.o (10 of 10)\n  first difference: line 3\n    A: 0\n    B: 1'
+        same 'not deterministic' "$(why "$room/records.1" "$room/later")" "$differ"
+        same 'no record' "$(why "$room/log.count" "$room/later")" "zigrunk why: cannot read $room/log.count: it is no record of ZIGRUNK_RECORDS"
+        end
+    fi
+    if case_of 'calls that are made twice'; then
+        as=$driver call nvcc --check-twice -c k.cu -o k.o
+        same 'the same' "$status $(cat "$room/out" "$room/err")" '0 0 of 10 commands are not deterministic'
+        as=$driver call CHILDLESS=1 TOOL_DOES='[ "$name" != gcc-c ] || trap "echo $$ >> k.o" EXIT' nvcc --check-twice -c k.cu -o k.o
+        same 'another' "$status $(sed -n '1,2p; $p' "$room/out" | paste -sd ,)" '1 k.o: folder where temporary files were,  command: gcc for k.o (10 of 10),1 of 10 commands are not deterministic'
+        as=$driver call TOOL_DOES='[ "$name" != cudafe++ ] || exit 6' nvcc --check-twice -c k.cu -o k.o
+        same 'a failure' "$status $(grep -c '^+ cudafe++' "$room/log")" '6 1'
+        as=$driver call nvcc --check-twice --root relative -c k.cu
+        same 'a root that is none' "$status $(cut -d : -f 1,2 "$room/err")" '2 zigrunk nvcc: ZIGRUNK_ROOT=relative'
+        end
+    fi
     while IFS='|' read -r settings words text; do
         case_of "a hint: $text" || continue
         : > odd.rsp

@@ -195,7 +195,7 @@ impl Making<'_> {
             let words: Vec<&OsStr> = named.iter().map(OsStr::new).collect();
             let reason = reason.as_ref();
             let hint = reason.map_or(self.is_random.then_some(NAME_HINT), Reason::hint);
-            let Outcome { commands, counted, .. } = &outcome;
+            let Outcome { commands, counted, record, .. } = &outcome;
             log::append(
                 file,
                 &LoggedCall {
@@ -205,6 +205,7 @@ impl Making<'_> {
                     hint,
                     commands,
                     counted: *counted,
+                    record: record.as_deref(),
                     words: &words,
                 },
             );

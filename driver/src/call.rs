@@ -156,11 +156,20 @@ impl Call<'_> {
         let Some(file) = &self.settings.log else { return };
         let random = self.folder.as_ref().is_some_and(|folder| !folder.is_named());
         let hint = random.then_some(NAME_HINT);
-        let Outcome { status, commands, counted, .. } = outcome;
+        let Outcome { status, commands, counted, record } = outcome;
         let (status, counted, words) = (*status, *counted, &self.logged_words()[..]);
         log::append(
             file,
-            &LoggedCall { begun: self.begun, status, reason: None, hint, commands, counted, words },
+            &LoggedCall {
+                begun: self.begun,
+                status,
+                reason: None,
+                hint,
+                commands,
+                counted,
+                record: record.as_deref(),
+                words,
+            },
         );
     }
 
@@ -245,6 +254,7 @@ impl Call<'_> {
             hint,
             commands: &[],
             counted: None,
+            record: None,
             words,
         };
         log::append(file, &call);

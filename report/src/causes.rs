@@ -101,14 +101,12 @@ fn other_words(lists: [&[String]; 2]) -> Option<[Option<String>; 2]> {
     (same < one.len().max(other.len())).then(|| middles(lists, same))
 }
 
-/// A command as it is shown.
-fn shown(command: &RecordedCommand) -> String {
-    let name = |path: &String| path.rsplit('/').next().unwrap_or_default().to_owned();
-    let made = command
-        .outputs
-        .first()
-        .map(|(file, _)| format!(" for {}", file.trim_start_matches(TMP).trim_start_matches('/')));
-    format!("{}{}", command.words.first().map(name).unwrap_or_default(), made.unwrap_or_default())
+/// A command as it is shown: its program, and the file that it made.
+fn shown(found: &Found, command: &RecordedCommand) -> String {
+    let name = command.words.first().and_then(|path| path.rsplit('/').next()).unwrap_or_default();
+    let made = command.outputs.first().map(|(file, _)| found.short(file));
+    let made = made.map(|file| format!(" for {}", file.trim_start_matches(TMP).trim_start_matches('/')));
+    format!("{name}{}", made.unwrap_or_default())
 }
 
 /// What two values that differ look like.
@@ -169,13 +167,12 @@ impl Pair<'_> {
         let commands = self.sides().map(|side| side.call.commands.get(number));
         let count = self.one.call.commands.len().max(self.other.call.commands.len());
         let line = other_words(self.sides().map(|side| side.call.words.as_slice()));
+        let mut sides = self.sides().into_iter().zip(commands);
+        let made = sides.find_map(|(side, command)| Some(shown(side, command?)));
         let cause = Cause {
             product: self.one.name(),
             kind: "unknown",
-            command: commands[0]
-                .or(commands[1])
-                .map(|it| format!("{} ({} of {count})", shown(it), number + 1))
-                .unwrap_or_default(),
+            command: made.map(|made| format!("{made} ({} of {count})", number + 1)).unwrap_or_default(),
             name: String::new(),
             values: [None, None],
             place: None,

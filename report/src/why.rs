@@ -13,8 +13,9 @@ use std::path::{Path, PathBuf};
 const USAGE: &str = "usage: zigrunk why [--json] A B";
 const HELP: &str = "
 Says why two calls made different products: the first command that made another
-file, and what it had otherwise. A and B are records of ZIGRUNK_RECORDS, or
-folders of them: of these, calls with products of the same names are compared.
+file, and what it had otherwise. A and B are records of ZIGRUNK_RECORDS, lines
+of a log, as in log:3, or folders: of these, calls with products of the same
+names are compared.
 
 It names a word (a path), a variable (a locale), a tool, a source or header, or
 a folder. If all that is the same, it names what looks like a time or an id.

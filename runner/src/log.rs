@@ -27,6 +27,8 @@ pub struct LoggedCall<'a> {
     pub commands: &'a [LoggedCommand],
     /// What the cache had counted when the call began and when it ended, if it counts for all its callers.
     pub counted: Option<[Counts; 2]>,
+    /// Where its record is.
+    pub record: Option<&'a Path>,
     /// nvcc and its words.
     pub words: &'a [&'a OsStr],
 }
@@ -72,6 +74,8 @@ struct Line<'a> {
     compiles: Option<bool>,
     #[serde(skip_serializing_if = "Option::is_none")]
     counted: Option<[u64; 4]>,
+    #[serde(skip_serializing_if = "Option::is_none")]
+    record: Option<Cow<'a, str>>,
     commands: &'a [LoggedCommand],
     words: Vec<Cow<'a, str>>,
 }
@@ -116,6 +120,7 @@ pub fn append(file: &Path, call: &LoggedCall<'_>) {
         reason: call.reason.map(ToString::to_string),
         compiles: call.reason.and_then(|reason| (!reason.compiles()).then_some(false)),
         counted: call.counted.map(|[from, to]| [from.hits, from.misses, to.hits, to.misses]),
+        record: call.record.map(Path::to_string_lossy),
         commands: call.commands,
         words: call.words.iter().map(|word| word.to_string_lossy()).collect(),
     };
@@ -211,6 +216,7 @@ mod tests {
             hint: None,
             commands: &commands,
             counted,
+            record: None,
             words: &words,
         };
         let whole = LoggedCall {
@@ -242,6 +248,9 @@ mod tests {
         append(&folder.join("links"), &LoggedCall { reason: Some(&reason), ..split });
         let line = fs::read_to_string(folder.join("links")).unwrap();
         assert!(line.contains(r#":3,"reason":"it links","compiles":false,"counted""#), "{line}");
+        append(&folder.join("records"), &LoggedCall { record: Some("/r/k.o-1.json".as_ref()), ..split });
+        let line = fs::read_to_string(folder.join("records")).unwrap();
+        assert!(line.contains(r#"],"record":"/r/k.o-1.json","commands""#), "{line}");
         append(&file, &LoggedCall { hint: Some("name it"), ..split });
         assert_eq!(fs::read_to_string(&file).unwrap().matches("{\"hint\"").count(), 2, "another hint");
     }

@@ -224,8 +224,9 @@ fn variables_of(program: &str, environment: &[(OsString, OsString)]) -> Vec<(Str
 }
 
 /// Writes the record of a call into a folder, which is seen from the call's own. It has the name of the call's product, and a digest.
+/// Says where it is.
 /// Errors: those of the disk.
-pub fn write(folder: &Path, call: &Finished<'_>) -> io::Result<()> {
+pub fn write(folder: &Path, call: &Finished<'_>) -> io::Result<PathBuf> {
     let folder = absolute(folder, Path::new(&call.line.cwd));
     fs::create_dir_all(folder.join(TEXTS))?;
     let mut recorder = Recorder { call, folder, tools: Tools::of_user(), known: BTreeMap::new() };
@@ -235,7 +236,8 @@ pub fn write(folder: &Path, call: &Finished<'_>) -> io::Result<()> {
         record.products.first().and_then(|(name, _)| Path::new(name).file_name()).unwrap_or_default();
     let name =
         format!("{}-{:.16}{SUFFIX}", product.to_string_lossy(), Digest::of(text.as_bytes()).to_string());
-    replace_file(&recorder.folder.join(name), text.as_bytes())
+    let place = recorder.folder.join(name);
+    replace_file(&place, text.as_bytes()).map(|()| place)
 }
 
 #[cfg(test)]

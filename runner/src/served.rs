@@ -26,7 +26,7 @@ pub fn serve(settings: &Settings, line: &NvccLine, begun: f64) -> Option<(Said, 
     let said = calls::serve(&store, line, &nvcc)?;
     counts::add(store.folder(), Counts { calls: 1, ..Counts::default() });
     let commands = if settings.log.is_some() { logged(begun) } else { Vec::new() };
-    Some((said, Outcome { status: 0, commands, counted: None }))
+    Some((said, Outcome { commands, ..Outcome::default() }))
 }
 
 /// What the log has of such a call.

@@ -93,6 +93,8 @@ pub struct Outcome {
     pub commands: Vec<LoggedCommand>,
     /// What the cache had counted before and after.
     pub counted: Option<[Counts; 2]>,
+    /// Where its record is.
+    pub record: Option<PathBuf>,
 }
 
 /// A call to split, whose files go to a directory.
@@ -293,24 +295,23 @@ impl Call<'_> {
         if status != 0 && is_silent {
             say(true, self.words_of_silence(status).as_bytes());
         }
-        if status == 0 {
-            self.record(tmp, commands);
-        }
+        let record = if status == 0 { self.record(tmp, commands) } else { None };
         if let Some(cache) = cache.as_mut().filter(|_| status == 0 && !is_made_whole) {
             let kept = cache.keep_call(&Finished { line, commands, tasks, rule: made, said });
             if let (Err(refusal), true) = (kept, self.settings.explains) {
                 complain(&format!("{}: the call is not kept as a whole: {refusal}", called()));
             }
         }
-        Ok(Outcome { status, commands: logged, counted })
+        Ok(Outcome { status, commands: logged, counted, record })
     }
 
-    /// Writes a record of the call, if one is asked for. Says so if it can't.
-    fn record(&self, tmp: &str, commands: &[PlannedCommand]) {
-        let Some(folder) = &self.settings.records else { return };
-        if let Err(error) = records::write(folder, &records::Finished { line: self.line, commands, tmp }) {
-            complain(&format!("{}: cannot write a record to {}: {error}", called(), folder.display()));
-        }
+    /// Writes a record of the call, if one is asked for, and says where. Complains if it can't.
+    fn record(&self, tmp: &str, commands: &[PlannedCommand]) -> Option<PathBuf> {
+        let folder = self.settings.records.as_ref()?;
+        let written = records::write(folder, &records::Finished { line: self.line, commands, tmp });
+        let complaint =
+            |error| format!("{}: cannot write a record to {}: {error}", called(), folder.display());
+        written.map_err(|error| complain(&complaint(error))).ok()
     }
 
     /// What to say of a call of which a command failed without a message.
