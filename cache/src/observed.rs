@@ -42,10 +42,18 @@ const NO_ACCESS: u16 = 13;
 /// What calls say of a path that leads somewhere: it is no program of the kernel's, exists, is a folder, or is no link.
 const THERE: [u16; 4] = [8, 17, 21, 22];
 
-/// What the kernel makes, and what no product depends on: seeds of temporary names, the state of the memory, and a program's own path, which is
+/// What the kernel makes, and what no product depends on: seeds of temporary names, which file systems it knows, the state of the memory, and a program's own path, which is
 /// known from its beginning.
-const OF_KERNEL: [&[u8]; 7] =
-    [b"/dev/null", b"/dev/tty", b"/dev/urandom", b"/dev/random", b"/proc/meminfo", b"/proc/self/exe", b"/proc/sys/vm/overcommit_memory"];
+const OF_KERNEL: [&[u8]; 8] = [
+    b"/dev/null",
+    b"/dev/tty",
+    b"/dev/urandom",
+    b"/dev/random",
+    b"/proc/filesystems",
+    b"/proc/meminfo",
+    b"/proc/self/exe",
+    b"/proc/sys/vm/overcommit_memory",
+];
 
 /// A file or folder that was opened or looked at.
 #[derive(Clone, Copy, PartialEq, Eq, Debug)]
@@ -441,8 +449,10 @@ impl List<'_> {
         Ok(())
     }
 
-    /// The list, once all records are read.
-    fn whole(mut self, loads: &Loads) -> Result<Observed, Gap> {
+    /// Ends the list, once all records are read.
+    fn end(&mut self, loads: &Loads) -> Result<(), Gap> {
+        let Observed { read, seen, listed, .. } = &mut self.observed;
+        seen.retain(|path, _| !read.contains_key(path) && !listed.contains_key(path));
         for (number, process) in std::mem::take(&mut self.processes) {
             let mut process = process;
             if !process.works.is_empty() {
@@ -455,9 +465,7 @@ impl List<'_> {
                 return Err(Gap::NoEnd(process.program.clone()));
             }
         }
-        let Observed { read, seen, listed, .. } = &mut self.observed;
-        seen.retain(|path, _| !read.contains_key(path) && !listed.contains_key(path));
-        Ok(self.observed)
+        Ok(())
     }
 }
 
@@ -474,23 +482,35 @@ fn is_of_kernel(path: &Path) -> bool {
 /// What a command did, by its records, or by those of several runs, one behind the other, and by what its loaders said.
 /// Errors: why that isn't all that it did.
 pub fn observed(records: &[u8], loads: &Loads, scope: Scope<'_>) -> Result<Observed, Gap> {
-    if records.is_empty() {
-        return Err(Gap::Nothing);
-    }
-    if records.len() > MOST {
-        return Err(Gap::TooLong);
-    }
+    let (observed, gap) = observed_part(records, loads, scope);
+    gap.map_or(Ok(observed), Err)
+}
+
+/// The same as far as that is known, and the first reason why it may not be all.
+pub fn observed_part(records: &[u8], loads: &Loads, scope: Scope<'_>) -> (Observed, Option<Gap>) {
     let mut list = List { scope, observed: Observed::default(), processes: BTreeMap::new() };
+    let mut gap = if records.len() > MOST { Some(Gap::TooLong) } else { None };
     let mut at = 0;
-    while at < records.len() {
-        let (record, size) = Record::first(&records[at..]).ok_or(Gap::Broken(at))?;
+    while at < records.len().min(MOST) {
+        let Some((record, size)) = Record::first(&records[at..]) else {
+            gap.get_or_insert(Gap::Broken(at));
+            break;
+        };
         if at == 0 && record.kind != Kind::Begin {
-            return Err(Gap::Nothing);
+            break;
         }
-        list.take(&record)?;
+        if let Err(other) = list.take(&record) {
+            gap.get_or_insert(other);
+        }
         at += size;
     }
-    list.whole(loads)
+    if at == 0 && gap.is_none() {
+        gap = Some(Gap::Nothing);
+    }
+    if let Err(other) = list.end(loads) {
+        gap.get_or_insert(other);
+    }
+    (list.observed, gap)
 }
 
 #[cfg(test)]
@@ -596,6 +616,23 @@ mod tests {
             (vec!["/w/link", "/w/no-link"], vec!["/l/libc.so.6"], vec!["/b/tool"])
         );
         assert_eq!(list.variables, BTreeSet::from(["TMPDIR".into()]));
+    }
+
+    #[test]
+    fn what_is_around_a_gap_is_known() {
+        let records = [file(b'O', "/w/a.h", 9), record(b'U', "glob"), record(b'U', "ftw"), file(b'O', "/w/b.h", 9), record(b'E', "")];
+        let all = [&first()[..], &records].concat().concat();
+        let part = |records: &[u8]| {
+            let (list, gap) = observed_part(records, &Loads::new(), scope());
+            (paths(&list.read).join(" "), gap)
+        };
+        assert_eq!(part(&all), ("/w/a.h /w/b.h".into(), Some(Gap::Unseen("glob".into()))));
+        let broken = [&all[..all.len() - 1], b"x"].concat();
+        assert_eq!(part(&broken), ("/w/a.h /w/b.h".into(), Some(Gap::Unseen("glob".into()))), "the first one");
+        let cut = [&first()[..], &records[..1]].concat().concat();
+        assert_eq!(part(&cut), ("/w/a.h".into(), Some(Gap::NoEnd("/b/tool".into()))));
+        assert_eq!(part(&cut[..cut.len() - 1]), (String::new(), Some(Gap::Broken(cut.len() - records[0].len()))));
+        assert_eq!((part(b""), part(&records[0])), ((String::new(), Some(Gap::Nothing)), (String::new(), Some(Gap::Nothing))));
     }
 
     #[test]

@@ -1,5 +1,5 @@
 //! The observer (`observer.c`) as this program carries it: a library for the processes of commands, and a file of records for each command.
-use crate::observed::{Gap, Loads, Observed, Scope, observed};
+use crate::observed::{Gap, Loads, Observed, Scope, observed_part};
 use crate::system;
 use machine::jobs::Job;
 use machine::settings::own_variable;
@@ -104,12 +104,16 @@ impl Observer {
     /// stay so below a working directory, if one is given.
     /// Errors: why that isn't known.
     pub fn observed(&self, subject: Subject, own: &[&Path], cwd: Option<&Path>) -> Result<Observed, Gap> {
-        let (program, lists) = self.commands.get(&subject).ok_or(Gap::Nothing)?;
+        let (observed, gap) = self.observed_part(subject, own, cwd);
+        gap.map_or(Ok(observed), Err)
+    }
+
+    /// The same as far as that is known, and the first reason why it may not be all.
+    pub fn observed_part(&self, subject: Subject, own: &[&Path], cwd: Option<&Path>) -> (Observed, Option<Gap>) {
+        let Some((program, lists)) = self.commands.get(&subject) else { return (Observed::default(), Some(Gap::Nothing)) };
         let texts: Vec<Vec<u8>> = lists.iter().map(|list| content_of(list).unwrap_or_default()).collect();
-        if texts.iter().any(Vec::is_empty) {
-            return Err(Gap::Nothing);
-        }
-        observed(&texts.concat(), &self.loads(lists), Scope { program, own, cwd })
+        let (observed, gap) = observed_part(&texts.concat(), &self.loads(lists), Scope { program, own, cwd });
+        (observed, if texts.iter().any(Vec::is_empty) { Some(Gap::Nothing) } else { gap })
     }
 
     /// What the loaders of a command's processes have said.
