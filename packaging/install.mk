@@ -15,7 +15,7 @@ install-programs:
 	for page in zigrunk zigrunk-nvcc zigrunk-plan zigrunk-batch zigrunk-cache; do \
 		install -D -m 644 man/$$page.1 "$(target)/share/man/man1/$$page.1" || exit 1; done
 	ln -sf zigrunk-plan.1 "$(target)/share/man/man1/cudaplan.1"
-	for name in report why; do ln -sf zigrunk-nvcc.1 "$(target)/share/man/man1/zigrunk-$$name.1"; done
+	for name in report why audit; do ln -sf zigrunk-nvcc.1 "$(target)/share/man/man1/zigrunk-$$name.1"; done
 	ln -sf zigrunk-batch.1 "$(target)/share/man/man1/zigrunk-check-node.1"
 	install -D -m 644 completions/zigrunk.bash "$(target)/share/bash-completion/completions/zigrunk"
 	ln -sf zigrunk "$(target)/share/bash-completion/completions/cudaplan"
@@ -37,12 +37,12 @@ install-library:
 install-rust:
 	@$(crates_from)
 	if [ -d $(workspace)/crates ]; then to=$$(realpath -m "$(target)") && cd $(workspace) && \
-		find Cargo.toml crates stand call zigrunk capi driver unix machine cache runner batch report -type f 2> /dev/null | while read -r file; do \
+		find Cargo.toml crates stand call zigrunk capi driver unix machine cache provenance runner batch report -type f 2> /dev/null | while read -r file; do \
 		install -D -m 644 "$$file" "$$to/share/zigrunk/rust/$$file" || exit 1; done; fi
 
 uninstall:
 	rm -f "$(target)/bin/cudaplan" "$(target)/bin/zigrunk" "$(target)/share/man/man1/zigrunk.1" "$(target)/share/man/man1/cudaplan.1"
-	for name in nvcc plan batch report why cache check-node worker slot remote; do rm -f "$(target)/bin/zigrunk-$$name" \
+	for name in nvcc plan batch report why cache audit check-node worker slot remote; do rm -f "$(target)/bin/zigrunk-$$name" \
 		"$(target)/share/man/man1/zigrunk-$$name.1" "$(target)/share/bash-completion/completions/zigrunk-$$name"; done
 	rm -f "$(target)/share/bash-completion/completions/zigrunk" "$(target)/share/bash-completion/completions/cudaplan"
 	rm -f "$(target)/share/man/man3/zigrunk.h.3"

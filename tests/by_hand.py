@@ -13,7 +13,7 @@ from collections.abc import Iterator
 from pathlib import Path
 
 TOP = Path(__file__).resolve().parent.parent
-FOLDERS = ["unix", "machine", "call", "cache", "runner", "batch", "report", "driver"]
+FOLDERS = ["unix", "machine", "call", "cache", "provenance", "runner", "batch", "report", "driver"]
 CRATES = ["rustix", "lexopt", "serde", "serde_json", "postcard", "strsim"]
 # What is done: files, each with the items that do it, or whole.
 ROWS: "list[tuple[str, dict[str, list[str]]]]" = [

@@ -17,7 +17,7 @@ user=$(id -u)
 shell=(driver)
 
 # The crates that the program is made of by hand.
-crates=(unix machine cache runner report batch zigrunk-driver)
+crates=(unix machine cache provenance runner report batch zigrunk-driver)
 
 # unit: their unit tests, each as a case.
 unit() {
@@ -163,7 +163,7 @@ end_to_end() {
         for words in odd '' 'odd nvcc'; do
             # shellcheck disable=SC2086 # several words, or none
             as=$driver call $words
-            same "status and usage with '$words'" "$status $(tail -n 1 "$room/err")" '2 usage: zigrunk nvcc|plan|batch|report|why|cache|check-node|help WORD..'
+            same "status and usage with '$words'" "$status $(tail -n 1 "$room/err")" '2 usage: zigrunk nvcc|plan|batch|report|why|cache|audit|check-node|help WORD..'
         done
         end
     fi
@@ -1364,6 +1364,7 @@ ZIGRUNK_EXPLAIN=please|yes or no (or 1, 0, true, false, on, off)
 ZIGRUNK_EARLY=never|yes or no (or 1, 0, true, false, on, off)
 ZIGRUNK_LATE=never|yes or no (or 1, 0, true, false, on, off)
 ZIGRUNK_CALLS=never|yes or no (or 1, 0, true, false, on, off)
+ZIGRUNK_PROVENANCE=s|a folder's absolute path, such as /home/me/statements
 ROWS
     refused ZIGRUNK_JOBS=abc ZIGRUNK_SLOTS=x -c k.cu
     as=$program refused ZIGRUNK_JOBS=abc ZIGRUNK_SLOTS=x batch /dev/null
@@ -1534,5 +1535,107 @@ plans() {
     fi
 }
 
-for part in ${PARTS-unit end_to_end folders early_starts late_starts compilers to_nvcc outputs products signals settings logs plans slots jobservers}; do "$part"; done
+# stated FILE: what a statement has: its product, how many commands, and which of these files of the call's folder.
+stated() {
+    sed -n 's/^      "name": "\(.*\)",$/\1/p' "$1"
+    grep -c '^            "tool": {' "$1"
+    sed -n "s,^ *\"uri\": \"file://$PWD/\(.*\)\"\,\$,\1,p" "$1" | sort -u | paste -sd ' '
+}
+
+# audits WHAT STATUS FINDING.. -- WORD..: what zigrunk audit says, without names of statements.
+audits() {
+    local what=$1 wanted=$2 findings=()
+    shift 2
+    while [ "$1" != -- ]; do findings+=("$1") && shift; done
+    as=$zigrunk call "${settings[@]}" audit "${@:2}"
+    same "$what" "$status $(sed "s,^[^:]*: ,,; s,$PWD/,,g; s,$room/,," "$room/out" "$room/err")" "$wanted $(printf '%s\n' "${findings[@]}")"
+}
+
+statements() {
+    local zigrunk=$scratch/bin/zigrunk settings
+    if case_of 'a statement of a product'; then
+        settings=(LOG=/dev/null ZIGRUNK_PROVENANCE="$room/s/t")
+        call "${settings[@]}" -c k.cu -o k.o
+        same 'status and messages' "$status$(cat "$room/out" "$room/err")" 0
+        same 'statements' "$(ls "$room/s/t" | sed 's/-[0-9a-f]*\.json/ in JSON/')" 'k.o in JSON'
+        same 'product, commands and files' "$(stated "$room"/s/t/*.json)" $'k.o\n10\nk.o'
+        same 'what is not known' "$(grep -c '"unknown": \[\]' "$room"/s/t/*.json)" 1
+        audits 'an untouched build' 0 '1 checked, 0 findings' -- "$room"/s/t/*.json
+        echo other > k.o
+        audits 'another product' 1 'the product k.o has changed' '1 checked, 1 findings' -- "$room"/s/t/*.json
+        rm k.o
+        audits 'no product' 1 'the product k.o is missing' '1 checked, 1 findings' -- "$room"/s/t/*.json
+        end
+    fi
+    if case_of 'a statement of what is not known'; then
+        settings=(ZIGRUNK_PROVENANCE="$room/s")
+        call "${settings[@]}" -c k.cu -o k.o
+        splits
+        same 'product, commands and files' "$(stated "$room"/s/*.json)" $'k.o\n10\nk.cu k.o'
+        as=$zigrunk call audit "$room"/s/*.json
+        same 'status and findings' "$status $(grep -c "maybe more was read: .* the command changed $room/log, which was there before" "$room/out")" '1 12'
+        end
+    fi
+    if case_of 'a statement of a call that goes to nvcc'; then
+        settings=(LOG=/dev/null ZIGRUNK_PROVENANCE="$room/s")
+        call "${settings[@]}" k.cu -o "a b"
+        same status "$status" 0
+        same 'product, commands and files' "$(stated "$room"/s/*.json)" $'a b\n1\na%20b'
+        call "${settings[@]}" NVCC_STATUS=7 k.cu -o failed
+        same 'status of one that fails' "$status" 7
+        call "${settings[@]}" ZIGRUNK_LOG="$room/calls" k.cu -o other
+        same 'lines of the log' "$(grep -c . "$room/calls")" 1
+        same 'statements' "$(ls "$room/s" | sed 's/-[0-9a-f]*\.json//' | paste -sd ,)" 'a b,other'
+        end
+    fi
+    if case_of 'a list of calls with statements'; then
+        settings=(LOG=/dev/null ZIGRUNK_PROVENANCE="$room/s")
+        printf '[{"directory": "%s", "file": "k.cu", "command": "nvcc -c k.cu -o %s.o"},
+            {"directory": ".", "file": "l.cu", "command": "nvcc -c k.cu -o l.o"}]' "$PWD" k > list.json
+        call "${settings[@]}" -c k.cu -o k.o
+        audits 'one that is missing' 1 'no statement is about the product l.o' '2 checked, 1 findings' -- --compile-commands list.json "$room/s"
+        as=$zigrunk call "${settings[@]}" batch list.json
+        same 'status of the batch' "$status$(cat "$room/err")" 0
+        audits 'all' 0 '2 checked, 0 findings' -- --compile-commands list.json "$room/s"
+        echo other > l.o
+        audits 'one of another product' 1 'no statement is about the product l.o' '2 checked, 1 findings' -- --compile-commands list.json "$room/s"
+        audits 'no list' 1 'k.cu is no list of calls: it is no compile_commands.json' -- --compile-commands k.cu "$room/s"
+        end
+    fi
+    if command -v strace > /dev/null && case_of 'a traced statement'; then
+        settings=(LOG=/dev/null ZIGRUNK_PROVENANCE="$room/s")
+        call "${settings[@]}" TOOL_DOES='[ ! -e read.h ] || . ./read.h' CHILDLESS=1 -c k.cu -o k.o
+        audits 'nothing beside it' 0 '1 checked, 0 findings' -- --trace "$room"/s/*.json
+        : > read.h
+        settings+=(TOOL_DOES='. ./read.h' CHILDLESS=1)
+        audits 'a file beside it' 1 'a command reads read.h, which is not in the statement' '1 checked, 1 findings' -- --trace "$room"/s/*.json
+        same product "$(cat k.o)" made
+        settings+=(TOOL_DOES='exit 3')
+        as=$zigrunk call "${settings[@]}" audit --trace "$room"/s/*.json
+        same 'one that fails' "$status $(grep -c 'the commands cannot be traced: .*gcc under strace: exit status: 3$' "$room/out")" '1 1'
+        call "${settings[@]}" TOOL_DOES= k.cu
+        end
+    fi
+    if case_of 'statements that cannot be'; then
+        for other in CACHE=yes LAUNCHER=ccache RUNNER=run REMOTE=grpc://a:1; do
+            call ZIGRUNK_PROVENANCE="$room/s" "ZIGRUNK_$other" -c k.cu -o k.o
+            same "status and message with $other" "$status $(cat "$room/err")" \
+                "2 zigrunk-nvcc: ZIGRUNK_PROVENANCE and ZIGRUNK_${other%%=*} cannot both be set: a statement says what commands read here"
+        done
+        call ZIGRUNK_PROVENANCE=/dev/null/s -c k.cu -o k.o
+        same 'status and message without a folder' "$status $(cat "$room/err")" '2 zigrunk-nvcc: cannot make the folder /dev/null/s: Not a directory'
+        call ZIGRUNK_PROVENANCE="$room/s" TOOL_DOES="rm -rf '$room/s'" CHILDLESS=1 -c k.cu -o k.o
+        same 'status and message of one that is gone' "$status $(cat "$room/err")" \
+            "1 zigrunk-nvcc: cannot write a statement to $room/s: No such file or directory"
+        refuses 'no statement' 'zigrunk audit: a statement is missing' audit
+        echo '{}' > other.json
+        as=$zigrunk call audit other.json
+        same 'no statement in a file' "$status $(cat "$room/err")" '1 zigrunk audit: other.json is no statement: missing field `_type` at line 1 column 2'
+        as=$zigrunk call audit missing.json
+        same 'a file that is missing' "$status $(cat "$room/err")" '1 zigrunk audit: cannot read missing.json: No such file or directory'
+        end
+    fi
+}
+
+for part in ${PARTS-unit end_to_end folders early_starts late_starts compilers to_nvcc outputs products signals settings logs plans statements slots jobservers}; do "$part"; done
 summary

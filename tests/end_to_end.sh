@@ -2,7 +2,7 @@
 # Tests zigrunk-nvcc by stand-ins, of which tests/driver.sh has more, by calls that nvcc makes
 # too (tests/compare_calls.py), by the commands that nvcc starts for them (tests/own_commands.py), by the installed nvcc's list of options
 # (tests/nvcc_options.sh), by commands that have only their own files (tests/isolated.py), by plans that run (tests/plans.sh), where the machine refuses something
-# (tests/conditions.sh), by what calls leave (tests/leftovers.sh), by calls in two checkouts (tests/checkouts.py), by builds that differ (tests/why.py), and by signals in the middle of a build. It tests too that such tests fail if they show nothing (tests/runners.sh).
+# (tests/conditions.sh), by what calls leave (tests/leftovers.sh), by calls in two checkouts (tests/checkouts.py), by builds that differ (tests/why.py), by statements of products (tests/provenance.py), and by signals in the middle of a build. It tests too that such tests fail if they show nothing (tests/runners.sh).
 # Prints a line for each failure, then for each part how long it took and how many seconds of processor, and last
 # 'N passed, M failed'; the status is 1 if one failed. All parts start at once. The calls take what the others leave of the
 # processors, so that none of these, each a chain of steps, is still running at the end.
@@ -127,6 +127,7 @@ else
     start leftovers tests/leftovers.sh
     start late tests/late.sh
     start early tests/early.sh
+    start provenance tests/provenance.py --seed "$(git rev-parse HEAD 2> /dev/null)" "${wrapper%-nvcc}"
     start checkouts tests/checkouts.py --calls 12 --seed "$(git rev-parse HEAD 2> /dev/null)" "$wrapper"
     start why tests/why.py --causes 12 --share 90 --seed "$(git rev-parse HEAD 2> /dev/null)" "${wrapper%-nvcc}"
     start signals interrupts TERM INT HUP

@@ -11,11 +11,11 @@ from pathlib import Path
 
 TOP = Path(__file__).resolve().parent.parent
 # From the lowest on.
-LAYERS = ("unix", "call", "bindings/rust", "capi", "machine", "cache", "runner", "report", "batch", "driver")
+LAYERS = ("unix", "call", "bindings/rust", "capi", "machine", "cache", "provenance", "runner", "report", "batch", "driver")
 ROOT = "lib"
 # The module of the driver that reads variables.
 SETTINGS = TOP / "machine/src/settings.rs"
-OF_DRIVER = ("unix", "machine", "cache", "runner", "report", "batch", "driver")
+OF_DRIVER = ("unix", "machine", "cache", "provenance", "runner", "report", "batch", "driver")
 
 TESTS = re.compile(r"#\[cfg\(test\)\]\s*(?:pub(?:\([a-z]+\))? )?mod \w+ \{.*?^\}", re.DOTALL | re.MULTILINE)
 TEST_LINE = re.compile(r"#\[cfg\(test\)\]\s*[^;{]*(?:\{[^}]*\})?;")

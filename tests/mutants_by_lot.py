@@ -58,9 +58,10 @@ SANDBOX = ["unshare", *([] if os.geteuid() == 0 else ["--user", "--map-root-user
            f' ulimit -v 4000000 -t {LONGEST_BUSY} && "${{@:3}}"; status=$?; times > /tmp/times; exit $status', "sandbox"]
 
 # The crates that are edited.
-CRATES = ("unix", "machine", "cache", "runner", "report", "batch", "driver")
+CRATES = ("unix", "machine", "cache", "provenance", "runner", "report", "batch", "driver")
 # The files of each kind, and the parts of its tests.
-DRIVER_PARTS = "driver: unit end_to_end folders early_starts late_starts compilers to_nvcc outputs products logs plans signals jobservers slots"
+DRIVER_PARTS = ("driver: unit end_to_end folders early_starts late_starts compilers to_nvcc outputs products logs plans statements signals "
+                "jobservers slots")
 BATCH_PARTS = "driver_batch: lists places failures products databases incremental parts nodes reports stopped killed"
 # Of unix, all but what tests alone need.
 UNIX = [f"unix/src/{name}.rs" for name in ("files", "image", "pipes", "processes", "shared", "signals", "streams", "waits")]
@@ -70,6 +71,7 @@ KINDS = {
 # The parts that come first for a file, by a part of its path: they are most likely to find an edit.
 FIRST = {
     "batch/src/node/": "driver_batch: nodes", "batch/src/": BATCH_PARTS, "report/src/": "driver_batch: reports driver: logs",
+    "provenance/src/": "driver: statements", "src/audit_program": "driver: statements",
     "cache/src/": "driver_cache: stand_ins", "unix/src/": "driver: end_to_end signals folders", "src/plan_program": "driver: plans",
     "src/slots": "driver: slots", "src/jobserver": "driver: jobservers", "src/guard": "driver: folders jobservers", "src/folder": "driver: folders",
     "src/log": "driver: logs", "src/rule": "driver: products", "src/products": "driver: products",

@@ -55,7 +55,7 @@ workspace() {
     roots=("$folder"/{crates,stand}/*/src/{lib,main}.rs)
     mapfile -t roots < <(printf '%s\n' "${roots[@]}" | grep -v '\*\|/test_')
     check 'the layout by rustfmt' rustfmt --check --edition 2024 "${roots[@]}"
-    for name in unix machine cache runner report batch driver; do
+    for name in unix machine cache provenance runner report batch driver; do
         check "the layout of $name" rustfmt --check --edition 2024 --config-path "$name" "$name/src/lib.rs"
     done
     check 'clippy' env -C "$folder" cargo clippy --quiet --workspace "${without[@]}" --all-targets -- -D warnings -D missing_docs

@@ -13,7 +13,7 @@ from typing import Dict, List, NamedTuple
 
 TOP = Path(__file__).resolve().parent.parent
 CODE = ("crates/*/src/**/*.rt", "call/src/**/*.rs", "capi/src/**/*.rs",
-        *(f"{crate}/src/**/*.rs" for crate in ("unix", "machine", "cache", "runner", "report", "batch", "driver")),
+        *(f"{crate}/src/**/*.rs" for crate in ("unix", "machine", "cache", "provenance", "runner", "report", "batch", "driver")),
         "bindings/rust/src/**/*.rs", "bindings/cpp/*.hpp", "bindings/go/*.go", "bindings/python/zigrunk/*.py")
 
 

@@ -11,6 +11,7 @@ use machine::jobs::{Ended, Job, Machine};
 use machine::settings::Settings;
 use machine::streams::{Said, called};
 use machine::task::Task;
+use provenance::Whole;
 use runner::log::{self, LoggedCall};
 use runner::products::keep;
 use runner::rule::Refusals;
@@ -139,9 +140,15 @@ impl Making<'_> {
             variables,
             ..Job::default()
         };
-        match self.job(job) {
+        let (first, rest) =
+            words.split_first().map_or((String::new(), &[][..]), |(first, rest)| (first.clone(), rest));
+        let line = line_of(self.call.folder.clone(), first, rest.to_vec());
+        let mut witness = Whole::of(&self.context.settings, line, &job);
+        let observing = witness.as_mut().and_then(Whole::observing);
+        match self.job(observing.unwrap_or(job)) {
             Ok(ended) => {
-                self.made.status = ended.status.code;
+                let status = ended.status.code;
+                self.made.status = witness.map_or(status, |witness| witness.end(status));
                 self.made.said.extend([
                     (false, ended.out),
                     (true, ended.errors),

@@ -31,6 +31,7 @@ use machine::streams::{complain, say};
 use marks::Missing;
 use options::{HELP, Options, Part, USAGE, Wanted};
 use progress::{Form, Progress};
+use provenance::make_folder;
 use records::Records;
 use runner::rule::Refusals;
 use runner::split::FEWEST_FILES;
@@ -391,13 +392,27 @@ fn run_batch(options: &Options, settings: &Settings) -> i32 {
 
 /// Runs with the settings of the environment. Says the status: 2 if one of them is bad.
 fn with_settings(run: impl FnOnce(Settings) -> i32) -> i32 {
-    Settings::of_environment().map_or_else(
+    let settings = Settings::of_environment();
+    settings.and_then(|settings| make_folder(&settings).map(|()| settings)).map_or_else(
         |complaint| {
             complain(&format!("zigrunk batch: {complaint}"));
             2
         },
         run,
     )
+}
+
+/// The products of the calls of a `compile_commands.json` in a folder: each call's source, and the files that its words name.
+/// Errors: why the text isn't one.
+pub fn products_of_database(text: &[u8], folder: &Path) -> Result<Vec<(String, Vec<PathBuf>)>, String> {
+    if !databases::is_database(text) {
+        return Err("it is no compile_commands.json".into());
+    }
+    let settings = Settings::of_environment()?;
+    let (calls, _) = calls_of(text, folder, folder, &settings)?;
+    let products =
+        |call: &BatchCall| calls::products_of(call).into_iter().map(|product| product.path).collect();
+    Ok(calls.iter().map(|call| (call.name.clone(), products(call))).collect())
 }
 
 /// Makes the calls of the list that these words name. Says the exit status: that of the first call in the

@@ -79,9 +79,14 @@ pub fn is_free(name: &OsStr) -> bool {
 /// For these of them tools ask, but nothing that they make depends on them; messages are kept for the kind of terminal.
 const HARMLESS: [&str; 6] = ["COLUMNS", "GCC_COLORS", "MAKEFLAGS", "PWD", "TERM", "TMPDIR"];
 
+/// Whether nothing that tools make depends on a variable, though they ask for it.
+pub fn is_harmless(name: &OsStr) -> bool {
+    HARMLESS.iter().any(|harmless| name == *harmless)
+}
+
 /// Whether a variable counts that isn't in a call's key, if a process has asked for it.
 pub fn counts_if_asked(name: &OsStr) -> bool {
-    is_free(name) && !HARMLESS.iter().any(|harmless| name == *harmless)
+    is_free(name) && !is_harmless(name)
 }
 
 /// Whether a text has the name of a variable that isn't in a call's key: a script may use any without asking.

@@ -30,6 +30,7 @@ mod words;
 pub use inputs::Refusal;
 pub use recipe::environment_of;
 pub use session::{Beginning, Finished, Session};
+pub use stamps::Stamp;
 
 use unix as system;
 #[cfg(test)]

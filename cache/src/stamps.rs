@@ -72,6 +72,7 @@ pub fn keeps_changes(path: &Path, status: &Metadata) -> bool {
 pub struct Stamp(pub [[u8; 8]; 7]);
 
 impl Stamp {
+    /// That of a file with this status.
     pub fn of(status: &Metadata) -> Stamp {
         let times = [status.mtime(), status.mtime_nsec(), status.ctime(), status.ctime_nsec()].map(i64::to_le_bytes);
         let [device, number, size] = [status.dev(), status.ino(), status.size()].map(u64::to_le_bytes);

@@ -6,12 +6,14 @@ use call::{LineReason, NvccLine, Reason};
 use machine::clock::now;
 use machine::folder::{CallFolder, NAME_HINT};
 use machine::host::{Host, become_program};
+use machine::jobs::Job;
 use machine::jobserver::Make;
 use machine::lacking::not_found;
 use machine::places::{absolute, working_directory};
 use machine::quota;
 use machine::settings::{Settings, own_variable};
 use machine::streams::{called, complain, say};
+use provenance::{Whole, make_folder};
 use runner::log::{self, LoggedCall};
 use runner::products;
 use runner::rule::Refusals;
@@ -39,7 +41,8 @@ struct Call<'a> {
 /// Makes a call, given the name by which the program was started and its words. Says its status. If a signal
 /// ends the call, it ends this process too.
 pub fn make(own_name: &OsStr, words: &[OsString]) -> i32 {
-    let settings = match Settings::of_environment() {
+    let settings = Settings::of_environment();
+    let settings = match settings.and_then(|settings| make_folder(&settings).map(|()| settings)) {
         Ok(settings) => settings,
         Err(complaint) => {
             complain(&format!("{}: {complaint}", called()));
@@ -55,7 +58,7 @@ pub fn make(own_name: &OsStr, words: &[OsString]) -> i32 {
     };
     let mut call = Call { settings, compiler, words, begun: now(), host: None, folder: None };
     if !call.settings.inside.is_empty() {
-        return call.become_nvcc(&[]);
+        return call.become_nvcc(&[], &[]);
     }
     match call.split() {
         Ok(status) => {
@@ -213,35 +216,50 @@ impl Call<'_> {
             return 127;
         }
         let runner: Vec<OsString> = self.settings.runner.iter().map(OsString::from).collect();
-        match self.settings.log.clone() {
-            None => self.become_nvcc(&runner),
-            Some(file) => self.run_nvcc(&runner, reason, &file),
+        if self.settings.log.is_none() && self.settings.provenance.is_none() {
+            return self.become_nvcc(&runner, &[]);
         }
+        self.run_nvcc(&runner, reason)
     }
 
-    /// Becomes nvcc. Comes back with a status if that can't be done.
-    fn become_nvcc(&self, runner: &[OsString]) -> i32 {
+    /// Becomes nvcc, with further variables. Comes back with a status if that can't be done.
+    fn become_nvcc(&self, runner: &[OsString], variables: &[(String, Option<String>)]) -> i32 {
         if let Some(host) = &self.host {
             host.signals().give_back();
         }
         let words: Vec<&OsStr> = runner.iter().map(OsString::as_os_str).chain(self.logged_words()).collect();
-        let environment = Environment::own().with("ZIGRUNK_INSIDE", &self.compiler.inside);
+        let own = Environment::own().with("ZIGRUNK_INSIDE", &self.compiler.inside);
+        let given = variables.iter().filter_map(|(name, value)| Some((name, value.as_ref()?)));
+        let environment =
+            given.fold(own, |environment, (name, value)| environment.with(name, value.as_ref()));
         complain(&format!("{}: {}", called(), become_program(&words, &environment)));
         127
     }
 
-    /// Runs nvcc, and adds a line to the log. Its status is this process's, and its signal too.
-    fn run_nvcc(&mut self, runner: &[OsString], reason: &Reason, file: &Path) -> i32 {
+    /// What observes nvcc, if statements are asked for.
+    fn witness(&self) -> Option<Whole> {
+        let make = Make::of_environment();
+        let line = working_directory().and_then(|cwd| self.line(&cwd, &make).ok())?;
+        let words = [std::slice::from_ref(&line.nvcc), &line.words].concat();
+        Whole::of(&self.settings, line, &Job { words, ..Job::default() })
+    }
+
+    /// Runs nvcc, adds a line to the log, and states what was made, as far as that is asked for. Its status is
+    /// this process's, and its signal too.
+    fn run_nvcc(&mut self, runner: &[OsString], reason: &Reason) -> i32 {
         let opened = if self.host.is_none() { Signals::open().ok() } else { None };
         let Some(signals) = self.host.as_ref().map(Host::signals).or(opened.as_ref()) else {
-            return self.become_nvcc(runner);
+            return self.become_nvcc(runner, &[]);
         };
+        let mut witness = self.witness();
+        let variables =
+            witness.as_mut().and_then(Whole::observing).map(|job| job.variables).unwrap_or_default();
         let child = system::fork_to(|| {
             system::end_with_parent();
             signals.give_back();
-            system::exit(self.become_nvcc(runner));
+            system::exit(self.become_nvcc(runner, &variables));
         });
-        let Ok(child) = child else { return self.become_nvcc(runner) };
+        let Ok(child) = child else { return self.become_nvcc(runner, &[]) };
         let Some(status) = end_of(child, signals) else {
             complain(&format!("{}: the end of nvcc is unknown", called()));
             return 1;
@@ -257,8 +275,11 @@ impl Call<'_> {
             record: None,
             words,
         };
-        log::append(file, &call);
-        status.signal.map_or(status.code, system::end_by)
+        if let Some(file) = &self.settings.log {
+            log::append(file, &call);
+        }
+        let code = witness.map_or(status.code, |witness| witness.end(status.code));
+        status.signal.map_or(code, system::end_by)
     }
 }
 

@@ -1,5 +1,5 @@
 //! The first words of the program, and its help.
-use crate::{call, own_options, plan_program};
+use crate::{audit_program, call, own_options, plan_program};
 use machine::nearest::{question, shown};
 use machine::streams::{complain, say, set_called};
 use std::ffi::{OsStr, OsString};
@@ -13,11 +13,12 @@ pub enum FirstWord {
     Report,
     Why,
     Cache,
+    Audit,
     CheckNode,
     Help,
 }
 
-const USAGE: &str = "usage: zigrunk nvcc|plan|batch|report|why|cache|check-node|help WORD..";
+const USAGE: &str = "usage: zigrunk nvcc|plan|batch|report|why|cache|audit|check-node|help WORD..";
 
 /// What `zigrunk help nvcc` prints: nvcc's words are all nvcc's own, `--help` too.
 const NVCC_HELP: &str = "usage: zigrunk nvcc [--root FOLDER] [--check-twice] [NVCC] WORD..
@@ -40,13 +41,14 @@ man zigrunk-nvcc has the rest.
 
 impl FirstWord {
     /// All of them, in the order in which the help and completion show them.
-    pub const ALL: [FirstWord; 8] = [
+    pub const ALL: [FirstWord; 9] = [
         FirstWord::Nvcc,
         FirstWord::Plan,
         FirstWord::Batch,
         FirstWord::Report,
         FirstWord::Why,
         FirstWord::Cache,
+        FirstWord::Audit,
         FirstWord::CheckNode,
         FirstWord::Help,
     ];
@@ -60,6 +62,7 @@ impl FirstWord {
             FirstWord::Report => "report",
             FirstWord::Why => "why",
             FirstWord::Cache => "cache",
+            FirstWord::Audit => "audit",
             FirstWord::CheckNode => "check-node",
             FirstWord::Help => "help",
         }
@@ -75,6 +78,7 @@ impl FirstWord {
             FirstWord::Why => "say why two builds differ",
             FirstWord::CheckNode => "compare a machine with the one that hands out calls",
             FirstWord::Cache => "show, clear or shrink the cache of commands",
+            FirstWord::Audit => "check that what products were made from is as it was",
             FirstWord::Help => "print this text, or the help of one of these words",
         }
     }
@@ -95,6 +99,7 @@ impl FirstWord {
             FirstWord::Report => "zigrunk report",
             FirstWord::Why => "zigrunk why",
             FirstWord::Cache => "zigrunk cache",
+            FirstWord::Audit => "zigrunk audit",
             FirstWord::CheckNode => "zigrunk check-node",
             FirstWord::Help => "zigrunk",
         }
@@ -110,6 +115,7 @@ impl FirstWord {
             FirstWord::Report => report::run(words),
             FirstWord::Why => report::why::run(words),
             FirstWord::Cache => cache::program::run(words),
+            FirstWord::Audit => audit_program::run(words),
             FirstWord::CheckNode => batch::node::program::run(words),
             FirstWord::Help => help_of(words),
         }

@@ -2,6 +2,7 @@
 //! `zigrunk-nvcc`.
 #![forbid(unsafe_code)]
 
+mod audit_program;
 mod call;
 mod check_twice;
 mod first_words;

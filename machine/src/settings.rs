@@ -6,7 +6,7 @@ use std::env;
 use std::ffi::{OsStr, OsString};
 use std::fs;
 use std::os::unix::ffi::OsStrExt;
-use std::path::PathBuf;
+use std::path::{Path, PathBuf};
 
 /// The cache of commands that is asked for.
 #[derive(Clone, PartialEq, Eq, Debug, Default)]
@@ -75,6 +75,8 @@ pub struct Settings {
     pub records: Option<PathBuf>,
     /// The checkout that products don't name, if one is set.
     pub root: Option<AskedRoot>,
+    /// The folder that gets a statement of each product, if one is set.
+    pub provenance: Option<PathBuf>,
     /// The nvccs through which this call came.
     pub inside: OsString,
 }
@@ -163,6 +165,11 @@ fn root(text: &str) -> Option<AskedRoot> {
     (is_path(folder) && is_path(name)).then(asked)
 }
 
+/// An absolute path, without a slash at its end.
+fn whole_path(text: &str) -> Option<PathBuf> {
+    text.starts_with('/').then(|| Path::new(text).components().collect())
+}
+
 /// The words of a text, as a shell cuts it at its blanks.
 fn cut(text: &str) -> Vec<String> {
     text.split_whitespace().map(String::from).collect()
@@ -189,7 +196,7 @@ fn servers(text: &str) -> Option<bool> {
 }
 
 /// Our variables: those for users, and those by which our programs hear of each other.
-const VARIABLES: [&str; 31] = [
+const VARIABLES: [&str; 32] = [
     "ZIGRUNK_BATCH",
     "ZIGRUNK_CACHE",
     "ZIGRUNK_CACHE_SIZE",
@@ -207,6 +214,7 @@ const VARIABLES: [&str; 31] = [
     "ZIGRUNK_NODE",
     "ZIGRUNK_NVCC",
     "ZIGRUNK_OBSERVED",
+    "ZIGRUNK_PROVENANCE",
     "ZIGRUNK_RECORDS",
     "ZIGRUNK_REMOTE",
     "ZIGRUNK_REMOTE_CA",
@@ -278,20 +286,38 @@ impl Settings {
     fn of(of: Lookup<'_>) -> Result<Settings, String> {
         switch(of, "ZIGRUNK_CALLS", true)?;
         let mut settings = Settings::each(of)?;
-        // (records are of the plan's own commands)
-        settings.waits.for_needs |= settings.records.is_some();
-        settings.waits.for_fatbin |= settings.records.is_some();
-        if settings.root.is_some() && !settings.launcher.is_empty() {
+        // (records and statements are of the plan's own commands)
+        let is_noted = settings.records.is_some() || settings.provenance.is_some();
+        settings.waits.for_needs |= is_noted;
+        settings.waits.for_fatbin |= is_noted;
+        let has_launcher = !settings.launcher.is_empty();
+        if settings.root.is_some() && has_launcher {
             return Err(
                 "ZIGRUNK_ROOT and ZIGRUNK_LAUNCHER cannot both be set: a launcher gets the plan's own words"
                     .into(),
             );
         }
-        Ok(settings)
+        let elsewhere = [
+            ("CACHE", settings.cache != AskedCache::None),
+            ("LAUNCHER", has_launcher),
+            ("RUNNER", !settings.runner.is_empty()),
+            ("REMOTE", settings.has_remote),
+        ];
+        let why = "a statement says what commands read here";
+        let other = elsewhere.iter().find(|(_, is_set)| settings.provenance.is_some() && *is_set);
+        other.map_or(Ok(settings), |(name, _)| {
+            Err(format!("ZIGRUNK_PROVENANCE and ZIGRUNK_{name} cannot both be set: {why}"))
+        })
     }
 
     /// Each by itself.
     fn each(of: Lookup<'_>) -> Result<Settings, String> {
+        let provenance = read(
+            of,
+            "ZIGRUNK_PROVENANCE",
+            whole_path,
+            "a folder's absolute path, such as /home/me/statements",
+        )?;
         Ok(Settings {
             nvcc: of("ZIGRUNK_NVCC").unwrap_or_else(|| "nvcc".into()),
             cache: cache(of)?,
@@ -320,6 +346,7 @@ impl Settings {
                 for_fatbin: !switch(of, "ZIGRUNK_LATE", true)?,
             },
             records: of("ZIGRUNK_RECORDS").map(PathBuf::from),
+            provenance,
             root: read(
                 of,
                 "ZIGRUNK_ROOT",
@@ -428,7 +455,7 @@ mod tests {
         }
     }
 
-    const VARIABLES: [(&str, &str); 20] = [
+    const VARIABLES: [(&str, &str); 21] = [
         ("ZIGRUNK_NVCC", "/c/nvcc"),
         ("ZIGRUNK_CACHE", "./c"),
         ("ZIGRUNK_CACHE_SIZE", "2K"),
@@ -448,6 +475,7 @@ mod tests {
         ("ZIGRUNK_REMOTE_FALLBACK", "no"),
         ("ZIGRUNK_RECORDS", "records"),
         ("ZIGRUNK_ROOT", "/w/p/=/src"),
+        ("ZIGRUNK_PROVENANCE", "/w/s/"),
         ("ZIGRUNK_INSIDE", "/a:/b"),
     ];
 
@@ -485,6 +513,7 @@ mod tests {
             waits: Waits { for_needs: true, for_fatbin: true },
             records: Some("records".into()),
             root: Some(AskedRoot { folder: "/w/p".into(), name: "/src".into() }),
+            provenance: Some("/w/s".into()),
             inside: "/a:/b".into(),
         };
         let none = Settings { nvcc: "nvcc".into(), temporary: "/tmp".into(), ..Settings::default() };
@@ -504,6 +533,25 @@ mod tests {
                 "one that is empty is none"
             );
         });
+    }
+
+    #[test]
+    fn statements_are_of_what_runs_here_and_waits() {
+        let of = |other: &str, value: &str| {
+            Settings::of(&|asked| match asked {
+                "ZIGRUNK_PROVENANCE" => Some("/s".into()),
+                asked => (asked == other).then(|| value.into()),
+            })
+        };
+        for (other, value) in
+            [("CACHE", "yes"), ("LAUNCHER", "ccache"), ("RUNNER", "run"), ("REMOTE", "grpc://a:1")]
+        {
+            let error = of(&format!("ZIGRUNK_{other}"), value).unwrap_err();
+            assert!(error.starts_with(&format!("ZIGRUNK_PROVENANCE and ZIGRUNK_{other} cannot both be set")));
+        }
+        let waits = of("ZIGRUNK_EARLY", "1").map(|settings| settings.waits);
+        assert_eq!(waits, Ok(Waits { for_needs: true, for_fatbin: true }));
+        assert_eq!(of("ZIGRUNK_CACHE", "no").map(|settings| settings.provenance), Ok(Some("/s".into())));
     }
 
     #[test]
@@ -546,6 +594,11 @@ mod tests {
             ("ZIGRUNK_CALLS", "yes or no (or 1, 0, true, false, on, off)", "never 00"),
             ("ZIGRUNK_LAUNCHED", "some of -E cudafe++ cicc ptxas fatbinary -c", "ccic gcc CICC cicc,ptxas"),
             ("ZIGRUNK_REMOTE", "grpc://HOST:PORT or grpcs://HOST:PORT", "here a:1 http://a:1 grpc:a"),
+            (
+                "ZIGRUNK_PROVENANCE",
+                "a folder's absolute path, such as /home/me/statements",
+                "yes 1 s ./s s/ ~/s",
+            ),
         ];
         for (name, allowed, values) in cases {
             for value in values.split(' ') {

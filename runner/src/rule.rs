@@ -11,6 +11,7 @@ use machine::proved::list_of;
 use machine::rooted::{Rooting, as_written};
 use machine::streams::{called, complain, content_of, write_file};
 use machine::task::{Done, Step, Task};
+use provenance::Witness;
 use rattle_std::alloc::{AllocError, Global};
 use rattle_std::vec::Collect;
 use std::collections::BTreeSet;
@@ -43,6 +44,8 @@ pub struct RuleMaker<'a, 'b> {
     pub rooting: Option<&'a Rooting>,
     /// The dependency file that it has made.
     pub made: Option<Product>,
+    /// What observes the call, if statements are asked for.
+    pub witness: Option<Witness>,
 }
 
 impl RuleMaker<'_, '_> {
@@ -128,7 +131,10 @@ impl Watch for RuleMaker<'_, '_> {
     }
 
     fn observing(&mut self, task: usize, job: &Job) -> Option<Job> {
-        self.cache.as_mut()?.observing(task, job)
+        match &mut self.witness {
+            Some(witness) => witness.observing(task, job),
+            None => self.cache.as_mut()?.observing(task, job),
+        }
     }
 
     fn first_step(&mut self, task: usize) -> Step {
@@ -184,6 +190,7 @@ mod tests {
                 tasks: &[],
                 rooting: None,
                 made: None,
+                witness: None,
             };
             maker.make_rule().then(|| fs::read_to_string(self.0.join("k.d")).unwrap())
         }
@@ -236,6 +243,7 @@ mod tests {
             tasks: &[],
             rooting: None,
             made: None,
+            witness: None,
         };
         assert_eq!(maker.front(), Some(0));
         maker.hear(0, [b"out", b"warns"]);

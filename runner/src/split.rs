@@ -25,6 +25,7 @@ use machine::rooted::Rooting;
 use machine::settings::{Settings, own_variable};
 use machine::streams::{Said, called, complain, write_file};
 use machine::task::{Done, Task};
+use provenance::{self, Witness};
 use std::borrow::Cow;
 use std::fs;
 use std::iter;
@@ -259,7 +260,12 @@ impl Call<'_> {
         let (line, tmp, outline) = (self.line, call.tmp(), call.outline());
         let store = if outline.keep_dir.is_some() { None } else { place::store_of(self.settings, &line.cwd) };
         let mut beginning = store.as_ref().map(|_| Beginning::new(tmp, &line.cwd, &line.words));
-        let dry_runs = dry_runs_of(machine, call, beginning.as_mut().and_then(Beginning::observer))?;
+        let mut witness = Witness::of_split(self.settings, &line.cwd, tmp);
+        let observer = match &mut witness {
+            Some(witness) => witness.observer(),
+            None => beginning.as_mut().and_then(Beginning::observer),
+        };
+        let dry_runs = dry_runs_of(machine, call, observer)?;
         let root = self.settings.root.as_ref().filter(|_| self.runs_in_place());
         let rooting = root.map(|root| Rooting::of(root, &line.cwd, tmp)).transpose()?;
         let planned = self.planned(call, &dry_runs, rooting.as_ref(), store.is_some())?;
@@ -279,8 +285,18 @@ impl Call<'_> {
         let cache = store.as_ref().zip(beginning);
         let cache = cache.map(|(store, beginning)| Session::new(store, tmp, commands, tasks, beginning));
         let rooting = rooting.as_ref();
-        let mut maker =
-            RuleMaker { commands, asked, launcher, refusals, voice, cache, tasks, rooting, made: None };
+        let mut maker = RuleMaker {
+            commands,
+            asked,
+            launcher,
+            refusals,
+            voice,
+            cache,
+            tasks,
+            rooting,
+            made: None,
+            witness,
+        };
         let mut done = run::run(machine, &mut maker, tasks, self.at_once(outline))?;
         let is_made_whole = planned.complete(machine, maker.cache.as_ref(), &mut done)?;
         check_end(self.folder.is_there(), &done, tasks, &dry_runs)?;
@@ -290,18 +306,22 @@ impl Call<'_> {
         }
         let counted = before.zip(caches::counts(machine, self.settings)?).map(<[Counts; 2]>::from);
         let logged = if self.settings.log.is_some() { log::commands(tasks, &done) } else { Vec::new() };
-        let RuleMaker { voice, mut cache, made, .. } = maker;
+        let RuleMaker { voice, mut cache, made, witness, .. } = maker;
         let End { status, is_silent } = voice.end(&done);
         if status != 0 && is_silent {
             say(true, self.words_of_silence(status).as_bytes());
         }
         let record = if status == 0 { self.record(tmp, commands) } else { None };
         if let Some(cache) = cache.as_mut().filter(|_| status == 0 && !is_made_whole) {
-            let kept = cache.keep_call(&Finished { line, commands, tasks, rule: made, said });
+            let kept = cache.keep_call(&Finished { line, commands, tasks, rule: made.clone(), said });
             if let (Err(refusal), true) = (kept, self.settings.explains) {
                 complain(&format!("{}: the call is not kept as a whole: {refusal}", called()));
             }
         }
+        let status = witness.map_or(status, |witness| {
+            let rule = made.as_ref().map(|made| made.path.as_path());
+            witness.end(&provenance::Finished { line, commands, tasks, done: &done, rule }, status)
+        });
         Ok(Outcome { status, commands: logged, counted, record })
     }
 

@@ -9,13 +9,14 @@ use std::fs;
 use std::path::{Path, PathBuf};
 
 /// The crates that are written by hand, by their folders in the project. Some projects lack some of them.
-const BY_HAND: [&str; 10] = [
+const BY_HAND: [&str; 11] = [
     "call",
     "bindings/rust",
     "capi",
     "unix",
     "machine",
     "cache",
+    "provenance",
     "runner",
     "batch",
     "report",
