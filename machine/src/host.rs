@@ -732,7 +732,7 @@ mod tests {
                 ..Job::default()
             };
             start(&mut host, 4, &of_path);
-            assert_eq!(next_end(&mut host), (4, 127, "zigrunk-nvcc: sh: not found\n".into()));
+            assert_eq!(next_end(&mut host), (4, 127, "zigrunk-nvcc: cannot find sh in PATH\n".into()));
             assert!(host.running.is_empty() && host.events.is_empty() && (host.now() - now()).abs() < 60.0);
         });
     }
