@@ -9,6 +9,7 @@ checkout; a dependency file has to be nvcc's; messages may differ by the checkou
 given. The last line is 'N passed, M failed'.
 """
 import argparse
+import copy
 import os
 import random
 import re
@@ -94,6 +95,13 @@ class Checkout:
         for name, text in SOURCES.items():
             (top / "src" / name).write_text(text.replace("FOLDER", str(top)))
 
+    def linked(self, name: str) -> "Checkout":
+        """The same by a link beside it."""
+        same = copy.copy(self)
+        same.top = self.top.with_name(name)
+        same.top.symlink_to(self.top.name)
+        return same
+
     def make(self, compiler: str, call: Call, root: "str | None") -> Made:
         """Makes a call, under a root or not."""
         folder = self.top / call.folder
@@ -154,9 +162,13 @@ class Trial:
         nvccs = make(self.nvcc, usual, None)
         namesake = make(self.ours, usual._replace(source="b/k.cu"), "")
         ids = [product_ids(made.product or b"") for made in (plain, rooted, namesake)]
+        at_top = Call("a/k.cu", ["-c", "-g", "-arch=sm_80"], ".", True)
+        owns = make(self.ours, at_top, "")
+        linked = self.one.linked("one-latest").make(self.ours, at_top, "")
         return [("without a root", "" if product_ids(nvccs.product or b"") == ids[0] else f"{ids[0]}, nvcc has other ids"),
                 ("a root has ids of its own", "" if ids[0] and ids[1] and not ids[0] & ids[1] else f"{ids}"),
                 ("two sources of one name", "" if ids[2] and not ids[1] & ids[2] else f"{ids}"),
+                ("a link that the folder's name begins", "" if owns.product and owns.product == linked.product else "the products differ"),
                 ("what stands for the folder", "" if b"/src/inc/deep/h.h" in (named.product or b"") else "the product lacks /src/inc/deep/h.h")]
 
 

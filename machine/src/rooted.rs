@@ -24,6 +24,15 @@ fn kept_place(file: &Path) -> Option<PathBuf> {
     Some(file.parent()?.join(OWN).join(file.file_name()?))
 }
 
+/// The names of a checkout's folder: the user's, and the one without links. The user's is last, too, if the
+/// other begins it: gcc compares bytes, and takes the last name that begins a path.
+fn names_of(folder: &str) -> Vec<String> {
+    let real = fs::canonicalize(folder).ok().and_then(|real| real.into_os_string().into_string().ok());
+    let other = real.filter(|real| real != folder);
+    let again = other.as_ref().filter(|real| folder.starts_with(real.as_str())).map(|_| folder.to_owned());
+    [Some(folder.to_owned()), other, again].into_iter().flatten().collect()
+}
+
 /// How a call names files below a checkout's folder.
 pub struct Rooting {
     root: Root,
@@ -31,18 +40,15 @@ pub struct Rooting {
 
 impl Rooting {
     /// That of a call in this directory, whose files go to `tmp`.
-    /// Errors: memory runs out, or gcc can't be told of `tmp`, since it cuts a word at `=`.
+    /// Errors: memory runs out, or a host compiler can't be told of `tmp`: clang cuts a map at its first `=`.
     pub fn of(asked: &AskedRoot, cwd: &str, tmp: &str) -> Result<Rooting, Error> {
         if tmp.contains('=') {
             return Err(Error::to_nvcc(Reason::Machine(
                 "ZIGRUNK_ROOT cannot be used: TMPDIR has a =".into(),
             )));
         }
-        let real =
-            fs::canonicalize(&asked.folder).ok().and_then(|real| real.into_os_string().into_string().ok());
         let mut folders = Words::new(Global);
-        let others = real.filter(|real| *real != asked.folder);
-        for folder in [Some(asked.folder.clone()), others].into_iter().flatten() {
+        for folder in names_of(&asked.folder) {
             folders.push(text(&folder)?)?;
         }
         let root = Root { folders, root: held(&asked.name)?, cwd: held(cwd)?, tmp: held(tmp)? };
@@ -131,6 +137,21 @@ mod tests {
             .unwrap();
         rooting(&room.join("link/top"), &tmp).change(&file).unwrap();
         assert_eq!(fs::read_to_string(&file).unwrap(), "# 1 \"/src/a\"\n# 1 \"/src/a\"\n");
+    }
+
+    #[test]
+    fn a_name_that_the_other_begins_is_last() {
+        let room = TestFolder::new();
+        fs::create_dir(room.join("top")).unwrap();
+        for link in ["top-latest", "to"] {
+            symlink("top", room.join(link)).unwrap();
+        }
+        let path = |name: &str| room.join(name).display().to_string();
+        let cases: [(&str, &[&str]); 3] =
+            [("top", &["top"]), ("top-latest", &["top-latest", "top", "top-latest"]), ("to", &["to", "top"])];
+        for (name, names) in cases {
+            assert_eq!(names_of(&path(name)), names.iter().map(|name| path(name)).collect::<Vec<_>>());
+        }
     }
 
     #[test]

@@ -13,7 +13,7 @@ use Rattle.rooted_commands.specs.Paths.{call_in, place_of, rooted_path}
 use Rattle.rooted_commands.specs.Commands.{file_maps, rooted_command, writes_names}
 use Rattle.rooted_commands.specs.declared.paths.Root.{Root}
 
--- what is before and behind the last `=` of a text, which is the byte 61: gcc cuts a map there
+-- what is before and behind the last `=` of a text, which is the byte 61: gcc cuts a map there, clang at the first
 abbrev pub with_front : ℕ → List ℕ → Option (List ℕ × List ℕ) → Option (List ℕ × List ℕ)
 with_front c cs None = if c == 61 then Some ([], cs) else None
 with_front c cs (Some parts) = Some (c ∷ parts.0, parts.1)

@@ -11,7 +11,7 @@ use texts::words::Words;
 /// Where a checkout is, and what stands for it everywhere.
 #[derive(Debug, Drop)]
 pub struct Root {
-    /// The checkout's folder, absolute, no `/` at its end: as the user names it and free of links, each once.
+    /// The checkout's folder, absolute, no `/` at its end: as the user names it and free of links. Of those that a path is below, the first counts.
     pub folders: Words,
     /// What stands in its place, absolute, no `/` at its end.
     pub root: Text,
