@@ -1525,7 +1525,7 @@ plans() {
         refuses 'a mistyped format' 'zigrunk plan: unknown format jsn; did you mean json?' plan jsn nvcc
         refuses 'an option in place of a format' 'zigrunk plan: unexpected option --json' plan --json nvcc
         refuses 'no nvcc' 'zigrunk plan: nvcc and its words are missing' plan json --
-        prints 'a version' 'zigrunk 0.1.0' --version
+        prints 'a version' "zigrunk $(cat "$manual/../VERSION")" --version
         prints 'the same help' "$("$zigrunk" help)" --help
         prints 'the help of a word' "$("$zigrunk" plan --help)" help plan
         same 'lines and columns of the help' "$("$zigrunk" help | awk 'length > 80 || NR > 24' | wc -l)" 0

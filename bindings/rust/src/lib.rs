@@ -133,5 +133,5 @@ pub use call::{
     TextsIter, Tool, Variable, Variables, candidates, find_programs, line_records, line_words, lookups, plan, remap,
 };
 
-/// The library's version, such as `0.1.0`.
+/// The library's version, such as `0.2.0`.
 pub const VERSION: &str = env!("CARGO_PKG_VERSION");
