@@ -79,14 +79,6 @@ def with_variable(name: str, *values: str) -> Callable[[Build, random.Random], B
     return lambda build, lot: build._replace(variables={**build.variables, name: lot.choice(values).replace("TOP", str(build.top))})
 
 
-def with_script(value: str) -> Callable[[Build, random.Random], Build]:
-    """A build whose host compiler is a script from the beginning on (`prepared`), which writes this."""
-    def plant(build: Build, lot: random.Random) -> Build:
-        (build.top / "g++").write_text(SCRIPT.replace("VALUE", value.replace("NUMBER", str(lot.randrange(10**6, 10**7)))))
-        return build
-    return plant
-
-
 def moved(build: Build, lot: random.Random) -> Build:
     """A build in another folder, perhaps with whole paths."""
     top = build.top.parent / ("m" * lot.randint(1, 9))
@@ -107,8 +99,8 @@ def copied_tool(build: Build, lot: random.Random) -> Build:
 
 SHOWN = [
     Planted("a macro", with_words("-DFACTOR=2", "-DFACTOR=7", "-DFACTOR=12"), ["word"], "FACTOR"),
-    Planted("optimization", with_words("-Xptxas -O0", "-G", "-lineinfo", "-Xcompiler -O2", "-g"), ["word", "count"], ""),
-    Planted("another target", with_words("-arch=sm_80", "-arch=sm_90"), ["word", "count"], ""),
+    Planted("optimization", with_words("-Xptxas -O0", "-G", "-lineinfo", "-Xcompiler -O2", "-g"), ["word", "count"], "-"),
+    Planted("another target", with_words("-arch=sm_80", "-arch=sm_90"), ["word", "count"], "-arch=sm_"),
     Planted("words of a variable", with_variable("NVCC_APPEND_FLAGS", "-DFACTOR=3", "-DFACTOR=4"), ["word"], "FACTOR"),
     Planted("a folder of headers", with_variable("CPATH", "TOP/other"), ["variable"], "CPATH"),
     Planted("a date by a variable", with_variable("SOURCE_DATE_EPOCH", "0", "86400000"), ["variable"], "SOURCE_DATE_EPOCH"),
@@ -121,7 +113,7 @@ SHOWN = [
     Planted("the time", lambda build, lot: build, ["time"], "__TIME__"),
     Planted("a file's time", lambda build, lot: build, ["time"], "__TIMESTAMP__"),
     Planted("a path", moved, ["path"], "k.cu"),
-    Planted("an id", with_script("$$-$RANDOM$RANDOM$RANDOM"), ["tool", "id", "unknown"], ""),
+    Planted("an id", lambda build, lot: build, ["id", "unknown"], ".ii"),
     Planted("a locale", with_variable("LC_ALL", "de_DE.UTF-8", "C"), ["locale"], "LC_ALL"),
 ]
 UNSHOWN = [
@@ -203,7 +195,7 @@ class Trial:
         if planted.name in ("the time", "a file's time"):
             subprocess.run(["sleep", "1.05"], check=True)
             (first.top / "inc/deep/b.h").touch()
-        second = planted.plant(first, lot) if planted.name != "an id" else first
+        second = planted.plant(first, lot)
         other = self.make(second, room / "other")
         if one is None or other is None:
             return ["a build fails"]
@@ -217,7 +209,8 @@ class Trial:
             return ["the objects differ"]
         if len(causes) != 1 or said.returncode != 1 or len(shown.stdout.splitlines()) > 24:
             return [f"{len(causes)} causes, status {said.returncode}"]
-        named = json.dumps([causes[0]["name"], causes[0]["values"], causes[0]["place"], causes[0]["line"]])
+        of_line = ["line"] if planted.kinds == ["word", "count"] else []
+        named = json.dumps([causes[0][part] for part in ["name", "values", "place", *of_line]])
         is_named = causes[0]["kind"] in planted.kinds and planted.part in named
         return [] if is_named else [f"{causes[0]}"]
 
