@@ -45,7 +45,9 @@ import re, subprocess, sys
 print(*re.findall(r"^  ([a-z-]+)  +", subprocess.run([sys.argv[1], "help"], capture_output=True, text=True, check=True).stdout, re.MULTILINE))
 END
 )
-same 'first words' "$first" 'nvcc plan batch report cache check-node help'
+# (each has a name in this function)
+names=$(sed -n '/pub const fn name(self)/,/^    }/s/.*=> "\([a-z-]*\)",$/\1/p' "$top/driver/src/first_words.rs")
+same 'first words' "$(tr ' ' '\n' <<< "$first" | LC_ALL=C sort)" "$(LC_ALL=C sort <<< "$names")"
 offers "$first" ''
 offers "$first" help ''
 for word in $first; do
