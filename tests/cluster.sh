@@ -86,10 +86,10 @@ real() {
     same 'other calls that are missing' "$(zigrunk batch --missing list | grep -vc '^line 7:')" 0
 }
 
-# The stand-ins of the driver's tests: no work but that of zigrunk, Slurm and the shell. Each tool sleeps, so the ideal is the sleep of all commands by
-# all jobs of all nodes.
+# The stand-ins of the driver's tests: no work but that of zigrunk, Slurm and the shell. Both cicc of a call sleep as long as real ones take, so the
+# ideal is their sleep by all jobs of all nodes.
 many() {
-    local count=${CALLS:-2000} begun
+    local count=${CALLS:-2000} jobs=8 seconds=2 begun took ideal
     mkdir -p "$scratch/many" "$scratch/cuda/bin" "$scratch/cuda/nvvm/bin" && cd "$scratch/many" || return
     for tool in gcc g++ cudafe++ ptxas fatbinary; do ln -s "$here/driver/tool" "$scratch/cuda/bin/$tool"; done
     ln -s "$here/driver/tool" "$scratch/cuda/nvvm/bin/cicc"
@@ -100,14 +100,17 @@ many() {
         echo "nvcc -c k$number.cu -o k$number.o"
     done > list
     # shellcheck disable=SC2016 # the stand-ins expand it
-    export TOOL_DOES='case $name in gcc-E*) for word; do [ "$last" != -o ] || out=$word; case $word in *.cu) source=$word ;; esac; last=$word; done; cp "$source.ii" "$out"; exit ;; cicc*) sleep 0.1 ;; esac'
-    export CUDA=$scratch/cuda DATA=$here/drivers/test_plans/data/dry_runs LOG=/dev/null ZIGRUNK_LATE=0 PATH=$scratch/cuda/bin:$PATH
+    export TOOL_DOES='case $name in gcc-E*) for word; do [ "$last" != -o ] || out=$word; case $word in *.cu) source=$word ;; esac; last=$word; done; cp "$source.ii" "$out"; exit ;; cicc*) sleep 2 ;; esac'
+    export CHILDLESS=1 CUDA=$scratch/cuda DATA=$here/drivers/test_plans/data/dry_runs LOG=/dev/null ZIGRUNK_LATE=0 ZIGRUNK_JOBS=$jobs PATH=$scratch/cuda/bin:$PATH
     begun=$EPOCHREALTIME
-    lane=1 by_slurm 12
+    lane=1 by_slurm 6
     same 'status of many calls' "$?$(tail -n 3 out)" 0
+    took=$(awk "BEGIN { print $EPOCHREALTIME - $begun }") ideal=$(awk "BEGIN { print $count * $seconds * 2 / (3 * $jobs) }")
     times > "$scratch/times"
-    echo "processor of the submitting machine: $(awk -F '[ms ]+' 'NR == 2 { print 60 * ($1 + $3) + $2 + $4 }' "$scratch/times") s for $((count * 11)) commands"
-    took "$count calls on three nodes" "$(awk "BEGIN { print $EPOCHREALTIME - $begun }")" "$(awk "BEGIN { print $count * 0.1 * 2 / 6 }")"
+    awk -F '[ms ]+' -v commands=$((count * 11)) 'NR == 2 { print 1000 * (60 * ($1 + $3) + $2 + $4) / commands }' "$scratch/times" > "$scratch/each"
+    echo "processor of the submitting machine: $(cat "$scratch/each") ms for each of $((count * 11)) commands"
+    took "$count calls on three nodes" "$took" "$ideal"
+    same 'many calls take at most 1.05 of the ideal time, and 0.1 ms of processor a command' "$(awk "{ print ($took <= 1.05 * $ideal && \$1 <= 0.1) }" "$scratch/each")" 1
     same 'products of many calls' "$(find . -name 'k*.o' | wc -l)" "$count"
     begun=$EPOCHREALTIME
     zigrunk batch --missing list > missing
