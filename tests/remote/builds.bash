@@ -70,12 +70,14 @@ run() {
     fi
     if case_of 'servers run what may go in at most 1.4 of the ideal time'; then
         stand_in_tools 4
-        export TOOL_SECONDS=0 ZIGRUNK_SLOTS=24
-        project "$folder" 4001 "${CALLS:-24}"
+        # (they wait within each file that they write, too)
+        sed -i 's,time.sleep(seconds / 6),pass,' "$scratch/tools.4/scripts/tool.py"
+        export TOOL_SECONDS=0 ZIGRUNK_SLOTS=24 ZIGRUNK_JOBS=24
+        project "$folder" 4001 "${CALLS:-32}"
         begun=$EPOCHREALTIME
         build_there 4 "$folder" ZIGRUNK_REMOTE_USE=run
-        took=$(awk "BEGIN { print $EPOCHREALTIME - $begun }") ideal=$((${CALLS:-24} * 6 * 4 / 12))
-        echo "${CALLS:-24} calls by three servers of four jobs: $took s, ideal $ideal s; $(told "$folder"); load $(cut -d ' ' -f 1 /proc/loadavg)"
+        took=$(awk "BEGIN { print $EPOCHREALTIME - $begun }") ideal=$((${CALLS:-32} * 6 * 4 / 12))
+        echo "${CALLS:-32} calls by three servers of four jobs: $took s, ideal $ideal s; $(told "$folder"); load $(cut -d ' ' -f 1 /proc/loadavg)"
         same 'within 1.4 of it' "$(awk "BEGIN { print $took <= 1.4 * $ideal }")" 1
         end_case
     fi
