@@ -40,9 +40,11 @@ settle() {
 call() {
     local settings=()
     while [[ ${1-} == *=* && $1 != -* ]]; do settings+=("$1") && shift; done
-    : > "$room/log"
+    rm -f "$room"/log.* && : > "$room/log"
     env LOG="$room/log" TMPDIR="$room/tmp" XDG_RUNTIME_DIR="$room/run" "${settings[@]}" "$scratch/bin/zigrunk-nvcc" "$@" > "$room/out" 2> "$room/err"
     status=$?
+    # (a tool that ran has a file of its own for its name)
+    find "$room" -maxdepth 1 -name 'log.*' -exec cat {} + >> "$room/log"
 }
 
 # ran WHAT TOOL..: a problem, unless the last call ran these tools beside those that always run, and ended well.
@@ -50,10 +52,8 @@ ran() {
     same "tools that ran $1" "$(grep -v '^nvcc\|^gcc-E\|^fatbinary' "$room/log" | sort | tr '\n' ' ')" "$(printf '%s ' "${@:2}")"
     same "status $1" "$status" 0
 }
-all=(as cicc.80 cicc.90 cudafe++ gcc-S ptxas.80 ptxas.90)
+all=(cicc.80 cicc.90 cudafe++ gcc-c ptxas.80 ptxas.90)
 ran_all() { ran "$1" "${all[@]}"; }
-# (a compile is made in two steps where it may be kept)
-ran_uncached() { ran "$1" cicc.80 cicc.90 cudafe++ gcc-c ptxas.80 ptxas.90; }
 ran_none() { same "tools that ran $1" "$(grep -v '^nvcc\|^gcc-E\|^fatbinary' "$room/log")" '' && same "status $1" "$status" 0; }
 
 # end: counts the case. Nothing stays in the folder for temporary files.
@@ -105,7 +105,7 @@ stand_ins() {
         same 'product that was removed' "$(cmp k.o first.o 2>&1)" ''
         same messages "$(cat "$room/err" "$room/out")" ''
         call ZIGRUNK_CACHE= -c k.cu -o other.o
-        ran_uncached 'without the cache'
+        ran_all 'without the cache'
         same 'product without the cache' "$(cmp other.o first.o 2>&1)" ''
         end
     fi
@@ -157,7 +157,7 @@ stand_ins() {
             same "status of the compiler, try $try" "$status $(cat "$room/err")" '4 no gcc-c'
         done
         call -c k.cu -o k.o
-        ran 'at last' as gcc-S
+        ran 'at last' gcc-c
         end
     fi
     if case_of 'a tool of the same size and time'; then
@@ -171,7 +171,7 @@ stand_ins() {
             bin/ptxas) ran "with another $tool" ptxas.80 ptxas.90 ;;
             nvvm/bin/cicc) ran "with another $tool" cicc.80 cicc.90 ;;
             bin/cudafe++) ran "with another $tool" cudafe++ ;;
-            *) ran "with another $tool" as gcc-S ;;
+            *) ran "with another $tool" gcc-c ;;
             esac
             cp -p "$room/kept" "$CUDA/$tool"
             call -c k.cu -o k.o
@@ -183,7 +183,7 @@ stand_ins() {
         call -c k.cu -o k.o
         mkdir "$room/bin" && cp "$CUDA/bin/as" "$room/bin" && echo >> "$room/bin/as"
         call OWN_FORM="s,^\(#. PATH=\),\1$room/bin:," KEPT_FORM="s,^\(#. PATH=\),\1$room/bin:," -c k.cu -o k.o
-        ran 'with another' as gcc-S
+        ran 'with another' gcc-c
         end
     fi
     if case_of 'scripts as tools'; then
@@ -288,7 +288,7 @@ stand_ins() {
     if case_of 'environments'; then
         call -c k.cu -o k.o
         call LANG=xx -c k.cu -o k.o
-        ran 'with another language' as gcc-S
+        ran 'with another language' gcc-c
         call DEPENDENCIES_OUTPUT="$room/deps" -c k.cu -o k.o
         ran_none 'with DEPENDENCIES_OUTPUT, since nvcc makes the call'
         call LD_PRELOAD="" -c k.cu -o k.o
@@ -355,10 +355,10 @@ stand_ins() {
     if case_of 'what is not asked for'; then
         for value in '' no OFF 0; do
             call ZIGRUNK_CACHE=$value -c k.cu -o k.o
-            ran_uncached "with '$value'"
+            ran_all "with '$value'"
         done
         call ZIGRUNK_EXPLAIN=1 ZIGRUNK_LAUNCHER=env -c k.cu -o k.o
-        ran_uncached 'with a launcher'
+        ran_all 'with a launcher'
         same 'messages with a launcher' "$(cat "$room/err")" "zigrunk-nvcc: ZIGRUNK_CACHE doesn't count beside ZIGRUNK_LAUNCHER, ZIGRUNK_RUNNER or ZIGRUNK_REMOTE"
         same 'the folder' "$([ -e "$room/cache" ] || echo none)" none
         call ZIGRUNK_CACHE=yes XDG_CACHE_HOME="$room/users" -c k.cu -o k.o
@@ -382,6 +382,17 @@ stand_ins() {
         same 'hits in the log' "$(grep -o '"hit":[a-z]*' "$room/calls" | sort | uniq -c | tr -s ' \n' ' ')" ' 6 "hit":false 6 "hit":true '
         same 'hits in the report' "$("$scratch/bin/zigrunk-report" "$room/calls" | grep -ci hit)" "$("$scratch/bin/zigrunk-report" "$room/calls" | grep -i hit | grep -c .)"
         same counts "$("$scratch/bin/zigrunk-cache" stats | sed -n '/^hits/p; /^misses/p; /^folder/p')" "folder: $room/cache"$'\nhits: 6 (50 %)\nmisses: 6'
+        same verify "$("$scratch/bin/zigrunk-cache" verify) $?" "$(find "$room/cache" -path '*/??/[0-9a-f]*' | wc -l) entries, 0 damaged 0"
+        local entry
+        entry=$(find "$room/cache" -path '*/??/[0-9a-f]*' | sort | head -1)
+        cp "$entry" "$room/kept" && echo >> "$entry"
+        same 'verify with a damaged entry' "$("$scratch/bin/zigrunk-cache" verify 2> "$room/err" > "$room/out"; echo "$?") $(cat "$room/err")" "1 zigrunk cache: $entry is damaged"
+        cp "$room/kept" "$entry"
+        # help, the manual and completions have the same words
+        for word in $("$scratch/bin/zigrunk-cache" --words); do
+            same "$word in help" "$("$scratch/bin/zigrunk-cache" --help | grep -c "^  $word")" 1
+            same "$word in the manual" "$(sed -n '/^.SH SYNOPSIS/,/^.SH DESC/p' "$tests/../man/zigrunk-cache.1" | grep -c "^.B zigrunk cache $word$")" 1
+        done
         "$scratch/bin/zigrunk-cache" limit 1G
         call -c k.cu -o k.o
         ran_none 'within the limit'
@@ -390,7 +401,7 @@ stand_ins() {
         ran_all 'after limit 0'
         "$scratch/bin/zigrunk-cache" clear
         same 'after clear' "$("$scratch/bin/zigrunk-cache" stats | grep -c '^\(entries\|hits\|misses\): 0$')" 3
-        for words in '' odd 'limit odd' 'limit 1 2' 'stats x'; do
+        for words in '' odd 'limit odd' 'limit 1 2' 'stats x' show 'verify x'; do
             # shellcheck disable=SC2086 # several words, or none
             "$scratch/bin/zigrunk-cache" $words > "$room/out" 2> "$room/err"
             same "wrong usage with '$words'" "$? $(wc -l < "$room/err")" "$([ "$words" = 'limit odd' ] && echo '1 1' || echo '2 2')"
@@ -398,19 +409,19 @@ stand_ins() {
         end
     fi
     if case_of 'a library that comes while a call runs, and is taken away behind it or before its end'; then
-        local library takes='[ "$name" != as ] || rm "$PLACE/libc.so.6"'
+        local library takes='[ "$name" != gcc-c ] || rm "$PLACE/libc.so.6"'
         library=$(ldd "$CUDA/bin/gcc" | sed -n 's/.*libc.so.6 => \([^ ]*\).*/\1/p')
         mkdir "$CUDA/lib"
-        # comes_and_goes FOLDER COMMAND: what is kept if a library comes there while gcc compiles, and what the assembler does.
+        # comes_and_goes FOLDER COMMAND: what is kept if a library comes there while gcc compiles, and what it does then.
         comes_and_goes() {
             rm -rf "$room/cache"
             settle
-            call LIBRARY="$library" PLACE="$1" TOOL_DOES='[ "$name" != gcc-S ] || cp "$LIBRARY" "$PLACE"; '"$2" -c k.cu -o k.o
+            call LIBRARY="$library" PLACE="$1" TOOL_DOES='[ "$name" != gcc-c ] || dd if="$LIBRARY" of="$PLACE/libc.so.6" status=none; '"$2" -c k.cu -o k.o
             ran_all "with one in $1 that $2"
             rm -f "$1/libc.so.6"
             settle
             call -c k.cu -o k.o
-            ran "once it's gone from $1, $2" as gcc-S
+            ran "once it's gone from $1, $2" gcc-c
             call -c k.cu -o k.o
             ran_none "later, with $1, $2"
         }
@@ -457,7 +468,7 @@ late() {
         ran_all 'without the cache'
         same 'product without the cache' "$(cmp k.o first.o 2>&1)" ''
         call ZIGRUNK_LATE=0 -c k.cu -o k.o
-        ran 'as one command' as gcc-S
+        ran 'as one command' gcc-c
         end
     fi
     if case_of 'late: what a change runs again'; then
@@ -486,6 +497,9 @@ late() {
             call -c k.cu -o k.o
             case $tool in
             bin/ptxas) ran "with another $tool" ptxas.80 ptxas.90 ;;
+            bin/as) ran "with another $tool" as ;;
+            # (what gcc compiles is the same text, which needs no assembler again)
+            bin/cc1plus) ran "with another $tool" gcc-S ;;
             *) ran "with another $tool" as gcc-S ;;
             esac
             cp -p "$room/kept" "$CUDA/$tool"
@@ -524,11 +538,21 @@ late() {
         end
     fi
     if case_of 'late: what the assembler reads beside'; then
-        for line in '.incbin "data"' '.INCLUDE "data"' '.macro m x'; do
-            echo "$line" > k.cu
-            for _ in 1 2; do call -c k.cu -o k.o; done
-            ran "again with $line" as
+        echo '.incbin "data"' > k.cu
+        for text in one two one; do
+            echo "$text" > data
+            settle
+            call -c k.cu -o k.o
+            if [ -e "$room/$text" ]; then
+                ran_none "with $text again"
+            elif [ "$text" = one ]; then
+                ran_all "with $text"
+            else
+                ran "with $text" as
+            fi
+            cp k.o "$room/$text"
         done
+        same 'another product' "$(cmp -s "$room/one" "$room/two"; echo $?)" 1
         end
     fi
     if case_of 'cicc begins beside cudafe++ if the cache has nothing for it'; then
@@ -642,6 +666,12 @@ real_calls() {
         sed -i 's/= 4/= 5/' k.cu
         made "${two[@]}" -Iinc -c k.cu -o k.o
         same 'a kernel' "$served" "$host"
+        # what reads only what is as it was isn't run again: ptxas if the PTX is, the host compiler if the fatbin, the stub file and the source are
+        for edit in 's/= 5/= 2 + 3/' 's/float\* values) { values/float* numbers) { numbers/'; do
+            sed -i "$edit" k.cu
+            made "${two[@]}" -Iinc -c k.cu -o k.o
+            same "what runs after $edit, which reaches nothing" "$missed" 'cicc-compute_75 cicc-compute_80 cudafe++'
+        done
         made "${two[@]}" -gencode arch=compute_90,code=sm_90 -Iinc -c k.cu -o k.o
         same 'a further target' "$served" "cicc-compute_75 cicc-compute_80 cudafe++ ${host/800/900} ptxas-sm_75 ptxas-sm_80"
         end
@@ -726,12 +756,16 @@ real_calls() {
         for form in '.incbin \"data\"' '.INCBIN \"data\"' 'nop; .inc/**/bin \"data\"' '\n.macro m x\n.inc\\x \"data\"\n.endm\nm bin'; do
             printf '%s\n' "asm(\".globl mine\\nmine: $form\\n\");" >> k.cu
             for late in 0 1; do
-                for text in one two; do
+                for text in one two one; do
                     echo "$text" > data
+                    settle
                     made ZIGRUNK_LATE=$late -arch=sm_80 -Iinc -c k.cu -o k.o
-                    same "host compile with $form, ZIGRUNK_LATE=$late" "$(grep -o gcc--c <<< "$served")" ''
+                    same "assembler with $form, ZIGRUNK_LATE=$late" "$([ -e "$room/$late.$text" ] || grep -o gcc--c <<< "$served")" ''
+                    touch "$room/$late.$text"
                 done
+                same "what was served with $form again" "$missed" ''
             done
+            rm "$room"/[01].{one,two}
             sed -i '$d' k.cu
         done
         for word in -fstack-usage -save-temps -fcallgraph-info -fsave-optimization-record; do
@@ -772,9 +806,10 @@ real_calls() {
             touch -d '1 minute ago' k.cpp
             for text in one two; do
                 echo "$text" > data
+                settle
                 made -c k.cpp -o k.o
+                same "served with $name and $text" "$served" ''
             done
-            same "served with $name" "$served" ''
         done
         echo 'struct S { void f() {}; };' > k.cpp && touch -d '1 minute ago' k.cpp
         for form in '' fixits-v1; do made GCC_EXTRA_DIAGNOSTIC_OUTPUT=$form -Xcompiler -Wextra-semi -c k.cpp -o k.o; done
@@ -887,7 +922,14 @@ whole_calls() {
     if case_of 'whole: an unchanged call'; then
         project
         twice -MD -MF k.d "${usual[@]}"
-        same 'whole calls in the statistics' "$("$scratch/bin/zigrunk-cache" stats | grep '^whole')" 'whole calls: 1'
+        same 'calls in the statistics' "$("$scratch/bin/zigrunk-cache" stats | grep ' calls: ')" $'whole calls: 1\nother calls: 1'
+        # what the cache says of the call, by its words and by its key
+        env LOG="$room/log" "$scratch/bin/zigrunk-cache" show nvcc -MD -MF k.d "${usual[@]}" > "$room/shown"
+        same 'what the call depends on' "$(grep -c '^file [0-9a-f]* \(k.cu\|inc/size.h\|.*/cicc\)$' "$room/shown") $(grep -c '^lacking early' "$room/shown")" '3 1'
+        "$scratch/bin/zigrunk-cache" show "$(sed -n 's/^key //p' "$room/shown")" > "$room/out"
+        same 'what its key has' "$(cmp "$room/out" "$room/shown" 2>&1)" ''
+        env LOG="$room/log" "$scratch/bin/zigrunk-cache" show nvcc -c none.cu 2> "$room/err"
+        same 'of an unknown call' "$? $(cat "$room/err")" '1 zigrunk cache: the cache has nothing for that'
         whole '' ZIGRUNK_CALLS=0 -MD -MF k.d "${usual[@]}"
         (umask 077 && rm k.o && call -MD -MF k.d "${usual[@]}")
         same 'modes with umask 077' "$(stat -c %a k.o)" 600
@@ -969,6 +1011,13 @@ whole_calls() {
             done
             same "that $words count" "$(cmp -s 5.o 6.o; echo $?)" 1
         done
+        printf '%s\n' 'asm(".globl m\nm: .incbin \"data\"\n");' >> k.cu
+        echo one > data
+        twice "${usual[@]}"
+        echo two > data
+        twice "${usual[@]}"
+        echo one > data
+        whole whole "${usual[@]}"
         end
     fi
     if case_of 'whole: messages and failures'; then
@@ -1428,7 +1477,7 @@ END_OF_SCRIPT
     if case_of 'whole: what is never kept'; then
         project
         echo data > data
-        for line in 'const char* d = __DATE__;' 'const char* t = __TIME__;' 'const char* s = __TIMESTAMP__;' 'asm(".globl m\nm: .incbin \"data\"\n");' \
+        for line in 'const char* d = __DATE__;' 'const char* t = __TIME__;' 'const char* s = __TIMESTAMP__;' \
             '#pragma GCC dependency "data"' '_Pragma("GCC dependency \"data\"")' 'const char* d = OF(__DATE__);' 'PRAGMA(GCC CAT(depend, ency) "data")' \
             'PRAGMA(GCC_NAME dependency "data")'; do
             printf '%s\n' 'int one() { return 1; }' '#define TEXT(x) #x' '#define OF(x) TEXT(x)' '#define CAT(a, b) a##b' '#define PRAGMA_OF(x) _Pragma(#x)' \

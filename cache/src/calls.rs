@@ -67,7 +67,7 @@ const FREE_BEGINNINGS: [&str; 9] = ["CCACHE_", "CMAKE_", "DBUS_", "GITHUB_", "SL
 /// The one among these that counts: products are others under a root.
 const COUNTING: &[u8] = b"ZIGRUNK_ROOT";
 
-/// Whether nothing of what a call makes depends on a variable, unless a process asks for it.
+/// Whether nothing of what a call makes depends on a variable, unless a process asks for it. All others are in its key.
 pub fn is_free(name: &OsStr) -> bool {
     let name = name.as_bytes();
     if name == COUNTING {
@@ -82,11 +82,6 @@ const HARMLESS: [&str; 6] = ["COLUMNS", "GCC_COLORS", "MAKEFLAGS", "PWD", "TERM"
 /// Whether nothing that tools make depends on a variable, though they ask for it.
 pub fn is_harmless(name: &OsStr) -> bool {
     HARMLESS.iter().any(|harmless| name == *harmless)
-}
-
-/// Whether a variable counts that isn't in a call's key, if a process has asked for it.
-pub fn counts_if_asked(name: &OsStr) -> bool {
-    is_free(name) && !is_harmless(name)
 }
 
 /// Whether a text has the name of a variable that isn't in a call's key: a script may use any without asking.
@@ -168,43 +163,39 @@ pub fn serve(store: &Store, line: &NvccLine, nvcc: &Path) -> Option<Said> {
     if has_room { keys(line, nvcc).iter().find_map(|key| serve_by(store, key, cwd)) } else { None }
 }
 
-/// What the store has of a call with this key, and what the call depends on now. Says too whether other sources have taken the place of some.
-fn found(store: &Store, key: &Digest, manifest: &Manifest, cwd: &Path) -> Option<(Answer, Manifest, bool)> {
-    let answer = |of: &Manifest| stored::of_bytes::<Answer>(&store.read(&of.digest(key))?);
-    let now = manifest.again(cwd)?;
-    if let Some(answer) = answer(&now) {
-        return answer.may_be_said().then_some((answer, now, false));
+/// What the store has of a call with this key, and what the call depends on now. If that are other sources that stand for those, it's kept.
+fn found(store: &Store, key: &Digest, cwd: &Path) -> Option<Answer> {
+    let earlier = Manifest::read(store, key)?;
+    let now = earlier.again(cwd)?;
+    if let Some(answer) = now.answer(store, key) {
+        now.improve(store, key, &earlier);
+        return Some(answer).filter(Answer::may_be_said);
     }
-    let now = manifest.alike(&now, cwd)?;
-    let answer = answer(manifest).filter(Answer::is_silent)?;
-    Some((answer, now, true))
+    let now = earlier.alike(&now, cwd)?;
+    let answer = earlier.answer(store, key).filter(Answer::is_silent)?;
+    let _ = now.keep(store, key, &answer);
+    Some(answer)
+}
+
+/// What the store has of a call: its keys, and what the call depends on.
+pub fn known(store: &Store, line: &NvccLine, nvcc: &Path) -> Vec<(Digest, Manifest)> {
+    keys(line, nvcc).into_iter().filter_map(|key| Some((key, Manifest::read(store, &key)?))).collect()
 }
 
 fn serve_by(store: &Store, key: &Digest, cwd: &Path) -> Option<Said> {
-    let manifest: Manifest = stored::of_bytes(&store.read(key)?)?;
-    let (answer, now, is_alike) = found(store, key, &manifest, cwd)?;
+    let answer = found(store, key, cwd)?;
     // (what is to be written to may not be writable: then nothing else is made either)
     let (made, written): (Vec<&Product>, Vec<&Product>) = answer.products.iter().partition(|product| product.is_new);
     for product in written.into_iter().chain(made) {
         put(product.is_new, &cwd.join(&product.path), &product.text).ok()?;
     }
-    if is_alike {
-        let _ = write(store, key, &now, &answer);
-    } else if now.is_better_than(&manifest) {
-        let _ = store.write(key, &stored::to_bytes(&now));
-    }
     Some(answer.said)
-}
-
-/// Keeps the answer of a call that depends on files as they are in a manifest.
-fn write(store: &Store, key: &Digest, manifest: &Manifest, answer: &Answer) -> io::Result<()> {
-    store.write(&manifest.digest(key), &stored::to_bytes(answer)).and_then(|()| store.write(key, &stored::to_bytes(manifest)))
 }
 
 /// Keeps what a call has made, if the store can be written.
 pub fn keep(store: &Store, line: &NvccLine, nvcc: &Path, folder_counts: bool, manifest: &Manifest, answer: &Answer) {
     let key = keys(line, nvcc)[usize::from(folder_counts)];
-    let _ = write(store, &key, manifest, answer);
+    let _ = manifest.keep(store, &key, answer);
 }
 
 /// Variables by which messages differ, and those that count on a terminal alone.

@@ -8,7 +8,7 @@ const NAME: &str = "counts-";
 /// A file that is longer becomes one line.
 const LONGEST: u64 = 1 << 20;
 
-/// Commands that the cache had, those that it was asked for and hadn't, and calls that it had as a whole.
+/// Commands that the cache had, those that it was asked for and hadn't, and the same of calls as a whole.
 #[derive(Clone, Copy, PartialEq, Eq, Debug, Default)]
 pub struct Counts {
     /// Commands that the cache had.
@@ -17,24 +17,29 @@ pub struct Counts {
     pub misses: u64,
     /// Calls that it had as a whole.
     pub calls: u64,
+    /// Calls that it hadn't.
+    pub others: u64,
 }
 
 impl Counts {
     fn plus(self, other: Counts) -> Counts {
-        Counts { hits: self.hits + other.hits, misses: self.misses + other.misses, calls: self.calls + other.calls }
+        let Counts { hits, misses, calls, others } = self;
+        Counts { hits: hits + other.hits, misses: misses + other.misses, calls: calls + other.calls, others: others + other.others }
     }
 
     fn line(self) -> String {
-        format!("{} {} {}\n", self.hits, self.misses, self.calls)
+        format!("{} {} {} {}\n", self.hits, self.misses, self.calls, self.others)
     }
 }
 
-/// The counts of a line; none if it has another form. Lines without a third number are of earlier versions.
+/// The counts of a line; none if it has another form. Lines with fewer numbers are of earlier versions.
 fn counts_in(line: &str) -> Counts {
     let numbers: Option<Vec<u64>> = line.split(' ').map(|number| number.parse().ok()).collect();
     match numbers.as_deref() {
-        Some(&[hits, misses]) => Counts { hits, misses, calls: 0 },
-        Some(&[hits, misses, calls]) => Counts { hits, misses, calls },
+        Some(&[hits, misses, ref calls @ ..]) if calls.len() <= 2 => {
+            let of = |place: usize| calls.get(place).copied().unwrap_or_default();
+            Counts { hits, misses, calls: of(0), others: of(1) }
+        }
         _ => Counts::default(),
     }
 }
@@ -87,7 +92,7 @@ mod tests {
     fn counts_add_up() {
         let room = TestFolder::new();
         let folder = room.join("cache");
-        let counts = |hits, misses| Counts { hits, misses, calls: 0 };
+        let counts = |hits, misses| Counts { hits, misses, ..Counts::default() };
         add(&folder, counts(1, 2));
         assert_eq!(of(&folder), counts(0, 0), "no folder");
         fs::create_dir_all(&folder).unwrap();
@@ -95,13 +100,14 @@ mod tests {
         assert_eq!(fs::read_dir(&folder).unwrap().count(), 0);
         add(&folder, counts(1, 2));
         add(&folder, counts(30, 0));
-        fs::write(folder.join("counts-other"), "5 7\nodd\n1 x\n1 2 3 4\n").unwrap();
+        fs::write(folder.join("counts-other"), "5 7\nodd\n1 x\n1 2 3 4 5\n").unwrap();
         assert_eq!(of(&folder), counts(36, 9));
         add(&folder, Counts { calls: 4, ..counts(0, 0) });
-        assert_eq!(of(&folder), Counts { calls: 4, ..counts(36, 9) });
+        fs::write(folder.join("counts-earlier"), "0 0 1\n0 0 0 2\n").unwrap();
+        assert_eq!(of(&folder), Counts { calls: 5, others: 2, ..counts(36, 9) });
         fs::write(file(&folder), "1 1\n".repeat(300_000)).unwrap();
         add(&folder, counts(1, 1));
-        assert_eq!((of(&folder), fs::metadata(file(&folder)).unwrap().len()), (counts(300_006, 300_008), 16));
+        assert_eq!((of(&folder), fs::metadata(file(&folder)).unwrap().len()), (Counts { calls: 1, others: 2, ..counts(300_006, 300_008) }, 18));
         clear(&folder);
         assert_eq!(of(&folder), counts(0, 0));
     }

@@ -1,6 +1,7 @@
 //! Digests: BLAKE3 with 32 bytes.
 use serde::{Deserialize, Serialize};
 use std::fmt::{self, Display, Formatter};
+use std::str::FromStr;
 
 /// A digest. It is shown in hexadecimal digits.
 #[derive(Clone, Copy, PartialEq, Eq, Debug, Serialize, Deserialize)]
@@ -10,6 +11,20 @@ impl Digest {
     /// The digest of a text.
     pub fn of(text: &[u8]) -> Digest {
         Digest(blake3::hash(text).into())
+    }
+}
+
+impl FromStr for Digest {
+    type Err = ();
+
+    /// A digest by its hexadecimal digits, of which it has 64.
+    fn from_str(text: &str) -> Result<Digest, ()> {
+        let mut bytes = [0; 32];
+        let is_digits = text.len() == 64 && text.bytes().all(|byte| byte.is_ascii_hexdigit());
+        for (place, byte) in bytes.iter_mut().enumerate().filter(|_| is_digits) {
+            *byte = u8::from_str_radix(&text[2 * place..2 * place + 2], 16).map_err(drop)?;
+        }
+        is_digits.then_some(Digest(bytes)).ok_or(())
     }
 }
 
@@ -57,5 +72,14 @@ mod tests {
         let long = [7; 300];
         assert_eq!(of(&[&long[..100], &[], &long[100..]], Hasher::update), Digest::of(&long));
         assert_ne!(of(&[b"ab", b"c"], Hasher::add), of(&[b"a", b"bc"], Hasher::add));
+    }
+
+    #[test]
+    fn a_digest_is_read_back() {
+        let digest = Digest::of(b"text");
+        assert_eq!(digest.to_string().parse(), Ok(digest));
+        for text in ["", "0", &"g".repeat(64), &"0".repeat(63), &"0".repeat(65), &"+0".repeat(32)] {
+            assert_eq!(text.parse::<Digest>(), Err(()), "{text}");
+        }
     }
 }

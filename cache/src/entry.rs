@@ -1,6 +1,5 @@
 //! What the cache keeps of a command.
 use crate::digest::Digest;
-use crate::manifest::Manifest;
 use crate::marked::Marked;
 use serde::{Deserialize, Serialize};
 
@@ -23,8 +22,6 @@ pub struct Entry {
     pub shown: Vec<(Vec<u8>, Digest)>,
     /// The kind of terminal for which its messages are; empty if for none.
     pub terminal: Vec<u8>,
-    /// What the command depended on beside its texts, if it was observed.
-    pub inputs: Option<Manifest>,
 }
 
 impl Entry {
@@ -46,7 +43,6 @@ mod tests {
             errors: Marked::of(b"k.cu:1: warning", b""),
             shown: vec![(b"k.cu".to_vec(), Digest::of(b"text"))],
             terminal: b"xterm".to_vec(),
-            inputs: Some(Manifest { places: vec![("a".into(), "b".into())], ..Manifest::default() }),
         }
     }
 

@@ -2,62 +2,8 @@
 use machine::bytes::{contains, find, pairs};
 use std::collections::BTreeSet;
 
-/// By these an assembler reads further files.
-const DIRECTIVES: [&[u8]; 2] = [b"incbin", b".include"];
-/// What may hide a directive: the assembler's macros, its comments, and a mode in which directives have no dot.
-const HIDING: [&[u8]; 4] = [b".macro", b".irp", b".mri", b"/*"];
-/// What a compiler's line begins with that is a string alone.
-const STRINGS: [&[u8]; 2] = [b"\t.string\t\"", b"\t.ascii\t\""];
-/// What a preprocessor writes behind the `#` of a line, beside line markers.
-const PASSED: [&[u8]; 2] = [b"pragma ", b"ident "];
-
 /// The words by which a text sees its lines.
 const LINE_WORDS: [&[u8]; 5] = [b"__LINE__", b"__builtin_LINE", b"__builtin_FILE", b"__builtin_COLUMN", b"source_location"];
-
-/// A text in small letters without what may stand between the parts of a directive.
-fn joined(text: &[u8]) -> Vec<u8> {
-    let parts = text.iter().filter(|byte| !matches!(byte, b'"' | b'\\' | b' ' | b'\t' | b'\n'));
-    parts.map(u8::to_ascii_lowercase).collect()
-}
-
-/// Whether a line of assembler text is a string alone, with each quote in it behind a backslash.
-fn is_string(line: &[u8]) -> bool {
-    let inside = STRINGS.iter().find_map(|begin| line.strip_prefix(*begin)?.strip_suffix(b"\""));
-    let is_quoted = |inside: &[u8]| inside.iter().rev().take_while(|&&byte| byte == b'\\').count() % 2 == 1;
-    inside.is_some_and(|inside| !is_quoted(inside) && pairs(inside, b'"', b'"', 0).all(|quote| is_quoted(&inside[..quote])))
-}
-
-/// Whether an assembler that reads this text may read a file beside one that it's known to include once.
-pub fn assembler_reads_more(text: &[u8], included: Option<&str>) -> bool {
-    let own = included.map(|file| format!(".include \"{file}\""));
-    let begin = own.as_ref().map(|own| find(text, own.as_bytes()));
-    let parts = match (own, begin) {
-        (Some(own), Some(Some(begin))) => [&text[..begin], &text[begin + own.len()..]],
-        (Some(_), _) => return true,
-        (None, _) => [text, b""],
-    };
-    let others = parts.map(|part| part.split(|&byte| byte == b'\n').filter(|line| !is_string(line)).map(joined).collect::<Vec<_>>().concat());
-    others.iter().any(|text| DIRECTIVES.iter().chain(&HIDING).any(|word| contains(text, word)))
-}
-
-/// Whether nothing but blanks, or a comment's end, stands between a place and the begin of its line.
-fn begins_line(text: &[u8], place: usize) -> bool {
-    let is_blank = |byte: &u8| matches!(byte, b' ' | b'\t' | b'\r' | 0x0b | 0x0c | 0);
-    let before = text[..place].iter().rposition(|byte| !is_blank(byte)).map_or(&b""[..], |last| &text[..=last]);
-    before.is_empty() || before.ends_with(b"\n") || before.ends_with(b"*/")
-}
-
-/// Whether a line of a preprocessed text may be a directive to the front end that reads it, which then may include a file. A preprocessor leaves
-/// line markers and pragmas, and puts a blank before a `#` that a macro stood for.
-pub fn has_directive(text: &[u8]) -> bool {
-    let is_passed = |place: usize| {
-        let rest = &text[place + 1..];
-        let is_marker = rest.first() == Some(&b' ') && rest.get(1).is_some_and(u8::is_ascii_digit);
-        (place == 0 || text[place - 1] == b'\n') && (is_marker || PASSED.iter().any(|word| rest.starts_with(word)))
-    };
-    let signs = pairs(text, b'#', b'#', 0).filter(|&place| !is_passed(place));
-    signs.chain(pairs(text, b'%', b':', 1)).chain(pairs(text, b'?', b'=', 2)).any(|place| begins_line(text, place))
-}
 
 /// The line markers of a text, each with its place.
 fn markers(text: &[u8]) -> impl Iterator<Item = (usize, &[u8])> {
@@ -180,29 +126,6 @@ mod tests {
     use super::*;
 
     #[test]
-    fn directives_of_an_assembler_are_found() {
-        let cases = [
-            ("\t.text\n#APP\n\tnop\n#NO_APP\n", false),
-            ("\t.incbin \"data\"\n", true),
-            ("\tnop; .INCBIN \"data\"\n", true),
-            ("\t.inc/**/bin \"data\"\n", true),
-            ("\t.include \"x\"\n", true),
-            ("\t.macro m x\n\t.inc\\x \"data\"\n\t.endm\n\tm bin\n", true),
-            ("\t.irp x,bin\n\t.inc\\x \"data\"\n\t.endr\n", true),
-            ("\t.mri 1\n include data\n", true),
-            ("\t.ident\t\"a\"\n\t.data\n\t.incbin \"data.bin\"\n", true),
-            ("\t.string\t\".include \\\"x\\\" /* \"\n\t.ascii\t\"a\\\\\"\n", false),
-            ("\t.string\t\"a\"; .incbin \"data\"\n", true),
-            ("\t.string\t\"a\\\\\"; .incbin \\\"data\"\n", true),
-            ("\t.string\t\".incbin\\\"\n", true),
-            ("\t.string \".incbin\"\n", true),
-        ];
-        for (text, wanted) in cases {
-            assert_eq!(assembler_reads_more(text.as_bytes(), None), wanted, "{text}");
-        }
-    }
-
-    #[test]
     fn a_source_may_compare_times() {
         let cases = [
             ("#pragma GCC dependency \"data\"\n", true),
@@ -219,44 +142,6 @@ mod tests {
         ];
         for (text, wanted) in cases {
             assert_eq!(compares_times(text.as_bytes()), wanted, "{text}");
-        }
-    }
-
-    #[test]
-    fn what_a_macro_has_become_may_be_a_directive() {
-        let cases = [
-            ("# 1 \"k.cu\"\n# 1 \"a.h\" 1\n#pragma once\n#ident \"x\"\nint a;\n", false),
-            ("# 1 \"k.cu\"\n # include \"/x.h\"\n", true),
-            (" # 1 \"k.cu\"\n", true),
-            ("#include \"/x.h\"\n", true),
-            ("#  1 \"k.cu\"\n", true),
-            ("int a;\n\t\x0b #if x\n", true),
-            ("/* x */ # include \"/x.h\"\n", true),
-            ("%:include \"/x.h\"\n", true),
-            ("\n  ??=include \"/x.h\"\n", true),
-            ("int a = 5 % b; int c<:2:>; char* s = \"#\"; f(#); g(%:);\n", false),
-            ("int a = x ? ?= 1 : 2;\n", false),
-            ("", false),
-        ];
-        for (text, wanted) in cases {
-            assert_eq!(has_directive(text.as_bytes()), wanted, "{text}");
-        }
-    }
-
-    #[test]
-    fn an_assembler_may_include_one_file() {
-        let cases = [
-            ("\t.text\n\t.include \"/t/f.s\"\n", false),
-            ("\t.text\n", true),
-            ("\t.include \"/t/f.s\"\n\t.include \"/t/f.s\"\n", true),
-            ("\t.include \"/t/f.s\"\n\t.InC/**/bin \"data\"\n", true),
-            ("\t.include \"/t/f.s\"\n\t.incbin \"data\"\n", true),
-            ("\t.MACRO m x\n\t.include \"/t/f.s\"\n", true),
-            ("\t.include \"/t/other.s\"\n", true),
-            ("\t.include \"/t/f.s\"\n\t.string \"include\"\n", false),
-        ];
-        for (text, wanted) in cases {
-            assert_eq!(assembler_reads_more(text.as_bytes(), Some("/t/f.s")), wanted, "{text}");
         }
     }
 

@@ -1,8 +1,8 @@
 //! What processes depended on, made of what was observed: each file that they read, each place where they looked in vain, and where links led.
-use crate::calls::{counts_if_asked, names_free_variable};
+use crate::calls::{is_free, is_harmless, names_free_variable};
 use crate::digest::Digest;
 use crate::host_text::compares_times;
-use crate::manifest::{Form, Listed, Manifest, Seen, Vain, Variable, real_place};
+use crate::manifest::{Form, Listed, Manifest, Seen, Vain, Variable, Variables, real_place};
 use crate::observed::{Gap, Observed, Sight};
 use crate::stamps::{MARGIN, Stamp, is_older};
 use crate::tool::Tools;
@@ -21,6 +21,8 @@ use unix::Watch;
 
 /// Where programs bring their headers: these don't change by an edit, so each of their bytes may count.
 const INSTALLED: &str = "/usr";
+/// What a script begins with.
+const SCRIPT: &[u8] = b"#!";
 /// No script or list of settings is longer.
 const LONGEST_SCRIPT: u64 = 1 << 20;
 
@@ -61,6 +63,8 @@ pub struct Memory {
     watches: Vec<Watch>,
     /// The texts that are known, with what their processes saw.
     known: BTreeMap<PathBuf, (Stamp, Seen)>,
+    /// The same of other files, and their digests.
+    digests: BTreeMap<PathBuf, (Stamp, Digest)>,
 }
 
 impl Memory {
@@ -68,7 +72,7 @@ impl Memory {
     pub fn new(cwd: &Path, words: &[String]) -> Memory {
         let named = words.iter().filter_map(|word| Path::new(word).parent());
         let folders: BTreeSet<PathBuf> = named.map(|folder| cwd.join(folder)).chain([cwd.to_owned()]).collect();
-        Memory { watches: folders.iter().filter_map(|folder| Watch::new(folder).ok()).collect(), known: BTreeMap::new() }
+        Memory { watches: folders.iter().filter_map(|folder| Watch::new(folder).ok()).collect(), ..Memory::default() }
     }
 
     /// The names that have come into a folder, if it is watched and the kernel could tell.
@@ -143,6 +147,10 @@ struct Found {
     places: BTreeMap<PathBuf, PathBuf>,
 }
 
+fn is_short(path: &Path) -> bool {
+    fs::metadata(path).is_ok_and(|status| status.len() <= LONGEST_SCRIPT)
+}
+
 /// What may be at a path, for a file that no process has opened.
 enum Place {
     Nothing,
@@ -165,9 +173,9 @@ impl<'a> Reading<'a> {
         Reading { cwd, begun, ways: Ways::new(cwd, begun), tools, memory }
     }
 
-    /// What processes depended on. A preprocessor has entered some of the files: `texts`, by their whole paths.
+    /// What processes with such variables depended on. A preprocessor has entered some of the files: `texts`, by their whole paths.
     /// Errors: why that isn't known.
-    pub fn manifest(&mut self, observed: &Observed, texts: &BTreeSet<PathBuf>) -> Result<Manifest, Refusal> {
+    pub fn manifest(&mut self, observed: &Observed, texts: &BTreeSet<PathBuf>, given: &Variables) -> Result<Manifest, Refusal> {
         let mut found = Found { files: self.read(observed, texts)?, ..Found::default() };
         let locales = if observed.programs.is_empty() { Vec::new() } else { locale_files() };
         let others = observed.sought.iter().filter(|path| !observed.libraries.contains_key(*path));
@@ -180,7 +188,8 @@ impl<'a> Reading<'a> {
         // (nvcc looks for files of its own there, to remove them)
         let listed = observed.listed.iter().filter(|(folder, _)| self.cwd.join(folder) != temporary).collect::<Vec<_>>();
         let listed = listed.into_iter().map(|(folder, stamp)| self.listed(folder, stamp)).collect::<Result<_, _>>()?;
-        let variables = observed.variables.iter().filter(|name| counts_if_asked(name)).map(|name| Variable::now(name.as_bytes())).collect();
+        let asked = observed.variables.iter().filter(|name| !is_harmless(name));
+        let variables = asked.map(|name| Variable::now(name.as_bytes(), given)).collect();
         let Found { files, lacking, places } = found;
         let vain = lacking.into_iter().map(|(folder, names)| self.vain(folder, names)).collect::<Result<_, _>>()?;
         Ok(Manifest { files, vain, listed, places: places.into_iter().collect(), variables, defines: None })
@@ -211,6 +220,8 @@ impl<'a> Reading<'a> {
     /// Notes what a process looked at without reading it: of a file times count, of a folder where it is.
     fn looked_at(&mut self, path: &Path, sight: &Sight, found: &mut Found) -> Result<(), Refusal> {
         match place_of(&self.cwd.join(path)) {
+            // (a compiler looks for it, and works in any)
+            Some(Place::Folder) if self.cwd.join(path) == temporary_folder(self.cwd) => Ok(()),
             Some(Place::Folder) if sight.is_folder || sight.stamp.is_none() => self.leads(path, found),
             Some(Place::File(status)) if !sight.is_folder => {
                 let seen = self.file(path, sight.stamp.as_ref())?;
@@ -233,18 +244,26 @@ impl<'a> Reading<'a> {
     /// A file of which each byte counts.
     fn file(&mut self, path: &Path, stamp: Option<&Stamp>) -> Result<Seen, Refusal> {
         let status = self.check(path, stamp)?;
-        let digest = self.tools.digest_of(&self.cwd.join(path)).ok_or_else(|| Refusal::Changed(path.to_owned()))?;
-        Ok(Seen { path: path.to_owned(), digest, stamp: Stamp::settled(&self.cwd.join(path), &status), form: Form::Other })
+        let (place, now) = (self.cwd.join(path), Stamp::of(&status));
+        let known = self.memory.digests.get(path).filter(|(other, _)| *other == now).map(|(_, digest)| *digest);
+        let digest = known.or_else(|| self.tools.digest_of(&place)).ok_or_else(|| Refusal::Changed(path.to_owned()))?;
+        self.memory.digests.insert(path.to_owned(), (now, digest));
+        Ok(Seen { path: path.to_owned(), digest, stamp: Stamp::settled(&place, &status), form: Form::Other })
+    }
+
+    /// A file that is a script, if one is among those that processes have read: it may use any variable without asking.
+    pub fn script(&self, observed: &Observed) -> Option<PathBuf> {
+        let begins = |path: &&PathBuf| content_of(&self.cwd.join(path)).is_ok_and(|text| text.starts_with(SCRIPT));
+        observed.read.keys().filter(|path| is_short(&self.cwd.join(path))).find(begins).cloned()
     }
 
     /// The same of each of some files that processes have read. If a script is among them, it may use any variable without asking, and so may
     /// what it reads.
     fn plain_files(&mut self, read: &[(&PathBuf, &Stamp)]) -> Result<Vec<Seen>, Refusal> {
         let files = read.iter().map(|(path, stamp)| self.file(path, Some(stamp))).collect::<Result<Vec<_>, _>>()?;
-        let is_short = |path: &Path| fs::metadata(path).is_ok_and(|status| status.len() <= LONGEST_SCRIPT);
         let content = |seen: &Seen| Some(self.cwd.join(&seen.path)).filter(|path| is_short(path)).and_then(|path| content_of(&path).ok());
         let texts: Vec<Vec<u8>> = files.iter().map(|seen| content(seen).unwrap_or_default()).collect();
-        let has_script = texts.iter().any(|text| text.starts_with(b"#!"));
+        let has_script = texts.iter().any(|text| text.starts_with(SCRIPT));
         let named = texts.iter().position(|text| has_script && names_free_variable(text));
         named.map_or(Ok(files.clone()), |place| Err(Refusal::Names(files[place].path.clone())))
     }
@@ -323,9 +342,9 @@ impl<'a> Reading<'a> {
             for seen in &part.files {
                 agree(&mut files, (seen.path.clone(), order_of(&seen.form)), seen, &seen.path, Seen::counts_as)?;
             }
-            for vain in &part.vain {
-                found.lacking.entry(vain.folder.clone()).or_default().extend(vain.lacks.iter().cloned());
-            }
+            // (a command that was served may have sought in a folder that is gone)
+            let sought = part.vain.iter().flat_map(|vain| vain.lacks.iter().map(|name| vain.folder.join(OsStr::from_bytes(name))));
+            sought.into_iter().try_for_each(|path| self.lacks(&path, &mut found))?;
             for folder in &part.listed {
                 agree(&mut listed, folder.folder.clone(), folder, &folder.folder, PartialEq::eq)?;
             }
@@ -342,7 +361,9 @@ impl<'a> Reading<'a> {
         }
         let files = self.with_times_of_copies(files.into_values().collect())?;
         let vain = found.lacking.into_iter().map(|(folder, names)| self.vain(folder, names)).collect::<Result<_, _>>()?;
-        let variables: BTreeSet<Variable> = parts.iter().flat_map(|part| part.variables.iter().cloned()).collect();
+        // (the call's key has all others)
+        let asked = parts.iter().flat_map(|part| &part.variables).filter(|variable| is_free(variable.name()));
+        let variables: BTreeSet<Variable> = asked.map(|variable| Variable::now(variable.name().as_bytes(), &[])).collect();
         let (listed, places) = (listed.into_values().collect(), found.places.into_iter().collect());
         Ok(Manifest { files, vain, listed, places, variables: variables.into_iter().collect(), defines: None })
     }
@@ -428,20 +449,20 @@ mod tests {
             variables: BTreeSet::from(["HOME".into(), "TERM".into(), "PATH".into()]),
             ..Observed::default()
         };
-        let manifest = read(&room, begun, |reading| reading.manifest(&observed, &BTreeSet::from([own("inc/a.h")]))).unwrap();
+        let manifest = read(&room, begun, |reading| reading.manifest(&observed, &BTreeSet::from([own("inc/a.h")]), &[])).unwrap();
         let files: Vec<_> = manifest.files.iter().map(|seen| (seen.path.as_path(), matches!(seen.form, Form::Source(_)))).collect();
         assert_eq!(files, [(own("inc/a.h").as_path(), true), (Path::new("inc/a.h"), true), (Path::new("link/a.h"), false)]);
         let vain: Vec<_> = manifest.vain.iter().map(|vain| (vain.folder.to_str().unwrap(), vain.lacks.concat())).collect();
         assert_eq!(vain, [("", b"early".to_vec()), ("inc", b"b.hnone.so".to_vec()), ("inc/a.h", b"x".to_vec())]);
         assert_eq!(manifest.places, [("inc".into(), "inc".into()), ("link".into(), "inc".into())]);
-        assert_eq!((manifest.listed.len(), manifest.variables), (1, vec![Variable::now(b"HOME")]));
+        assert_eq!((manifest.listed.len(), manifest.variables), (1, vec![Variable::now(b"HOME", &[]), Variable::now(b"PATH", &[])]));
     }
 
     #[test]
     fn what_has_changed_since_a_process_saw_it_is_refused() {
         let (room, begun) = (room(), SystemTime::now());
         let of = |name: &str, stamp: Stamp| Observed { read: BTreeMap::from([(name.into(), stamp)]), ..Observed::default() };
-        let is_known = |observed: &Observed| read(&room, begun, |reading| reading.manifest(observed, &BTreeSet::new()).is_ok());
+        let is_known = |observed: &Observed| read(&room, begun, |reading| reading.manifest(observed, &BTreeSet::new(), &[]).is_ok());
         let first = of("inc/a.h", stamp(&room.join("inc/a.h")));
         assert!(is_known(&first) && !is_known(&of("inc/a.h", stamp(&room))));
         fs::write(room.join("inc/b.h"), "").unwrap();
@@ -469,7 +490,7 @@ mod tests {
         }
         let mut lacks = |name: &str| {
             let observed = Observed { lacking: paths(&[name]), ..Observed::default() };
-            Reading::new(&room, begun, &tools, &mut memory).manifest(&observed, &BTreeSet::new()).is_ok()
+            Reading::new(&room, begun, &tools, &mut memory).manifest(&observed, &BTreeSet::new(), &[]).is_ok()
         };
         assert_eq!(["early/h.h", "late/h.h", "out/early", "out/late"].map(&mut lacks), [false, true, false, true]);
     }
@@ -484,7 +505,7 @@ mod tests {
         let begun = SystemTime::now();
         let is_known = |names: &[&str]| {
             let files = names.iter().map(|name| ((*name).into(), stamp(&room.join(name)))).collect();
-            read(&room, begun, |reading| reading.manifest(&Observed { read: files, ..Observed::default() }, &BTreeSet::new()).is_ok())
+            read(&room, begun, |reading| reading.manifest(&Observed { read: files, ..Observed::default() }, &BTreeSet::new(), &[]).is_ok())
         };
         assert_eq!([is_known(&["settings"]), is_known(&["script", "other"]), is_known(&["script", "settings"])], [true, true, false]);
     }
@@ -516,7 +537,7 @@ mod tests {
             // (what was left out wasn't entered)
             let texts = names.iter().filter(|name| **name != "copy.h").map(|name| room.join(name)).collect();
             let observed = Observed { read: read_files, ..Observed::default() };
-            let whole = |reading: &mut Reading<'_>| reading.manifest(&observed, &texts).and_then(|part| reading.whole(&[part]));
+            let whole = |reading: &mut Reading<'_>| reading.manifest(&observed, &texts, &[]).and_then(|part| reading.whole(&[part]));
             read(&room, begun, whole).unwrap().files.iter().map(|seen| matches!(seen.form, Form::Dated(..))).collect::<Vec<_>>()
         };
         assert_eq!((forms(&["b.h", "inc/a.h"]), forms(&["b.h", "copy.h", "inc/a.h"])), (vec![false, false], vec![false, true, true]));

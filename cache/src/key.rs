@@ -5,22 +5,22 @@ use crate::marked;
 use crate::processor::instructions;
 use crate::recipe::{Recipe, Role};
 use crate::store::Store;
-use crate::tool::Kind;
 use crate::words::program_of;
-use call::ptx::files_of_ptx;
 use command_keys::{command_key, tool_variables};
 use machine::bytes::contains;
 use rattle_std::alloc::Global;
 use std::borrow::Cow;
-use std::ffi::{OsStr, OsString};
+use std::ffi::OsString;
 use std::fs;
 use std::os::unix::ffi::OsStrExt;
-use std::os::unix::fs::MetadataExt;
 use std::path::{Path, PathBuf};
 use token_texts::token_text;
 
 /// What every key begins with. It changes with what is in an entry, or in a key.
-const FORM: &[u8] = b"zigrunk command 7";
+const FORM: &[u8] = b"zigrunk command 8";
+
+/// The variable that names folders in which the loader looks for libraries.
+const LOADERS_FOLDERS: &str = "LD_LIBRARY_PATH";
 
 /// A part of a text that has so many bytes is found in the store, with what its tokens are.
 const LARGE: usize = 1 << 16;
@@ -96,16 +96,6 @@ fn words_key(recipe: &Recipe, environment: &[(OsString, OsString)]) -> Option<Ve
     Some(key.as_slice().to_vec())
 }
 
-/// The files that PTX names for debuggers count by their sizes and times, which ptxas writes. `None` if it may name one in another way.
-fn add_named(hasher: &mut Hasher, ptx: &[u8], folder: &Path) -> Option<()> {
-    for name in files_of_ptx(ptx)? {
-        let status = fs::metadata(folder.join(OsStr::from_bytes(name))).ok();
-        let stamp = status.map(|status| format!("{} {} {}", status.len(), status.mtime(), status.mtime_nsec()));
-        hasher.add(stamp.unwrap_or_default().as_bytes());
-    }
-    Some(())
-}
-
 /// Where a path leads from a command's folder.
 fn place_of(recipe: &Recipe, path: &str) -> PathBuf {
     fs::canonicalize(Path::new(&recipe.job.folder).join(path)).unwrap_or_default()
@@ -117,13 +107,16 @@ fn places(recipe: &Recipe) -> Vec<PathBuf> {
     sources.chain(recipe.directory.is_empty().then(|| place_of(recipe, ""))).collect()
 }
 
-/// What counts of a command beside the texts that it reads: the processor, the identity of its tool, its words, its environment and its places.
-pub fn start_of(recipe: &Recipe, tool: &Digest, environment: &[(OsString, OsString)]) -> Option<Hasher> {
+/// What counts of a command beside the texts that it reads, and what it depends on: the processor, its tool, its words, its environment and its
+/// places.
+pub fn start_of(recipe: &Recipe, environment: &[(OsString, OsString)]) -> Option<Hasher> {
     let mut start = Hasher::default();
     start.add(FORM);
     start.add(format!("{:?}", recipe.kind).as_bytes());
     start.add(instructions().as_bytes());
-    start.update(&tool.0);
+    start.add(recipe.program().as_os_str().as_bytes());
+    let folders = environment.iter().rev().find(|(name, _)| name == LOADERS_FOLDERS);
+    start.add(folders.map(|(_, folders)| folders.as_bytes()).unwrap_or_default());
     start.add(&words_key(recipe, environment)?);
     for place in places(recipe) {
         start.add(place.as_os_str().as_bytes());
@@ -150,14 +143,11 @@ pub fn direct<'a>(mut start: Hasher, recipe: &Recipe, texts: &[Text], words: imp
 pub struct Part(Hasher);
 
 impl Part {
-    /// That by texts as they are. `None` if PTX names a file with a backslash, or if a name shows that isn't to count.
+    /// That by texts as they are. `None` if a name shows that isn't to count.
     pub fn by_texts(mut start: Hasher, recipe: &Recipe, texts: &[Text]) -> Option<Part> {
         start.add(b"texts");
         for text in texts.iter().filter(|text| text.role != Role::Late) {
             start.update(&text_identity(&counted(text, recipe)?, recipe.directory_in_texts()).0);
-            if recipe.kind == Kind::Ptxas {
-                add_named(&mut start, &text.content, Path::new(&recipe.job.folder))?;
-            }
         }
         Some(Part(start))
     }
@@ -200,6 +190,7 @@ impl Part {
 mod tests {
     use super::*;
     use crate::test_folder::TestFolder;
+    use crate::tool::Kind;
     use machine::jobs::Job;
 
     /// A store without entries.
@@ -211,22 +202,21 @@ mod tests {
         Recipe {
             kind: Kind::Cicc,
             counted: words.split(' ').map(String::from).collect(),
-            job: Job { folder: "/".into(), ..Job::default() },
+            job: Job { words: vec!["/a/cicc".into()], folder: "/".into(), ..Job::default() },
             reads: Vec::new(),
             outputs: Vec::new(),
             directory: directory.into(),
             lines_count: directory.is_empty(),
             question: None,
             assembles: false,
-            steps: None,
-            included: None,
+            is_assembly: false,
             stem: None,
             has_own_source: false,
         }
     }
 
     fn start(recipe: &Recipe, environment: &[(OsString, OsString)]) -> Hasher {
-        start_of(recipe, &Digest::of(b"tool"), environment).unwrap()
+        start_of(recipe, environment).unwrap()
     }
 
     fn texts(texts: &[(Role, &str)]) -> Vec<Text> {
@@ -261,6 +251,7 @@ mod tests {
             key(&cicc, &[], "texts"),
             key(&cicc, &[("EDG_BASE", "/e")], "text"),
             key(&cicc, &[("LD_PRELOAD", "/l.so")], "text"),
+            key(&cicc, &[("LD_LIBRARY_PATH", "/l")], "text"),
             key(&cicc, &[("GLIBC_TUNABLES", "glibc.cpu.hwcaps=-FMA")], "text"),
             key(&recipe("-G", "/t"), &[], "text"),
             key(&Recipe { kind: Kind::Ptxas, ..cicc.clone() }, &[], "text"),
@@ -268,8 +259,8 @@ mod tests {
         assert!(others.iter().all(|other| *other != one));
         let named = recipe("-g", "");
         assert_ne!(key(&named, &[("PWD", "/w")], "text"), key(&named, &[("PWD", "/other")], "text"));
-        let another = start_of(&cicc, &Digest::of(b"another"), &[]).unwrap();
-        assert_ne!(Part::by_texts(another, &cicc, &texts(&[(Role::Other, "text")])).unwrap().key(&cicc, &[]), one);
+        let another = Recipe { job: Job { words: vec!["/b/cicc".into()], folder: "/".into(), ..Job::default() }, ..cicc.clone() };
+        assert_ne!(key(&another, &[("HOME", "/h"), ("PWD", "/w")], "text"), one);
     }
 
     #[test]
@@ -416,21 +407,5 @@ mod tests {
         assert_eq!(of(Kind::Fatbinary, "/t", "text"), of(Kind::Fatbinary, "/u", "text"));
         assert_ne!(of(Kind::Fatbinary, "/t", "/t/k.cu"), of(Kind::Fatbinary, "/u", "/u/k.cu"));
         assert_eq!(of(Kind::Cicc, "/t", "/t/k.cu"), of(Kind::Cicc, "/u", "/u/k.cu"));
-    }
-
-    #[test]
-    fn ptxas_sees_when_a_source_was_changed() {
-        let folder = TestFolder::new();
-        let source = folder.join("k.cu");
-        let ptx = format!(".file 1 \"{}\"", source.display());
-        let ptxas = Recipe { kind: Kind::Ptxas, ..recipe("-m64", "/t") };
-        let of = |text: Option<&str>| {
-            text.map_or_else(|| fs::remove_file(&source).unwrap_or_default(), |text| fs::write(&source, text).unwrap());
-            key(&ptxas, &[], &ptx)
-        };
-        let keys = [of(None), of(Some("a")), of(Some("ab"))];
-        fs::File::options().write(true).open(&source).unwrap().set_modified(std::time::SystemTime::UNIX_EPOCH).unwrap();
-        let changed = key(&ptxas, &[], &ptx);
-        assert!(keys[0] != keys[1] && keys[1] != keys[2] && keys[2] != changed);
     }
 }

@@ -8,7 +8,6 @@ mod entry;
 mod host_text;
 mod inputs;
 mod key;
-mod libraries;
 mod lines;
 mod manifest;
 mod marked;

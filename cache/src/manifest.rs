@@ -8,14 +8,15 @@ use crate::digest::{Digest, Hasher};
 use crate::lines::{Macros, definitions_in, without_definitions};
 use crate::source::{layout_of, words_of};
 use crate::stamps::Stamp;
-use crate::store::digest_of;
+use crate::store::{Store, digest_of};
 use crate::stored;
 use machine::settings::own_variable;
 use machine::streams::content_of;
+use serde::de::DeserializeOwned;
 use serde::{Deserialize, Serialize};
 use std::ffi::OsStr;
 use std::fs::{self, File, Metadata};
-use std::io::ErrorKind;
+use std::io::{self, ErrorKind};
 use std::os::unix::ffi::{OsStrExt, OsStringExt};
 use std::os::unix::fs::MetadataExt;
 use std::path::{Path, PathBuf};
@@ -113,6 +114,11 @@ pub fn real_place(path: &Path, cwd: &Path) -> Option<PathBuf> {
     Some(own.and_then(|own| real.strip_prefix(own).ok().map(Path::to_owned)).unwrap_or(real))
 }
 
+/// Whether nothing is at a path, by what was said of it.
+fn is_missing(error: &io::Error) -> bool {
+    matches!(error.kind(), ErrorKind::NotFound | ErrorKind::NotADirectory)
+}
+
 /// A folder in which names were sought in vain.
 #[derive(Clone, PartialEq, Eq, Debug, Serialize, Deserialize)]
 pub struct Vain {
@@ -130,18 +136,18 @@ impl Vain {
     pub fn now(folder: &Path, lacks: Vec<Vec<u8>>, cwd: &Path) -> Option<Vain> {
         let status = fs::metadata(cwd.join(folder)).ok()?;
         let path = |name: &Vec<u8>| cwd.join(folder).join(OsStr::from_bytes(name));
-        let is_free = |name: &Vec<u8>| {
-            let missing = |error: &std::io::Error| matches!(error.kind(), ErrorKind::NotFound | ErrorKind::NotADirectory);
-            fs::metadata(path(name)).as_ref().is_err_and(missing)
-        };
+        let is_free = |name: &Vec<u8>| fs::metadata(path(name)).as_ref().is_err_and(is_missing);
         let is_link = |name: &Vec<u8>| fs::symlink_metadata(path(name)).is_ok_and(|found| found.is_symlink());
         let stamp = Stamp::settled(&cwd.join(folder), &status).filter(|_| !lacks.iter().any(is_link));
         lacks.iter().all(is_free).then(|| Vain { folder: folder.to_owned(), lacks, stamp })
     }
 
-    /// The same folder as it is now. `None` if it has one of the names.
+    /// The same folder as it is now. `None` if it has one of the names. A folder that is gone has none.
     fn again(&self, cwd: &Path) -> Option<Vain> {
-        let status = fs::metadata(cwd.join(&self.folder)).ok()?;
+        let status = match fs::metadata(cwd.join(&self.folder)) {
+            Err(error) if is_missing(&error) => return Some(Vain { stamp: None, ..self.clone() }),
+            status => status.ok()?,
+        };
         // (all may look into most folders)
         let may_look = status.mode() & 0o111 == 0o111;
         let is_same = may_look && self.stamp.is_some_and(|stamp| stamp == Stamp::of(&status));
@@ -172,6 +178,9 @@ impl Listed {
     }
 }
 
+/// Variables that a command has in place of this process's, or that it lacks.
+pub type Variables = [(String, Option<String>)];
+
 /// A variable for which a process asked, with its value.
 #[derive(Clone, PartialEq, Eq, Debug, PartialOrd, Ord, Serialize, Deserialize)]
 pub struct Variable {
@@ -182,10 +191,17 @@ pub struct Variable {
 }
 
 impl Variable {
-    /// A variable as the call has it.
-    pub fn now(name: &[u8]) -> Variable {
-        let value = own_variable(OsStr::from_bytes(name)).map(OsStringExt::into_vec);
+    /// A variable as a command has it.
+    pub fn now(name: &[u8], given: &Variables) -> Variable {
+        let other = given.iter().rev().find(|(other, _)| other.as_bytes() == name);
+        let own = || own_variable(OsStr::from_bytes(name)).map(OsStringExt::into_vec);
+        let value = other.map_or_else(own, |(_, value)| value.clone().map(String::into_bytes));
         Variable { name: name.to_vec(), value }
+    }
+
+    /// Its name.
+    pub fn name(&self) -> &OsStr {
+        OsStr::from_bytes(&self.name)
     }
 }
 
@@ -211,25 +227,79 @@ impl Manifest {
         stamps.filter(Option::is_none).count()
     }
 
+    /// What it says, as lines of a word, a digest or a time if there is one, and a path or a name.
+    pub fn lines(&self) -> Vec<u8> {
+        let mut lines = Vec::new();
+        let mut add = |parts: &[&[u8]]| lines.extend([&parts.join(&b' '), &b"\n"[..]].concat());
+        for Seen { path, digest, form, .. } in &self.files {
+            let time = time_of(form).map(|(seconds, part)| format!("{seconds}.{part:09}"));
+            let digest = digest.to_string();
+            let words = [Some(&b"file"[..]), Some(digest.as_bytes()), time.as_ref().map(String::as_bytes), Some(path.as_os_str().as_bytes())];
+            add(&words.into_iter().flatten().collect::<Vec<_>>());
+        }
+        for Listed { folder, names } in &self.listed {
+            add(&[b"listed", names.to_string().as_bytes(), folder.as_os_str().as_bytes()]);
+        }
+        for Vain { folder, lacks, .. } in &self.vain {
+            lacks.iter().for_each(|name| add(&[b"lacking", folder.join(OsStr::from_bytes(name)).as_os_str().as_bytes()]));
+        }
+        self.places.iter().for_each(|(path, real)| add(&[b"place", path.as_os_str().as_bytes(), b"->", real.as_os_str().as_bytes()]));
+        for Variable { name, value } in &self.variables {
+            add(&[b"variable", &[&name[..], value.as_ref().map_or(&b""[..], |_| b"="), value.as_deref().unwrap_or_default()].concat()]);
+        }
+        lines
+    }
+
     /// Whether it says more of the same than an earlier one, so that less has to be read.
-    pub fn is_better_than(&self, earlier: &Manifest) -> bool {
+    fn is_better_than(&self, earlier: &Manifest) -> bool {
         self != earlier && self.fresh() <= earlier.fresh()
+    }
+
+    /// What a store has under a key.
+    pub fn read(store: &Store, key: &Digest) -> Option<Manifest> {
+        stored::of_bytes(&store.read(key)?)
+    }
+
+    /// What was kept beside it under a key, for files with these contents.
+    pub fn answer<T: DeserializeOwned>(&self, store: &Store, key: &Digest) -> Option<T> {
+        stored::of_bytes(&store.read(&self.digest(key))?)
+    }
+
+    /// Keeps an answer that holds while all is as it is here. The key leads to the manifest, and what that says to the answer.
+    /// Errors: those of writing.
+    pub fn keep(&self, store: &Store, key: &Digest, answer: &impl Serialize) -> io::Result<()> {
+        store.write(&self.digest(key), &stored::to_bytes(answer)).and_then(|()| store.write(key, &stored::to_bytes(self)))
+    }
+
+    /// The answer under a key, if all is there on which it depends, and what this is now, to a command with such variables.
+    pub fn find<T: DeserializeOwned>(store: &Store, key: &Digest, cwd: &Path, given: &Variables) -> Option<(T, Manifest)> {
+        let earlier = Manifest::read(store, key)?;
+        let now = earlier.again_for(cwd, given)?;
+        let answer = now.answer(store, key)?;
+        now.improve(store, key, &earlier);
+        Some((answer, now))
+    }
+
+    /// Takes the place of an earlier one under a key, if less has to be read then.
+    pub fn improve(&self, store: &Store, key: &Digest, earlier: &Manifest) {
+        if self.is_better_than(earlier) {
+            let _ = store.write(key, &stored::to_bytes(self));
+        }
     }
 
     /// The same as it is now, seen from a working directory. `None` if the call would find another file, or not find one.
     pub fn again(&self, cwd: &Path) -> Option<Manifest> {
+        self.again_for(cwd, &[])
+    }
+
+    /// The same for a command with such variables.
+    fn again_for(&self, cwd: &Path, given: &Variables) -> Option<Manifest> {
         let files = self.files.iter().map(|seen| seen.again(cwd)).collect::<Option<_>>()?;
         let vain = self.vain.iter().map(|vain| vain.again(cwd)).collect::<Option<_>>()?;
         let listed = self.listed.iter().map(|listed| Listed::now(&listed.folder, cwd)).collect::<Option<_>>()?;
         let places = self.places.iter().map(|(path, _)| Some((path.clone(), real_place(path, cwd)?))).collect::<Option<_>>()?;
-        let variables = self.variables.iter().map(|variable| Variable::now(&variable.name)).collect();
+        let variables = self.variables.iter().map(|variable| Variable::now(&variable.name, given)).collect();
         Some(Manifest { files, vain, listed, places, variables, defines: self.defines.clone() })
-    }
-
-    /// Whether all of it is as it is in another one, which is the same at another time.
-    pub fn holds_in(&self, now: &Manifest) -> bool {
-        let is_same = |(earlier, seen): (&Seen, &Seen)| earlier.counts_as(seen);
-        self.has_surroundings_of(now) && self.files.iter().zip(&now.files).all(is_same)
     }
 
     fn has_surroundings_of(&self, now: &Manifest) -> bool {
@@ -395,7 +465,7 @@ mod tests {
     fn the_names_in_a_folder_count() {
         let scratch = Scratch::new();
         let manifest = Manifest { listed: vec![Listed::now(Path::new("inc"), &scratch.0).unwrap()], ..Manifest::default() };
-        let holds = || manifest.again(&scratch.0).map(|now| manifest.holds_in(&now));
+        let holds = || manifest.again(&scratch.0).map(|now| manifest == now);
         assert_eq!(holds(), Some(true));
         fs::write(scratch.0.join("inc/b.h"), "").unwrap();
         assert_eq!(holds(), Some(false));
@@ -408,7 +478,7 @@ mod tests {
     #[test]
     fn a_variable_for_which_a_process_asked_counts() {
         let of = |name: &str, value: Option<Vec<u8>>| Manifest { variables: vec![Variable { name: name.into(), value }], ..Manifest::default() };
-        let holds = |manifest: &Manifest| manifest.again(Path::new("/")).is_some_and(|now| manifest.holds_in(&now));
+        let holds = |manifest: &Manifest| manifest.again(Path::new("/")).is_some_and(|now| *manifest == now);
         let path = own_variable("PATH").map(OsStringExt::into_vec);
         assert_eq!(
             [of("PATH", path), of("PATH", None), of("NO_SUCH", None), of("NO_SUCH", Some(Vec::new()))].each_ref().map(holds),

@@ -89,23 +89,26 @@ pub struct Observed {
     pub variables: BTreeSet<OsString>,
     /// The files and folders that the command made or wrote to.
     pub made: BTreeSet<PathBuf>,
+    /// The files below the call's own directories that were read before the command itself made them, seen from there.
+    pub own: BTreeSet<PathBuf>,
+    /// What the program did itself that ran first, as gcc beside its compiler: the paths at which it looked, and whether it read a file there.
+    pub by_first: BTreeMap<PathBuf, bool>,
 }
 
 impl Observed {
-    /// A file that only one of two lists has as read, or that was another in each.
+    /// A file that another list has as read, and this one hasn't, or that was another.
     pub fn read_otherwise<'a>(&'a self, other: &'a Observed) -> Option<&'a PathBuf> {
-        let is_other = |(path, stamp): &(&PathBuf, &Stamp), list: &Observed| list.read.get(*path) != Some(*stamp);
-        let own = self.read.iter().find(|file| is_other(file, other));
-        own.or_else(|| other.read.iter().find(|file| is_other(file, self))).map(|(path, _)| path)
+        other.read.iter().find(|(path, stamp)| self.read.get(*path) != Some(*stamp)).map(|(path, _)| path)
     }
 
-    /// Leaves out what another list has, but for programs and libraries.
+    /// Leaves out what another list has, but for programs, libraries and what the first program did itself: a preprocessor's text says nothing of that.
     pub fn leave_out(&mut self, other: &Observed) {
-        self.read.retain(|path, _| !other.read.contains_key(path));
-        self.seen.retain(|path, _| !other.seen.contains_key(path));
-        self.listed.retain(|path, _| !other.listed.contains_key(path));
-        self.lacking.retain(|path| !other.lacking.contains(path));
-        self.followed.retain(|path| !other.followed.contains(path));
+        let first = &self.by_first;
+        self.read.retain(|path, _| first.get(path) == Some(&true) || !other.read.contains_key(path));
+        self.seen.retain(|path, _| first.contains_key(path) || !other.seen.contains_key(path));
+        self.listed.retain(|path, _| first.contains_key(path) || !other.listed.contains_key(path));
+        self.lacking.retain(|path| first.contains_key(path) || !other.lacking.contains(path));
+        self.followed.retain(|path| first.contains_key(path) || !other.followed.contains(path));
     }
 }
 
@@ -300,10 +303,15 @@ pub struct Scope<'a> {
 }
 
 impl Scope<'_> {
+    /// A path as it is seen from one of the call's own directories, if it is below that.
+    fn in_own(&self, path: &Path) -> Option<PathBuf> {
+        let whole = self.cwd.map(|cwd| cwd.join(path));
+        self.own.iter().find_map(|directory| whole.as_deref().unwrap_or(path).strip_prefix(directory).ok().map(Path::to_owned))
+    }
+
     /// Whether a path is below one of the call's own directories.
     fn is_own(&self, path: &Path) -> bool {
-        let whole = self.cwd.map(|cwd| cwd.join(path));
-        self.own.iter().any(|directory| whole.as_deref().unwrap_or(path).starts_with(directory))
+        self.in_own(path).is_some()
     }
 
     /// A path as it is to be, which was relative to a working directory.
@@ -320,6 +328,10 @@ struct List<'a> {
     scope: Scope<'a>,
     observed: Observed,
     processes: BTreeMap<u32, Process>,
+    /// The program that ran first.
+    first: PathBuf,
+    /// What the command made below the call's own directories.
+    made_own: BTreeSet<PathBuf>,
 }
 
 impl List<'_> {
@@ -353,7 +365,10 @@ impl List<'_> {
             Kind::Inherited if record.mode & FILE_TYPE == PLAIN || record.is_folder() => return Err(Gap::Inherited(path)),
             Kind::Library if !self.scope.is_own(&path) => drop(self.observed.libraries.insert(path, record.stamp)),
             Kind::Variable => drop(self.observed.variables.insert(path.into_os_string())),
-            Kind::Make if record.error == 0 && !self.scope.is_own(&path) => drop(self.observed.made.insert(path)),
+            Kind::Make if record.error == 0 => match self.scope.in_own(&path) {
+                Some(own) => drop(self.made_own.insert(own)),
+                None => drop(self.observed.made.insert(path)),
+            },
             Kind::Open => return self.open(record, path),
             Kind::Look | Kind::List | Kind::Follow | Kind::Make => return self.look(record, path),
             Kind::Works => self.process(record).works.push(path),
@@ -374,7 +389,13 @@ impl List<'_> {
         if record.number == RUNS && run_by.is_none() {
             return Err(Gap::Unseen(format!("how it ran {}", path.display())));
         }
+        // (one that was run by a relative path is another elsewhere)
+        let is_relative = run_by.as_ref().is_some_and(|path| path.is_relative());
+        let path = if is_relative { self.scope.relative(path) } else { path };
         self.process(record).program.clone_from(&path);
+        if record.number == IS_FIRST {
+            self.first.clone_from(&path);
+        }
         self.observed.followed.extend(run_by.filter(|path| record.number == RUNS && !self.scope.is_own(path)));
         if !self.scope.is_own(&path) {
             self.observed.programs.insert(path, record.stamp);
@@ -382,11 +403,24 @@ impl List<'_> {
         Ok(())
     }
 
+    /// Notes what the first program does itself.
+    fn note_first(&mut self, record: &Record<'_>, path: &Path) {
+        if self.processes.get(&record.process).is_some_and(|process| process.program == self.first) {
+            let reads = record.kind == Kind::Open && record.error == 0;
+            *self.observed.by_first.entry(path.to_owned()).or_default() |= reads;
+        }
+    }
+
     fn open(&mut self, record: &Record<'_>, path: PathBuf) -> Result<(), Gap> {
         if record.error != 0 || record.is_folder() {
             return self.look(record, path);
         }
-        if self.scope.is_own(&path) || OF_KERNEL.contains(&record.text) {
+        self.note_first(record, &path);
+        if let Some(own) = self.scope.in_own(&path) {
+            self.open_own(record, own);
+            return Ok(());
+        }
+        if OF_KERNEL.contains(&record.text) {
             return Ok(());
         }
         if record.mode & FILE_TYPE != PLAIN || is_of_kernel(&path) {
@@ -409,7 +443,16 @@ impl List<'_> {
         }
     }
 
+    fn open_own(&mut self, record: &Record<'_>, path: PathBuf) {
+        if record.begins_empty() {
+            self.made_own.insert(path);
+        } else if !self.made_own.contains(&path) {
+            self.observed.own.insert(path);
+        }
+    }
+
     fn look(&mut self, record: &Record<'_>, path: PathBuf) -> Result<(), Gap> {
+        self.note_first(record, &path);
         if self.scope.is_own(&path) || self.observed.made.contains(&path) || OF_KERNEL.contains(&record.text) {
             return Ok(());
         }
@@ -488,7 +531,7 @@ pub fn observed(records: &[u8], loads: &Loads, scope: Scope<'_>) -> Result<Obser
 
 /// The same as far as that is known, and the first reason why it may not be all.
 pub fn observed_part(records: &[u8], loads: &Loads, scope: Scope<'_>) -> (Observed, Option<Gap>) {
-    let mut list = List { scope, observed: Observed::default(), processes: BTreeMap::new() };
+    let mut list = List { scope, observed: Observed::default(), processes: BTreeMap::new(), first: PathBuf::new(), made_own: BTreeSet::new() };
     let mut gap = if records.len() > MOST { Some(Gap::TooLong) } else { None };
     let mut at = 0;
     while at < records.len().min(MOST) {
@@ -665,12 +708,30 @@ mod tests {
         let (one, two) = (list(&[file(b'O', "/w/a.h", 1)]), list(&[file(b'O', "/w/a.h", 1), file(b'O', "/w/b.h", 1), failed(b'O', "/w/c.h", 2)]));
         assert_eq!(
             (one.read_otherwise(&one), one.read_otherwise(&two), two.read_otherwise(&one)),
-            (None, Some(&"/w/b.h".into()), Some(&"/w/b.h".into()))
+            (None, Some(&"/w/b.h".into()), None)
         );
         assert_eq!(one.read_otherwise(&list(&[file(b'O', "/w/a.h", 2)])), Some(&"/w/a.h".into()));
-        let mut rest = two.clone();
-        rest.leave_out(&one);
-        assert_eq!((paths(&rest.read), names(&rest.lacking), rest.programs), (vec!["/w/b.h"], vec!["/w/c.h"], two.programs));
+    }
+
+    #[test]
+    fn what_the_first_program_does_itself_stays() {
+        let files = |last: u32| [file(b'O', "/w/specs", 1), failed(b'O', "/w/none", 2), file(b'O', "/w/a.h", 1), file(b'O', "/w/b.h", last)];
+        let driver = [record(b'V', "A"), file(b'O', "/w/specs", 1), failed(b'O', "/w/none", 2), file(b'S', "/w/a.h", 1)];
+        let compiler = |last: u32| {
+            let own = [&[record(b'X', "/b/cc1plus"), record(b'B', "/b/cc1plus")][..], &files(last), &[record(b'E', "")]].concat();
+            [&driver[..], &own.into_iter().map(|record| with(record, &[(4, 8), (8, 7)])).collect::<Vec<_>>()].concat()
+        };
+        let mut list = read(&compiler(1)).unwrap();
+        list.leave_out(&read(&compiler(2)).unwrap());
+        assert_eq!((paths(&list.read), names(&list.lacking), paths(&list.seen)), (vec!["/w/specs"], vec!["/w/none"], vec![]));
+        assert_eq!((paths(&list.programs), list.variables), (vec!["/b/cc1plus", "/b/tool"], BTreeSet::from(["A".into()])));
+    }
+
+    #[test]
+    fn what_is_read_of_the_calls_own_files_is_known() {
+        let made = with(file(b'O', "/t/call/made", 1), &[(12, WRITES | CREATES | EMPTIES)]);
+        let list = read(&[made, file(b'O', "/t/call/made", 1), record(b'M', "/t/call/new"), file(b'O', "/t/call/new", 1), file(b'O', "/t/call/k.ii", 1)]);
+        assert_eq!(list.unwrap().own, BTreeSet::from(["k.ii".into()]));
     }
 
     #[test]

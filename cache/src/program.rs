@@ -1,19 +1,25 @@
 //! `zigrunk cache`: shows and clears the cache.
+use crate::calls;
 use crate::counts;
+use crate::digest::Digest;
+use crate::manifest::Manifest;
 use crate::observer;
 use crate::place::{self, shown};
 use crate::store::Store;
+use call::{NvccLine, programs};
 use machine::excerpts::plain;
 use machine::nearest::{question, shown as excerpt};
 use machine::places::working_directory;
-use machine::settings::{Settings, bytes_of};
+use machine::settings::{Settings, bytes_of, own_variable};
 use machine::streams::{complain, say};
 use std::ffi::OsString;
 
-const USAGE: &str = "usage: zigrunk cache stats|clear|limit [SIZE]|observe FILE COMMAND..";
+const USAGE: &str = "usage: zigrunk cache stats|show KEY|show NVCC WORD..|verify|clear|limit [SIZE]|observe FILE COMMAND..";
 
 const HELP: &str = "
 stats         show what the cache has, and how often it was of use
+show KEY      list what is kept under a key, or with NVCC WORD.. what that call depends on
+verify        look at all entries, and name those that are damaged
 clear         throw all away
 limit [SIZE]  throw away what was of use longest ago, down to a size such as 5G, or the usual one
 observe FILE COMMAND..    run a command, and write to FILE what its processes opened and sought in vain
@@ -23,7 +29,7 @@ ZIGRUNK_CACHE names its folder. man zigrunk-cache has the rest.
 ";
 
 /// The words that it knows.
-pub const WORDS: [&str; 4] = ["stats", "clear", "limit", "observe"];
+pub const WORDS: [&str; 6] = ["stats", "show", "verify", "clear", "limit", "observe"];
 
 fn tell(text: &str) -> i32 {
     i32::from(say(1, text.as_bytes()).is_err())
@@ -44,7 +50,7 @@ fn stats(store: &Store, limit: u64) -> i32 {
     let share = (counts.hits * 100).checked_div(counts.hits + counts.misses);
     let share = share.map(|share| format!(" ({share} %)")).unwrap_or_default();
     tell(&format!(
-        "folder: {}\nentries: {}\nsize: {}\nlimit: {}\nhits: {}{share}\nmisses: {}\nwhole calls: {}\n",
+        "folder: {}\nentries: {}\nsize: {}\nlimit: {}\nhits: {}{share}\nmisses: {}\nwhole calls: {}\nother calls: {}\n",
         store.folder().display(),
         content.entries,
         shown(content.bytes),
@@ -52,12 +58,44 @@ fn stats(store: &Store, limit: u64) -> i32 {
         counts.hits,
         counts.misses,
         counts.calls,
+        counts.others,
     ))
 }
 
 fn clear(store: &Store) -> i32 {
     counts::clear(store.folder());
     store.clear().map_or_else(|error| wrong(&format!("cannot clear {}: {}", store.folder().display(), plain(&error))), |()| 0)
+}
+
+/// Names each entry that isn't as it was written.
+fn verify(store: &Store) -> i32 {
+    let damaged = store.damaged();
+    damaged.iter().for_each(|path| complain(&format!("zigrunk cache: {} is damaged", path.display())));
+    let said = tell(&format!("{} entries, {} damaged\n", store.content().entries, damaged.len()));
+    if damaged.is_empty() { said } else { 1 }
+}
+
+/// What a call depends on, by its words, or what is kept under a key.
+fn show(store: &Store, settings: &Settings, words: &[&str]) -> i32 {
+    let cwd = working_directory().unwrap_or_default();
+    let known = match words[0].parse::<Digest>() {
+        Ok(key) => Manifest::read(store, &key).map(|manifest| (key, manifest)).into_iter().collect(),
+        Err(()) => {
+            let is_own = words[0].ends_with("zigrunk-nvcc");
+            let nvcc = if is_own { settings.nvcc.clone() } else { words[0].into() };
+            let line = NvccLine {
+                cwd: cwd.to_string_lossy().into_owned(),
+                nvcc: nvcc.to_string_lossy().into_owned(),
+                words: words[1..].iter().map(ToString::to_string).collect(),
+                variables: Vec::new(),
+            };
+            let path = own_variable("PATH").unwrap_or_default();
+            programs::find(&nvcc, &path, &cwd).map(|nvcc| calls::known(store, &line, &nvcc)).unwrap_or_default()
+        }
+    };
+    let said = |(key, manifest): &(Digest, Manifest)| [format!("key {key}\n").into_bytes(), manifest.lines()].concat();
+    let text: Vec<u8> = known.iter().flat_map(said).collect();
+    if text.is_empty() { wrong("the cache has nothing for that") } else { i32::from(say(1, &text).is_err()) }
 }
 
 /// Keeps a limit now: the usual one, or another.
@@ -94,10 +132,13 @@ pub fn run(words: &[OsString]) -> i32 {
     match words[..] {
         ["stats"] => stats(&store, usual),
         ["clear"] => clear(&store),
+        ["verify"] => verify(&store),
+        ["show", ref words @ ..] if !words.is_empty() => show(&store, &settings, words),
+        ["show"] => misuse("show needs a key, or nvcc with its words"),
         ["limit"] => limit(&store, usual, None),
         ["limit", size] => limit(&store, usual, Some(size)),
         [] => misuse("a word is missing"),
-        ["limit", _, word, ..] | ["stats" | "clear", word, ..] => misuse(&format!("unexpected word {}", excerpt(word.as_ref()))),
+        ["limit", _, word, ..] | ["stats" | "clear" | "verify", word, ..] => misuse(&format!("unexpected word {}", excerpt(word.as_ref()))),
         [word, ..] => misuse(&format!("unknown word {}{}", excerpt(word.as_ref()), question(word, WORDS))),
     }
 }

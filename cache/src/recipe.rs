@@ -1,10 +1,8 @@
 //! What the cache has to know of a command.
-use crate::host_text::{assembler_reads_more, has_directive};
 use crate::marked;
 use crate::tool::Kind;
 use crate::words;
 use command_keys::{CountedWord, NamedFiles, Role as WordRole, counted_text};
-use machine::bytes::contains;
 use machine::folder::OWN;
 use machine::jobs::Job;
 use machine::planned::PlannedCommand;
@@ -43,15 +41,6 @@ pub struct Output {
     pub written_to: PathBuf,
 }
 
-/// A compile to an object in two steps. Between them the text is read that the assembler gets: it may have it read further files.
-#[derive(Clone, PartialEq, Eq, Debug)]
-pub struct Steps {
-    pub compile: Job,
-    /// The assembler's text.
-    pub text: PathBuf,
-    pub assemble: Job,
-}
-
 /// A command that the cache may serve.
 #[derive(Clone, PartialEq, Eq, Debug)]
 pub struct Recipe {
@@ -70,10 +59,8 @@ pub struct Recipe {
     pub question: Option<(Job, PathBuf)>,
     /// Whether it runs the assembler.
     pub assembles: bool,
-    /// If it runs the compiler before: how it runs both.
-    pub steps: Option<Steps>,
-    /// For an assembler alone: the file that it includes, which is made of another that it reads.
-    pub included: Option<String>,
+    /// Whether that alone.
+    pub is_assembly: bool,
     /// What cudafe++'s files begin with, as `k.compute_90.cudafe1`, if that doesn't count: it depends on the list of targets.
     pub stem: Option<String>,
     /// Whether it's a compile of a source that no tool has written.
@@ -136,25 +123,9 @@ fn stem_of(kind: Kind, words: &[String]) -> Option<&str> {
     Path::new(file?).file_name()?.to_str()?.strip_suffix(".cpp").filter(|stem| stem.ends_with(".cudafe1"))
 }
 
-/// A compile of some sources to an object in two steps, the first of which writes to a file.
-fn steps(job: &Job, sources: &[PathBuf], text: String) -> Steps {
-    let (mut compile, mut assemble) = (job.clone(), job.clone());
-    for place in 0..job.words.len() {
-        match job.words[place].as_str() {
-            "-c" => "-S".clone_into(&mut compile.words[place]),
-            "-o" => compile.words[place + 1].clone_from(&text),
-            "-x" => "assembler".clone_into(&mut assemble.words[place + 1]),
-            word if sources.contains(&Path::new(&job.folder).join(word)) => assemble.words[place].clone_from(&text),
-            _ => {}
-        }
-    }
-    Steps { compile, text: text.into(), assemble }
-}
-
-/// The process that preprocesses what a compile reads, and says nothing else. With precompiled headers, if the compile may take one.
-fn question(job: &Job, file: &str, has_own_source: bool) -> Job {
+/// The process that preprocesses what a compile reads, and says nothing else.
+fn question(job: &Job, file: &str) -> Job {
     let mut words = job.words.clone();
-    words.extend(has_own_source.then(|| "-fpch-preprocess".to_owned()));
     for place in 0..words.len() {
         match words[place].as_str() {
             "-c" | "-S" => "-E".clone_into(&mut words[place]),
@@ -190,13 +161,11 @@ impl Recipe {
         let job = Job { words: [std::slice::from_ref(program), &run].concat(), ..job.clone() };
         let file = format!("{tmp}/{OWN}/cache.{number}.ii");
         let has_own_source = is_host && !is_assembly && !reads.iter().any(|file| file.starts_with(tmp));
-        let question = (is_host && !is_assembly).then(|| (question(&job, &file, has_own_source), file.into()));
+        let question = (is_host && !is_assembly).then(|| (question(&job, &file), file.into()));
         let assembles = run.iter().any(|word| word == "-c");
-        let steps = (assembles && question.is_some()).then(|| steps(&job, &reads, format!("{tmp}/{OWN}/cache.{number}.s")));
         let directory = if names_count { String::new() } else { tmp.to_owned() };
-        let included = is_assembly.then(|| included(tmp));
         let lines_count = names_count || has_own_source;
-        Some(Recipe { kind, counted, job, reads, outputs, directory, lines_count, question, assembles, steps, included, stem, has_own_source })
+        Some(Recipe { kind, counted, job, reads, outputs, directory, lines_count, question, assembles, is_assembly, stem, has_own_source })
     }
 
     /// The directory whose path doesn't count in texts that the command reads. fatbinary packs them, so nobody sees whether its product has it.
@@ -214,15 +183,12 @@ impl Recipe {
         }
     }
 
-    /// Whether it may read another file than those that it's known to read, given the first text that it reads: by a directive, or because that
-    /// asks for a precompiled header.
-    pub fn reads_more(&self, text: &[u8]) -> bool {
-        match self.kind {
-            Kind::CudaFe | Kind::Cicc => has_directive(text),
-            Kind::Host if self.question.is_some() => contains(text, b"pch_preprocess"),
-            Kind::Host => assembler_reads_more(text, self.included.as_deref()),
-            Kind::Ptxas | Kind::Fatbinary => false,
-        }
+    /// Whether its key has a file that it has read below the call's directory, seen from there. An assembler includes one that is made of another, and
+    /// what a command reads late has another name until it's there.
+    pub fn knows(&self, file: &Path, tmp: &str) -> bool {
+        let whole = Path::new(tmp).join(file);
+        let is_late = self.kind == Kind::Cicc && file.with_extension("") == Path::new(OWN).join("module_id");
+        is_late || self.reads.contains(&whole) || self.is_assembly && whole == Path::new(&included(tmp))
     }
 
     /// A text with a mark in place of the name that doesn't count. `None` if it has such marks itself.
@@ -236,6 +202,11 @@ impl Recipe {
             Some(stem) => marked::named(&text, stem.as_bytes()),
             None => text,
         }
+    }
+
+    /// The tool's path.
+    pub fn program(&self) -> PathBuf {
+        Path::new(&self.job.folder).join(self.job.words.first().map(String::as_str).unwrap_or_default())
     }
 
     pub fn has_products(&self) -> bool {
@@ -293,13 +264,11 @@ mod tests {
     }
 
     #[test]
-    fn a_compile_to_an_object_has_two_steps() {
-        let made = |words: &str, reads: &[&str], writes: &[&str]| recipe(words, reads, writes).unwrap().steps;
-        let steps = made("gcc -c -x c++ -m64 -O2 m.cpp -o /t/m.o", &["/w/m.cpp"], &["/t/m.o"]).unwrap();
-        assert_eq!(steps.compile.words.join(" "), "gcc -S -x c++ -m64 -O2 m.cpp -o /t/zigrunk.tmp/cache.3.s");
-        assert_eq!(steps.assemble.words.join(" "), "gcc -c -x assembler -m64 -O2 /t/zigrunk.tmp/cache.3.s -o /t/m.o");
-        assert_eq!(made("gcc -S -x c++ m.cpp -o /t/m.s", &["/w/m.cpp"], &["/t/m.s"]), None);
-        assert_eq!(made("gcc -c -x assembler /t/late.s -o /t/m.o", &["/t/late.s"], &["/t/m.o"]), None);
+    fn what_a_command_reads_of_its_call_is_in_its_key() {
+        let ptxas = recipe("/b/ptxas -arch=sm_80 -m64 /t/x.ptx -o /t/x.cubin", &["/t/x.ptx"], &["/t/x.cubin"]).unwrap();
+        let assembly = recipe("/b/gcc -c -x assembler /t/late.s -o /t/m.o", &["/t/late.s"], &["/t/m.o"]).unwrap();
+        let of = |made: &Recipe| ["x.ptx", "late.s", "y.ptx", "zigrunk.tmp/fatbin.s"].map(|file| made.knows(Path::new(file), "/t"));
+        assert_eq!((of(&ptxas), of(&assembly)), ([true, false, false, false], [false, true, false, true]));
     }
 
     #[test]
@@ -321,8 +290,6 @@ mod tests {
         let of = |source: &str| recipe(&format!("/b/gcc -c -x c++ {source} -o k.o"), &[source], &["/w/k.o"]).unwrap();
         let (own, generated) = (of("/w/x.cpp"), of("/t/x.cpp"));
         assert_eq!([own.has_own_source, own.lines_count, generated.has_own_source, generated.lines_count], [true, true, false, false]);
-        let asks = |made: &Recipe| made.question.as_ref().is_some_and(|(job, _)| job.words.iter().any(|word| word == "-fpch-preprocess"));
-        assert!(asks(&own) && !asks(&generated) && !own.job.words.contains(&"-fpch-preprocess".to_owned()));
     }
 
     #[test]

@@ -1,16 +1,14 @@
 //! The cache during a call.
-mod again;
 mod direct;
 mod whole;
 
-use crate::{counts, host_text, key, recipe, stored};
+use crate::{counts, host_text, key, recipe};
 use direct::Direct;
 pub use whole::Finished;
 
 use crate::calls::{Product, is_on, put, terminal};
 use crate::digest::{Digest, Hasher};
 use crate::entry::{Entry, Made};
-use crate::host_text::assembler_reads_more;
 use crate::inputs::{Memory, Reading, Refusal};
 use crate::key::{Part, Text};
 use crate::manifest::Manifest;
@@ -18,11 +16,12 @@ use crate::marked::{Marked, has_symbol};
 use crate::observed::{Gap, Observed};
 use crate::observer::{Observer, Subject};
 use crate::recipe::{Output, Recipe, Role, path_of};
-use crate::stamps::Moment;
+use crate::stamps::{Moment, keeps_changes};
 use crate::store::Store;
-use crate::tool::{Kind, Run, Tools};
+use crate::tool::{Kind, Tools};
 use machine::bytes::contains;
 use machine::clock::now;
+use machine::host_compilers::HostCompiler;
 use machine::jobs::{Ended, Job};
 use machine::planned::PlannedCommand;
 use machine::streams::{called, complain, content_of};
@@ -75,10 +74,8 @@ enum State {
     Asked,
     /// The cache has nothing for it, and it has begun before all is there that it reads. With its text.
     Begun(Box<Parts>, Vec<u8>),
-    /// Nothing was found under its keys, and it runs, or its first step.
+    /// Nothing was found under its keys, and it runs.
     Missed(Keys, Vec<u8>),
-    /// Its first step has ended so, and the second runs. It's kept if there are keys.
-    Compiled(Option<(Keys, Vec<u8>)>, Ended),
     /// It has run, and the cache has what it made.
     Kept,
     Hit,
@@ -91,13 +88,14 @@ struct Candidate {
     hit: Option<bool>,
     /// How it's looked up without a preprocessor, if it is a compile.
     direct: Direct,
-    /// What it depended on beside its texts, once it has been served or kept, if that was observed.
-    inputs: Option<Manifest>,
+    /// What it depended on beside its texts, once it has been served or kept; or why that isn't known.
+    inputs: Result<Manifest, Refusal>,
 }
 
 impl Candidate {
     fn new(recipe: Recipe, state: State) -> Candidate {
-        Candidate { recipe, state, hit: None, direct: Direct::default(), inputs: None }
+        let inputs = Err(Refusal::Task("the cache does not keep what a command made".into()));
+        Candidate { recipe, state, hit: None, direct: Direct::default(), inputs }
     }
 
     /// Whether it has been served or kept.
@@ -134,6 +132,8 @@ impl Beginning {
 pub struct Session<'a> {
     store: &'a Store,
     tools: Tools,
+    /// Whether host compilers are gcc.
+    compilers: BTreeMap<PathBuf, bool>,
     tmp: &'a str,
     candidates: BTreeMap<usize, Candidate>,
     terminal: Vec<u8>,
@@ -162,7 +162,7 @@ fn new_modes() -> Option<u32> {
 struct Taken {
     ended: Ended,
     products: Vec<Product>,
-    inputs: Option<Manifest>,
+    inputs: Manifest,
 }
 
 impl Recipe {
@@ -189,6 +189,7 @@ impl<'a> Session<'a> {
         Session {
             store,
             tools: Tools::new(store),
+            compilers: BTreeMap::new(),
             tmp,
             candidates: recipe::recipes(of_plan, tmp).into_iter().map(candidate).collect(),
             terminal: terminal(),
@@ -238,19 +239,44 @@ impl<'a> Session<'a> {
         Reading::new(&self.beginning.cwd, self.beginning.moment.time, &self.tools, &mut self.beginning.memory)
     }
 
-    /// Whether a compile has read the same files as the preprocessor that wrote its text, as far as they were observed.
-    fn reads_as_asked(&self, task: usize) -> bool {
-        let lists = self.observed(Subject::Task(task)).ok().zip(self.observed(Subject::Question(task)).ok());
-        lists.is_none_or(|(own, asked)| own.read_otherwise(&asked).is_none())
+    /// What a task that has run depended on, beside what its preprocessor has entered: the text is all that counts of that.
+    /// Errors: why that isn't known, or may not be what its text says: an edit may have come while it ran, and be undone later.
+    fn inputs_of(&mut self, task: usize, keys: &Keys, text: &[u8]) -> Result<Manifest, Refusal> {
+        let changed = |what: &str| Refusal::Task(format!("{what} changed while a command ran"));
+        let recipe = self.candidates.get(&task).map(|candidate| candidate.recipe.clone()).ok_or_else(|| changed("the call"))?;
+        let mut observed = self.observed(Subject::Task(task))?;
+        if let Some(script) = self.reading().script(&observed) {
+            return Err(Refusal::Names(script));
+        }
+        let given = &recipe.job.variables;
+        let mut own = mem::take(&mut observed.own);
+        if recipe.question.is_some() {
+            let asked = self.observed(Subject::Question(task))?;
+            own.retain(|file| !asked.own.contains(file));
+            if let Some(path) = observed.read_otherwise(&asked) {
+                return Err(Refusal::Changed(path.clone()));
+            }
+            let entered = host_text::files_entered(text).ok_or_else(|| changed("a file of an odd name"))?;
+            let entered = entered.into_iter().map(|name| path_of(&recipe, name)).chain(recipe.reads.iter().cloned()).collect();
+            self.reading().manifest(&asked, &entered, given)?;
+            observed.leave_out(&asked);
+        }
+        if let Some(other) = own.iter().find(|file| !recipe.knows(file, self.tmp)) {
+            return Err(Refusal::Task(format!("a command read {}, of which its key has nothing", other.display())));
+        }
+        let inputs = self.reading().manifest(&observed, &BTreeSet::new(), given)?;
+        let is_same = self.started.is_before(&Moment::now()) && self.start(task).map(Hasher::finish) == Some(keys.start);
+        if is_same && self.has_key(task, &recipe, keys) { Ok(inputs) } else { Err(changed("the clock, a link or a source")) }
     }
 
-    /// What a task that has run depended on, beside what its preprocessor has: the text is all that counts of that.
-    fn inputs_of(&mut self, task: usize) -> Result<Manifest, Refusal> {
-        let mut observed = self.observed(Subject::Task(task))?;
-        if self.candidates.get(&task).is_some_and(|candidate| candidate.recipe.question.is_some()) {
-            observed.leave_out(&self.observed(Subject::Question(task))?);
-        }
-        self.reading().manifest(&observed, &BTreeSet::new())
+    /// Whether a compile of the user's own source still has its key, where stamps don't tell that all is as it was.
+    fn has_key(&mut self, task: usize, recipe: &Recipe, keys: &Keys) -> bool {
+        let tells = |file: &PathBuf| fs::metadata(file).is_ok_and(|status| keeps_changes(file, &status));
+        let mut key = || {
+            let (start, texts) = self.asked(task, true)?;
+            Some(Part::by_texts(start, recipe, &texts)?.key(recipe, &texts))
+        };
+        !recipe.has_own_source || recipe.reads.iter().all(tells) || key() == Some(keys.texts)
     }
 
     /// What to do with a task that may start.
@@ -281,25 +307,9 @@ impl<'a> Session<'a> {
         let Some(candidate) = self.candidates.get_mut(&task) else { return Step::Ended(ended) };
         match mem::replace(&mut candidate.state, State::Own) {
             State::Asked if ended.is_silent_success() => self.look_up(task, ended.times),
-            State::Missed(keys, text) if candidate.recipe.steps.is_some() => self.compiled(task, keys, text, ended),
-            State::Missed(keys, text) => self.ran(task, Some((&keys, &text)), ended),
-            // If an assembler alone says something, it names another file than the command would.
-            State::Compiled(kept, compiled) if ended.is_silent_success() => {
-                let kept = kept.as_ref().map(|(keys, text)| (keys, text.as_slice()));
-                self.ran(task, kept, Ended { times: (compiled.times.0, ended.times.1), ..compiled })
-            }
+            State::Missed(keys, text) => self.ran(task, &keys, &text, ended),
             _ => self.runs_alone(task),
         }
-    }
-
-    /// What to do with a task whose first step has ended: it's kept only if the assembler reads no other file.
-    fn compiled(&mut self, task: usize, keys: Keys, text: Vec<u8>, ended: Ended) -> Step {
-        let steps = self.candidates.get(&task).and_then(|candidate| candidate.recipe.steps.as_ref()).filter(|_| ended.status.succeeded());
-        let Some((steps, assembled)) = steps.and_then(|steps| Some((steps, content_of(&steps.text).ok()?))) else { return self.runs_alone(task) };
-        let job = steps.assemble.clone();
-        let kept = (!assembler_reads_more(&assembled, None)).then_some((keys, text));
-        self.set(task, State::Compiled(kept, ended), None);
-        Step::Instead(job)
     }
 
     /// Whether a task, which reads a file late, may begin before that is there: if the cache has nothing for it, whatever will be in the file.
@@ -337,10 +347,10 @@ impl<'a> Session<'a> {
         self.candidates.get(&task)?.hit
     }
 
-    /// Notes how many commands the cache had.
+    /// Notes how many commands the cache had, of a call that it hadn't.
     pub fn end(&self) {
         let count = |hit| self.candidates.values().filter(|candidate| candidate.hit == Some(hit)).count() as u64;
-        counts::add(self.store.folder(), counts::Counts { hits: count(true), misses: count(false), calls: 0 });
+        counts::add(self.store.folder(), counts::Counts { hits: count(true), misses: count(false), calls: 0, others: 1 });
     }
 
     fn set(&mut self, task: usize, state: State, hit: Option<bool>) {
@@ -376,8 +386,7 @@ impl<'a> Session<'a> {
             let entered = names.iter().map(|name| Some(Text { role: Role::Source, content: fs::read(path_of(recipe, name)).ok()? }));
             texts.extend(entered.collect::<Option<Vec<_>>>()?);
         }
-        let is_known = texts.first().is_some_and(|text| !recipe.reads_more(&text.content));
-        is_known.then_some(texts)
+        Some(texts).filter(|texts| !texts.is_empty())
     }
 
     /// A task's keys but for what it reads late, which isn't there yet, and the first text that it reads.
@@ -392,9 +401,10 @@ impl<'a> Session<'a> {
     /// What counts of a task beside the texts that it reads.
     fn start(&mut self, task: usize) -> Option<Hasher> {
         let recipe = &self.candidates.get(&task)?.recipe;
-        let environment = recipe.environment();
-        let tool = self.tools.identity(&Run::of(recipe.kind, &recipe.job, &environment)?)?;
-        key::start_of(recipe, &tool, &environment)
+        let program = recipe.program();
+        let is_known = recipe.kind != Kind::Host
+            || *self.compilers.entry(program).or_insert_with_key(|program| HostCompiler::of(program) == HostCompiler::Gcc);
+        if is_known { key::start_of(recipe, &recipe.environment()) } else { None }
     }
 
     /// The same, and these texts.
@@ -409,7 +419,7 @@ impl<'a> Session<'a> {
         let recipe = &candidate.recipe;
         let Some(by_texts) = Part::by_texts(start.clone(), recipe, &texts) else { return self.runs_alone(task) };
         let key = by_texts.key(recipe, &texts);
-        if let Some(taken) = self.entry(&key).and_then(|entry| self.take(recipe, &entry, times)) {
+        if let Some(taken) = self.entry(&key, recipe).and_then(|found| self.take(recipe, found, times)) {
             self.found(task, key);
             return self.hit(task, taken);
         }
@@ -419,20 +429,21 @@ impl<'a> Session<'a> {
             self.has_other_lines = true;
             return self.hit(task, taken);
         }
-        let job = recipe.steps.as_ref().map_or(&recipe.job, |steps| &steps.compile).clone();
+        let job = recipe.job.clone();
         let text = texts.into_iter().next().map(|text| text.content).unwrap_or_default();
         self.set(task, State::Missed(keys, text), Some(false));
         Step::Instead(job)
     }
 
-    fn entry(&self, key: &Digest) -> Option<Entry> {
-        self.store.read(key).and_then(|bytes| stored::of_bytes(&bytes))
+    /// What the store has under a key, and what that depends on.
+    fn entry(&self, key: &Digest, recipe: &Recipe) -> Option<(Entry, Manifest)> {
+        Manifest::find(self.store, key, &self.beginning.cwd, &recipe.job.variables)
     }
 
     fn hit(&mut self, task: usize, taken: Taken) -> Step {
         self.set(task, State::Hit, Some(true));
         if let Some(candidate) = self.candidates.get_mut(&task) {
-            candidate.inputs = taken.inputs;
+            candidate.inputs = Ok(taken.inputs);
         }
         self.products.extend(taken.products);
         Step::Ended(taken.ended)
@@ -441,21 +452,17 @@ impl<'a> Session<'a> {
     /// The same for a command with the same tokens, if that said nothing.
     fn take_other(&self, recipe: &Recipe, tokens: &Digest, times: (f64, f64)) -> Option<Taken> {
         let other = Digest(self.store.read(tokens)?.try_into().ok()?);
-        let entry = self.entry(&other).filter(|entry| !entry.speaks())?;
-        self.take(recipe, &entry, times)
+        let found = self.entry(&other, recipe).filter(|(entry, _)| !entry.speaks())?;
+        self.take(recipe, found, times)
     }
 
     /// Makes and says what an entry has. `None` if it doesn't fit, or can't be made here.
-    fn take(&self, recipe: &Recipe, entry: &Entry, times: (f64, f64)) -> Option<Taken> {
+    fn take(&self, recipe: &Recipe, (entry, inputs): (Entry, Manifest), times: (f64, f64)) -> Option<Taken> {
         let is_shown = |(name, digest): &(Vec<u8>, Digest)| shown_file(recipe, name).is_some_and(|now| now == *digest);
         let may_say = || entry.terminal == self.terminal && entry.shown.iter().all(is_shown);
         if recipe.outputs.len() != entry.outputs.len() || (entry.speaks() && !may_say()) {
             return None;
         }
-        let inputs = match &entry.inputs {
-            Some(inputs) => Some(inputs.again(&self.beginning.cwd).filter(|now| inputs.holds_in(now))?),
-            None => None,
-        };
         let (directory, mut products) = (self.tmp.as_bytes(), Vec::new());
         for (output, text) in recipe.outputs.iter().zip(&entry.outputs) {
             match text {
@@ -470,7 +477,7 @@ impl<'a> Session<'a> {
     }
 
     /// What to do with a task that has run, with the keys under which it's kept and its first text.
-    fn ran(&mut self, task: usize, kept: Option<(&Keys, &[u8])>, ended: Ended) -> Step {
+    fn ran(&mut self, task: usize, keys: &Keys, text: &[u8], ended: Ended) -> Step {
         let Some(candidate) = self.candidates.get(&task) else { return Step::Ended(ended) };
         let recipe = &candidate.recipe;
         let moved = || recipe.outputs.iter().filter(|output| output.path != output.written_to);
@@ -479,26 +486,24 @@ impl<'a> Session<'a> {
         let may_move = !recipe.has_products() || (ended.status.succeeded() && !shows_where);
         let put = |output: &Output| recipe.put(output, content_of(&output.written_to).ok()?).ok()?;
         let Some(products) = may_move.then(|| moved().map(put).collect::<Option<Vec<_>>>()).flatten() else { return self.runs_alone(task) };
-        let entry = |(keys, text): (&Keys, &[u8])| Some((keys.clone(), self.entry_of(recipe, text, &ended)?));
-        if let Some((keys, entry)) = kept.filter(|_| ended.status.succeeded()).and_then(entry) {
-            let is_same = self.is_as_it_was(task, &keys, kept.map_or(&[][..], |(_, text)| text));
-            if is_same && self.reads_as_asked(task) {
-                let inputs = self.inputs_of(task).ok();
-                self.keep(&keys, &Entry { inputs: inputs.clone(), ..entry });
+        if let Some(entry) = self.entry_of(recipe, text, &ended).filter(|_| ended.status.succeeded()) {
+            let inputs = self.inputs_of(task, keys, text);
+            if let Ok(inputs) = &inputs {
+                self.keep(keys, inputs, &entry);
                 self.set(task, State::Kept, None);
-                self.candidates.entry(task).and_modify(|candidate| candidate.inputs = inputs);
                 self.found(task, keys.texts);
             }
+            self.candidates.entry(task).and_modify(|candidate| candidate.inputs = inputs);
         }
         self.products.extend(products);
         Step::Ended(ended)
     }
 
     /// Keeps an entry by its texts. One without messages is found by its tokens too. Says once that the store can't be written.
-    fn keep(&mut self, keys: &Keys, entry: &Entry) {
+    fn keep(&mut self, keys: &Keys, inputs: &Manifest, entry: &Entry) {
         let tokens = keys.tokens.filter(|_| !entry.speaks());
         let lead = || keys.marks.iter().chain(&tokens).try_for_each(|key| self.store.write(key, &keys.texts.0));
-        let written = self.store.write(&keys.texts, &stored::to_bytes(&entry)).and_then(|()| lead());
+        let written = inputs.keep(self.store, &keys.texts, entry).and_then(|()| lead());
         if let (Err(error), false) = (written, self.has_complained) {
             self.has_complained = true;
             complain(&format!("{}: cannot write to the cache {}: {error}", called(), self.store.folder().display()));
@@ -522,13 +527,13 @@ impl<'a> Session<'a> {
         let is_named = [&out, &errors].iter().any(|text| text.0.iter().any(|part| names(part, &recipe.directory)));
         let is_named = is_named || recipe.stem.as_ref().is_some_and(|stem| contains(&messages, stem.as_bytes()));
         // If an assembler alone says something, nvcc makes the call.
-        let is_odd = recipe.included.is_some() && !messages.is_empty();
+        let is_odd = recipe.is_assembly && !messages.is_empty();
         // (gcc seeks a file again to show its line; nvcc's tools show that of their text, also if the file is gone)
         let is_sought = |name: &&[u8]| recipe.kind == Kind::Host || path_of(recipe, name).exists();
         let shown = host_text::shown_files(text, &messages).into_iter().filter(is_sought).map(|name| self.shown(recipe, name));
         let shown = shown.collect::<Option<_>>()?;
         let terminal = if messages.is_empty() { Vec::new() } else { self.terminal.clone() };
-        (!is_named && !is_odd).then_some(Entry { outputs, out, errors, shown, terminal, inputs: None })
+        (!is_named && !is_odd).then_some(Entry { outputs, out, errors, shown, terminal })
     }
 }
 
@@ -611,8 +616,7 @@ mod tests {
             lines_count: false,
             question: None,
             assembles: false,
-            steps: None,
-            included: None,
+            is_assembly: false,
             stem: None,
             has_own_source: false,
         }

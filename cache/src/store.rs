@@ -60,6 +60,24 @@ fn is_unfinished(entry: &DirEntry) -> bool {
     entry.file_name().to_str().is_some_and(|name| name.starts_with(UNFINISHED))
 }
 
+/// A file of an entry, with its bytes.
+fn whole_file(path: &Path) -> Option<(File, Metadata, Vec<u8>)> {
+    // (a named pipe, or a terminal, would wait or more: it isn't waited for, and no plain file)
+    let mut file = OpenOptions::new().read(true).custom_flags(crate::system::UNBLOCKED).open(path).ok()?;
+    let status = file.metadata().ok().filter(Metadata::is_file)?;
+    let size = usize::try_from(status.len()).ok().filter(|_| status.len() <= LARGEST)?;
+    let mut text = Vec::with_capacity(size + 1);
+    file.read_to_end(&mut text).ok()?;
+    Some((file, status, text))
+}
+
+/// What is in the file of an entry, by its bytes. `None` if these aren't as they were written.
+fn content_of(mut text: Vec<u8>) -> Option<Vec<u8>> {
+    let begin = HEAD.len() + 32;
+    let fits = |content: &[u8]| text.starts_with(HEAD) && text[HEAD.len()..begin] == Digest::of(content).0;
+    text.get(begin..).is_some_and(fits).then(|| text.split_off(begin))
+}
+
 impl Store {
     /// The store of a folder, which is made once something is written.
     pub fn new(folder: PathBuf, limit: u64) -> Store {
@@ -78,22 +96,24 @@ impl Store {
     /// What the store has under a key. A file that isn't as it was written goes.
     pub fn read(&self, key: &Digest) -> Option<Vec<u8>> {
         let path = self.path_of(key);
-        // (a named pipe, or a terminal, would wait or more: it isn't waited for, and no plain file)
-        let mut file = OpenOptions::new().read(true).custom_flags(crate::system::UNBLOCKED).open(&path).ok()?;
-        let status = file.metadata().ok().filter(Metadata::is_file)?;
-        let size = usize::try_from(status.len()).ok().filter(|_| status.len() <= LARGEST)?;
-        let mut text = Vec::with_capacity(size + 1);
-        file.read_to_end(&mut text).ok()?;
-        let begin = HEAD.len() + 32;
-        let fits = |content: &[u8]| text.starts_with(HEAD) && text[HEAD.len()..begin] == Digest::of(content).0;
-        if !text.get(begin..).is_some_and(fits) {
+        let (file, status, text) = whole_file(&path)?;
+        let Some(content) = content_of(text) else {
             let _ = fs::remove_file(&path);
             return None;
-        }
+        };
         if age(&status) > OLD {
             let _ = file.set_modified(SystemTime::now());
         }
-        Some(text.split_off(begin))
+        Some(content)
+    }
+
+    /// The files of entries that aren't as they were written, by their order.
+    pub fn damaged(&self) -> Vec<PathBuf> {
+        let entries = self.folders().flat_map(|folder| files(&folder).filter(|(entry, _)| !is_unfinished(entry)).collect::<Vec<_>>());
+        let paths = entries.map(|(entry, _)| entry.path());
+        let mut damaged: Vec<PathBuf> = paths.filter(|path| whole_file(path).and_then(|(_, _, text)| content_of(text)).is_none()).collect();
+        damaged.sort();
+        damaged
     }
 
     /// Puts a text under a key.
@@ -215,6 +235,18 @@ mod tests {
 
     fn set_age(path: &Path, seconds: u64) {
         File::options().write(true).open(path).unwrap().set_modified(SystemTime::now() - Duration::from_secs(seconds)).unwrap();
+    }
+
+    #[test]
+    fn damaged_entries_are_named() {
+        let (folder, keys) = (TestFolder::new(), [1, 2, 3].map(|number| Digest([number; 32])));
+        let store = Store::new(folder.join("store"), 1 << 20);
+        keys.iter().for_each(|key| store.write(key, b"text").unwrap());
+        assert!(store.damaged().is_empty());
+        fs::write(store.path_of(&keys[1]), "other").unwrap();
+        fs::write(store.path_of(&keys[2]), [HEAD, &Digest::of(b"text").0, b"texts"].concat()).unwrap();
+        fs::write(store.path_of(&keys[0]).with_file_name(format!("{UNFINISHED}1")), "part").unwrap();
+        assert_eq!(store.damaged(), [&keys[1], &keys[2]].map(|key| store.path_of(key)));
     }
 
     #[test]

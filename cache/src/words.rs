@@ -4,9 +4,6 @@ use command_keys::{CountedWord, NamedFiles, ReadWord};
 use compilers::plans::Program;
 use rattle_std::alloc::Global;
 
-/// Words of a preprocessor that say where it looks.
-const SEARCHED: [&str; 2] = ["-I", "-isystem"];
-
 /// The tool of a kind, as the table has it.
 pub fn program_of(kind: Kind) -> Program {
     match kind {
@@ -87,14 +84,6 @@ pub fn defined(words: &[String]) -> Vec<&str> {
     joined.chain(words.windows(2).filter(|pair| pair[0] == "-D").map(|pair| pair[1].as_str())).collect()
 }
 
-/// The words of a preprocessor that say where it looks for what it includes.
-pub fn search_words(words: &[String]) -> Vec<String> {
-    let is_option = |place: usize| SEARCHED.contains(&words[place].as_str());
-    let goes_on = |place: usize| words[place].len() > 2 && words[place].starts_with("-I");
-    let counts = |&place: &usize| is_option(place) || place > 0 && is_option(place - 1) || goes_on(place);
-    (0..words.len()).filter(counts).map(|place| words[place].clone()).collect()
-}
-
 #[cfg(test)]
 mod tests {
     use super::*;
@@ -121,7 +110,6 @@ mod tests {
         assert!(is_known(Kind::Host, "-D__CUDA_ARCH__=800 -c -x c++ -Wno-psabi -I/i -isystem /s -m64 -O2 x.cpp -o k.o"));
         assert!(is_preprocess(&list("-D__CUDACC__ -E -x c++ -I/i -D NAME=name -U X -include cuda_runtime.h -m64 k.cu -o k.ii")));
         assert!(!is_preprocess(&list("-E -x c++ k.cu -o k.ii -D")));
-        assert_eq!(search_words(&list("-D NAME -I/i -isystem /s -U X")), ["-I/i", "-isystem", "/s"]);
     }
 
     #[test]
@@ -264,7 +252,6 @@ mod tests {
         let nvccs = "-D__CUDA_ARCH__=750 -E -x c++ -D A -U B -I/i -isystem /s -I j -include cuda_runtime.h -m64 k.cu -o k.ii";
         assert!(is_preprocess(&list(nvccs)));
         assert_eq!(defined(&list(nvccs)), ["__CUDA_ARCH__=750", "A"]);
-        assert_eq!(search_words(&list(nvccs)), ["-I/i", "-isystem", "/s", "-I", "j"]);
         for word in ["-c", "-MD", "-imacros m.h", "-dD", "-C", "-P", "-H", "-nostdinc", "-iquote q", "-idirafter d", "-fdirectives-only", "-B."] {
             assert!(!is_preprocess(&list(&format!("{nvccs} {word}"))), "{word}");
         }

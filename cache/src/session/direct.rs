@@ -7,7 +7,6 @@ use crate::lines::may_be_open;
 use crate::manifest::Manifest;
 use crate::recipe::{Recipe, Role};
 use crate::source::{begins_raw_string, join_of};
-use crate::stored;
 use machine::bytes::contains;
 use machine::streams::content_of;
 use std::collections::{BTreeMap, BTreeSet};
@@ -23,9 +22,6 @@ pub struct Direct {
     /// What a preprocessor would depend on, if it was found so.
     pub found: Option<Manifest>,
 }
-
-/// What the store has under the key of texts: the key of an entry, and what the preprocessor depended on by which that holds.
-type Stored = (Digest, Manifest);
 
 /// The generated files that a compile reads: its own, cicc's stub file, which that includes, and the fatbin's, which the stub file includes.
 fn generated(recipe: &Recipe) -> Option<Vec<PathBuf>> {
@@ -89,11 +85,9 @@ impl Session<'_> {
     pub(super) fn take_directly(&mut self, task: usize, times: (f64, f64)) -> Option<Taken> {
         let key = self.direct_key(task)?;
         self.candidates.get_mut(&task)?.direct.key = Some(key);
-        let (entry, found): Stored = stored::of_bytes(&self.store.read(&key)?)?;
-        let candidate = self.candidates.get(&task)?;
-        let now = found.again(Path::new(&candidate.recipe.job.folder))?;
-        let entry = self.entry(&entry).filter(|_| found.holds_in(&now))?;
-        let taken = self.take(&candidate.recipe, &entry, times)?;
+        let recipe = &self.candidates.get(&task)?.recipe;
+        let (entry, now) = Manifest::find(self.store, &key, Path::new(&recipe.job.folder), &recipe.job.variables)?;
+        let taken = self.take(recipe, self.entry(&entry, recipe)?, times)?;
         self.candidates.get_mut(&task)?.direct.found = Some(now);
         Some(taken)
     }
@@ -118,7 +112,7 @@ impl Session<'_> {
             let entered = candidate.recipe.question.as_ref().and_then(|(_, file)| written.entered_without_lines(file));
             let is_known = entered.is_some_and(|entered| self.is_known(&candidate.recipe, entered));
             if let (Some(key), Some(entry), true) = (candidate.direct.key, candidate.direct.entry, is_known) {
-                let _ = self.store.write(&key, &stored::to_bytes(&(entry, manifest)));
+                let _ = manifest.keep(self.store, &key, &entry);
             }
         }
     }

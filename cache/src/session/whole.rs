@@ -136,8 +136,10 @@ impl Session<'_> {
         for (number, _, command) in call.of_plan() {
             let is_kept = self.candidates.get(&number).is_some_and(|candidate| matches!(candidate.state, State::Hit | State::Kept));
             let is_known = !command.preprocesses || words::is_preprocess(&command.words);
-            if !(is_kept || stays(command) && is_known) {
-                return Err(Refusal::Task(format!("the cache does not keep what {} made", command.program)));
+            let refusal = self.candidates.get(&number).and_then(|candidate| candidate.inputs.as_ref().err().cloned());
+            let runs_script = matches!(refusal, Some(Refusal::Names(_)));
+            if runs_script || !(is_kept || stays(command) && is_known) {
+                return Err(refusal.unwrap_or_else(|| Refusal::Task(format!("the cache does not keep what {} made", command.program))));
             }
         }
         let outputs = self.candidates.values().flat_map(|candidate| &candidate.recipe.outputs);
@@ -183,15 +185,14 @@ impl Session<'_> {
             questions.extend(if let Subject::Question(number) = subject { Some((number, part.clone())) } else { None });
             parts.push(part);
         }
-        for (number, _, command) in call.of_plan() {
+        for (number, _, _) in call.of_plan() {
             let Some(candidate) = self.candidates.get(&number).filter(|candidate| candidate.is_served()) else {
                 if subjects.contains(&Subject::Task(number)) {
                     continue;
                 }
                 return Err(Gap::Nothing.into());
             };
-            let inputs = candidate.inputs.clone();
-            parts.push(inputs.ok_or_else(|| Refusal::Task(format!("what {} reads was not observed", command.program)))?);
+            parts.push(candidate.inputs.clone()?);
             parts.extend(candidate.direct.found.clone());
         }
         Ok((parts, questions))
@@ -208,14 +209,18 @@ impl Session<'_> {
         if let Some(path) = observed.made.iter().find(is_left) {
             return Err(Refusal::Task(format!("a command left {}", path.display())));
         }
-        self.reading().manifest(&observed, texts)
+        let given = match subject {
+            Subject::DryRun(_) => &[][..],
+            Subject::Question(number) | Subject::Task(number) => &call.tasks[number].job.variables,
+        };
+        self.reading().manifest(&observed, texts, given)
     }
 
     /// Where the driver itself looked for the call's programs.
     fn sought_by_driver(&mut self, call: &Finished<'_>) -> Result<Manifest, Refusal> {
         let sought = |(_, task, command): (usize, &Task, &PlannedCommand)| sought_before(Path::new(&command.program), &variable(&task.job, "PATH"));
         let observed = Observed { sought: call.of_plan().flat_map(sought).collect(), ..Observed::default() };
-        self.reading().manifest(&observed, &BTreeSet::new())
+        self.reading().manifest(&observed, &BTreeSet::new(), &[])
     }
 
     /// What the command lines of the call's preprocessors define. `None` if lines and comments may count: for debuggers, or in messages.
