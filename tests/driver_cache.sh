@@ -179,6 +179,26 @@ stand_ins() {
         done
         end
     fi
+    if case_of 'a tool by a link that leads elsewhere'; then
+        for tool in bin/ptxas bin/gcc; do
+            mv "$CUDA/$tool" "$room/kept" && mkdir "$room/one" "$room/two"
+            for folder in one two; do cp -p "$room/kept" "$room/$folder/${tool#bin/}" && cp -p "$CUDA/bin/cc1plus" "$room/$folder"; done
+            printf x >> "$room/two/${tool#bin/}"
+            for folder in one two one; do
+                ln -sfn "$room/$folder/${tool#bin/}" "$CUDA/$tool"
+                settle
+                call -c k.cu -o k.o
+                case $folder,$tool,$([ -e "$room/$folder/ran" ] && echo again) in
+                *,again) ran_none "by $tool in $folder again" ;;
+                two,bin/ptxas,) ran "by another $tool" ptxas.80 ptxas.90 ;;
+                two,*) ran "by another $tool" gcc-c ;;
+                esac
+                touch "$room/$folder/ran"
+            done
+            rm -r "$room/one" "$room/two" "${CUDA:?}/$tool" && mv "$room/kept" "$CUDA/$tool"
+        done
+        end
+    fi
     if case_of 'another assembler first on the path'; then
         call -c k.cu -o k.o
         mkdir "$room/bin" && cp "$CUDA/bin/as" "$room/bin" && echo >> "$room/bin/as"

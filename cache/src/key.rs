@@ -114,7 +114,10 @@ pub fn start_of(recipe: &Recipe, environment: &[(OsString, OsString)]) -> Option
     start.add(FORM);
     start.add(format!("{:?}", recipe.kind).as_bytes());
     start.add(instructions().as_bytes());
-    start.add(recipe.program().as_os_str().as_bytes());
+    let program = recipe.program();
+    start.add(program.as_os_str().as_bytes());
+    // (a link may lead to another one later, and back)
+    start.add(fs::canonicalize(&program).unwrap_or_default().as_os_str().as_bytes());
     let folders = environment.iter().rev().find(|(name, _)| name == LOADERS_FOLDERS);
     start.add(folders.map(|(_, folders)| folders.as_bytes()).unwrap_or_default());
     start.add(&words_key(recipe, environment)?);

@@ -386,6 +386,7 @@ impl List<'_> {
         let announced = self.process(record).next.take();
         let parent = self.processes.get_mut(&record.parent).filter(|_| record.number != IS_FIRST && announced.is_none());
         let run_by = announced.or_else(|| parent.and_then(|parent| parent.awaited.pop()));
+        let run_by = if record.number == IS_FIRST { Some(self.scope.program.to_owned()) } else { run_by };
         if record.number == RUNS && run_by.is_none() {
             return Err(Gap::Unseen(format!("how it ran {}", path.display())));
         }
@@ -396,7 +397,10 @@ impl List<'_> {
         if record.number == IS_FIRST {
             self.first.clone_from(&path);
         }
-        self.observed.followed.extend(run_by.filter(|path| record.number == RUNS && !self.scope.is_own(path)));
+        if let Some(run_by) = run_by.filter(|path| matches!(record.number, RUNS | IS_FIRST) && !self.scope.is_own(path)) {
+            self.observed.by_first.entry(run_by.clone()).or_default();
+            self.observed.followed.insert(run_by);
+        }
         if !self.scope.is_own(&path) {
             self.observed.programs.insert(path, record.stamp);
         }
@@ -656,7 +660,7 @@ mod tests {
         assert_eq!([has_stamp("/w/seen"), has_stamp("/w/there")], [true, false]);
         assert_eq!(
             (names(&list.followed), paths(&list.libraries), paths(&list.programs)),
-            (vec!["/w/link", "/w/no-link"], vec!["/l/libc.so.6"], vec!["/b/tool"])
+            (vec!["/a/tool", "/w/link", "/w/no-link"], vec!["/l/libc.so.6"], vec!["/b/tool"])
         );
         assert_eq!(list.variables, BTreeSet::from(["TMPDIR".into()]));
     }
@@ -782,7 +786,7 @@ mod tests {
         let begin = || record(b'B', "/b/other");
         let not_entered = || Err(Gap::NotEntered("/b/other".into()));
         let list = read(&[record(b'X', "/a/link"), begin()]).unwrap();
-        assert_eq!((names(&list.followed), paths(&list.programs)), (vec!["/a/link"], vec!["/b/other", "/b/tool"]));
+        assert_eq!((names(&list.followed), paths(&list.programs)), (vec!["/a/link", TOOL], vec!["/b/other", "/b/tool"]));
         assert_eq!(read(&[record(b'X', "/b/other")]), not_entered());
         assert_eq!(read(&[record(b'X', "/b/other"), record(b'V', "A")]), not_entered());
         let list = read(&[record(b'X', "/a/other"), failed(b'F', "/a/other", 2), record(b'X', "/b/other"), begin()]).unwrap();
@@ -808,7 +812,7 @@ mod tests {
         assert!(read(&[start(), start(), child(8, 0), failed(b'F', "/bin/sh", 2)]).is_ok());
         let not_entered = || Err(Gap::NotEntered("/bin/sh".into()));
         assert_eq!(read(&[start(), child(8, 0), start()]), not_entered());
-        assert!(read(&[start(), child(8, AFTER_FORK)]).unwrap().followed.is_empty(), "a fork is announced as well");
+        assert_eq!(names(&read(&[start(), child(8, AFTER_FORK)]).unwrap().followed), [TOOL], "a fork is announced as well");
         assert_eq!(read(&[start(), start(), child(8, AFTER_FORK)]), not_entered());
         let itself = [of(8, 7, record(b'X', "/bin/sh")), child(8, 0)].concat();
         assert_eq!(read(&[start(), itself]), not_entered());
