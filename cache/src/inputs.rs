@@ -13,7 +13,8 @@ use machine::streams::content_of;
 use std::collections::{BTreeMap, BTreeSet, HashMap, HashSet};
 use std::ffi::{OsStr, OsString};
 use std::fmt::{self, Display, Formatter};
-use std::fs::{self, Metadata};
+use std::fs::{self, File, Metadata};
+use std::io::Read;
 use std::os::unix::ffi::OsStrExt;
 use std::path::{Path, PathBuf};
 use std::time::SystemTime;
@@ -253,8 +254,11 @@ impl<'a> Reading<'a> {
 
     /// A file that is a script, if one is among those that processes have read: it may use any variable without asking.
     pub fn script(&self, observed: &Observed) -> Option<PathBuf> {
-        let begins = |path: &&PathBuf| content_of(&self.cwd.join(path)).is_ok_and(|text| text.starts_with(SCRIPT));
-        observed.read.keys().filter(|path| is_short(&self.cwd.join(path))).find(begins).cloned()
+        let begins = |path: &&PathBuf| {
+            let mut begin = [0; SCRIPT.len()];
+            File::open(self.cwd.join(path)).is_ok_and(|mut file| file.read_exact(&mut begin).is_ok() && begin == SCRIPT)
+        };
+        observed.read.keys().find(begins).cloned()
     }
 
     /// The same of each of some files that processes have read. If a script is among them, it may use any variable without asking, and so may

@@ -101,10 +101,11 @@ impl Observed {
         other.read.iter().find(|(path, stamp)| self.read.get(*path) != Some(*stamp)).map(|(path, _)| path)
     }
 
-    /// Leaves out what another list has, but for programs, libraries and what the first program did itself: a preprocessor's text says nothing of that.
-    pub fn leave_out(&mut self, other: &Observed) {
+    /// Leaves out what a preprocessor has read as texts, and what else it has done, but for programs, libraries and what the first program did itself:
+    /// of these its text says nothing.
+    pub fn leave_out(&mut self, other: &Observed, is_text: impl Fn(&Path) -> bool) {
         let first = &self.by_first;
-        self.read.retain(|path, _| first.get(path) == Some(&true) || !other.read.contains_key(path));
+        self.read.retain(|path, _| first.get(path) == Some(&true) || !other.read.contains_key(path) || !is_text(path));
         self.seen.retain(|path, _| first.contains_key(path) || !other.seen.contains_key(path));
         self.listed.retain(|path, _| first.contains_key(path) || !other.listed.contains_key(path));
         self.lacking.retain(|path| first.contains_key(path) || !other.lacking.contains(path));
@@ -726,8 +727,8 @@ mod tests {
             [&driver[..], &own.into_iter().map(|record| with(record, &[(4, 8), (8, 7)])).collect::<Vec<_>>()].concat()
         };
         let mut list = read(&compiler(1)).unwrap();
-        list.leave_out(&read(&compiler(2)).unwrap());
-        assert_eq!((paths(&list.read), names(&list.lacking), paths(&list.seen)), (vec!["/w/specs"], vec!["/w/none"], vec![]));
+        list.leave_out(&read(&compiler(2)).unwrap(), |path| path != Path::new("/w/b.h"));
+        assert_eq!((paths(&list.read), names(&list.lacking), paths(&list.seen)), (vec!["/w/b.h", "/w/specs"], vec!["/w/none"], vec![]));
         assert_eq!((paths(&list.programs), list.variables), (vec!["/b/cc1plus", "/b/tool"], BTreeSet::from(["A".into()])));
     }
 

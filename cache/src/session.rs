@@ -257,9 +257,11 @@ impl<'a> Session<'a> {
                 return Err(Refusal::Changed(path.clone()));
             }
             let entered = host_text::files_entered(text).ok_or_else(|| changed("a file of an odd name"))?;
-            let entered = entered.into_iter().map(|name| path_of(&recipe, name)).chain(recipe.reads.iter().cloned()).collect();
+            let entered: BTreeSet<PathBuf> =
+                entered.into_iter().map(|name| path_of(&recipe, name)).chain(recipe.reads.iter().cloned()).collect();
             self.reading().manifest(&asked, &entered, given)?;
-            observed.leave_out(&asked);
+            let cwd = &self.beginning.cwd;
+            observed.leave_out(&asked, |path| entered.contains(&cwd.join(path)));
         }
         if let Some(other) = own.iter().find(|file| !recipe.knows(file, self.tmp)) {
             return Err(Refusal::Task(format!("a command read {}, of which its key has nothing", other.display())));
