@@ -423,7 +423,7 @@ stand_ins() {
         for words in '' odd 'limit odd' 'limit 1 2' 'stats x' show 'verify x'; do
             # shellcheck disable=SC2086 # several words, or none
             "$scratch/bin/zigrunk-cache" $words > "$room/out" 2> "$room/err"
-            same "wrong usage with '$words'" "$? $(wc -l < "$room/err")" "$([ "$words" = 'limit odd' ] && echo '1 1' || echo '2 2')"
+            same "wrong usage with '$words'" "$? $(wc -l < "$room/err")" '2 2'
         done
         end
     fi
