@@ -9,7 +9,7 @@ what it has made of the same state.
 --calls 0 has no call kept as a whole. --keep copies all folders as they are behind an edit that fails: which edits come while a call runs depends on
 how fast it is, so that a seed alone doesn't make them again.
 
-Of FEWEST edits or more it's a failure, too, if fewer than a twentieth of the calls were found whole: then whole calls aren't tested.
+Of FEWEST edits or more it's a failure, too, if fewer than a fortieth of the calls were found whole: then whole calls aren't tested.
 
 The last line is 'N passed, M failed'; the status is 1 if one failed. It needs nvcc and objcopy."""
 import argparse
@@ -435,7 +435,7 @@ def main() -> int:
         log = (room / "log").read_text(encoding="utf-8")
     hits, misses, calls = (log.count(text) for text in ('"hit":true', '"hit":false', '[{"kind":"nvcc"'))
     print(f"{hits} hits, {calls} of them whole calls, {misses} misses")
-    if options.calls != "0" and options.count >= FEWEST and calls * 20 < options.count:
+    if options.calls != "0" and options.count >= FEWEST and calls * 40 < options.count:
         failed += 1
         print(f"only {calls} of {options.count} calls of seed {options.seed} were found whole")
     print(f"{options.count - failed} passed, {failed} failed")
