@@ -300,6 +300,7 @@ FILE          a call on each line, as you would type it, or a compile_commands.j
 --version     print the version
 -h, --help    print this text
 
+Right behind the word batch may stand --root FOLDER and --check-twice, as for zigrunk nvcc.
 The status is that of the first call in the list that failed. man zigrunk-batch has the rest.
 HELP
 )"
