@@ -1,4 +1,5 @@
-//! Compiles the observer, a library that the driver loads into other programs, so that the driver has it in itself.
+//! Compiles the observer, a library that the driver loads into other programs, so that the driver has it in
+//! itself.
 use std::env;
 use std::fs;
 use std::path::{Path, PathBuf};

@@ -57,7 +57,7 @@ for word in $first; do
 done
 offers 'json ninja shell compdb text' plan ''
 offers 'json ninja shell compdb text' plan --dry-runs one two ''
-offers 'stats clear limit observe' cache ''
+offers 'stats show verify clear limit observe' cache ''
 offers 'folder' plan --cwd ''
 offers 'folder' plan --dry-runs one two --tmp ''
 offers '-c -dc -dw -ptx -cubin -fatbin -optix-ir' plan --flag ''

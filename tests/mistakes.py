@@ -107,7 +107,7 @@ CALLS: list[tuple[str, int, list[str]]] = [
     ("zigrunk report text", 1, ["text is no log of ZIGRUNK_LOG: none of its lines is an entry"]),
     ("zigrunk report --hmtl page text", 2, ["unexpected option --hmtl; did you mean --html?"]),
     ("zigrunk report text --html", 2, ["--html needs a file"]),
-    ("zigrunk cache", 2, ["zigrunk cache: a word is missing", "usage: zigrunk cache stats|clear|"]),
+    ("zigrunk cache", 2, ["zigrunk cache: a word is missing", "usage: zigrunk cache stats|show KEY|"]),
     ("zigrunk cache stat", 2, ["unknown word stat; did you mean stats?"]),
     ("zigrunk cache limit 5x", 2, ["5x is no size: it has digits, and K, M, G or T, such as 5G"]),
     ("zigrunk cache clear now", 2, ["unexpected word now", "usage: "]),

@@ -402,7 +402,8 @@ fn with_settings(run: impl FnOnce(Settings) -> i32) -> i32 {
     )
 }
 
-/// The products of the calls of a `compile_commands.json` in a folder: each call's source, and the files that its words name.
+/// The products of the calls of a `compile_commands.json` in a folder: each call's source, and the files that
+/// its words name.
 /// Errors: why the text isn't one.
 pub fn products_of_database(text: &[u8], folder: &Path) -> Result<Vec<(String, Vec<PathBuf>)>, String> {
     if !databases::is_database(text) {

@@ -27,7 +27,7 @@ grep -o '\bzigrunk_[a-z_0-9]*(' zigrunk.h | tr -d '(' | LC_ALL=C sort -u > "$wor
 rm -f "$folder/lib/libzigrunk.a"
 "$AR" rcsD "$folder/lib/libzigrunk.a" "$work/zigrunk.o"
 # Before 2.34, glibc had threads in a library of their own, which newer ones still have in name. The linker takes the names that are wanted from a
-# stand-in for it, so that it asks for their first version.
+# stand-in for it, so that it asks for their first version. Some archives want them weakly alone, for which the linker keeps no library by itself.
 set --
 if [ -n "${OLDER_GLIBC-}" ]; then
     case $(${CC:-cc} -dumpmachine) in x86_64*) first=GLIBC_2.2.5 ;; *) first=GLIBC_2.17 ;; esac
@@ -37,7 +37,7 @@ if [ -n "${OLDER_GLIBC-}" ]; then
     ${CC:-cc} -shared -nostdlib -fno-builtin -w -o "$work/libpthread.so.0" "$work/threads.c" -Wl,-soname,libpthread.so.0 \
         -Wl,--version-script="$work/threads"
     ${CC:-cc} -O2 -fPIC -c -o "$work/older_glibc.o" older_glibc.c
-    set -- "$work/older_glibc.o" "$work/libpthread.so.0"
+    set -- "$work/older_glibc.o" -Wl,--no-as-needed "$work/libpthread.so.0"
 fi
 ${CC:-cc} -shared -o "$folder/lib/libzigrunk.so.2" "$work/zigrunk.o" "$@" -s -Wl,--gc-sections \
     -Wl,-soname,libzigrunk.so.2 -Wl,--version-script="$work/map" -static-libgcc -Wl,--no-undefined -Wl,-z,relro,-z,now,-z,noexecstack

@@ -1,7 +1,8 @@
-//! Whole calls: what an equal call has made and said is made and said again, without a dry run, if all that it read is as it was.
+//! Whole calls: what an equal call has made and said is made and said again, without a dry run, if all that
+//! it read is as it was.
 //!
-//! A call's key leads to a manifest, the files that were read and the places where some were sought in vain. Their digests lead to what the
-//! call made.
+//! A call's key leads to a manifest, the files that were read and the places where some were sought in vain.
+//! Their digests lead to what the call made.
 use crate::digest::{Digest, Hasher};
 use crate::manifest::Manifest;
 use crate::processor::instructions;
@@ -19,7 +20,8 @@ use std::io::{self, ErrorKind, IsTerminal};
 use std::os::unix::ffi::OsStrExt;
 use std::path::{Path, PathBuf};
 
-/// Variables that nothing of what a call makes depends on, unless a process asks for one. All others count, since nvcc's profile may use any.
+/// Variables that nothing of what a call makes depends on, unless a process asks for one. All others count,
+/// since nvcc's profile may use any.
 const FREE_VARIABLES: [&str; 39] = [
     "COLUMNS",
     "DISPLAY",
@@ -62,21 +64,25 @@ const FREE_VARIABLES: [&str; 39] = [
     "_",
 ];
 /// The same for those that begin so.
-const FREE_BEGINNINGS: [&str; 9] = ["CCACHE_", "CMAKE_", "DBUS_", "GITHUB_", "SLURM_", "SSH_", "VSCODE_", "XDG_", "ZIGRUNK_"];
+const FREE_BEGINNINGS: [&str; 9] =
+    ["CCACHE_", "CMAKE_", "DBUS_", "GITHUB_", "SLURM_", "SSH_", "VSCODE_", "XDG_", "ZIGRUNK_"];
 
 /// The one among these that counts: products are others under a root.
 const COUNTING: &[u8] = b"ZIGRUNK_ROOT";
 
-/// Whether nothing of what a call makes depends on a variable, unless a process asks for it. All others are in its key.
+/// Whether nothing of what a call makes depends on a variable, unless a process asks for it. All others are
+/// in its key.
 pub fn is_free(name: &OsStr) -> bool {
     let name = name.as_bytes();
     if name == COUNTING {
         return false;
     }
-    FREE_VARIABLES.iter().any(|free| name == free.as_bytes()) || FREE_BEGINNINGS.iter().any(|begin| name.starts_with(begin.as_bytes()))
+    FREE_VARIABLES.iter().any(|free| name == free.as_bytes())
+        || FREE_BEGINNINGS.iter().any(|begin| name.starts_with(begin.as_bytes()))
 }
 
-/// For these of them tools ask, but nothing that they make depends on them; messages are kept for the kind of terminal.
+/// For these of them tools ask, but nothing that they make depends on them; messages are kept for the kind of
+/// terminal.
 const HARMLESS: [&str; 6] = ["COLUMNS", "GCC_COLORS", "MAKEFLAGS", "PWD", "TERM", "TMPDIR"];
 
 /// Whether nothing that tools make depends on a variable, though they ask for it.
@@ -126,13 +132,20 @@ impl Answer {
 
 /// The keys under which a call may be: with no folder, and with its own.
 fn keys(line: &NvccLine, nvcc: &Path) -> [Digest; 2] {
-    let places = fs::canonicalize(&line.cwd).map(|real| [line.cwd.as_bytes(), b"\0", real.as_os_str().as_bytes()].concat());
+    let places = fs::canonicalize(&line.cwd)
+        .map(|real| [line.cwd.as_bytes(), b"\0", real.as_os_str().as_bytes()].concat());
     let places = places.unwrap_or_else(|_| line.cwd.clone().into_bytes());
     [&b""[..], &places].map(|folder| key(line, nvcc, folder, own_variables()))
 }
 
-/// The key of a call: the processor, its nvcc, its words and its variables, and its folder, with where that really is, if that counts.
-fn key(line: &NvccLine, nvcc: &Path, folder: &[u8], variables: impl Iterator<Item = (OsString, OsString)>) -> Digest {
+/// The key of a call: the processor, its nvcc, its words and its variables, and its folder, with where that
+/// really is, if that counts.
+fn key(
+    line: &NvccLine,
+    nvcc: &Path,
+    folder: &[u8],
+    variables: impl Iterator<Item = (OsString, OsString)>,
+) -> Digest {
     let mut hasher = Hasher::default();
     hasher.add(b"zigrunk call 8");
     hasher.add(instructions().as_bytes());
@@ -163,7 +176,8 @@ pub fn serve(store: &Store, line: &NvccLine, nvcc: &Path) -> Option<Said> {
     if has_room { keys(line, nvcc).iter().find_map(|key| serve_by(store, key, cwd)) } else { None }
 }
 
-/// What the store has of a call with this key, and what the call depends on now. If that are other sources that stand for those, it's kept.
+/// What the store has of a call with this key, and what the call depends on now. If that are other sources
+/// that stand for those, it's kept.
 fn found(store: &Store, key: &Digest, cwd: &Path) -> Option<Answer> {
     let earlier = Manifest::read(store, key)?;
     let now = earlier.again(cwd)?;
@@ -185,7 +199,8 @@ pub fn known(store: &Store, line: &NvccLine, nvcc: &Path) -> Vec<(Digest, Manife
 fn serve_by(store: &Store, key: &Digest, cwd: &Path) -> Option<Said> {
     let answer = found(store, key, cwd)?;
     // (what is to be written to may not be writable: then nothing else is made either)
-    let (made, written): (Vec<&Product>, Vec<&Product>) = answer.products.iter().partition(|product| product.is_new);
+    let (made, written): (Vec<&Product>, Vec<&Product>) =
+        answer.products.iter().partition(|product| product.is_new);
     for product in written.into_iter().chain(made) {
         put(product.is_new, &cwd.join(&product.path), &product.text).ok()?;
     }
@@ -193,7 +208,14 @@ fn serve_by(store: &Store, key: &Digest, cwd: &Path) -> Option<Said> {
 }
 
 /// Keeps what a call has made, if the store can be written.
-pub fn keep(store: &Store, line: &NvccLine, nvcc: &Path, folder_counts: bool, manifest: &Manifest, answer: &Answer) {
+pub fn keep(
+    store: &Store,
+    line: &NvccLine,
+    nvcc: &Path,
+    folder_counts: bool,
+    manifest: &Manifest,
+    answer: &Answer,
+) {
     let key = keys(line, nvcc)[usize::from(folder_counts)];
     let _ = manifest.keep(store, &key, answer);
 }
@@ -202,15 +224,18 @@ pub fn keep(store: &Store, line: &NvccLine, nvcc: &Path, folder_counts: bool, ma
 const MESSAGES: [&str; 3] = ["GCC_COLORS", "GCC_EXTRA_DIAGNOSTIC_OUTPUT", "LANGUAGE"];
 const ON_TERMINALS: [&str; 6] = ["TERM", "COLUMNS", "GCC_URLS", "TERM_URLS", "NOCOLOR", "NO_COLOR"];
 
-/// What messages depend on beside what they say: the kind of terminal, and variables. Nothing if they don't go to one, and none is set.
+/// What messages depend on beside what they say: the kind of terminal, and variables. Nothing if they don't
+/// go to one, and none is set.
 pub fn terminal() -> Vec<u8> {
     let is_terminal = io::stderr().is_terminal();
     let names = MESSAGES.iter().chain(ON_TERMINALS.iter().filter(|_| is_terminal));
-    let values: Vec<Vec<u8>> = names.map(|name| own_variable(name).unwrap_or_default().as_bytes().to_vec()).collect();
+    let values: Vec<Vec<u8>> =
+        names.map(|name| own_variable(name).unwrap_or_default().as_bytes().to_vec()).collect();
     if is_terminal || values.iter().any(|value| !value.is_empty()) { values.join(&b'\n') } else { Vec::new() }
 }
 
-/// Puts a file in its place as a tool does: a compiler makes a new one, unless what is there is empty. The others write to what is there.
+/// Puts a file in its place as a tool does: a compiler makes a new one, unless what is there is empty. The
+/// others write to what is there.
 pub fn put(is_new: bool, path: &Path, text: &[u8]) -> io::Result<()> {
     match fs::symlink_metadata(path) {
         Ok(status) if !status.is_file() => return Err(ErrorKind::AlreadyExists.into()),
@@ -230,7 +255,12 @@ mod tests {
     use std::fs;
 
     fn line(words: &str, cwd: &str) -> NvccLine {
-        NvccLine { cwd: cwd.into(), nvcc: "nvcc".into(), words: words.split(' ').map(String::from).collect(), variables: Vec::new() }
+        NvccLine {
+            cwd: cwd.into(),
+            nvcc: "nvcc".into(),
+            words: words.split(' ').map(String::from).collect(),
+            variables: Vec::new(),
+        }
     }
 
     fn key_of(words: &str, folder: Option<&str>, nvcc: &str, variables: &[(&str, &str)]) -> Digest {
@@ -241,7 +271,13 @@ mod tests {
     #[test]
     fn words_variables_and_the_compiler_count() {
         let usual = key_of("-c k.cu", None, "/b/nvcc", &[("A", "1"), ("PATH", "/bin")]);
-        let same = [("PATH", "/bin"), ("TERM", "xterm"), ("A", "1"), ("ZIGRUNK_LOG", "x"), ("XDG_RUNTIME_DIR", "/run")];
+        let same = [
+            ("PATH", "/bin"),
+            ("TERM", "xterm"),
+            ("A", "1"),
+            ("ZIGRUNK_LOG", "x"),
+            ("XDG_RUNTIME_DIR", "/run"),
+        ];
         assert_eq!(key_of("-c k.cu", None, "/b/nvcc", &same), usual);
         let others = [
             key_of("-c k.cu -O2", None, "/b/nvcc", &[("A", "1"), ("PATH", "/bin")]),
@@ -257,7 +293,9 @@ mod tests {
 
     #[test]
     fn a_profile_may_name_a_variable_that_is_free() {
-        for text in ["INCLUDES += \"-I$(HOME)/inc\"", "$(CMAKE_PREFIX_PATH)", "$(ZIGRUNK_LOG)", "%:getenv(USER /inc)"] {
+        for text in
+            ["INCLUDES += \"-I$(HOME)/inc\"", "$(CMAKE_PREFIX_PATH)", "$(ZIGRUNK_LOG)", "%:getenv(USER /inc)"]
+        {
             assert!(names_free_variable(text.as_bytes()), "{text}");
         }
         let usual = "TOP = $(_HERE_)/..\nPATH += $(CICC_PATH):$(_HERE_):\nINCLUDES += \"-I$(TOP)/$(_TARGET_DIR_)/include\" $(_SPACE_)\n";
@@ -266,7 +304,11 @@ mod tests {
 
     fn answer() -> Answer {
         let product = |path: &str, is_new: bool| Product { path: path.into(), is_new, text: path.into() };
-        Answer { products: vec![product("k.o", true), product("k.d", false)], said: vec![(true, b"warns".to_vec())], terminal: terminal() }
+        Answer {
+            products: vec![product("k.o", true), product("k.d", false)],
+            said: vec![(true, b"warns".to_vec())],
+            terminal: terminal(),
+        }
     }
 
     #[test]
@@ -283,17 +325,31 @@ mod tests {
     #[test]
     fn a_kept_call_is_served_while_all_is_as_it_was() {
         let room = TestFolder::new();
-        let (store, line, nvcc) = (Store::new(room.join("store"), 1 << 20), line("-c k.cu", room.to_str().unwrap()), Path::new("/b/nvcc"));
+        let (store, line, nvcc) = (
+            Store::new(room.join("store"), 1 << 20),
+            line("-c k.cu", room.to_str().unwrap()),
+            Path::new("/b/nvcc"),
+        );
         let keep = |text: &str, folder_counts: bool| {
             fs::write(room.join("k.cu"), text).unwrap();
             let vain = Vain::now(Path::new(""), vec![b"a.h".to_vec()], &room).unwrap();
             let files = vec![Seen::now(Path::new("k.cu"), &room).unwrap()];
             let manifest = Manifest { files, vain: vec![vain], ..Manifest::default() };
-            super::keep(&store, &line, nvcc, folder_counts, &manifest, &Answer { said: vec![(false, text.into())], ..answer() });
+            super::keep(
+                &store,
+                &line,
+                nvcc,
+                folder_counts,
+                &manifest,
+                &Answer { said: vec![(false, text.into())], ..answer() },
+            );
         };
         let served = || serve(&store, &line, nvcc).map(|said| String::from_utf8(said[0].1.clone()).unwrap());
         keep("one", false);
-        assert_eq!((served(), fs::read_to_string(room.join("k.d")).unwrap()), (Some("one".into()), "k.d".into()));
+        assert_eq!(
+            (served(), fs::read_to_string(room.join("k.d")).unwrap()),
+            (Some("one".into()), "k.d".into())
+        );
         fs::write(room.join("k.cu"), "two").unwrap();
         assert_eq!(served(), None);
         keep("two", true);
@@ -309,17 +365,33 @@ mod tests {
     #[test]
     fn a_silent_call_is_served_while_its_source_has_the_same_layout() {
         let room = TestFolder::new();
-        let (store, line, nvcc) = (Store::new(room.join("store"), 1 << 20), line("-c k.cu", room.to_str().unwrap()), Path::new("/b/nvcc"));
+        let (store, line, nvcc) = (
+            Store::new(room.join("store"), 1 << 20),
+            line("-c k.cu", room.to_str().unwrap()),
+            Path::new("/b/nvcc"),
+        );
         let put = |text: &str| fs::write(room.join("k.cu"), text).unwrap();
         let keep = |said: &[u8]| {
             put("int a;\n");
-            let files = vec![Seen { form: Form::of_source(b"int a;\n"), ..Seen::now(Path::new("k.cu"), &room).unwrap() }];
+            let files = vec![Seen {
+                form: Form::of_source(b"int a;\n"),
+                ..Seen::now(Path::new("k.cu"), &room).unwrap()
+            }];
             let manifest = Manifest { files, defines: Some(Vec::new()), ..Manifest::default() };
-            super::keep(&store, &line, nvcc, false, &manifest, &Answer { said: vec![(true, said.to_vec())], ..answer() });
+            super::keep(
+                &store,
+                &line,
+                nvcc,
+                false,
+                &manifest,
+                &Answer { said: vec![(true, said.to_vec())], ..answer() },
+            );
         };
         let served = || serve(&store, &line, nvcc).is_some();
         keep(b"");
-        for (text, wanted) in [("// x\n\nint a;\n", true), ("int b;\n", false), ("int a; // y\n", true), ("int a;\n", true)] {
+        for (text, wanted) in
+            [("// x\n\nint a;\n", true), ("int b;\n", false), ("int a; // y\n", true), ("int a;\n", true)]
+        {
             put(text);
             assert_eq!(served(), wanted, "{text}");
         }

@@ -24,7 +24,12 @@ pub struct Counts {
 impl Counts {
     fn plus(self, other: Counts) -> Counts {
         let Counts { hits, misses, calls, others } = self;
-        Counts { hits: hits + other.hits, misses: misses + other.misses, calls: calls + other.calls, others: others + other.others }
+        Counts {
+            hits: hits + other.hits,
+            misses: misses + other.misses,
+            calls: calls + other.calls,
+            others: others + other.others,
+        }
     }
 
     fn line(self) -> String {
@@ -46,7 +51,11 @@ fn counts_in(line: &str) -> Counts {
 
 fn file(folder: &Path) -> PathBuf {
     let host = fs::read_to_string("/proc/sys/kernel/hostname").unwrap_or_default();
-    let plain: String = host.trim().chars().filter(|letter| letter.is_ascii_alphanumeric() || matches!(letter, '-' | '.')).collect();
+    let plain: String = host
+        .trim()
+        .chars()
+        .filter(|letter| letter.is_ascii_alphanumeric() || matches!(letter, '-' | '.'))
+        .collect();
     folder.join(format!("{NAME}{plain}"))
 }
 
@@ -70,7 +79,9 @@ pub fn add(folder: &Path, counts: Counts) {
 
 fn files(folder: &Path) -> impl Iterator<Item = PathBuf> {
     let entries = fs::read_dir(folder).into_iter().flatten().flatten();
-    entries.filter(|entry| entry.file_name().to_str().is_some_and(|name| name.starts_with(NAME))).map(|entry| entry.path())
+    entries
+        .filter(|entry| entry.file_name().to_str().is_some_and(|name| name.starts_with(NAME)))
+        .map(|entry| entry.path())
 }
 
 /// The counts of all machines that use a folder.
@@ -107,7 +118,10 @@ mod tests {
         assert_eq!(of(&folder), Counts { calls: 5, others: 2, ..counts(36, 9) });
         fs::write(file(&folder), "1 1\n".repeat(300_000)).unwrap();
         add(&folder, counts(1, 1));
-        assert_eq!((of(&folder), fs::metadata(file(&folder)).unwrap().len()), (Counts { calls: 1, others: 2, ..counts(300_006, 300_008) }, 18));
+        assert_eq!(
+            (of(&folder), fs::metadata(file(&folder)).unwrap().len()),
+            (Counts { calls: 1, others: 2, ..counts(300_006, 300_008) }, 18)
+        );
         clear(&folder);
         assert_eq!(of(&folder), counts(0, 0));
     }

@@ -34,7 +34,8 @@ impl Display for Digest {
     }
 }
 
-/// Takes a text in parts, and says its digest. (Its state has two kilobytes, too many for what has it as a part.)
+/// Takes a text in parts, and says its digest. (Its state has two kilobytes, too many for what has it as a
+/// part.)
 #[derive(Clone, Debug, Default)]
 pub struct Hasher(Box<blake3::Hasher>);
 

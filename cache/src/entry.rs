@@ -27,7 +27,9 @@ pub struct Entry {
 impl Entry {
     /// Whether the command said something.
     pub fn speaks(&self) -> bool {
-        [&self.out, &self.errors].iter().any(|text| text.has_marks() || text.0.iter().any(|part| !part.is_empty()))
+        [&self.out, &self.errors]
+            .iter()
+            .any(|text| text.has_marks() || text.0.iter().any(|part| !part.is_empty()))
     }
 }
 
@@ -38,7 +40,11 @@ mod tests {
 
     fn example() -> Entry {
         Entry {
-            outputs: vec![Made::File(Marked::of(b"x /t y", b"/t")), Made::Nothing, Made::File(Marked::of(b"\0\x01", b""))],
+            outputs: vec![
+                Made::File(Marked::of(b"x /t y", b"/t")),
+                Made::Nothing,
+                Made::File(Marked::of(b"\0\x01", b"")),
+            ],
             out: Marked::of(b"", b""),
             errors: Marked::of(b"k.cu:1: warning", b""),
             shown: vec![(b"k.cu".to_vec(), Digest::of(b"text"))],

@@ -3,12 +3,14 @@ use machine::bytes::{contains, find, pairs};
 use std::collections::BTreeSet;
 
 /// The words by which a text sees its lines.
-const LINE_WORDS: [&[u8]; 5] = [b"__LINE__", b"__builtin_LINE", b"__builtin_FILE", b"__builtin_COLUMN", b"source_location"];
+const LINE_WORDS: [&[u8]; 5] =
+    [b"__LINE__", b"__builtin_LINE", b"__builtin_FILE", b"__builtin_COLUMN", b"source_location"];
 
 /// The line markers of a text, each with its place.
 fn markers(text: &[u8]) -> impl Iterator<Item = (usize, &[u8])> {
     let begins = pairs(text, b'#', b' ', 1).filter(|&place| place == 0 || text[place - 1] == b'\n');
-    let lines = begins.map(|place| (place, text[place..].split(|&byte| byte == b'\n').next().unwrap_or_default()));
+    let lines =
+        begins.map(|place| (place, text[place..].split(|&byte| byte == b'\n').next().unwrap_or_default()));
     lines.filter(|(_, line)| line.get(2).is_some_and(u8::is_ascii_digit))
 }
 
@@ -17,14 +19,19 @@ fn has_flag(marker: &[u8], flag: &[u8]) -> bool {
     marker.iter().rposition(|&byte| byte == b'"').is_some_and(|end| marker[end + 1..].starts_with(flag))
 }
 
-/// The files that a preprocessor has entered, by its text's line markers. `None` if a name is quoted in a way that may mean another.
+/// The files that a preprocessor has entered, by its text's line markers. `None` if a name is quoted in a way
+/// that may mean another.
 pub fn files_entered(text: &[u8]) -> Option<BTreeSet<&[u8]>> {
     let entering = markers(text).map(|(_, marker)| marker).filter(|marker| has_flag(marker, b" 1"));
     let names: BTreeSet<&[u8]> = entering.filter_map(between_quotes).collect();
-    names.iter().all(|name| !name.contains(&b'\\')).then(|| names.into_iter().filter(|name| !name.starts_with(b"<")).collect())
+    names
+        .iter()
+        .all(|name| !name.contains(&b'\\'))
+        .then(|| names.into_iter().filter(|name| !name.starts_with(b"<")).collect())
 }
 
-/// The parts of a preprocessed text: each file that the main one includes begins another, at the line marker that enters it.
+/// The parts of a preprocessed text: each file that the main one includes begins another, at the line marker
+/// that enters it.
 pub fn parts_of(text: &[u8]) -> Vec<&[u8]> {
     let (mut parts, mut begin, mut depth) = (Vec::new(), 0, 0_usize);
     for (place, marker) in markers(text) {
@@ -42,19 +49,21 @@ pub fn parts_of(text: &[u8]) -> Vec<&[u8]> {
     parts
 }
 
-/// Whether a text has what `__DATE__`, `__TIME__` or `__TIMESTAMP__` may have become: a time of day, or a year at the end of a string, be that in
-/// another.
+/// Whether a text has what `__DATE__`, `__TIME__` or `__TIMESTAMP__` may have become: a time of day, or a
+/// year at the end of a string, be that in another.
 pub fn tells_time(text: &[u8]) -> bool {
     let is_digit = |place: usize| text.get(place).is_some_and(u8::is_ascii_digit);
     let are_digits = |begin: usize, count: usize| (begin..begin + count).all(is_digit);
     let is_time = |place: usize| place >= 2 && are_digits(place - 2, 2) && are_digits(place + 1, 2);
-    let is_year = |place: usize| place >= 8 && are_digits(place - 4, 4) && is_digit(place - 6) && text[place - 8] == b' ';
+    let is_year = |place: usize| {
+        place >= 8 && are_digits(place - 4, 4) && is_digit(place - 6) && text[place - 8] == b' '
+    };
     let years = |quote| pairs(text, b' ', quote, 5).any(|place| is_year(place + 5));
     pairs(text, b':', b':', 3).any(is_time) || years(b'"') || years(b'\\')
 }
 
-/// Whether a source may have a preprocessor compare the times of files, by `#pragma GCC dependency`, which it doesn't write. Macros may put
-/// that together, or the text of a definition.
+/// Whether a source may have a preprocessor compare the times of files, by `#pragma GCC dependency`, which it
+/// doesn't write. Macros may put that together, or the text of a definition.
 pub fn compares_times(text: &[u8]) -> bool {
     let is_word = |byte: &u8| byte.is_ascii_alphanumeric() || *byte == b'_';
     let is_between = |byte: &u8| byte.is_ascii_whitespace() || *byte == b'\\';
@@ -66,7 +75,8 @@ pub fn compares_times(text: &[u8]) -> bool {
         if &text[begin..from] == b"dependency" && is_whole {
             let end = text[..begin].iter().rposition(|byte| !is_between(byte)).map_or(0, |last| last + 1);
             let behind = text[from..].iter().find(|byte| !is_between(byte));
-            let line = text[..begin].rsplit(|&byte| byte == b'\n').next().unwrap_or_default().trim_ascii_start();
+            let line =
+                text[..begin].rsplit(|&byte| byte == b'\n').next().unwrap_or_default().trim_ascii_start();
             let is_defined = contains(line, b"define") && !line.starts_with(b"*") && !line.starts_with(b"//");
             let is_named = text[..end].ends_with(b"GCC") || text[..end].ends_with(b"*/") || is_defined;
             if is_named || matches!(behind, Some(b'"' | b'<')) {
@@ -79,9 +89,12 @@ pub fn compares_times(text: &[u8]) -> bool {
     contains(text, b"??/")
 }
 
-/// Whether a text sees its lines, as its definition says, which is only asked where one of the words is for which it looks.
+/// Whether a text sees its lines, as its definition says, which is only asked where one of the words is for
+/// which it looks.
 pub fn sees_lines(text: &[u8]) -> bool {
-    let sees = |word: &&[u8]| find(text, word).is_some_and(|begin| token_texts::sees_lines(&text[begin..begin + word.len()]));
+    let sees = |word: &&[u8]| {
+        find(text, word).is_some_and(|begin| token_texts::sees_lines(&text[begin..begin + word.len()]))
+    };
     LINE_WORDS.iter().any(sees)
 }
 
@@ -90,7 +103,9 @@ pub fn shown_files<'a>(text: &'a [u8], messages: &[u8]) -> BTreeSet<&'a [u8]> {
     if messages.is_empty() {
         return BTreeSet::new();
     }
-    let name = |line: &'a [u8]| between_quotes(line.strip_prefix(b"# ")?).filter(|name| !name.is_empty() && !name.starts_with(b"<"));
+    let name = |line: &'a [u8]| {
+        between_quotes(line.strip_prefix(b"# ")?).filter(|name| !name.is_empty() && !name.starts_with(b"<"))
+    };
     let names: BTreeSet<&[u8]> = text.split(|&byte| byte == b'\n').filter_map(name).collect();
     names.into_iter().filter(|name| contains(messages, name)).collect()
 }
@@ -106,8 +121,9 @@ fn is_sum(text: &str) -> bool {
     text.len() == 8 && text.bytes().all(|byte| byte.is_ascii_hexdigit())
 }
 
-/// Whether a module id is the same each time: the sum of a path, the length of a file's name, that name, and a name that the source defines or
-/// its sum. If the source defines no external name, a sum and the number of a process stand for it.
+/// Whether a module id is the same each time: the sum of a path, the length of a file's name, that name, and
+/// a name that the source defines or its sum. If the source defines no external name, a sum and the number of
+/// a process stand for it.
 pub fn is_stable_id(id: &[u8]) -> bool {
     let parts = || {
         let (path, rest) = std::str::from_utf8(id).ok()?.trim_end().strip_prefix('_')?.split_once('_')?;
@@ -148,7 +164,8 @@ mod tests {
     #[test]
     fn messages_show_files() {
         let text = b"# 1 \"k.cu\"\n# 1 \"<built-in>\"\n# 5 \"a b.h\" 1 3\n#pragma x\n# 2 \"other.h\"\n";
-        let shown: Vec<&[u8]> = shown_files(text, b"k.cu:3: x\nIn file included from a b.h:2").into_iter().collect();
+        let shown: Vec<&[u8]> =
+            shown_files(text, b"k.cu:3: x\nIn file included from a b.h:2").into_iter().collect();
         assert_eq!(shown, [&b"a b.h"[..], b"k.cu"]);
         assert!(shown_files(text, b"").is_empty());
     }
@@ -163,11 +180,17 @@ mod tests {
 
     #[test]
     fn what_the_main_file_includes_is_a_part() {
-        let parts =
-            ["# 0 \"k.cu\"\n", "# 1 \"a.h\" 1\n# 1 \"b.h\" 1 3\n# 2 \"a.h\" 2\n# 5 \"k.cu\" 2\nint a;\n# 9 \"k.cu\"\n", "# 1 \"c.h\" 1 3 4\nint c;"];
+        let parts = [
+            "# 0 \"k.cu\"\n",
+            "# 1 \"a.h\" 1\n# 1 \"b.h\" 1 3\n# 2 \"a.h\" 2\n# 5 \"k.cu\" 2\nint a;\n# 9 \"k.cu\"\n",
+            "# 1 \"c.h\" 1 3 4\nint c;",
+        ];
         assert_eq!(parts_of(parts.concat().as_bytes()), parts.map(str::as_bytes));
         assert_eq!(parts_of(parts[1].as_bytes()), [b"", parts[1].as_bytes()]);
-        assert_eq!((parts_of(b""), parts_of(b" # 1 \"a.h\" 1\n")), (vec![&b""[..]], vec![&b" # 1 \"a.h\" 1\n"[..]]));
+        assert_eq!(
+            (parts_of(b""), parts_of(b" # 1 \"a.h\" 1\n")),
+            (vec![&b""[..]], vec![&b" # 1 \"a.h\" 1\n"[..]])
+        );
     }
 
     #[test]
@@ -190,10 +213,22 @@ mod tests {
 
     #[test]
     fn a_text_sees_its_lines_by_some_words() {
-        let words =
-            ["__LINE__", "__builtin_LINE", "__builtin_FILE", "__builtin_COLUMN", "source_location", "__builtin_LIN", "__LINE_", "source_locatio"];
+        let words = [
+            "__LINE__",
+            "__builtin_LINE",
+            "__builtin_FILE",
+            "__builtin_COLUMN",
+            "source_location",
+            "__builtin_LIN",
+            "__LINE_",
+            "source_locatio",
+        ];
         for word in words {
-            for text in [format!("int __builtin_abs {word}"), format!("__builtin_{word}(x)"), format!("a__LINE{word}")] {
+            for text in [
+                format!("int __builtin_abs {word}"),
+                format!("__builtin_{word}(x)"),
+                format!("a__LINE{word}"),
+            ] {
                 assert_eq!(sees_lines(text.as_bytes()), token_texts::sees_lines(text.as_bytes()), "{text}");
             }
         }

@@ -45,8 +45,9 @@ fn tokens_of(text: &[u8], recipe: &Recipe) -> Option<Digest> {
     Some(text_identity(&recipe.unnamed(tokens.as_slice())?, recipe.directory.as_bytes()))
 }
 
-/// The same for a part of a text. Sources of a project have large ones in common, as what nvcc includes for each: their tokens are read once,
-/// unless a name that doesn't count, or what stands for one, makes them the call's own.
+/// The same for a part of a text. Sources of a project have large ones in common, as what nvcc includes for
+/// each: their tokens are read once, unless a name that doesn't count, or what stands for one, makes them the
+/// call's own.
 fn part_identity(part: &[u8], recipe: &Recipe, store: &Store) -> Option<Digest> {
     let names = [recipe.directory.as_str(), recipe.stem.as_deref().unwrap_or_default()];
     if part.len() < LARGE || part.contains(&0) || names.iter().any(|name| contains(part, name.as_bytes())) {
@@ -64,9 +65,9 @@ fn part_identity(part: &[u8], recipe: &Recipe, store: &Store) -> Option<Digest> 
     Some(tokens)
 }
 
-/// What counts of a preprocessed text if lines, blanks and comments don't. `None` if the text may see its lines, or isn't sure to have
-/// these tokens. Texts whose parts have the same tokens have the same tokens (`token_texts::laws::parts`). A part has none if a comment or a
-/// literal goes on behind it.
+/// What counts of a preprocessed text if lines, blanks and comments don't. `None` if the text may see its
+/// lines, or isn't sure to have these tokens. Texts whose parts have the same tokens have the same tokens
+/// (`token_texts::laws::parts`). A part has none if a comment or a literal goes on behind it.
 fn token_identity(text: &[u8], recipe: &Recipe, store: &Store) -> Option<Digest> {
     if sees_lines(text) {
         return None;
@@ -80,19 +81,24 @@ fn token_identity(text: &[u8], recipe: &Recipe, store: &Store) -> Option<Digest>
 
 /// A text as it counts. `None` if the name that doesn't count may reach more than line markers.
 fn counted<'a>(text: &'a Text, recipe: &Recipe) -> Option<Cow<'a, [u8]>> {
-    let is_seen = |stem: &String| text.role == Role::Preprocessed && marked::shows(&text.content, stem.as_bytes());
+    let is_seen =
+        |stem: &String| text.role == Role::Preprocessed && marked::shows(&text.content, stem.as_bytes());
     if recipe.stem.as_ref().is_some_and(is_seen) { None } else { recipe.unnamed(&text.content) }
 }
 
-/// The key of a command's words and variables, by what is proved of keys. `PWD` is where the command runs, which only debugging information has.
+/// The key of a command's words and variables, by what is proved of keys. `PWD` is where the command runs,
+/// which only debugging information has.
 fn words_key(recipe: &Recipe, environment: &[(OsString, OsString)]) -> Option<Vec<u8>> {
-    let variables: Vec<(&[u8], &[u8])> = environment.iter().map(|(name, value)| (name.as_bytes(), value.as_bytes())).collect();
+    let variables: Vec<(&[u8], &[u8])> =
+        environment.iter().map(|(name, value)| (name.as_bytes(), value.as_bytes())).collect();
     let chosen = tool_variables(Global, program_of(recipe.kind), &variables).ok()?;
     let names_count = recipe.directory.is_empty();
-    let counted: Vec<_> = chosen.as_slice().iter().filter(|variable| names_count || variable.0 != b"PWD").copied().collect();
+    let counted: Vec<_> =
+        chosen.as_slice().iter().filter(|variable| names_count || variable.0 != b"PWD").copied().collect();
     let words: Vec<&[u8]> = recipe.counted.iter().map(String::as_bytes).collect();
     let stem = recipe.stem.as_deref().unwrap_or_default();
-    let key = command_key(Global, &words, &counted, &[recipe.directory.as_bytes(), stem.as_bytes()]).ok()??;
+    let key =
+        command_key(Global, &words, &counted, &[recipe.directory.as_bytes(), stem.as_bytes()]).ok()??;
     Some(key.as_slice().to_vec())
 }
 
@@ -101,14 +107,20 @@ fn place_of(recipe: &Recipe, path: &str) -> PathBuf {
     fs::canonicalize(Path::new(&recipe.job.folder).join(path)).unwrap_or_default()
 }
 
-/// The places that a command may write beside their names: that of a source, of which a module id has a sum, and the working directory.
+/// The places that a command may write beside their names: that of a source, of which a module id has a sum,
+/// and the working directory.
 fn places(recipe: &Recipe) -> Vec<PathBuf> {
-    let sources = recipe.job.words.windows(2).filter(|pair| pair[0] == "--orig_src_path_name").map(|pair| place_of(recipe, &pair[1]));
+    let sources = recipe
+        .job
+        .words
+        .windows(2)
+        .filter(|pair| pair[0] == "--orig_src_path_name")
+        .map(|pair| place_of(recipe, &pair[1]));
     sources.chain(recipe.directory.is_empty().then(|| place_of(recipe, ""))).collect()
 }
 
-/// What counts of a command beside the texts that it reads, and what it depends on: the processor, its tool, its words, its environment and its
-/// places.
+/// What counts of a command beside the texts that it reads, and what it depends on: the processor, its tool,
+/// its words, its environment and its places.
 pub fn start_of(recipe: &Recipe, environment: &[(OsString, OsString)]) -> Option<Hasher> {
     let mut start = Hasher::default();
     start.add(FORM);
@@ -127,8 +139,14 @@ pub fn start_of(recipe: &Recipe, environment: &[(OsString, OsString)]) -> Option
     Some(start)
 }
 
-/// The key of a compile by the texts that it reads and by its words, those for the preprocessor too. `None` if it may not have one.
-pub fn direct<'a>(mut start: Hasher, recipe: &Recipe, texts: &[Text], words: impl Iterator<Item = &'a String>) -> Option<Digest> {
+/// The key of a compile by the texts that it reads and by its words, those for the preprocessor too. `None`
+/// if it may not have one.
+pub fn direct<'a>(
+    mut start: Hasher,
+    recipe: &Recipe,
+    texts: &[Text],
+    words: impl Iterator<Item = &'a String>,
+) -> Option<Digest> {
     start.add(b"direct 5");
     start.add(recipe.job.folder.as_bytes());
     for word in words {
@@ -155,8 +173,8 @@ impl Part {
         Some(Part(start))
     }
 
-    /// That by the tokens of preprocessed texts. Commands that have it in common make the same, but may say other things. `None` if lines
-    /// count, or if no text is preprocessed.
+    /// That by the tokens of preprocessed texts. Commands that have it in common make the same, but may say
+    /// other things. `None` if lines count, or if no text is preprocessed.
     pub fn by_tokens(mut start: Hasher, recipe: &Recipe, texts: &[Text], store: &Store) -> Option<Part> {
         if recipe.lines_count || !texts.iter().any(|text| text.role == Role::Preprocessed) {
             return None;
@@ -166,7 +184,9 @@ impl Part {
             match text.role {
                 Role::Preprocessed => start.update(&token_identity(&text.content, recipe, store)?.0),
                 Role::Source | Role::Late => {}
-                Role::Other => start.update(&text_identity(&counted(text, recipe)?, recipe.directory.as_bytes()).0),
+                Role::Other => {
+                    start.update(&text_identity(&counted(text, recipe)?, recipe.directory.as_bytes()).0);
+                }
             }
         }
         Some(Part(start))
@@ -212,7 +232,6 @@ mod tests {
             lines_count: directory.is_empty(),
             question: None,
             assembles: false,
-            is_assembly: false,
             stem: None,
             has_own_source: false,
         }
@@ -234,7 +253,9 @@ mod tests {
 
     fn key(recipe: &Recipe, variables: &[(&str, &str)], text: &str) -> Digest {
         let environment: Vec<_> = variables.iter().map(|(name, value)| (name.into(), value.into())).collect();
-        Part::by_texts(start(recipe, &environment), recipe, &texts(&[(Role::Preprocessed, text)])).unwrap().key(recipe, &[])
+        Part::by_texts(start(recipe, &environment), recipe, &texts(&[(Role::Preprocessed, text)]))
+            .unwrap()
+            .key(recipe, &[])
     }
 
     #[test]
@@ -262,7 +283,10 @@ mod tests {
         assert!(others.iter().all(|other| *other != one));
         let named = recipe("-g", "");
         assert_ne!(key(&named, &[("PWD", "/w")], "text"), key(&named, &[("PWD", "/other")], "text"));
-        let another = Recipe { job: Job { words: vec!["/b/cicc".into()], folder: "/".into(), ..Job::default() }, ..cicc.clone() };
+        let another = Recipe {
+            job: Job { words: vec!["/b/cicc".into()], folder: "/".into(), ..Job::default() },
+            ..cicc.clone()
+        };
         assert_ne!(key(&another, &[("HOME", "/h"), ("PWD", "/w")], "text"), one);
     }
 
@@ -270,7 +294,11 @@ mod tests {
     fn by_tokens_lines_do_not_count() {
         let cicc = recipe("-m64", "/t");
         let one = tokens(&cicc, "# 1 \"k.cu\"\nint a;\n", &[]).unwrap();
-        let same = ["# 1 \"k.cu\"\n\n\n  int a ;\n", "# 1 \"k.cu\"\n# 7 \"k.cu\"\nint a;\n", "# 1 \"k.cu\"\n/* x */ int a; // y\n"];
+        let same = [
+            "# 1 \"k.cu\"\n\n\n  int a ;\n",
+            "# 1 \"k.cu\"\n# 7 \"k.cu\"\nint a;\n",
+            "# 1 \"k.cu\"\n/* x */ int a; // y\n",
+        ];
         assert_eq!(same.map(|text| tokens(&cicc, text, &[])), [Some(one); 3]);
         let others = [
             "# 1 \"j.cu\"\nint a;\n",
@@ -287,7 +315,9 @@ mod tests {
     fn tokens_of_large_parts_are_kept() {
         let folder = TestFolder::new();
         let (store, cicc) = (Store::new(folder.join("store"), 1 << 20), recipe("-m64", "/t"));
-        let text = |header: &str| format!("# 0 \"k.cu\"\n# 1 \"a.h\" 1\n{}# 2 \"k.cu\" 2\nint k;\n", header.repeat(LARGE / 6));
+        let text = |header: &str| {
+            format!("# 0 \"k.cu\"\n# 1 \"a.h\" 1\n{}# 2 \"k.cu\" 2\nint k;\n", header.repeat(LARGE / 6))
+        };
         let of = |text: &str, recipe: &Recipe| token_identity(text.as_bytes(), recipe, &store);
         let entries = || store.content().entries;
         let one = of(&text("int a;\n"), &cicc);
@@ -295,7 +325,10 @@ mod tests {
         assert_eq!(of(&text("int  a;\n\n"), &cicc), of(&text("int\ta ;\n"), &cicc), "the same tokens");
         let kept = entries();
         assert_ne!(of(&text("int b;\n"), &cicc), one);
-        assert_eq!((of(&text("/* a\n"), &cicc), of(&text("char a = '\n"), &cicc), entries()), (None, None, kept + 1));
+        assert_eq!(
+            (of(&text("/* a\n"), &cicc), of(&text("char a = '\n"), &cicc), entries()),
+            (None, None, kept + 1)
+        );
         let named = Recipe { stem: Some("k.cudafe1".into()), ..cicc.clone() };
         assert_eq!((of(&text("int a;\n"), &named), entries()), (one, kept + 1));
         for text in ["f(\"/t/a\");\n", "f(\"k.cudafe1\");\n", "f(\"\0\");\n"].map(text) {
@@ -332,8 +365,15 @@ mod tests {
         let of = |role: Role, text: &str| tokens(&cicc, "int a;\n", &[(role, text)]);
         assert_ne!(of(Role::Other, "id"), of(Role::Other, "id\n"));
         assert_eq!(of(Role::Source, "x"), of(Role::Source, "y"));
-        assert_eq!(tokens(&cicc, "f(\"/t/k\");\n", &[]), tokens(&recipe("-m64", "/u"), "f(\"/u/k\");\n", &[]));
-        assert!(Part::by_tokens(start(&cicc, &[]), &cicc, &texts(&[(Role::Other, "int a;\n")]), &store()).is_none(), "no preprocessed text");
+        assert_eq!(
+            tokens(&cicc, "f(\"/t/k\");\n", &[]),
+            tokens(&recipe("-m64", "/u"), "f(\"/u/k\");\n", &[])
+        );
+        assert!(
+            Part::by_tokens(start(&cicc, &[]), &cicc, &texts(&[(Role::Other, "int a;\n")]), &store())
+                .is_none(),
+            "no preprocessed text"
+        );
     }
 
     #[test]
@@ -341,13 +381,21 @@ mod tests {
         let of = |stem: &str, text: &str| {
             let recipe = Recipe { stem: Some(stem.into()), ..recipe(&format!("-o /t/{stem}.cpp"), "/t") };
             let texts = texts(&[(Role::Preprocessed, text)]);
-            let by_texts = Part::by_texts(start(&recipe, &[]), &recipe, &texts).map(|part| part.key(&recipe, &texts));
-            (by_texts, Part::by_tokens(start(&recipe, &[]), &recipe, &texts, &store()).map(|part| part.key(&recipe, &texts)))
+            let by_texts =
+                Part::by_texts(start(&recipe, &[]), &recipe, &texts).map(|part| part.key(&recipe, &texts));
+            (
+                by_texts,
+                Part::by_tokens(start(&recipe, &[]), &recipe, &texts, &store())
+                    .map(|part| part.key(&recipe, &texts)),
+            )
         };
         let one = of("k.80.cudafe1", "# 1 \"k.80.cudafe1.cpp\"\nint a;\n");
         assert_eq!(one, of("k.90.cudafe1", "# 1 \"k.90.cudafe1.cpp\"\nint a;\n"));
         assert!(one.0.is_some() && one.1.is_some());
-        let others = [of("k.90.cudafe1", "# 1 \"k.80.cudafe1.cpp\"\nint a;\n"), of("k.80.cudafe1", "# 1 \"k.80.cudafe1.cpp\"\nint b;\n")];
+        let others = [
+            of("k.90.cudafe1", "# 1 \"k.80.cudafe1.cpp\"\nint a;\n"),
+            of("k.80.cudafe1", "# 1 \"k.80.cudafe1.cpp\"\nint b;\n"),
+        ];
         assert!(others.iter().all(|other| other.0 != one.0 && other.1 != one.1));
         assert_eq!(of("k.80.cudafe1", "char* a = \"k.80.cudafe1\";\n").0, None);
         assert_eq!(of("k.80.cudafe1", "int \0;\n").0, None);
@@ -358,8 +406,10 @@ mod tests {
         let cicc = recipe("-m64", "/t");
         let with = |text: &str, id: &str| {
             let texts = texts(&[(Role::Preprocessed, text), (Role::Late, id)]);
-            let parts =
-                [Part::by_texts(start(&cicc, &[]), &cicc, &texts).unwrap(), Part::by_tokens(start(&cicc, &[]), &cicc, &texts, &store()).unwrap()];
+            let parts = [
+                Part::by_texts(start(&cicc, &[]), &cicc, &texts).unwrap(),
+                Part::by_tokens(start(&cicc, &[]), &cicc, &texts, &store()).unwrap(),
+            ];
             parts.map(|part| (part.key(&cicc, &texts), part.mark(), part.key(&cicc, &[])))
         };
         for (one, other) in with("int a;\n", "_1").into_iter().zip(with("int a;\n", "_2")) {
@@ -377,8 +427,12 @@ mod tests {
             let words: Vec<String> = words.iter().map(|&word| word.to_owned()).collect();
             direct(start(&recipe, &[]), &recipe, &texts(&[(Role::Source, text)]), words.iter())
         };
-        let one = of(&["-DA", "/t/k.80.cudafe1.cpp"], "k.80.cudafe1", "#include \"/t/k.80.cudafe1.stub.c\"\n");
-        assert_eq!(one, of(&["-DA", "/t/k.90.cudafe1.cpp"], "k.90.cudafe1", "#include \"/t/k.90.cudafe1.stub.c\"\n"));
+        let one =
+            of(&["-DA", "/t/k.80.cudafe1.cpp"], "k.80.cudafe1", "#include \"/t/k.80.cudafe1.stub.c\"\n");
+        assert_eq!(
+            one,
+            of(&["-DA", "/t/k.90.cudafe1.cpp"], "k.90.cudafe1", "#include \"/t/k.90.cudafe1.stub.c\"\n")
+        );
         let others = [
             of(&["-DB", "/t/k.80.cudafe1.cpp"], "k.80.cudafe1", "#include \"/t/k.80.cudafe1.stub.c\"\n"),
             of(&["-DA", "/t/k.80.cudafe1.cpp"], "k.80.cudafe1", "#include \"/t/k.80.cudafe1.stub.c\"\n\n"),

@@ -1,4 +1,5 @@
-//! The cache of commands: what a command of the same tool, words and inputs has made and said before is made and said again.
+//! The cache of commands: what a command of the same tool, words and inputs has made and said before is made
+//! and said again.
 #![forbid(unsafe_code)]
 
 pub mod calls;

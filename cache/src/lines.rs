@@ -1,9 +1,10 @@
 //! Whether the number of a line may reach what a preprocessor writes.
 //!
-//! `__LINE__` is the number of the line from which it comes, be it by way of other macros. So the lines of a text don't count if none of its
-//! words leads there by any definition in any text, or on a command line, whether a preprocessor takes that definition or leaves it out.
-//! Macros may put parts of words together: then any words of what is reached may be parts, in any order. What the words reach is sought here,
-//! and the proved crate `source_layouts` says whether that is all, and has no such number.
+//! `__LINE__` is the number of the line from which it comes, be it by way of other macros. So the lines of a
+//! text don't count if none of its words leads there by any definition in any text, or on a command line,
+//! whether a preprocessor takes that definition or leaves it out. Macros may put parts of words together:
+//! then any words of what is reached may be parts, in any order. What the words reach is sought here, and the
+//! proved crate `source_layouts` says whether that is all, and has no such number.
 use crate::source::{spliced, words_of};
 use machine::bytes::{contains, find};
 use rattle_std::alloc::Global;
@@ -23,8 +24,15 @@ pub fn definitions_in(text: &[u8]) -> Option<Cow<'_, [u8]>> {
 
 /// A layout without its definitions: a macro counts where it's used.
 pub fn without_definitions(layout: &[u8]) -> Vec<u8> {
-    let defines = |line: &[u8]| line.strip_prefix(b"#").is_some_and(|directive| directive.trim_ascii_start().starts_with(b"define"));
-    spliced(layout).split_inclusive(|&byte| byte == b'\n').filter(|line| !defines(line)).flatten().copied().collect()
+    let defines = |line: &[u8]| {
+        line.strip_prefix(b"#").is_some_and(|directive| directive.trim_ascii_start().starts_with(b"define"))
+    };
+    spliced(layout)
+        .split_inclusive(|&byte| byte == b'\n')
+        .filter(|line| !defines(line))
+        .flatten()
+        .copied()
+        .collect()
 }
 
 /// All macros of some texts, and the words of all that each may become.
@@ -35,7 +43,10 @@ pub struct Macros<'a>(HashMap<&'a [u8], HashSet<&'a [u8]>>);
 pub fn behind_blanks(mut text: &[u8]) -> &[u8] {
     loop {
         text = text.trim_ascii_start();
-        match text.strip_prefix(b"/*").map(|rest| find(rest, b"*/").map_or(&rest[rest.len()..], |end| &rest[end + 2..])) {
+        match text
+            .strip_prefix(b"/*")
+            .map(|rest| find(rest, b"*/").map_or(&rest[rest.len()..], |end| &rest[end + 2..]))
+        {
             Some(rest) => text = rest,
             None => return text,
         }
@@ -104,7 +115,8 @@ impl<'a> Macros<'a> {
 
     /// Whether these are sure to be all that words may become. Without memory they aren't.
     fn are_all(&self, words: &[&[u8]], reached: &HashSet<&[u8]>) -> bool {
-        let lists: Vec<(&[u8], Vec<&[u8]>)> = self.0.iter().map(|(name, words)| (*name, words.iter().copied().collect())).collect();
+        let lists: Vec<(&[u8], Vec<&[u8]>)> =
+            self.0.iter().map(|(name, words)| (*name, words.iter().copied().collect())).collect();
         let macros: Vec<Macro<'_>> = lists.iter().map(|(name, words)| Macro { name, words }).collect();
         let reached: Vec<&[u8]> = reached.iter().copied().collect();
         shuts_lines_out(Global, &macros, words, &reached).unwrap_or(false)
@@ -145,7 +157,8 @@ mod tests {
 
     #[test]
     fn words_lead_to_lines_by_macros() {
-        let chain = "#define assert(x) ((x) ? 0 : fail(#x, __LINE__))\n#define CHECK(x) assert(x)\n#define SIZE 64\n";
+        let chain =
+            "#define assert(x) ((x) ? 0 : fail(#x, __LINE__))\n#define CHECK(x) assert(x)\n#define SIZE 64\n";
         let cases = [
             (chain, "int a = SIZE;", false),
             (chain, "CHECK(a);", true),
@@ -154,7 +167,11 @@ mod tests {
             ("", "\u{20ac}__LINE__", true),
             ("#define \u{e4}b $__LINE__\n", "\u{e4}b", true),
             ("", "__LINE", false),
-            ("#if 0\n#define A B\n#else\n#define A C\n#endif\n # define B D\n%:define D __LINE__\n", "A", true),
+            (
+                "#if 0\n#define A B\n#else\n#define A C\n#endif\n # define B D\n%:define D __LINE__\n",
+                "A",
+                true,
+            ),
             ("#define A \\\n  1 \\ \n + __LINE__\n", "A", true),
             ("#def\\\nine A __LINE__\n", "A", true),
             ("# /* x */ define /* y */ A __LINE__\n", "A", true),
@@ -182,7 +199,8 @@ mod tests {
         for (text, wanted) in cases {
             assert_eq!(sees(join, text), Some(wanted), "{text}");
         }
-        let further = "#define __annotate(a) __ ## a ## __\n#define first_name second\n#define second __LINE__\n";
+        let further =
+            "#define __annotate(a) __ ## a ## __\n#define first_name second\n#define second __LINE__\n";
         assert_eq!(sees(further, "__annotate(LINE)"), Some(true));
         assert_eq!(sees(further, "first name"), Some(false));
         assert_eq!(sees(further, "first _name"), Some(true));
@@ -195,15 +213,22 @@ mod tests {
         macros.define(b"A=B");
         macros.define(b"B=__LINE__");
         macros.define(b"join=1");
-        let are_all = |words: &[&'static [u8]], found: &[&'static [u8]]| macros.are_all(words, &found.iter().copied().chain(SUFFIXES).collect());
+        let are_all = |words: &[&'static [u8]], found: &[&'static [u8]]| {
+            macros.are_all(words, &found.iter().copied().chain(SUFFIXES).collect())
+        };
         assert!(are_all(&[b"C"], &[b"C"]) && are_all(&[b"join"], &[b"join", b"1"]));
-        assert!(!are_all(&[b"A"], &[b"A"]) && !are_all(&[b"A"], &[b"A", b"B"]) && !are_all(&[b"A"], &[b"A", b"B", LINE]));
+        assert!(
+            !are_all(&[b"A"], &[b"A"])
+                && !are_all(&[b"A"], &[b"A", b"B"])
+                && !are_all(&[b"A"], &[b"A", b"B", LINE])
+        );
         assert!(!are_all(&[b"jo", b"in"], &[b"jo", b"in"]) && !are_all(&[b"C"], &[]));
     }
 
     #[test]
     fn a_definition_is_no_use() {
-        let text = without_definitions(b"a\n#define HERE \\\n  __LINE__\n# define B\n#if B\nb # define\n#undef B\n");
+        let text =
+            without_definitions(b"a\n#define HERE \\\n  __LINE__\n# define B\n#if B\nb # define\n#undef B\n");
         assert_eq!(String::from_utf8(text).unwrap(), "a\n#if B\nb # define\n#undef B\n");
     }
 
@@ -220,6 +245,9 @@ mod tests {
         for definition in ["A=B", "B(x)=__LINE__", "C", "D=1"] {
             macros.define(definition.as_bytes());
         }
-        assert_eq!(["A", "B", "C", "D", "E"].map(|word| macros.see_lines(words_of(word.as_bytes()))), [true, true, false, false, false]);
+        assert_eq!(
+            ["A", "B", "C", "D", "E"].map(|word| macros.see_lines(words_of(word.as_bytes()))),
+            [true, true, false, false, false]
+        );
     }
 }

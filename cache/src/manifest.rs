@@ -1,7 +1,8 @@
-//! What a call or a command depends on: the files that were read for it, and the places where some were sought in vain.
+//! What a call or a command depends on: the files that were read for it, and the places where some were
+//! sought in vain.
 //!
-//! A file counts by its contents. It isn't read again if its stamp is the one it had, and if it had been as it is for a while when it was
-//! read. A folder's stamp says in the same way that nothing has appeared in it.
+//! A file counts by its contents. It isn't read again if its stamp is the one it had, and if it had been as
+//! it is for a while when it was read. A folder's stamp says in the same way that nothing has appeared in it.
 //!
 //! A source whose layout is as it was may stand for what it was, if the call can't see the difference.
 use crate::digest::{Digest, Hasher};
@@ -48,7 +49,8 @@ impl Form {
     /// That of a source.
     pub fn of_source(text: &[u8]) -> Form {
         let digest = |is_lined: bool| layout_of(text, is_lined).map(|layout| Digest::of(layout.as_slice()));
-        digest(true).map_or(Form::Text, |lined| Form::Source(Layouts { lined, free: digest(false), is_free: false }))
+        digest(true)
+            .map_or(Form::Text, |lined| Form::Source(Layouts { lined, free: digest(false), is_free: false }))
     }
 
     /// That of a file whose time counts.
@@ -75,7 +77,12 @@ impl Seen {
         let mut file = File::open(cwd.join(path)).ok()?;
         let status = file.metadata().ok().filter(Metadata::is_file)?;
         let digest = digest_of(&mut file).ok()?;
-        Some(Seen { path: path.to_owned(), digest, stamp: Stamp::settled(&cwd.join(path), &status), form: Form::Other })
+        Some(Seen {
+            path: path.to_owned(),
+            digest,
+            stamp: Stamp::settled(&cwd.join(path), &status),
+            form: Form::Other,
+        })
     }
 
     /// The same file as it is now.
@@ -132,7 +139,8 @@ pub struct Vain {
 }
 
 impl Vain {
-    /// A folder that lacks some names, as it is now. It has no stamp if one of the names is a link's: what that leads to may come elsewhere.
+    /// A folder that lacks some names, as it is now. It has no stamp if one of the names is a link's: what
+    /// that leads to may come elsewhere.
     pub fn now(folder: &Path, lacks: Vec<Vec<u8>>, cwd: &Path) -> Option<Vain> {
         let status = fs::metadata(cwd.join(folder)).ok()?;
         let path = |name: &Vec<u8>| cwd.join(folder).join(OsStr::from_bytes(name));
@@ -168,7 +176,8 @@ impl Listed {
     /// A folder as it is now.
     pub fn now(folder: &Path, cwd: &Path) -> Option<Listed> {
         let entries = fs::read_dir(cwd.join(folder)).ok()?;
-        let mut names: Vec<_> = entries.map(|entry| entry.map(|entry| entry.file_name())).collect::<Result<_, _>>().ok()?;
+        let mut names: Vec<_> =
+            entries.map(|entry| entry.map(|entry| entry.file_name())).collect::<Result<_, _>>().ok()?;
         names.sort();
         let mut hasher = Hasher::default();
         for name in names {
@@ -234,18 +243,31 @@ impl Manifest {
         for Seen { path, digest, form, .. } in &self.files {
             let time = time_of(form).map(|(seconds, part)| format!("{seconds}.{part:09}"));
             let digest = digest.to_string();
-            let words = [Some(&b"file"[..]), Some(digest.as_bytes()), time.as_ref().map(String::as_bytes), Some(path.as_os_str().as_bytes())];
+            let words = [
+                Some(&b"file"[..]),
+                Some(digest.as_bytes()),
+                time.as_ref().map(String::as_bytes),
+                Some(path.as_os_str().as_bytes()),
+            ];
             add(&words.into_iter().flatten().collect::<Vec<_>>());
         }
         for Listed { folder, names } in &self.listed {
             add(&[b"listed", names.to_string().as_bytes(), folder.as_os_str().as_bytes()]);
         }
         for Vain { folder, lacks, .. } in &self.vain {
-            lacks.iter().for_each(|name| add(&[b"lacking", folder.join(OsStr::from_bytes(name)).as_os_str().as_bytes()]));
+            for name in lacks {
+                add(&[b"lacking", folder.join(OsStr::from_bytes(name)).as_os_str().as_bytes()]);
+            }
         }
-        self.places.iter().for_each(|(path, real)| add(&[b"place", path.as_os_str().as_bytes(), b"->", real.as_os_str().as_bytes()]));
+        for (path, real) in &self.places {
+            add(&[b"place", path.as_os_str().as_bytes(), b"->", real.as_os_str().as_bytes()]);
+        }
         for Variable { name, value } in &self.variables {
-            add(&[b"variable", &[&name[..], value.as_ref().map_or(&b""[..], |_| b"="), value.as_deref().unwrap_or_default()].concat()]);
+            add(&[
+                b"variable",
+                &[&name[..], value.as_ref().map_or(&b""[..], |_| b"="), value.as_deref().unwrap_or_default()]
+                    .concat(),
+            ]);
         }
         lines
     }
@@ -265,14 +287,23 @@ impl Manifest {
         stored::of_bytes(&store.read(&self.digest(key))?)
     }
 
-    /// Keeps an answer that holds while all is as it is here. The key leads to the manifest, and what that says to the answer.
+    /// Keeps an answer that holds while all is as it is here. The key leads to the manifest, and what that
+    /// says to the answer.
     /// Errors: those of writing.
     pub fn keep(&self, store: &Store, key: &Digest, answer: &impl Serialize) -> io::Result<()> {
-        store.write(&self.digest(key), &stored::to_bytes(answer)).and_then(|()| store.write(key, &stored::to_bytes(self)))
+        store
+            .write(&self.digest(key), &stored::to_bytes(answer))
+            .and_then(|()| store.write(key, &stored::to_bytes(self)))
     }
 
-    /// The answer under a key, if all is there on which it depends, and what this is now, to a command with such variables.
-    pub fn find<T: DeserializeOwned>(store: &Store, key: &Digest, cwd: &Path, given: &Variables) -> Option<(T, Manifest)> {
+    /// The answer under a key, if all is there on which it depends, and what this is now, to a command with
+    /// such variables.
+    pub fn find<T: DeserializeOwned>(
+        store: &Store,
+        key: &Digest,
+        cwd: &Path,
+        given: &Variables,
+    ) -> Option<(T, Manifest)> {
         let earlier = Manifest::read(store, key)?;
         let now = earlier.again_for(cwd, given)?;
         let answer = now.answer(store, key)?;
@@ -287,7 +318,8 @@ impl Manifest {
         }
     }
 
-    /// The same as it is now, seen from a working directory. `None` if the call would find another file, or not find one.
+    /// The same as it is now, seen from a working directory. `None` if the call would find another file, or
+    /// not find one.
     pub fn again(&self, cwd: &Path) -> Option<Manifest> {
         self.again_for(cwd, &[])
     }
@@ -296,8 +328,13 @@ impl Manifest {
     fn again_for(&self, cwd: &Path, given: &Variables) -> Option<Manifest> {
         let files = self.files.iter().map(|seen| seen.again(cwd)).collect::<Option<_>>()?;
         let vain = self.vain.iter().map(|vain| vain.again(cwd)).collect::<Option<_>>()?;
-        let listed = self.listed.iter().map(|listed| Listed::now(&listed.folder, cwd)).collect::<Option<_>>()?;
-        let places = self.places.iter().map(|(path, _)| Some((path.clone(), real_place(path, cwd)?))).collect::<Option<_>>()?;
+        let listed =
+            self.listed.iter().map(|listed| Listed::now(&listed.folder, cwd)).collect::<Option<_>>()?;
+        let places = self
+            .places
+            .iter()
+            .map(|(path, _)| Some((path.clone(), real_place(path, cwd)?)))
+            .collect::<Option<_>>()?;
         let variables = self.variables.iter().map(|variable| Variable::now(&variable.name, given)).collect();
         Some(Manifest { files, vain, listed, places, variables, defines: self.defines.clone() })
     }
@@ -306,7 +343,8 @@ impl Manifest {
         self.places == now.places && self.listed == now.listed && self.variables == now.variables
     }
 
-    /// The same as it is now, if what has changed of it doesn't count: sources of which the layouts are as they were.
+    /// The same as it is now, if what has changed of it doesn't count: sources of which the layouts are as
+    /// they were.
     pub fn alike(&self, now: &Manifest, cwd: &Path) -> Option<Manifest> {
         let defines = self.defines.as_ref().filter(|_| self.has_surroundings_of(now))?;
         let mut alike = now.clone();
@@ -317,7 +355,9 @@ impl Manifest {
             }
             let (before, after) = (earlier.layouts()?, seen.layouts()?);
             let is_lined = before.lined == after.lined;
-            if !is_lined && (before.free.is_none() || before.free != after.free) || self.has_copy_of(place, seen) {
+            if !is_lined && (before.free.is_none() || before.free != after.free)
+                || self.has_copy_of(place, seen)
+            {
                 return None;
             }
             unsure.extend((!is_lined && !before.is_free).then_some(place));
@@ -327,7 +367,8 @@ impl Manifest {
         is_free.then_some(alike)
     }
 
-    /// Whether another file has the content that a file has had, or has now: gcc leaves out a copy of a file that is to be read only once.
+    /// Whether another file has the content that a file has had, or has now: gcc leaves out a copy of a file
+    /// that is to be read only once.
     fn has_copy_of(&self, place: usize, now: &Seen) -> bool {
         let is_copy = |seen: &Seen| seen.digest == now.digest || seen.digest == self.files[place].digest;
         self.files.iter().enumerate().any(|(other, seen)| other != place && is_copy(seen))
@@ -336,7 +377,8 @@ impl Manifest {
     /// Whether the lines of some sources may count. `None` if that isn't known.
     fn may_see_lines(&self, places: &[usize], defines: &[Vec<u8>], cwd: &Path) -> Option<bool> {
         let files = self.files.iter().filter(|seen| !matches!(seen.form, Form::Other));
-        let texts: Vec<Vec<u8>> = files.map(|seen| content_of(&cwd.join(&seen.path)).ok()).collect::<Option<_>>()?;
+        let texts: Vec<Vec<u8>> =
+            files.map(|seen| content_of(&cwd.join(&seen.path)).ok()).collect::<Option<_>>()?;
         let definitions = texts.iter().map(|text| definitions_in(text)).collect::<Option<Vec<_>>>()?;
         let mut macros = Macros::default();
         definitions.iter().try_for_each(|text| macros.read(text))?;
@@ -357,11 +399,20 @@ impl Manifest {
         hasher.add(b"zigrunk result 3");
         hasher.update(&key.0);
         // (what is different now and then is left out)
-        let files = self.files.iter().map(|seen| (seen.path.as_os_str().as_bytes(), seen.digest, time_of(&seen.form)));
+        let files = self
+            .files
+            .iter()
+            .map(|seen| (seen.path.as_os_str().as_bytes(), seen.digest, time_of(&seen.form)));
         let vain = self.vain.iter().map(|vain| (vain.folder.as_os_str().as_bytes(), &vain.lacks));
         let rest = (&self.listed, &self.variables);
-        let places = self.places.iter().map(|(path, real)| (path.as_os_str().as_bytes(), real.as_os_str().as_bytes()));
-        hasher.update(&stored::to_bytes(&(files.collect::<Vec<_>>(), vain.collect::<Vec<_>>(), places.collect::<Vec<_>>(), rest)));
+        let places =
+            self.places.iter().map(|(path, real)| (path.as_os_str().as_bytes(), real.as_os_str().as_bytes()));
+        hasher.update(&stored::to_bytes(&(
+            files.collect::<Vec<_>>(),
+            vain.collect::<Vec<_>>(),
+            places.collect::<Vec<_>>(),
+            rest,
+        )));
         hasher.finish()
     }
 }
@@ -393,7 +444,8 @@ mod tests {
 
         fn manifest(&self) -> Manifest {
             let vain = Vain::now(Path::new("inc"), vec![b"a.h".to_vec(), b"sub".to_vec()], &self.0).unwrap();
-            let places = [("inc", "inc"), ("way", "inc")].map(|(path, real)| (path.into(), real.into())).to_vec();
+            let places =
+                [("inc", "inc"), ("way", "inc")].map(|(path, real)| (path.into(), real.into())).to_vec();
             let files = vec![Seen::now(Path::new("k.cu"), &self.0).unwrap()];
             Manifest { files, vain: vec![vain], places, ..Manifest::default() }
         }
@@ -411,7 +463,10 @@ mod tests {
         manifest.defines = Some(vec![b"A=1".to_vec(), Vec::new()]);
         manifest.files.push(Seen { form: Form::Dated(1, 2), ..manifest.files[0].clone() });
         manifest.listed.push(Listed::now(Path::new("inc"), &scratch.0).unwrap());
-        manifest.variables = vec![Variable { name: b"A".to_vec(), value: None }, Variable { name: b"B".to_vec(), value: Some(b"b".to_vec()) }];
+        manifest.variables = vec![
+            Variable { name: b"A".to_vec(), value: None },
+            Variable { name: b"B".to_vec(), value: Some(b"b".to_vec()) },
+        ];
         for text in ["int a;\n", "f(\n", "??"] {
             manifest.files.push(Seen { form: Form::of_source(text.as_bytes()), ..manifest.files[0].clone() });
         }
@@ -464,7 +519,10 @@ mod tests {
     #[test]
     fn the_names_in_a_folder_count() {
         let scratch = Scratch::new();
-        let manifest = Manifest { listed: vec![Listed::now(Path::new("inc"), &scratch.0).unwrap()], ..Manifest::default() };
+        let manifest = Manifest {
+            listed: vec![Listed::now(Path::new("inc"), &scratch.0).unwrap()],
+            ..Manifest::default()
+        };
         let holds = || manifest.again(&scratch.0).map(|now| manifest == now);
         assert_eq!(holds(), Some(true));
         fs::write(scratch.0.join("inc/b.h"), "").unwrap();
@@ -477,11 +535,16 @@ mod tests {
 
     #[test]
     fn a_variable_for_which_a_process_asked_counts() {
-        let of = |name: &str, value: Option<Vec<u8>>| Manifest { variables: vec![Variable { name: name.into(), value }], ..Manifest::default() };
+        let of = |name: &str, value: Option<Vec<u8>>| Manifest {
+            variables: vec![Variable { name: name.into(), value }],
+            ..Manifest::default()
+        };
         let holds = |manifest: &Manifest| manifest.again(Path::new("/")).is_some_and(|now| *manifest == now);
         let path = own_variable("PATH").map(OsStringExt::into_vec);
         assert_eq!(
-            [of("PATH", path), of("PATH", None), of("NO_SUCH", None), of("NO_SUCH", Some(Vec::new()))].each_ref().map(holds),
+            [of("PATH", path), of("PATH", None), of("NO_SUCH", None), of("NO_SUCH", Some(Vec::new()))]
+                .each_ref()
+                .map(holds),
             [true, false, true, false]
         );
     }
@@ -521,7 +584,11 @@ mod tests {
         fs::write(scratch.0.join("k.cu"), "one").unwrap();
         File::options().write(true).open(scratch.0.join("k.cu")).unwrap().set_modified(time).unwrap();
         let now = manifest.again(&scratch.0).unwrap();
-        assert_eq!(now.files[0].digest, Digest::of(b"one"), "its size and time are the same, but not its stamp");
+        assert_eq!(
+            now.files[0].digest,
+            Digest::of(b"one"),
+            "its size and time are the same, but not its stamp"
+        );
     }
 
     /// What stands for a call once a source of it, which includes a header, has become another.
@@ -535,7 +602,11 @@ mod tests {
         put(texts[1]);
         let now = manifest.again(&scratch.0).unwrap();
         let again = manifest.alike(&now, &scratch.0);
-        assert!(again.as_ref().is_none_or(|again| again.digest(&Digest::of(b"call")) == now.digest(&Digest::of(b"call"))));
+        assert!(
+            again
+                .as_ref()
+                .is_none_or(|again| again.digest(&Digest::of(b"call")) == now.digest(&Digest::of(b"call")))
+        );
         assert!(Manifest { defines: None, ..manifest.clone() }.alike(&now, &scratch.0).is_none());
         again
     }
@@ -543,7 +614,8 @@ mod tests {
     #[test]
     fn a_source_of_the_same_layout_stands_for_another() {
         let scratch = Scratch::new();
-        let is_alike = |header: &str, texts: [&str; 2], defines: &str| alike(&scratch, header, texts, defines).is_some();
+        let is_alike =
+            |header: &str, texts: [&str; 2], defines: &str| alike(&scratch, header, texts, defines).is_some();
         let header = "#define check(x) fail(x, __LINE__)\n#define SIZE 64\n";
         let cases = [
             (["int a; // one\n", "int a;   // other\n"], true),
@@ -564,7 +636,11 @@ mod tests {
         let lines = ["A(1)\n", "\nA(1)\n"];
         assert_eq!(["A=check", "A=SIZE"].map(|defines| is_alike(header, lines, defines)), [false, true]);
         assert!(!is_alike("??=define A __LINE__\n", lines, ""), "a header in which definitions may hide");
-        assert!(is_alike("int a; // one", ["int a;", "int a; // two"], "") && !is_alike("int a;", ["int a;", "int a; // two"], ""), "a copy");
+        assert!(
+            is_alike("int a; // one", ["int a;", "int a; // two"], "")
+                && !is_alike("int a;", ["int a;", "int a; // two"], ""),
+            "a copy"
+        );
         assert!(!is_alike("int a; // two", ["int a;", "int a; // two"], ""), "a copy now");
     }
 
@@ -579,20 +655,36 @@ mod tests {
         fs::write(scratch.0.join("inc/a.h"), "#define A 1\n").unwrap();
         fs::write(scratch.0.join("k.cu"), "\n\n\nA\n").unwrap();
         let now = manifest.again(&scratch.0).unwrap();
-        assert!(manifest.alike(&now, &scratch.0).is_some_and(|again| again.files[0].layouts().unwrap().is_free));
-        assert_eq!(alike(&scratch, "", ["A // x\n", "A\n"], "").map(|again| again.files[0].layouts().unwrap().is_free), Some(false));
+        assert!(
+            manifest.alike(&now, &scratch.0).is_some_and(|again| again.files[0].layouts().unwrap().is_free)
+        );
+        assert_eq!(
+            alike(&scratch, "", ["A // x\n", "A\n"], "")
+                .map(|again| again.files[0].layouts().unwrap().is_free),
+            Some(false)
+        );
     }
 
     #[test]
     fn what_is_settled_has_a_stamp() {
         let own = Seen::now(Path::new("/bin/sh"), Path::new("/")).unwrap();
-        assert!(own.stamp.is_some() && Vain::now(Path::new("/bin"), Vec::new(), Path::new("/")).unwrap().stamp.is_some());
+        assert!(
+            own.stamp.is_some()
+                && Vain::now(Path::new("/bin"), Vec::new(), Path::new("/")).unwrap().stamp.is_some()
+        );
         let status = fs::metadata("/bin/sh").unwrap();
         let future = SystemTime::now() + Duration::from_secs(1000);
-        assert!(is_older(&status, future, Duration::from_secs(900)) && !is_older(&status, SystemTime::UNIX_EPOCH, Duration::ZERO));
+        assert!(
+            is_older(&status, future, Duration::from_secs(900))
+                && !is_older(&status, SystemTime::UNIX_EPOCH, Duration::ZERO)
+        );
         let better = Manifest { files: vec![own.clone()], ..Manifest::default() };
         let worse = Manifest { files: vec![Seen { stamp: None, ..own }], ..Manifest::default() };
-        assert!(better.is_better_than(&worse) && !worse.is_better_than(&better) && !better.is_better_than(&better));
+        assert!(
+            better.is_better_than(&worse)
+                && !worse.is_better_than(&better)
+                && !better.is_better_than(&better)
+        );
     }
 
     #[test]
@@ -614,7 +706,13 @@ mod tests {
             }
             is_free
         };
-        let cases = [("b.h", false, true), ("a.h", false, false), ("a.h", true, false), ("sub", true, false), ("sub", false, false)];
+        let cases = [
+            ("b.h", false, true),
+            ("a.h", false, false),
+            ("a.h", true, false),
+            ("sub", true, false),
+            ("sub", false, false),
+        ];
         for (name, is_folder, wanted) in cases {
             assert_eq!(after(name, is_folder), wanted, "{name} {is_folder}");
         }

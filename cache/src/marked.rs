@@ -33,7 +33,8 @@ pub fn named(text: &[u8], name: &[u8]) -> Vec<u8> {
     text.split(|&byte| byte == NAME).collect::<Vec<_>>().join(name)
 }
 
-/// Whether a text has a name in the form that a symbol has: with `_` for what a symbol can't have. No mark is put there.
+/// Whether a text has a name in the form that a symbol has: with `_` for what a symbol can't have. No mark is
+/// put there.
 pub fn has_symbol(text: &[u8], name: &[u8]) -> bool {
     let is_plain = |byte: u8| byte.is_ascii_alphanumeric() || matches!(byte, b'.' | b'_' | b'$');
     let symbol: Vec<u8> = name.iter().map(|&byte| if is_plain(byte) { byte } else { b'_' }).collect();
@@ -90,12 +91,23 @@ mod tests {
     fn a_name_has_marks() {
         let text = b"# 1 \"k.a.cpp\"\n.file \"k.a.cpp\"\nk.b";
         let marked = unnamed(text, b"k.a").unwrap();
-        assert_eq!((&marked[..], named(&marked, b"k.a")), (&b"# 1 \"\0.cpp\"\n.file \"\0.cpp\"\nk.b"[..], text.to_vec()));
+        assert_eq!(
+            (&marked[..], named(&marked, b"k.a")),
+            (&b"# 1 \"\0.cpp\"\n.file \"\0.cpp\"\nk.b"[..], text.to_vec())
+        );
         assert_eq!(named(&marked, b"j.c"), b"# 1 \"j.c.cpp\"\n.file \"j.c.cpp\"\nk.b");
-        assert_eq!((unnamed(b"a\0b", b"k"), unnamed(b"ab", b"k").unwrap()), (None, Cow::Borrowed(&b"ab"[..])));
+        assert_eq!(
+            (unnamed(b"a\0b", b"k"), unnamed(b"ab", b"k").unwrap()),
+            (None, Cow::Borrowed(&b"ab"[..]))
+        );
         assert_eq!((named(b"", b"k"), named(b"\0", b"k")), (vec![], b"k".to_vec()));
-        let symbols = [("_I_k_a.b.cpp", "k-a.b", true), ("_I_k-a.b", "k-a.b", false), ("_I_k.b", "k.b", false)];
-        assert!(symbols.iter().all(|(text, name, wanted)| has_symbol(text.as_bytes(), name.as_bytes()) == *wanted));
+        let symbols =
+            [("_I_k_a.b.cpp", "k-a.b", true), ("_I_k-a.b", "k-a.b", false), ("_I_k.b", "k.b", false)];
+        assert!(
+            symbols
+                .iter()
+                .all(|(text, name, wanted)| has_symbol(text.as_bytes(), name.as_bytes()) == *wanted)
+        );
         let cases = [
             ("# 1 \"k.a.cpp\"\nint a;\n", false),
             ("int a;\n", false),
@@ -110,8 +122,15 @@ mod tests {
     #[test]
     fn marks_are_filled_with_any_directory() {
         let marked = Marked::of(b"/t/a.h and /t/b.h", b"/t");
-        assert_eq!((marked.filled(b"/t"), marked.filled(b"/other")), (b"/t/a.h and /t/b.h".to_vec(), b"/other/a.h and /other/b.h".to_vec()));
-        assert!(marked.has_marks() && !Marked::of(b"/t", b"").has_marks() && !Marked::of(b"/t", b"/u").has_marks());
+        assert_eq!(
+            (marked.filled(b"/t"), marked.filled(b"/other")),
+            (b"/t/a.h and /t/b.h".to_vec(), b"/other/a.h and /other/b.h".to_vec())
+        );
+        assert!(
+            marked.has_marks()
+                && !Marked::of(b"/t", b"").has_marks()
+                && !Marked::of(b"/t", b"/u").has_marks()
+        );
     }
 
     #[test]

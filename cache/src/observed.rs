@@ -1,8 +1,9 @@
-//! What a command's processes opened, looked at and sought in vain: read from the records that the observer (`observer.c`) wrote in each.
+//! What a command's processes opened, looked at and sought in vain: read from the records that the observer
+//! (`observer.c`) wrote in each.
 //!
-//! A record is a header of 80 bytes, whose numbers are in the machine's own order, and a text with a NUL behind it. The text is a path as the process
-//! had it, absolute, and neither normalized nor freed of links: a process puts its working directory, or the folder of an open file, before a
-//! relative one.
+//! A record is a header of 80 bytes, whose numbers are in the machine's own order, and a text with a NUL
+//! behind it. The text is a path as the process had it, absolute, and neither normalized nor freed of links:
+//! a process puts its working directory, or the folder of an open file, before a relative one.
 //!
 //! | At | Bytes | What |
 //! |---|---|---|
@@ -17,8 +18,9 @@
 //! | 24 | 56 | the file's `Stamp` in its order: device, number, size, the seconds and nanoseconds of its change, those of its status's change |
 //! | 80 | | the text |
 //!
-//! Each process writes a record before the call that it is about returns, so none is lost if it is killed; a process that couldn't write one says so at
-//! its end. A program that the observer couldn't enter writes no beginning after the record of the call that runs it.
+//! Each process writes a record before the call that it is about returns, so none is lost if it is killed; a
+//! process that couldn't write one says so at its end. A program that the observer couldn't enter writes no
+//! beginning after the record of the call that runs it.
 use crate::stamps::Stamp;
 use std::collections::{BTreeMap, BTreeSet};
 use std::ffi::{OsStr, OsString};
@@ -28,22 +30,25 @@ use std::path::{Path, PathBuf};
 use unix::words::{CREATES, EMPTIES, FILE_TYPE, FOLDER, IS_NEW, PLAIN, READS_AND_WRITES, WRITES};
 
 const HEADER: usize = 80;
-/// The longest record. Linux takes no longer path than 4,096 bytes, and a relative one has a folder of that size before it.
+/// The longest record. Linux takes no longer path than 4,096 bytes, and a relative one has a folder of that
+/// size before it.
 const LONGEST: usize = HEADER + 2 * 4096 + 2;
 /// How many bytes of records are read: some hundred thousand records. A call has some thousands.
 const MOST: usize = 32 << 20;
 
-/// How a process begins: it runs a program that another has announced, or is the first of the list. With another number it goes on after a fork.
+/// How a process begins: it runs a program that another has announced, or is the first of the list. With
+/// another number it goes on after a fork.
 const RUNS: u32 = 0;
 const IS_FIRST: u32 = 2;
 
 const NOT_THERE: [u16; 2] = [2, 20];
 const NO_ACCESS: u16 = 13;
-/// What calls say of a path that leads somewhere: it is no program of the kernel's, exists, is a folder, or is no link.
+/// What calls say of a path that leads somewhere: it is no program of the kernel's, exists, is a folder, or
+/// is no link.
 const THERE: [u16; 4] = [8, 17, 21, 22];
 
-/// What the kernel makes, and what no product depends on: seeds of temporary names, which file systems it knows, the state of the memory, and a program's own path, which is
-/// known from its beginning.
+/// What the kernel makes, and what no product depends on: seeds of temporary names, which file systems it
+/// knows, the state of the memory, and a program's own path, which is known from its beginning.
 const OF_KERNEL: [&[u8]; 8] = [
     b"/dev/null",
     b"/dev/tty",
@@ -64,20 +69,22 @@ pub struct Sight {
     pub is_folder: bool,
 }
 
-/// What a command's processes did, but for files below the call's own directory. A path that was relative, and is below the call's working directory,
-/// is relative here.
+/// What a command's processes did, but for files below the call's own directory. A path that was relative,
+/// and is below the call's working directory, is relative here.
 #[derive(Clone, PartialEq, Eq, Debug, Default)]
 pub struct Observed {
-    /// The files that were read before the command itself made them, each with its stamp in the process that read it.
+    /// The files that were read before the command itself made them, each with its stamp in the process that
+    /// read it.
     pub read: BTreeMap<PathBuf, Stamp>,
     /// The paths that were looked at and there, and weren't read or listed.
     pub seen: BTreeMap<PathBuf, Sight>,
-    /// The paths that weren't there when they were first opened or looked at, and those that were only looked at, as a program is sought, and that
-    /// the user may not reach or run.
+    /// The paths that weren't there when they were first opened or looked at, and those that were only looked
+    /// at, as a program is sought, and that the user may not reach or run.
     pub lacking: BTreeSet<PathBuf>,
     /// The folders whose names were listed, or that were opened, which may come to that.
     pub listed: BTreeMap<PathBuf, Stamp>,
-    /// The paths whose links a process followed itself, and those by which it ran programs: where they lead counts.
+    /// The paths whose links a process followed itself, and those by which it ran programs: where they lead
+    /// counts.
     pub followed: BTreeSet<PathBuf>,
     /// The programs that ran, as the kernel names them.
     pub programs: BTreeMap<PathBuf, Stamp>,
@@ -89,9 +96,11 @@ pub struct Observed {
     pub variables: BTreeSet<OsString>,
     /// The files and folders that the command made or wrote to.
     pub made: BTreeSet<PathBuf>,
-    /// The files below the call's own directories that were read before the command itself made them, seen from there.
+    /// The files below the call's own directories that were read before the command itself made them, seen
+    /// from there.
     pub own: BTreeSet<PathBuf>,
-    /// What the program did itself that ran first, as gcc beside its compiler: the paths at which it looked, and whether it read a file there.
+    /// What the program did itself that ran first, as gcc beside its compiler: the paths at which it looked,
+    /// and whether it read a file there.
     pub by_first: BTreeMap<PathBuf, bool>,
 }
 
@@ -101,11 +110,13 @@ impl Observed {
         other.read.iter().find(|(path, stamp)| self.read.get(*path) != Some(*stamp)).map(|(path, _)| path)
     }
 
-    /// Leaves out what a preprocessor has read as texts, and what else it has done, but for programs, libraries and what the first program did itself:
-    /// of these its text says nothing.
+    /// Leaves out what a preprocessor has read as texts, and what else it has done, but for programs,
+    /// libraries and what the first program did itself: of these its text says nothing.
     pub fn leave_out(&mut self, other: &Observed, is_text: impl Fn(&Path) -> bool) {
         let first = &self.by_first;
-        self.read.retain(|path, _| first.get(path) == Some(&true) || !other.read.contains_key(path) || !is_text(path));
+        self.read.retain(|path, _| {
+            first.get(path) == Some(&true) || !other.read.contains_key(path) || !is_text(path)
+        });
         self.seen.retain(|path, _| first.contains_key(path) || !other.seen.contains_key(path));
         self.listed.retain(|path, _| first.contains_key(path) || !other.listed.contains_key(path));
         self.lacking.retain(|path| first.contains_key(path) || !other.lacking.contains(path));
@@ -152,13 +163,23 @@ impl Display for Gap {
             Gap::Broken(at) => write!(out, "the observer's list is broken at byte {at}"),
             Gap::NotEntered(path) => write!(out, "the observer could not be loaded into {}", path.display()),
             Gap::NoEnd(path) => write!(out, "a process of {} did not come to its end", path.display()),
-            Gap::Lost(path) => write!(out, "the observer could not write down all that {} read", path.display()),
+            Gap::Lost(path) => {
+                write!(out, "the observer could not write down all that {} read", path.display())
+            }
             Gap::Inherited(path) => write!(out, "the command got {} as an open file", path.display()),
-            Gap::Special(path) => write!(out, "the command opened {}, which is no plain file", path.display()),
-            Gap::Altered(path) => write!(out, "the command changed {}, which was there before", path.display()),
+            Gap::Special(path) => {
+                write!(out, "the command opened {}, which is no plain file", path.display())
+            }
+            Gap::Altered(path) => {
+                write!(out, "the command changed {}, which was there before", path.display())
+            }
             Gap::Changed(path) => write!(out, "{} changed while the command ran", path.display()),
-            Gap::Refused(path, error) => write!(out, "the command could not look at {} (error {error})", path.display()),
-            Gap::Loaded(path) => write!(out, "the loader did not say where it looked for the libraries of {}", path.display()),
+            Gap::Refused(path, error) => {
+                write!(out, "the command could not look at {} (error {error})", path.display())
+            }
+            Gap::Loaded(path) => {
+                write!(out, "the loader did not say where it looked for the libraries of {}", path.display())
+            }
             Gap::Unseen(what) => write!(out, "the command did what cannot be observed: {what}"),
         }
     }
@@ -258,7 +279,20 @@ impl<'a> Record<'a> {
         }
         let (kind, error) = (Kind::of(*bytes.get(16)?)?, u16::from_ne_bytes(number(bytes, 18)?));
         let (is_relative, mode) = (*bytes.get(17)? != 0, word(20)?);
-        Some((Record { process: word(4)?, parent: word(8)?, number: word(12)?, kind, is_relative, error, mode, stamp, text }, size))
+        Some((
+            Record {
+                process: word(4)?,
+                parent: word(8)?,
+                number: word(12)?,
+                kind,
+                is_relative,
+                error,
+                mode,
+                stamp,
+                text,
+            },
+            size,
+        ))
     }
 
     fn path(&self) -> PathBuf {
@@ -307,7 +341,9 @@ impl Scope<'_> {
     /// A path as it is seen from one of the call's own directories, if it is below that.
     fn in_own(&self, path: &Path) -> Option<PathBuf> {
         let whole = self.cwd.map(|cwd| cwd.join(path));
-        self.own.iter().find_map(|directory| whole.as_deref().unwrap_or(path).strip_prefix(directory).ok().map(Path::to_owned))
+        self.own.iter().find_map(|directory| {
+            whole.as_deref().unwrap_or(path).strip_prefix(directory).ok().map(Path::to_owned)
+        })
     }
 
     /// Whether a path is below one of the call's own directories.
@@ -336,11 +372,14 @@ struct List<'a> {
 }
 
 impl List<'_> {
-    /// Notes that a process does something more. Says if it was about to run a program, and goes on without the observer.
+    /// Notes that a process does something more. Says if it was about to run a program, and goes on without
+    /// the observer.
     fn goes_on(&mut self, record: &Record<'_>) -> Result<(), Gap> {
-        let parents = || self.processes.get(&record.parent).map(|parent| parent.program.clone()).unwrap_or_default();
+        let parents =
+            || self.processes.get(&record.parent).map(|parent| parent.program.clone()).unwrap_or_default();
         let program = if self.processes.contains_key(&record.process) { PathBuf::new() } else { parents() };
-        let process = self.processes.entry(record.process).or_insert_with(|| Process { program, ..Process::default() });
+        let process =
+            self.processes.entry(record.process).or_insert_with(|| Process { program, ..Process::default() });
         process.has_ended = record.kind == Kind::End;
         let lacks = process.next.as_ref().filter(|_| !matches!(record.kind, Kind::Begin | Kind::NotRun));
         lacks.map_or(Ok(()), |program| Err(Gap::NotEntered(program.clone())))
@@ -352,7 +391,9 @@ impl List<'_> {
         match record.kind {
             Kind::Begin => return self.begin(record, path),
             Kind::End if record.number > 0 => return Err(Gap::Lost(self.process(record).program.clone())),
-            Kind::Started if path != self.scope.program => return Err(Gap::NotEntered(self.scope.program.to_owned())),
+            Kind::Started if path != self.scope.program => {
+                return Err(Gap::NotEntered(self.scope.program.to_owned()));
+            }
             Kind::Run => self.process(record).next = Some(path),
             Kind::NotRun => {
                 let process = self.process(record);
@@ -363,8 +404,12 @@ impl List<'_> {
             }
             Kind::Start => self.process(record).awaited.push(path),
             Kind::Unseen => return Err(Gap::Unseen(String::from_utf8_lossy(record.text).into_owned())),
-            Kind::Inherited if record.mode & FILE_TYPE == PLAIN || record.is_folder() => return Err(Gap::Inherited(path)),
-            Kind::Library if !self.scope.is_own(&path) => drop(self.observed.libraries.insert(path, record.stamp)),
+            Kind::Inherited if record.mode & FILE_TYPE == PLAIN || record.is_folder() => {
+                return Err(Gap::Inherited(path));
+            }
+            Kind::Library if !self.scope.is_own(&path) => {
+                self.observed.libraries.insert(path, record.stamp);
+            }
             Kind::Variable => drop(self.observed.variables.insert(path.into_os_string())),
             Kind::Make if record.error == 0 => match self.scope.in_own(&path) {
                 Some(own) => drop(self.made_own.insert(own)),
@@ -385,7 +430,10 @@ impl List<'_> {
     /// Notes that a program runs. Where the path leads by which it was run counts.
     fn begin(&mut self, record: &Record<'_>, path: PathBuf) -> Result<(), Gap> {
         let announced = self.process(record).next.take();
-        let parent = self.processes.get_mut(&record.parent).filter(|_| record.number != IS_FIRST && announced.is_none());
+        let parent = self
+            .processes
+            .get_mut(&record.parent)
+            .filter(|_| record.number != IS_FIRST && announced.is_none());
         let run_by = announced.or_else(|| parent.and_then(|parent| parent.awaited.pop()));
         let run_by = if record.number == IS_FIRST { Some(self.scope.program.to_owned()) } else { run_by };
         if record.number == RUNS && run_by.is_none() {
@@ -398,7 +446,9 @@ impl List<'_> {
         if record.number == IS_FIRST {
             self.first.clone_from(&path);
         }
-        if let Some(run_by) = run_by.filter(|path| matches!(record.number, RUNS | IS_FIRST) && !self.scope.is_own(path)) {
+        if let Some(run_by) =
+            run_by.filter(|path| matches!(record.number, RUNS | IS_FIRST) && !self.scope.is_own(path))
+        {
             self.observed.by_first.entry(run_by.clone()).or_default();
             self.observed.followed.insert(run_by);
         }
@@ -458,7 +508,8 @@ impl List<'_> {
 
     fn look(&mut self, record: &Record<'_>, path: PathBuf) -> Result<(), Gap> {
         self.note_first(record, &path);
-        if self.scope.is_own(&path) || self.observed.made.contains(&path) || OF_KERNEL.contains(&record.text) {
+        if self.scope.is_own(&path) || self.observed.made.contains(&path) || OF_KERNEL.contains(&record.text)
+        {
             return Ok(());
         }
         let observed = &mut self.observed;
@@ -472,9 +523,12 @@ impl List<'_> {
         let stamp = (record.mode != 0).then_some(record.stamp);
         match (record.kind, stamp) {
             (Kind::Follow, _) => drop(observed.followed.insert(path)),
-            (Kind::List | Kind::Open, Some(stamp)) if record.is_folder() => _ = observed.listed.insert(path, stamp),
+            (Kind::List | Kind::Open, Some(stamp)) if record.is_folder() => {
+                _ = observed.listed.insert(path, stamp);
+            }
             _ => {
-                let sight = observed.seen.entry(path).or_insert(Sight { stamp, is_folder: record.is_folder() });
+                let sight =
+                    observed.seen.entry(path).or_insert(Sight { stamp, is_folder: record.is_folder() });
                 sight.stamp = sight.stamp.or(stamp);
                 sight.is_folder |= record.is_folder();
             }
@@ -484,13 +538,22 @@ impl List<'_> {
 
     /// Notes where the loader of a process has looked, by what it said.
     fn add_load(&mut self, process: &Process, said: &[u8]) -> Result<(), Gap> {
-        let lines = || said.split(|&byte| byte == b'\n').filter_map(|line| line.splitn(2, |&byte| byte == b'\t').nth(1)).map(<[u8]>::trim_ascii);
+        let lines = || {
+            said.split(|&byte| byte == b'\n')
+                .filter_map(|line| line.splitn(2, |&byte| byte == b'\t').nth(1))
+                .map(<[u8]>::trim_ascii)
+        };
         // The observer has one library that each process looks for.
         if lines().filter(|line| line.starts_with(OBSERVERS_LIBRARY)).count() < process.works.len() {
             return Err(Gap::Loaded(process.program.clone()));
         }
-        for tried in lines().filter_map(|line| line.strip_prefix(b"trying file=")).map(|path| Path::new(OsStr::from_bytes(path))) {
-            let places = process.works.iter().map(|work| if tried.is_absolute() { tried.to_owned() } else { self.scope.relative(work.join(tried)) });
+        for tried in lines()
+            .filter_map(|line| line.strip_prefix(b"trying file="))
+            .map(|path| Path::new(OsStr::from_bytes(path)))
+        {
+            let places = process.works.iter().map(|work| {
+                if tried.is_absolute() { tried.to_owned() } else { self.scope.relative(work.join(tried)) }
+            });
             self.observed.sought.extend(places.filter(|place| !self.scope.is_own(place)));
         }
         self.observed.sought.extend(LOADERS_LISTS.map(PathBuf::from));
@@ -527,7 +590,8 @@ fn is_of_kernel(path: &Path) -> bool {
     ["/proc", "/sys", "/dev"].iter().any(|folder| path.starts_with(folder))
 }
 
-/// What a command did, by its records, or by those of several runs, one behind the other, and by what its loaders said.
+/// What a command did, by its records, or by those of several runs, one behind the other, and by what its
+/// loaders said.
 /// Errors: why that isn't all that it did.
 pub fn observed(records: &[u8], loads: &Loads, scope: Scope<'_>) -> Result<Observed, Gap> {
     let (observed, gap) = observed_part(records, loads, scope);
@@ -536,7 +600,13 @@ pub fn observed(records: &[u8], loads: &Loads, scope: Scope<'_>) -> Result<Obser
 
 /// The same as far as that is known, and the first reason why it may not be all.
 pub fn observed_part(records: &[u8], loads: &Loads, scope: Scope<'_>) -> (Observed, Option<Gap>) {
-    let mut list = List { scope, observed: Observed::default(), processes: BTreeMap::new(), first: PathBuf::new(), made_own: BTreeSet::new() };
+    let mut list = List {
+        scope,
+        observed: Observed::default(),
+        processes: BTreeMap::new(),
+        first: PathBuf::new(),
+        made_own: BTreeSet::new(),
+    };
     let mut gap = if records.len() > MOST { Some(Gap::TooLong) } else { None };
     let mut at = 0;
     while at < records.len().min(MOST) {
@@ -574,7 +644,11 @@ mod tests {
 
     fn scope() -> Scope<'static> {
         static OWNS: std::sync::OnceLock<[&Path; 1]> = std::sync::OnceLock::new();
-        Scope { program: Path::new(TOOL), own: OWNS.get_or_init(|| [Path::new(OWN)]), cwd: Some(Path::new("/here")) }
+        Scope {
+            program: Path::new(TOOL),
+            own: OWNS.get_or_init(|| [Path::new(OWN)]),
+            cwd: Some(Path::new("/here")),
+        }
     }
 
     /// A record of the process 7, whose parent is the process 1.
@@ -656,7 +730,10 @@ mod tests {
         .unwrap();
         assert_eq!((paths(&list.read), paths(&list.listed)), (vec!["/w/k.cu"], vec!["/w", "/w/more"]));
         assert_eq!(list.read[Path::new("/w/k.cu")].0[2], 9u64.to_le_bytes());
-        assert_eq!((paths(&list.seen), names(&list.lacking)), (vec!["/w/seen", "/w/there"], vec!["/w/k.cu/x", "/w/missing.h"]));
+        assert_eq!(
+            (paths(&list.seen), names(&list.lacking)),
+            (vec!["/w/seen", "/w/there"], vec!["/w/k.cu/x", "/w/missing.h"])
+        );
         let has_stamp = |path: &str| list.seen[Path::new(path)].stamp.is_some();
         assert_eq!([has_stamp("/w/seen"), has_stamp("/w/there")], [true, false]);
         assert_eq!(
@@ -668,7 +745,13 @@ mod tests {
 
     #[test]
     fn what_is_around_a_gap_is_known() {
-        let records = [file(b'O', "/w/a.h", 9), record(b'U', "glob"), record(b'U', "ftw"), file(b'O', "/w/b.h", 9), record(b'E', "")];
+        let records = [
+            file(b'O', "/w/a.h", 9),
+            record(b'U', "glob"),
+            record(b'U', "ftw"),
+            file(b'O', "/w/b.h", 9),
+            record(b'E', ""),
+        ];
         let all = [&first()[..], &records].concat().concat();
         let part = |records: &[u8]| {
             let (list, gap) = observed_part(records, &Loads::new(), scope());
@@ -676,11 +759,21 @@ mod tests {
         };
         assert_eq!(part(&all), ("/w/a.h /w/b.h".into(), Some(Gap::Unseen("glob".into()))));
         let broken = [&all[..all.len() - 1], b"x"].concat();
-        assert_eq!(part(&broken), ("/w/a.h /w/b.h".into(), Some(Gap::Unseen("glob".into()))), "the first one");
+        assert_eq!(
+            part(&broken),
+            ("/w/a.h /w/b.h".into(), Some(Gap::Unseen("glob".into()))),
+            "the first one"
+        );
         let cut = [&first()[..], &records[..1]].concat().concat();
         assert_eq!(part(&cut), ("/w/a.h".into(), Some(Gap::NoEnd("/b/tool".into()))));
-        assert_eq!(part(&cut[..cut.len() - 1]), (String::new(), Some(Gap::Broken(cut.len() - records[0].len()))));
-        assert_eq!((part(b""), part(&records[0])), ((String::new(), Some(Gap::Nothing)), (String::new(), Some(Gap::Nothing))));
+        assert_eq!(
+            part(&cut[..cut.len() - 1]),
+            (String::new(), Some(Gap::Broken(cut.len() - records[0].len())))
+        );
+        assert_eq!(
+            (part(b""), part(&records[0])),
+            ((String::new(), Some(Gap::Nothing)), (String::new(), Some(Gap::Nothing)))
+        );
     }
 
     #[test]
@@ -690,7 +783,8 @@ mod tests {
             bytes[17] = 1;
             bytes
         };
-        let list = read(&[relative("/here/./a.h"), file(b'O', "/here/b.h", 9), relative("/there/c.h")]).unwrap();
+        let list =
+            read(&[relative("/here/./a.h"), file(b'O', "/here/b.h", 9), relative("/there/c.h")]).unwrap();
         assert_eq!(paths(&list.read), ["/here/b.h", "/there/c.h", "a.h"]);
     }
 
@@ -699,18 +793,29 @@ mod tests {
         let all = [&first()[..], &[record(b'W', "/here"), record(b'E', "")]].concat().concat();
         let found = |said: &str| observed(&all, &Loads::from([(7, said.into())]), scope());
         let begins = "     7:\tfind library=libdl.so.2 [0]; searching\n";
-        let tried =
-            "     7:\t search path=/a:\n     7:\t  trying file=/a/tls/libm.so\n     7:\t  trying file=./libm.so\n     7:\t  trying file=/t/call/x\n";
+        let tried = "     7:\t search path=/a:\n     7:\t  trying file=/a/tls/libm.so\n     7:\t  trying file=./libm.so\n     7:\t  trying file=/t/call/x\n";
         let list = found(&format!("{tried}{begins}")).unwrap();
-        assert_eq!(names(&list.sought), ["/a/tls/libm.so", "/etc/ld.so.cache", "/etc/ld.so.preload", "libm.so"]);
-        assert_eq!((found(tried), found("")), (Err(Gap::Loaded("/b/tool".into())), Err(Gap::Loaded("/b/tool".into()))));
-        assert_eq!(observed(&all, &Loads::from([(8, begins.into())]), scope()), Err(Gap::Loaded("/b/tool".into())));
+        assert_eq!(
+            names(&list.sought),
+            ["/a/tls/libm.so", "/etc/ld.so.cache", "/etc/ld.so.preload", "libm.so"]
+        );
+        assert_eq!(
+            (found(tried), found("")),
+            (Err(Gap::Loaded("/b/tool".into())), Err(Gap::Loaded("/b/tool".into())))
+        );
+        assert_eq!(
+            observed(&all, &Loads::from([(8, begins.into())]), scope()),
+            Err(Gap::Loaded("/b/tool".into()))
+        );
     }
 
     #[test]
     fn two_lists_may_differ_in_what_was_read() {
         let list = |records: &[Vec<u8>]| read(records).unwrap();
-        let (one, two) = (list(&[file(b'O', "/w/a.h", 1)]), list(&[file(b'O', "/w/a.h", 1), file(b'O', "/w/b.h", 1), failed(b'O', "/w/c.h", 2)]));
+        let (one, two) = (
+            list(&[file(b'O', "/w/a.h", 1)]),
+            list(&[file(b'O', "/w/a.h", 1), file(b'O', "/w/b.h", 1), failed(b'O', "/w/c.h", 2)]),
+        );
         assert_eq!(
             (one.read_otherwise(&one), one.read_otherwise(&two), two.read_otherwise(&one)),
             (None, Some(&"/w/b.h".into()), None)
@@ -720,22 +825,52 @@ mod tests {
 
     #[test]
     fn what_the_first_program_does_itself_stays() {
-        let files = |last: u32| [file(b'O', "/w/specs", 1), failed(b'O', "/w/none", 2), file(b'O', "/w/a.h", 1), file(b'O', "/w/b.h", last)];
-        let driver = [record(b'V', "A"), file(b'O', "/w/specs", 1), failed(b'O', "/w/none", 2), file(b'S', "/w/a.h", 1)];
+        let files = |last: u32| {
+            [
+                file(b'O', "/w/specs", 1),
+                failed(b'O', "/w/none", 2),
+                file(b'O', "/w/a.h", 1),
+                file(b'O', "/w/b.h", last),
+            ]
+        };
+        let driver = [
+            record(b'V', "A"),
+            file(b'O', "/w/specs", 1),
+            failed(b'O', "/w/none", 2),
+            file(b'S', "/w/a.h", 1),
+        ];
         let compiler = |last: u32| {
-            let own = [&[record(b'X', "/b/cc1plus"), record(b'B', "/b/cc1plus")][..], &files(last), &[record(b'E', "")]].concat();
-            [&driver[..], &own.into_iter().map(|record| with(record, &[(4, 8), (8, 7)])).collect::<Vec<_>>()].concat()
+            let own = [
+                &[record(b'X', "/b/cc1plus"), record(b'B', "/b/cc1plus")][..],
+                &files(last),
+                &[record(b'E', "")],
+            ]
+            .concat();
+            [&driver[..], &own.into_iter().map(|record| with(record, &[(4, 8), (8, 7)])).collect::<Vec<_>>()]
+                .concat()
         };
         let mut list = read(&compiler(1)).unwrap();
         list.leave_out(&read(&compiler(2)).unwrap(), |path| path != Path::new("/w/b.h"));
-        assert_eq!((paths(&list.read), names(&list.lacking), paths(&list.seen)), (vec!["/w/b.h", "/w/specs"], vec!["/w/none"], vec![]));
-        assert_eq!((paths(&list.programs), list.variables), (vec!["/b/cc1plus", "/b/tool"], BTreeSet::from(["A".into()])));
+        assert_eq!(
+            (paths(&list.read), names(&list.lacking), paths(&list.seen)),
+            (vec!["/w/b.h", "/w/specs"], vec!["/w/none"], vec![])
+        );
+        assert_eq!(
+            (paths(&list.programs), list.variables),
+            (vec!["/b/cc1plus", "/b/tool"], BTreeSet::from(["A".into()]))
+        );
     }
 
     #[test]
     fn what_is_read_of_the_calls_own_files_is_known() {
         let made = with(file(b'O', "/t/call/made", 1), &[(12, WRITES | CREATES | EMPTIES)]);
-        let list = read(&[made, file(b'O', "/t/call/made", 1), record(b'M', "/t/call/new"), file(b'O', "/t/call/new", 1), file(b'O', "/t/call/k.ii", 1)]);
+        let list = read(&[
+            made,
+            file(b'O', "/t/call/made", 1),
+            record(b'M', "/t/call/new"),
+            file(b'O', "/t/call/new", 1),
+            file(b'O', "/t/call/k.ii", 1),
+        ]);
         assert_eq!(list.unwrap().own, BTreeSet::from(["k.ii".into()]));
     }
 
@@ -755,7 +890,10 @@ mod tests {
             file(b'O', "/t/call.2/k.ii", 1),
         ])
         .unwrap();
-        assert_eq!((names(&list.made), paths(&list.read)), (vec!["/tmp/x", "/tmp/y", "/w/k.o"], vec!["/t/call.2/k.ii"]));
+        assert_eq!(
+            (names(&list.made), paths(&list.read)),
+            (vec!["/tmp/x", "/tmp/y", "/w/k.o"], vec!["/t/call.2/k.ii"])
+        );
         assert!(list.lacking.is_empty() && list.seen.is_empty());
         assert_eq!(read(&[flags(WRITES | CREATES, "/w/log")]), Err(Gap::Altered("/w/log".into())));
         assert_eq!(read(&[flags(READS_AND_WRITES, "/w/a")]), Err(Gap::Altered("/w/a".into())));
@@ -764,16 +902,22 @@ mod tests {
     #[test]
     fn what_is_no_plain_file_is_a_gap() {
         let mode = |mode: u32, path: &str| with(record(b'O', path), &[(20, mode)]);
-        for (record, path) in
-            [(mode(PIPE, "/w/pipe"), "/w/pipe"), (mode(PLAIN, "/proc/self/fd/3"), "/proc/self/fd/3"), (mode(PLAIN, "/dev/fd/3"), "/dev/fd/3")]
-        {
+        for (record, path) in [
+            (mode(PIPE, "/w/pipe"), "/w/pipe"),
+            (mode(PLAIN, "/proc/self/fd/3"), "/proc/self/fd/3"),
+            (mode(PLAIN, "/dev/fd/3"), "/dev/fd/3"),
+        ] {
             assert_eq!(read(&[record]), Err(Gap::Special(path.into())));
         }
         assert_eq!(read(&[file(b'I', "/w/list", 1)]), Err(Gap::Inherited("/w/list".into())));
         assert!(read(&[with(record(b'I', "pipe:[7]"), &[(20, PIPE)])]).is_ok());
         assert_eq!(read(&[file(b'O', "/w/a", 1), file(b'O', "/w/a", 2)]), Err(Gap::Changed("/w/a".into())));
         assert_eq!(read(&[failed(b'O', "/w/a", NO_ACCESS)]), Err(Gap::Refused("/w/a".into(), NO_ACCESS)));
-        assert_eq!(read(&[failed(b'S', "/w/a", 40)]), Err(Gap::Refused("/w/a".into(), 40)), "links lead in a circle");
+        assert_eq!(
+            read(&[failed(b'S', "/w/a", 40)]),
+            Err(Gap::Refused("/w/a".into(), 40)),
+            "links lead in a circle"
+        );
         assert_eq!(names(&read(&[failed(b'S', "/w/a", NO_ACCESS)]).unwrap().lacking), ["/w/a"]);
         assert_eq!(read(&[record(b'U', "glob")]), Err(Gap::Unseen("glob".into())));
     }
@@ -787,12 +931,21 @@ mod tests {
         let begin = || record(b'B', "/b/other");
         let not_entered = || Err(Gap::NotEntered("/b/other".into()));
         let list = read(&[record(b'X', "/a/link"), begin()]).unwrap();
-        assert_eq!((names(&list.followed), paths(&list.programs)), (vec!["/a/link", TOOL], vec!["/b/other", "/b/tool"]));
+        assert_eq!(
+            (names(&list.followed), paths(&list.programs)),
+            (vec!["/a/link", TOOL], vec!["/b/other", "/b/tool"])
+        );
         assert_eq!(read(&[record(b'X', "/b/other")]), not_entered());
         assert_eq!(read(&[record(b'X', "/b/other"), record(b'V', "A")]), not_entered());
-        let list = read(&[record(b'X', "/a/other"), failed(b'F', "/a/other", 2), record(b'X', "/b/other"), begin()]).unwrap();
-        assert_eq!((names(&list.lacking), paths(&list.programs)), (vec!["/a/other"], vec!["/b/other", "/b/tool"]));
-        // A process that shares the memory of its parent until it runs a program has no beginning before that.
+        let list =
+            read(&[record(b'X', "/a/other"), failed(b'F', "/a/other", 2), record(b'X', "/b/other"), begin()])
+                .unwrap();
+        assert_eq!(
+            (names(&list.lacking), paths(&list.programs)),
+            (vec!["/a/other"], vec!["/b/other", "/b/tool"])
+        );
+        // A process that shares the memory of its parent until it runs a program has no beginning before
+        // that.
         let child = |record: Vec<u8>| of(8, 7, record);
         assert!(read(&[child(record(b'X', "/b/other")), child(begin()), child(record(b'E', ""))]).is_ok());
         assert_eq!(read(&[child(record(b'X', "/b/other"))]), not_entered());
@@ -807,13 +960,19 @@ mod tests {
     #[test]
     fn each_program_that_the_c_library_starts_has_to_begin() {
         let start = || record(b'P', "/bin/sh");
-        let child =
-            |process: u32, forked: u32| [of(process, 7, with(record(b'B', "/bin/sh"), &[(12, forked)])), of(process, 7, record(b'E', ""))].concat();
+        let child = |process: u32, forked: u32| {
+            [of(process, 7, with(record(b'B', "/bin/sh"), &[(12, forked)])), of(process, 7, record(b'E', ""))]
+                .concat()
+        };
         assert!(read(&[start(), child(8, 0), start(), child(9, 0)]).is_ok());
         assert!(read(&[start(), start(), child(8, 0), failed(b'F', "/bin/sh", 2)]).is_ok());
         let not_entered = || Err(Gap::NotEntered("/bin/sh".into()));
         assert_eq!(read(&[start(), child(8, 0), start()]), not_entered());
-        assert_eq!(names(&read(&[start(), child(8, AFTER_FORK)]).unwrap().followed), [TOOL], "a fork is announced as well");
+        assert_eq!(
+            names(&read(&[start(), child(8, AFTER_FORK)]).unwrap().followed),
+            [TOOL],
+            "a fork is announced as well"
+        );
         assert_eq!(read(&[start(), start(), child(8, AFTER_FORK)]), not_entered());
         let itself = [of(8, 7, record(b'X', "/bin/sh")), child(8, 0)].concat();
         assert_eq!(read(&[start(), itself]), not_entered());
@@ -826,7 +985,8 @@ mod tests {
         assert_eq!(observed(&record(b'E', "")), Err(Gap::Nothing));
         assert_eq!(observed(&vec![0; MOST + 1]), Err(Gap::TooLong));
         let [begin, started] = first();
-        let records = [begin, started, file(b'O', "/w/k.cu", 9), failed(b'O', "/w/missing.h", 2), record(b'E', "")];
+        let records =
+            [begin, started, file(b'O', "/w/k.cu", 9), failed(b'O', "/w/missing.h", 2), record(b'E', "")];
         let whole = records.concat();
         assert!(observed(&whole).is_ok() && observed(&[&whole[..], &whole].concat()).is_ok());
         for end in 0..whole.len() {

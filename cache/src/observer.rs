@@ -1,4 +1,5 @@
-//! The observer (`observer.c`) as this program carries it: a library for the processes of commands, and a file of records for each command.
+//! The observer (`observer.c`) as this program carries it: a library for the processes of commands, and a
+//! file of records for each command.
 use crate::observed::{Gap, Loads, Observed, Scope, observed_part};
 use crate::system;
 use machine::jobs::Job;
@@ -49,7 +50,8 @@ pub struct Observer {
 
 impl Observer {
     /// Makes a new folder and puts the library there.
-    /// Errors: those of the disk, and `Unsupported` for a folder from which no process can load it, or a platform without it.
+    /// Errors: those of the disk, and `Unsupported` for a folder from which no process can load it, or a
+    /// platform without it.
     pub fn new(folder: PathBuf) -> io::Result<Observer> {
         let may_load = folder.to_str().is_some_and(|path| path.starts_with('/') && !path.contains(MARKS));
         if LIBRARY.is_empty() || !may_load || !folder.parent().is_some_and(system::may_run) {
@@ -60,9 +62,10 @@ impl Observer {
         Ok(Observer { folder, commands: BTreeMap::new() })
     }
 
-    /// The job of a command with the observer in its processes. A library that it has anyway stays behind the observer.
-    /// Errors: `NotFound` for its program, those of a new file, and of a variable that isn't UTF-8, or that the loader's words need. Then the command
-    /// has a gap.
+    /// The job of a command with the observer in its processes. A library that it has anyway stays behind the
+    /// observer.
+    /// Errors: `NotFound` for its program, those of a new file, and of a variable that isn't UTF-8, or that
+    /// the loader's words need. Then the command has a gap.
     pub fn observing(&mut self, subject: Subject, job: &Job) -> io::Result<Job> {
         let observing = self.try_observing(subject, job);
         if observing.is_err() {
@@ -77,7 +80,10 @@ impl Observer {
         let records = self.folder.join(format!("{count}.records"));
         let given = |wanted: &str| match job.variables.iter().rev().find(|(name, _)| name == wanted) {
             Some((_, value)) => Ok(value.clone()),
-            None => own_variable(wanted).map(OsString::into_string).transpose().map_err(|_| ErrorKind::InvalidData),
+            None => own_variable(wanted)
+                .map(OsString::into_string)
+                .transpose()
+                .map_err(|_| ErrorKind::InvalidData),
         };
         if given(LOADER_SAYS)?.is_some() || given(FOLDERS)?.is_some_and(|folders| folders.contains('\n')) {
             return Err(ErrorKind::Unsupported.into());
@@ -100,8 +106,8 @@ impl Observer {
         self.commands.keys().copied()
     }
 
-    /// What a command did each time that it ran. Files below these directories, which are the call's own, are left out. Paths that were relative
-    /// stay so below a working directory, if one is given.
+    /// What a command did each time that it ran. Files below these directories, which are the call's own, are
+    /// left out. Paths that were relative stay so below a working directory, if one is given.
     /// Errors: why that isn't known.
     pub fn observed(&self, subject: Subject, own: &[&Path], cwd: Option<&Path>) -> Result<Observed, Gap> {
         let (observed, gap) = self.observed_part(subject, own, cwd);
@@ -109,8 +115,15 @@ impl Observer {
     }
 
     /// The same as far as that is known, and the first reason why it may not be all.
-    pub fn observed_part(&self, subject: Subject, own: &[&Path], cwd: Option<&Path>) -> (Observed, Option<Gap>) {
-        let Some((program, lists)) = self.commands.get(&subject) else { return (Observed::default(), Some(Gap::Nothing)) };
+    pub fn observed_part(
+        &self,
+        subject: Subject,
+        own: &[&Path],
+        cwd: Option<&Path>,
+    ) -> (Observed, Option<Gap>) {
+        let Some((program, lists)) = self.commands.get(&subject) else {
+            return (Observed::default(), Some(Gap::Nothing));
+        };
         let texts: Vec<Vec<u8>> = lists.iter().map(|list| content_of(list).unwrap_or_default()).collect();
         let (observed, gap) = observed_part(&texts.concat(), &self.loads(lists), Scope { program, own, cwd });
         (observed, if texts.iter().any(Vec::is_empty) { Some(Gap::Nothing) } else { gap })
@@ -133,22 +146,39 @@ impl Observer {
 
 /// What was observed, as lines of a kind and a path or a name.
 fn lines(list: &Observed) -> Vec<u8> {
-    let stamped = [("program", &list.programs), ("library", &list.libraries), ("read", &list.read), ("listed", &list.listed)];
-    let plain = [("followed", &list.followed), ("lacking", &list.lacking), ("made", &list.made), ("sought", &list.sought)];
-    let stamped = stamped.iter().flat_map(|(kind, paths)| paths.keys().map(move |path| (*kind, path.as_os_str())));
-    let plain = plain.iter().flat_map(|(kind, paths)| paths.iter().map(move |path| (*kind, path.as_os_str())));
+    let stamped = [
+        ("program", &list.programs),
+        ("library", &list.libraries),
+        ("read", &list.read),
+        ("listed", &list.listed),
+    ];
+    let plain = [
+        ("followed", &list.followed),
+        ("lacking", &list.lacking),
+        ("made", &list.made),
+        ("sought", &list.sought),
+    ];
+    let stamped =
+        stamped.iter().flat_map(|(kind, paths)| paths.keys().map(move |path| (*kind, path.as_os_str())));
+    let plain =
+        plain.iter().flat_map(|(kind, paths)| paths.iter().map(move |path| (*kind, path.as_os_str())));
     let seen = list.seen.keys().map(|path| ("seen", path.as_os_str()));
     let variables = list.variables.iter().map(|name| ("variable", name.as_os_str()));
     let all = stamped.chain(seen).chain(plain).chain(variables);
     all.flat_map(|(kind, name)| [kind.as_bytes(), b" ", name.as_bytes(), b"\n"].concat()).collect()
 }
 
-/// Runs a command with the observer and writes what it did to a file, or why that isn't known. Says the command's status.
+/// Runs a command with the observer and writes what it did to a file, or why that isn't known. Says the
+/// command's status.
 fn observe(file: &str, words: &[&str]) -> io::Result<i32> {
     let folder = fs::canonicalize(env::temp_dir())?.join(format!("zigrunk-observer-{}", process::id()));
     let mut observer = Observer::new(folder.clone())?;
-    let job = observer.observing(Subject::Task(0), &Job { words: words.iter().map(ToString::to_string).collect(), ..Job::default() })?;
-    let program = observer.commands.get(&Subject::Task(0)).map(|(program, _)| program.clone()).unwrap_or_default();
+    let job = observer.observing(
+        Subject::Task(0),
+        &Job { words: words.iter().map(ToString::to_string).collect(), ..Job::default() },
+    )?;
+    let program =
+        observer.commands.get(&Subject::Task(0)).map(|(program, _)| program.clone()).unwrap_or_default();
     let variables = job.variables.into_iter().filter_map(|(name, value)| Some((name, value?)));
     let status = Command::new(&program).arg0(words[0]).args(&words[1..]).envs(variables).status();
     let text = match observer.observed(Subject::Task(0), &[&folder], None) {
@@ -187,19 +217,30 @@ mod tests {
         assert_eq!(fs::read(&library).unwrap(), LIBRARY);
         let job = |variables: &[(&str, Option<&str>)]| Job {
             words: vec!["/bin/sh".into()],
-            variables: variables.iter().map(|(name, value)| ((*name).into(), value.map(String::from))).collect(),
+            variables: variables
+                .iter()
+                .map(|(name, value)| ((*name).into(), value.map(String::from)))
+                .collect(),
             ..Job::default()
         };
-        let mut observing = |variables: &[(&str, Option<&str>)]| observer.observing(Subject::Task(4), &job(variables)).unwrap();
+        let mut observing = |variables: &[(&str, Option<&str>)]| {
+            observer.observing(Subject::Task(4), &job(variables)).unwrap()
+        };
         let (own, none) = (observing(&[(PRELOAD, Some("/a.so"))]), observing(&[(PRELOAD, None)]));
-        assert_eq!([value(&own, PRELOAD), value(&none, PRELOAD)], [Some(&*format!("{library}:/a.so")), Some(&*library)]);
+        assert_eq!(
+            [value(&own, PRELOAD), value(&none, PRELOAD)],
+            [Some(&*format!("{library}:/a.so")), Some(&*library)]
+        );
         let files = [&own, &none].map(|job| value(job, RECORDS).unwrap().to_owned());
         assert!(files[0] != files[1] && files.iter().all(|file| fs::read(file).unwrap().is_empty()));
         assert_eq!(
             [Subject::Task(4), Subject::DryRun(4)].map(|subject| observer.observed(subject, &[], None)),
             [Err(Gap::Nothing), Err(Gap::Nothing)]
         );
-        assert_eq!(observer.observing(Subject::Task(6), &Job::default()).unwrap_err().kind(), ErrorKind::NotFound);
+        assert_eq!(
+            observer.observing(Subject::Task(6), &Job::default()).unwrap_err().kind(),
+            ErrorKind::NotFound
+        );
     }
 
     #[test]

@@ -39,7 +39,8 @@ fn folder(cache: &AskedCache, cwd: &Path) -> Option<PathBuf> {
 /// What is known of programs may take so many bytes.
 const LIMIT_OF_PROGRAMS: u64 = 64 << 20;
 
-/// Where a user's calls keep the digests of programs, whatever cache they use. They say nothing to other machines.
+/// Where a user's calls keep the digests of programs, whatever cache they use. They say nothing to other
+/// machines.
 pub fn programs() -> Option<Store> {
     let folder = users(own_variable("XDG_CACHE_HOME"), own_variable("HOME"))?;
     Some(Store::new(folder.join("programs"), LIMIT_OF_PROGRAMS))
@@ -57,7 +58,8 @@ pub fn asked(settings: &Settings, cwd: &Path) -> Option<Store> {
 
 /// The same, or else the user's.
 pub fn asked_or_users(settings: &Settings, cwd: &Path) -> Option<Store> {
-    asked(settings, cwd).or_else(|| folder(&AskedCache::Users, cwd).map(|folder| Store::new(folder, limit(settings))))
+    asked(settings, cwd)
+        .or_else(|| folder(&AskedCache::Users, cwd).map(|folder| Store::new(folder, limit(settings))))
 }
 
 /// The store that a call uses, if it uses one. A launcher or a runner takes commands elsewhere.
@@ -65,7 +67,10 @@ pub fn store_of(settings: &Settings, cwd: &str) -> Option<Store> {
     let store = asked(settings, Path::new(cwd))?;
     let is_own = settings.launcher.is_empty() && settings.runner.is_empty() && !settings.has_remote;
     if !is_own && settings.explains {
-        complain(&format!("{}: ZIGRUNK_CACHE doesn't count beside ZIGRUNK_LAUNCHER, ZIGRUNK_RUNNER or ZIGRUNK_REMOTE", called()));
+        complain(&format!(
+            "{}: ZIGRUNK_CACHE doesn't count beside ZIGRUNK_LAUNCHER, ZIGRUNK_RUNNER or ZIGRUNK_REMOTE",
+            called()
+        ));
     }
     is_own.then_some(store)
 }
@@ -76,7 +81,13 @@ mod tests {
 
     #[test]
     fn sizes_have_units() {
-        for (bytes, wanted) in [(0, "0 bytes"), (9999, "9999 bytes"), (10_240, "10 KiB"), (5 << 30, "5120 MiB"), (u64::MAX, "16777215 TiB")] {
+        for (bytes, wanted) in [
+            (0, "0 bytes"),
+            (9999, "9999 bytes"),
+            (10_240, "10 KiB"),
+            (5 << 30, "5120 MiB"),
+            (u64::MAX, "16777215 TiB"),
+        ] {
             assert_eq!(shown(bytes), wanted);
         }
     }
@@ -99,7 +110,11 @@ mod tests {
             (None, Some("h"), None),
         ];
         for (xdg, home, wanted) in cases {
-            assert_eq!(users(xdg.map(Into::into), home.map(Into::into)), wanted.map(PathBuf::from), "{xdg:?} {home:?}");
+            assert_eq!(
+                users(xdg.map(Into::into), home.map(Into::into)),
+                wanted.map(PathBuf::from),
+                "{xdg:?} {home:?}"
+            );
         }
     }
 }

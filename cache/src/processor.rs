@@ -1,7 +1,7 @@
 //! What of the processor products may depend on, so that machines which differ in it can share a cache.
 
-/// The instructions that this processor has, of those by which the C library's libm chooses its code. cicc has libm compute constants:
-/// `cos(8.1764856122660277)` is another number without FMA.
+/// The instructions that this processor has, of those by which the C library's libm chooses its code. cicc
+/// has libm compute constants: `cos(8.1764856122660277)` is another number without FMA.
 #[cfg(target_arch = "x86_64")]
 pub fn instructions() -> String {
     use std::arch::is_x86_feature_detected as has;
@@ -25,9 +25,13 @@ mod tests {
     #[test]
     fn they_are_those_that_the_kernel_names() {
         let told = fs::read_to_string("/proc/cpuinfo").unwrap();
-        let flags: Vec<&str> = told.lines().find(|line| line.starts_with("flags")).map_or(Vec::new(), |line| line.split_whitespace().collect());
+        let flags: Vec<&str> = told
+            .lines()
+            .find(|line| line.starts_with("flags"))
+            .map_or(Vec::new(), |line| line.split_whitespace().collect());
         let named = [("sse4_1", "sse4.1"), ("avx2", "avx2"), ("fma", "fma"), ("fma4", "fma4")];
-        let wanted: Vec<&str> = named.into_iter().filter(|(flag, _)| flags.contains(flag)).map(|(_, name)| name).collect();
+        let wanted: Vec<&str> =
+            named.into_iter().filter(|(flag, _)| flags.contains(flag)).map(|(_, name)| name).collect();
         assert_eq!(instructions(), wanted.join(" "));
     }
 }

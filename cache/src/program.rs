@@ -14,7 +14,8 @@ use machine::settings::{Settings, bytes_of, own_variable};
 use machine::streams::{complain, say};
 use std::ffi::OsString;
 
-const USAGE: &str = "usage: zigrunk cache stats|show KEY|show NVCC WORD..|verify|clear|limit [SIZE]|observe FILE COMMAND..";
+const USAGE: &str =
+    "usage: zigrunk cache stats|show KEY|show NVCC WORD..|verify|clear|limit [SIZE]|observe FILE COMMAND..";
 
 const HELP: &str = "
 stats         show what the cache has, and how often it was of use
@@ -64,13 +65,18 @@ fn stats(store: &Store, limit: u64) -> i32 {
 
 fn clear(store: &Store) -> i32 {
     counts::clear(store.folder());
-    store.clear().map_or_else(|error| wrong(&format!("cannot clear {}: {}", store.folder().display(), plain(&error))), |()| 0)
+    store.clear().map_or_else(
+        |error| wrong(&format!("cannot clear {}: {}", store.folder().display(), plain(&error))),
+        |()| 0,
+    )
 }
 
 /// Names each entry that isn't as it was written.
 fn verify(store: &Store) -> i32 {
     let damaged = store.damaged();
-    damaged.iter().for_each(|path| complain(&format!("zigrunk cache: {} is damaged", path.display())));
+    for path in &damaged {
+        complain(&format!("zigrunk cache: {} is damaged", path.display()));
+    }
     let said = tell(&format!("{} entries, {} damaged\n", store.content().entries, damaged.len()));
     if damaged.is_empty() { said } else { 1 }
 }
@@ -78,22 +84,23 @@ fn verify(store: &Store) -> i32 {
 /// What a call depends on, by its words, or what is kept under a key.
 fn show(store: &Store, settings: &Settings, words: &[&str]) -> i32 {
     let cwd = working_directory().unwrap_or_default();
-    let known = match words[0].parse::<Digest>() {
-        Ok(key) => Manifest::read(store, &key).map(|manifest| (key, manifest)).into_iter().collect(),
-        Err(()) => {
-            let is_own = words[0].ends_with("zigrunk-nvcc");
-            let nvcc = if is_own { settings.nvcc.clone() } else { words[0].into() };
-            let line = NvccLine {
-                cwd: cwd.to_string_lossy().into_owned(),
-                nvcc: nvcc.to_string_lossy().into_owned(),
-                words: words[1..].iter().map(ToString::to_string).collect(),
-                variables: Vec::new(),
-            };
-            let path = own_variable("PATH").unwrap_or_default();
-            programs::find(&nvcc, &path, &cwd).map(|nvcc| calls::known(store, &line, &nvcc)).unwrap_or_default()
-        }
+    let known = if let Ok(key) = words[0].parse::<Digest>() {
+        Manifest::read(store, &key).map(|manifest| (key, manifest)).into_iter().collect()
+    } else {
+        let is_own = words[0].ends_with("zigrunk-nvcc");
+        let nvcc = if is_own { settings.nvcc.clone() } else { words[0].into() };
+        let line = NvccLine {
+            cwd: cwd.to_string_lossy().into_owned(),
+            nvcc: nvcc.to_string_lossy().into_owned(),
+            words: words[1..].iter().map(ToString::to_string).collect(),
+            variables: Vec::new(),
+        };
+        let path = own_variable("PATH").unwrap_or_default();
+        programs::find(&nvcc, &path, &cwd).map(|nvcc| calls::known(store, &line, &nvcc)).unwrap_or_default()
     };
-    let said = |(key, manifest): &(Digest, Manifest)| [format!("key {key}\n").into_bytes(), manifest.lines()].concat();
+    let said = |(key, manifest): &(Digest, Manifest)| {
+        [format!("key {key}\n").into_bytes(), manifest.lines()].concat()
+    };
     let text: Vec<u8> = known.iter().flat_map(said).collect();
     if text.is_empty() { wrong("the cache has nothing for that") } else { i32::from(say(1, &text).is_err()) }
 }
@@ -116,7 +123,11 @@ pub fn run(words: &[OsString]) -> i32 {
     }
     if let ["observe", rest @ ..] = &words[..] {
         let [file, command @ ..] = rest else { return misuse("observe needs a file and a command") };
-        return if command.is_empty() { misuse("observe needs a command behind the file") } else { observer::run(file, command) };
+        return if command.is_empty() {
+            misuse("observe needs a command behind the file")
+        } else {
+            observer::run(file, command)
+        };
     }
     let settings = match Settings::of_environment() {
         Ok(settings) => settings,
@@ -138,7 +149,9 @@ pub fn run(words: &[OsString]) -> i32 {
         ["limit"] => limit(&store, usual, None),
         ["limit", size] => limit(&store, usual, Some(size)),
         [] => misuse("a word is missing"),
-        ["limit", _, word, ..] | ["stats" | "clear" | "verify", word, ..] => misuse(&format!("unexpected word {}", excerpt(word.as_ref()))),
+        ["limit", _, word, ..] | ["stats" | "clear" | "verify", word, ..] => {
+            misuse(&format!("unexpected word {}", excerpt(word.as_ref())))
+        }
         [word, ..] => misuse(&format!("unknown word {}{}", excerpt(word.as_ref()), question(word, WORDS))),
     }
 }
@@ -167,7 +180,12 @@ mod tests {
             let _errors = File::create(&path).unwrap();
             assert_eq!(limit(&Store::new("/missing".into(), 1), 1, Some("9x")), 2);
             let said = fs::read_to_string(&path).unwrap();
-            assert_eq!(said, format!("zigrunk cache: 9x is no size: it has digits, and K, M, G or T, such as 5G\n{USAGE}\n"));
+            assert_eq!(
+                said,
+                format!(
+                    "zigrunk cache: 9x is no size: it has digits, and K, M, G or T, such as 5G\n{USAGE}\n"
+                )
+            );
         });
     }
 }

@@ -36,8 +36,8 @@ pub struct Output {
     pub path: PathBuf,
     /// Whether the command may leave it out.
     pub is_optional: bool,
-    /// Where the command writes it. A product is written to the call's directory first: there no other call can put its own in its place
-    /// before the cache has read it.
+    /// Where the command writes it. A product is written to the call's directory first: there no other call
+    /// can put its own in its place before the cache has read it.
     pub written_to: PathBuf,
 }
 
@@ -55,13 +55,13 @@ pub struct Recipe {
     pub directory: String,
     /// Whether lines and blanks of what it reads may reach a product of the call.
     pub lines_count: bool,
-    /// For a host compiler: the process that preprocesses what it reads, and the file for that.
+    /// For a host compiler, unless it only assembles: the process that preprocesses what it reads, and the
+    /// file for that.
     pub question: Option<(Job, PathBuf)>,
     /// Whether it runs the assembler.
     pub assembles: bool,
-    /// Whether that alone.
-    pub is_assembly: bool,
-    /// What cudafe++'s files begin with, as `k.compute_90.cudafe1`, if that doesn't count: it depends on the list of targets.
+    /// What cudafe++'s files begin with, as `k.compute_90.cudafe1`, if that doesn't count: it depends on the
+    /// list of targets.
     pub stem: Option<String>,
     /// Whether it's a compile of a source that no tool has written.
     pub has_own_source: bool,
@@ -79,14 +79,23 @@ fn outputs(command: &PlannedCommand, number: usize, tmp: &str) -> Vec<Output> {
     let output = |(place, (path, is_optional)): (usize, (&String, bool))| {
         let path = PathBuf::from(path);
         let is_product = !path.starts_with(tmp);
-        let written_to = if is_product { format!("{tmp}/{OWN}/product.{number}.{place}").into() } else { path.clone() };
+        let written_to =
+            if is_product { format!("{tmp}/{OWN}/product.{number}.{place}").into() } else { path.clone() };
         Output { path, is_optional, written_to }
     };
     all.enumerate().map(output).collect()
 }
 
-/// The words of a command as they count, and as it runs. `None` if a word isn't known, or names a file that its record doesn't.
-fn words_of(kind: Kind, words: &[String], folder: &Path, reads: &[PathBuf], outputs: &[Output], counts_all: bool) -> Option<[Vec<String>; 2]> {
+/// The words of a command as they count, and as it runs. `None` if a word isn't known, or names a file that
+/// its record doesn't.
+fn words_of(
+    kind: Kind,
+    words: &[String],
+    folder: &Path,
+    reads: &[PathBuf],
+    outputs: &[Output],
+    counts_all: bool,
+) -> Option<[Vec<String>; 2]> {
     let reads: Vec<&[u8]> = reads.iter().map(|path| path.as_os_str().as_bytes()).collect();
     let moved: Vec<&Output> = outputs.iter().filter(|output| output.written_to != output.path).collect();
     let products: Vec<&[u8]> = moved.iter().map(|output| output.path.as_os_str().as_bytes()).collect();
@@ -117,7 +126,9 @@ fn text_that_runs(word: &CountedWord<'_>, products: &[&Output]) -> String {
 fn stem_of(kind: Kind, words: &[String]) -> Option<&str> {
     let file = match kind {
         Kind::CudaFe => words.windows(2).find(|pair| pair[0] == "--gen_c_file_name").map(|pair| &pair[1]),
-        Kind::Host if words.iter().any(|word| word == "-S") => words.iter().find(|word| !word.starts_with('-') && word.ends_with(".cudafe1.cpp")),
+        Kind::Host if words.iter().any(|word| word == "-S") => {
+            words.iter().find(|word| !word.starts_with('-') && word.ends_with(".cudafe1.cpp"))
+        }
         _ => None,
     };
     Path::new(file?).file_name()?.to_str()?.strip_suffix(".cpp").filter(|stem| stem.ends_with(".cudafe1"))
@@ -137,7 +148,13 @@ fn question(job: &Job, file: &str) -> Job {
 }
 
 impl Recipe {
-    /// That of a command, which runs as a job; `number` is its own. `None` if the cache doesn't know all that the command reads and writes.
+    /// Whether it is a host compiler that only assembles.
+    pub fn is_assembly(&self) -> bool {
+        self.kind == Kind::Host && self.question.is_none()
+    }
+
+    /// That of a command, which runs as a job; `number` is its own. `None` if the cache doesn't know all that
+    /// the command reads and writes.
     pub fn of(command: &PlannedCommand, job: &Job, number: usize, tmp: &str) -> Option<Recipe> {
         let (program, words) = job.words.split_first()?;
         let kind = Kind::of(program)?;
@@ -152,7 +169,8 @@ impl Recipe {
         let reads: Vec<PathBuf> = command.reads.iter().map(PathBuf::from).collect();
         let outputs = outputs(command, number, tmp);
         // To look up what fatbinary makes for an object takes longer than to make it.
-        let is_quick = kind == Kind::Fatbinary && outputs.iter().all(|output| output.written_to == output.path);
+        let is_quick =
+            kind == Kind::Fatbinary && outputs.iter().all(|output| output.written_to == output.path);
         if reads.is_empty() || outputs.is_empty() || is_quick {
             return None;
         }
@@ -165,10 +183,23 @@ impl Recipe {
         let assembles = run.iter().any(|word| word == "-c");
         let directory = if names_count { String::new() } else { tmp.to_owned() };
         let lines_count = names_count || has_own_source;
-        Some(Recipe { kind, counted, job, reads, outputs, directory, lines_count, question, assembles, is_assembly, stem, has_own_source })
+        Some(Recipe {
+            kind,
+            counted,
+            job,
+            reads,
+            outputs,
+            directory,
+            lines_count,
+            question,
+            assembles,
+            stem,
+            has_own_source,
+        })
     }
 
-    /// The directory whose path doesn't count in texts that the command reads. fatbinary packs them, so nobody sees whether its product has it.
+    /// The directory whose path doesn't count in texts that the command reads. fatbinary packs them, so
+    /// nobody sees whether its product has it.
     pub fn directory_in_texts(&self) -> &[u8] {
         if self.kind == Kind::Fatbinary { b"" } else { self.directory.as_bytes() }
     }
@@ -183,12 +214,12 @@ impl Recipe {
         }
     }
 
-    /// Whether its key has a file that it has read below the call's directory, seen from there. An assembler includes one that is made of another, and
-    /// what a command reads late has another name until it's there.
+    /// Whether its key has a file that it has read below the call's directory, seen from there. An assembler
+    /// includes one that is made of another, and what a command reads late has another name until it's there.
     pub fn knows(&self, file: &Path, tmp: &str) -> bool {
         let whole = Path::new(tmp).join(file);
         let is_late = self.kind == Kind::Cicc && file.with_extension("") == Path::new(OWN).join("module_id");
-        is_late || self.reads.contains(&whole) || self.is_assembly && whole == Path::new(&included(tmp))
+        is_late || self.reads.contains(&whole) || self.is_assembly() && whole == Path::new(&included(tmp))
     }
 
     /// A text with a mark in place of the name that doesn't count. `None` if it has such marks itself.
@@ -223,13 +254,17 @@ impl Recipe {
 pub fn environment_of(job: &Job) -> Vec<(OsString, OsString)> {
     let given = |name: &OsString| job.variables.iter().any(|(other, _)| name == other.as_str());
     let own = own_variables().filter(|(name, _)| !given(name));
-    let further = job.variables.iter().filter_map(|(name, value)| Some((name.into(), value.as_ref()?.into())));
+    let further =
+        job.variables.iter().filter_map(|(name, value)| Some((name.into(), value.as_ref()?.into())));
     own.chain(further).collect()
 }
 
-/// The recipes of a call's commands. cudafe++ and cicc write lines for the host compiler. So lines count for them if they do there, or if
-/// something else than a known compile reads what cudafe++ writes.
-pub fn recipes<'a>(commands: impl Iterator<Item = (usize, &'a PlannedCommand, &'a Job)>, tmp: &str) -> BTreeMap<usize, Recipe> {
+/// The recipes of a call's commands. cudafe++ and cicc write lines for the host compiler. So lines count for
+/// them if they do there, or if something else than a known compile reads what cudafe++ writes.
+pub fn recipes<'a>(
+    commands: impl Iterator<Item = (usize, &'a PlannedCommand, &'a Job)>,
+    tmp: &str,
+) -> BTreeMap<usize, Recipe> {
     let (mut recipes, mut lined) = (BTreeMap::new(), BTreeSet::new());
     for (number, command, job) in commands {
         let recipe = Recipe::of(command, job, number, tmp);
@@ -238,9 +273,14 @@ pub fn recipes<'a>(commands: impl Iterator<Item = (usize, &'a PlannedCommand, &'
         }
         recipes.extend(recipe.map(|recipe| (number, recipe)));
     }
-    let is_text = |output: &Output| output.path.extension().is_some_and(|extension| extension == "cpp") && lined.contains(&output.path);
+    let is_text = |output: &Output| {
+        output.path.extension().is_some_and(|extension| extension == "cpp") && lined.contains(&output.path)
+    };
     if recipes.values().any(|recipe| recipe.kind == Kind::CudaFe && recipe.outputs.iter().any(is_text)) {
-        recipes.values_mut().filter(|recipe| matches!(recipe.kind, Kind::CudaFe | Kind::Cicc)).for_each(|recipe| recipe.lines_count = true);
+        recipes
+            .values_mut()
+            .filter(|recipe| matches!(recipe.kind, Kind::CudaFe | Kind::Cicc))
+            .for_each(|recipe| recipe.lines_count = true);
     }
     recipes
 }
@@ -253,9 +293,24 @@ mod tests {
         let (program, rest) = words.split_once(' ').unwrap();
         let list = |words: &[&str]| words.iter().map(|&word| word.to_owned()).collect::<Vec<_>>();
         let words = list(&rest.split(' ').collect::<Vec<_>>());
-        let job = Job { words: list(&[&[program], &rest.split(' ').collect::<Vec<_>>()[..]].concat()), folder: "/w".into(), ..Job::default() };
+        let job = Job {
+            words: list(&[&[program], &rest.split(' ').collect::<Vec<_>>()[..]].concat()),
+            folder: "/w".into(),
+            ..Job::default()
+        };
         let (reads, writes) = (list(reads), list(writes));
-        (PlannedCommand { program: program.into(), words, folder: "/w".into(), reads, writes, complete: true, ..PlannedCommand::default() }, job)
+        (
+            PlannedCommand {
+                program: program.into(),
+                words,
+                folder: "/w".into(),
+                reads,
+                writes,
+                complete: true,
+                ..PlannedCommand::default()
+            },
+            job,
+        )
     }
 
     fn recipe(words: &str, reads: &[&str], writes: &[&str]) -> Option<Recipe> {
@@ -265,9 +320,14 @@ mod tests {
 
     #[test]
     fn what_a_command_reads_of_its_call_is_in_its_key() {
-        let ptxas = recipe("/b/ptxas -arch=sm_80 -m64 /t/x.ptx -o /t/x.cubin", &["/t/x.ptx"], &["/t/x.cubin"]).unwrap();
-        let assembly = recipe("/b/gcc -c -x assembler /t/late.s -o /t/m.o", &["/t/late.s"], &["/t/m.o"]).unwrap();
-        let of = |made: &Recipe| ["x.ptx", "late.s", "y.ptx", "zigrunk.tmp/fatbin.s"].map(|file| made.knows(Path::new(file), "/t"));
+        let ptxas =
+            recipe("/b/ptxas -arch=sm_80 -m64 /t/x.ptx -o /t/x.cubin", &["/t/x.ptx"], &["/t/x.cubin"])
+                .unwrap();
+        let assembly =
+            recipe("/b/gcc -c -x assembler /t/late.s -o /t/m.o", &["/t/late.s"], &["/t/m.o"]).unwrap();
+        let of = |made: &Recipe| {
+            ["x.ptx", "late.s", "y.ptx", "zigrunk.tmp/fatbin.s"].map(|file| made.knows(Path::new(file), "/t"))
+        };
         assert_eq!((of(&ptxas), of(&assembly)), ([true, false, false, false], [false, true, false, true]));
     }
 
@@ -275,11 +335,17 @@ mod tests {
     fn a_product_goes_to_the_calls_directory_first() {
         let made = recipe("/b/gcc -DA -c -x c++ -O2 /t/x.cpp -o k.o", &["/t/x.cpp"], &["/w/k.o"]).unwrap();
         assert_eq!(made.counted, ["-c", "-x", "c++", "-O2", "/t/x.cpp", "-o", "\u{1}"]);
-        assert_eq!(made.job.words.join(" "), "/b/gcc -DA -c -x c++ -O2 /t/x.cpp -o /t/zigrunk.tmp/product.3.0");
+        assert_eq!(
+            made.job.words.join(" "),
+            "/b/gcc -DA -c -x c++ -O2 /t/x.cpp -o /t/zigrunk.tmp/product.3.0"
+        );
         let (question, file) = made.question.clone().unwrap();
         assert_eq!(
             (question.words.join(" "), file),
-            ("/b/gcc -DA -E -x c++ -O2 /t/x.cpp -o /t/zigrunk.tmp/cache.3.ii".into(), "/t/zigrunk.tmp/cache.3.ii".into())
+            (
+                "/b/gcc -DA -E -x c++ -O2 /t/x.cpp -o /t/zigrunk.tmp/cache.3.ii".into(),
+                "/t/zigrunk.tmp/cache.3.ii".into()
+            )
         );
         assert!(made.has_products() && made.assembles && made.directory == "/t");
         assert_eq!(made.role_of(Path::new("/t/x.cpp")), Role::Source);
@@ -287,28 +353,46 @@ mod tests {
 
     #[test]
     fn a_source_that_no_tool_has_written_counts_with_its_lines() {
-        let of = |source: &str| recipe(&format!("/b/gcc -c -x c++ {source} -o k.o"), &[source], &["/w/k.o"]).unwrap();
+        let of = |source: &str| {
+            recipe(&format!("/b/gcc -c -x c++ {source} -o k.o"), &[source], &["/w/k.o"]).unwrap()
+        };
         let (own, generated) = (of("/w/x.cpp"), of("/t/x.cpp"));
-        assert_eq!([own.has_own_source, own.lines_count, generated.has_own_source, generated.lines_count], [true, true, false, false]);
+        assert_eq!(
+            [own.has_own_source, own.lines_count, generated.has_own_source, generated.lines_count],
+            [true, true, false, false]
+        );
     }
 
     #[test]
     fn what_is_generated_stays_where_it_is() {
-        let made = recipe("/b/ptxas -arch=sm_80 -m64 /t/x.ptx -o /t/x.cubin", &["/t/x.ptx"], &["/t/x.cubin"]).unwrap();
-        assert_eq!((made.job.words.last().unwrap().as_str(), &made.question, made.counted.len()), ("/t/x.cubin", &None, 5));
+        let made = recipe("/b/ptxas -arch=sm_80 -m64 /t/x.ptx -o /t/x.cubin", &["/t/x.ptx"], &["/t/x.cubin"])
+            .unwrap();
+        assert_eq!(
+            (made.job.words.last().unwrap().as_str(), &made.question, made.counted.len()),
+            ("/t/x.cubin", &None, 5)
+        );
         assert_eq!(made.outputs[0].written_to, made.outputs[0].path);
-        assert_eq!(["/t/x.ii", "/t/x.module_id", "/t/ii"].map(|file| made.role_of(Path::new(file))), [Role::Preprocessed, Role::Other, Role::Other]);
+        assert_eq!(
+            ["/t/x.ii", "/t/x.module_id", "/t/ii"].map(|file| made.role_of(Path::new(file))),
+            [Role::Preprocessed, Role::Other, Role::Other]
+        );
     }
 
     #[test]
     fn with_debugging_information_names_count() {
         let made = recipe("/b/gcc -g -DA -c -x c++ /t/x.cpp -o k.o", &["/t/x.cpp"], &["/w/k.o"]).unwrap();
-        assert_eq!((made.directory.as_str(), made.counted.join(" ").as_str()), ("", "-g -DA -c -x c++ /t/x.cpp -o \u{1}"));
+        assert_eq!(
+            (made.directory.as_str(), made.counted.join(" ").as_str()),
+            ("", "-g -DA -c -x c++ /t/x.cpp -o \u{1}")
+        );
         let words = "/b/ptxas -arch=sm_80 -g /t/x.ptx -o";
         assert!(recipe(&format!("{words} /t/x.cubin"), &["/t/x.ptx"], &["/t/x.cubin"]).is_some());
         assert_eq!(recipe(&format!("{words} k.cubin"), &["/t/x.ptx"], &["/w/k.cubin"]), None);
         let made = recipe("/b/ptxas -lineinfo /t/x.ptx -o k.cubin", &["/t/x.ptx"], &["/w/k.cubin"]).unwrap();
-        assert_eq!((made.directory.as_str(), made.job.words.last().unwrap().as_str()), ("", "/t/zigrunk.tmp/product.3.0"));
+        assert_eq!(
+            (made.directory.as_str(), made.job.words.last().unwrap().as_str()),
+            ("", "/t/zigrunk.tmp/product.3.0")
+        );
     }
 
     #[test]
@@ -317,31 +401,57 @@ mod tests {
         let made = recipe(words, &["/t/x.cubin"], &["/w/k.fatbin"]).unwrap();
         assert_eq!(made.counted, ["--create=\u{1}", "-64", "--image3=kind=elf,sm=80,file=/t/x.cubin"]);
         assert_eq!(made.job.words.join(" "), words.replace("k.fatbin", "/t/zigrunk.tmp/product.3.0"));
-        assert_eq!((made.directory.as_str(), made.directory_in_texts(), made.kind), ("/t", &b""[..], Kind::Fatbinary));
-        assert_eq!(recipe(words, &["/t/y.cubin"], &["/w/k.fatbin"]), None, "another file than its record has");
-        assert_eq!(recipe(words, &["/t/x.cubin"], &["/w/k.fatbin", "/w/k.c"]), None, "another product than its words name");
-        assert_eq!(recipe(&words.replace("k.fatbin", "/t/k.fatbin"), &["/t/x.cubin"], &["/t/k.fatbin"]), None, "for an object");
+        assert_eq!(
+            (made.directory.as_str(), made.directory_in_texts(), made.kind),
+            ("/t", &b""[..], Kind::Fatbinary)
+        );
+        assert_eq!(
+            recipe(words, &["/t/y.cubin"], &["/w/k.fatbin"]),
+            None,
+            "another file than its record has"
+        );
+        assert_eq!(
+            recipe(words, &["/t/x.cubin"], &["/w/k.fatbin", "/w/k.c"]),
+            None,
+            "another product than its words name"
+        );
+        assert_eq!(
+            recipe(&words.replace("k.fatbin", "/t/k.fatbin"), &["/t/x.cubin"], &["/t/k.fatbin"]),
+            None,
+            "for an object"
+        );
         let cicc = recipe("/b/cicc -m64 /t/x.ii -o k.ptx", &["/t/x.ii"], &["/w/k.ptx"]).unwrap();
         assert_eq!(cicc.directory_in_texts(), b"/t");
     }
 
     #[test]
     fn lines_count_for_front_ends_as_for_the_compiler() {
-        let front = command("/b/cudafe++ --m64 --gen_c_file_name /t/x.cpp /t/x.ii", &["/t/x.ii"], &["/t/x.cpp"]);
-        let device = command("/b/cicc -m64 --stub_file_name /t/x.stub.c /t/x1.ii -o /t/x.ptx", &["/t/x1.ii"], &["/t/x.ptx", "/t/x.stub.c"]);
+        let front =
+            command("/b/cudafe++ --m64 --gen_c_file_name /t/x.cpp /t/x.ii", &["/t/x.ii"], &["/t/x.cpp"]);
+        let device = command(
+            "/b/cicc -m64 --stub_file_name /t/x.stub.c /t/x1.ii -o /t/x.ptx",
+            &["/t/x1.ii"],
+            &["/t/x.ptx", "/t/x.stub.c"],
+        );
         let counts = |others: &[(PlannedCommand, Job)]| {
             let all = [&[front.clone(), device.clone()], others].concat();
-            let recipes = recipes(all.iter().enumerate().map(|(number, (command, job))| (number, command, job)), "/t");
+            let recipes =
+                recipes(all.iter().enumerate().map(|(number, (command, job))| (number, command, job)), "/t");
             assert_eq!(recipes[&0].lines_count, recipes[&1].lines_count);
             (recipes[&0].lines_count, recipes.len())
         };
-        let compile = |words: &str| command(&format!("/b/gcc {words} -c -x c++ /t/x.cpp -o k.o"), &["/t/x.cpp"], &["/w/k.o"]);
+        let compile = |words: &str| {
+            command(&format!("/b/gcc {words} -c -x c++ /t/x.cpp -o k.o"), &["/t/x.cpp"], &["/w/k.o"])
+        };
         let ptxas = command("/b/ptxas -arch=sm_80 -g /t/x.ptx -o /t/x.cubin", &["/t/x.ptx"], &["/t/x.cubin"]);
         assert_eq!(counts(&[compile("-O2"), ptxas]), (false, 4));
         assert_eq!(counts(&[compile("-g")]), (true, 3));
         assert_eq!(counts(&[compile("-O2"), compile("-gsplit-dwarf")]), (true, 3), "a word that isn't known");
         let preprocessor = command("/b/gcc -E -x c++ /t/x.cpp -o k.ii", &["/t/x.cpp"], &["/w/k.ii"]);
-        assert_eq!(counts(&[(PlannedCommand { preprocesses: true, ..preprocessor.0 }, preprocessor.1)]), (true, 2));
+        assert_eq!(
+            counts(&[(PlannedCommand { preprocesses: true, ..preprocessor.0 }, preprocessor.1)]),
+            (true, 2)
+        );
     }
 
     #[test]
@@ -358,9 +468,13 @@ mod tests {
         for (words, read) in cases {
             assert_eq!(recipe(&words, &[read], &["/w/k.o"]), None, "{words}");
         }
-        let (complete, job) = command("/b/ptxas -arch=sm_80 /t/x.ptx -o /t/x.cubin", &["/t/x.ptx"], &["/t/x.cubin"]);
+        let (complete, job) =
+            command("/b/ptxas -arch=sm_80 /t/x.ptx -o /t/x.cubin", &["/t/x.ptx"], &["/t/x.cubin"]);
         assert_eq!(Recipe::of(&PlannedCommand { complete: false, ..complete.clone() }, &job, 0, "/t"), None);
-        assert_eq!(Recipe::of(&PlannedCommand { preprocesses: true, ..complete.clone() }, &job, 0, "/t"), None);
+        assert_eq!(
+            Recipe::of(&PlannedCommand { preprocesses: true, ..complete.clone() }, &job, 0, "/t"),
+            None
+        );
         assert_eq!(Recipe::of(&PlannedCommand { reads: Vec::new(), ..complete }, &job, 0, "/t"), None);
     }
 }

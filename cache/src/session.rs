@@ -55,7 +55,12 @@ impl Parts {
     fn keys(&self, recipe: &Recipe, texts: &[Text]) -> Keys {
         let has_late = texts.iter().any(|text| text.role == Role::Late);
         let marks = if has_late { self.marks().collect() } else { Vec::new() };
-        Keys { texts: self.0.key(recipe, texts), tokens: self.1.as_ref().map(|part| part.key(recipe, texts)), marks, start: self.2 }
+        Keys {
+            texts: self.0.key(recipe, texts),
+            tokens: self.1.as_ref().map(|part| part.key(recipe, texts)),
+            marks,
+            start: self.2,
+        }
     }
 
     fn marks(&self) -> impl Iterator<Item = Digest> {
@@ -114,7 +119,8 @@ pub struct Beginning {
 }
 
 impl Beginning {
-    /// Notes how things are, and has all processes observed of a call with these words, whose files go to `tmp`.
+    /// Notes how things are, and has all processes observed of a call with these words, whose files go to
+    /// `tmp`.
     pub fn new(tmp: &str, cwd: &str, words: &[String]) -> Beginning {
         let observer = Observer::new(Path::new(tmp).join("observer")).ok();
         // (before the moment at which all is to be as it will be)
@@ -145,7 +151,8 @@ pub struct Session<'a> {
     has_complained: bool,
     /// What the call's commands have put in places outside its directory.
     products: Vec<Product>,
-    /// Whether what a command made may have the lines of an earlier source, as what cudafe++ and cicc write for the host compiler has.
+    /// Whether what a command made may have the lines of an earlier source, as what cudafe++ and cicc write
+    /// for the host compiler has.
     has_other_lines: bool,
     /// The call's own preprocessors, until the files are known that they read.
     preprocessors: Vec<usize>,
@@ -181,9 +188,19 @@ fn names(text: &[u8], directory: &str) -> bool {
 }
 
 impl<'a> Session<'a> {
-    /// The cache for the tasks of a call's commands, whose files go to `tmp`. Tasks that aren't commands are left out.
-    pub fn new(store: &'a Store, tmp: &'a str, commands: &[PlannedCommand], tasks: &[Task], beginning: Beginning) -> Session<'a> {
-        let of_plan = tasks.iter().enumerate().filter_map(|(number, task)| Some((number, &commands[task.command?], &task.job)));
+    /// The cache for the tasks of a call's commands, whose files go to `tmp`. Tasks that aren't commands are
+    /// left out.
+    pub fn new(
+        store: &'a Store,
+        tmp: &'a str,
+        commands: &[PlannedCommand],
+        tasks: &[Task],
+        beginning: Beginning,
+    ) -> Session<'a> {
+        let of_plan = tasks
+            .iter()
+            .enumerate()
+            .filter_map(|(number, task)| Some((number, &commands[task.command?], &task.job)));
         let candidate = |(number, recipe)| (number, Candidate::new(recipe, State::Fresh));
         let preprocesses = |task: &Task| task.command.is_some_and(|command| commands[command].preprocesses);
         Session {
@@ -199,13 +216,19 @@ impl<'a> Session<'a> {
             has_complained: false,
             products: Vec::new(),
             has_other_lines: false,
-            preprocessors: tasks.iter().enumerate().filter(|(_, task)| preprocesses(task)).map(|(number, _)| number).collect(),
+            preprocessors: tasks
+                .iter()
+                .enumerate()
+                .filter(|(_, task)| preprocesses(task))
+                .map(|(number, _)| number)
+                .collect(),
         }
     }
 
     /// The job in the place of one that is about to start for a task, if what that does can be observed.
     pub fn observing(&mut self, task: usize, job: &Job) -> Option<Job> {
-        let is_asked = self.candidates.get(&task).is_some_and(|candidate| matches!(candidate.state, State::Asked));
+        let is_asked =
+            self.candidates.get(&task).is_some_and(|candidate| matches!(candidate.state, State::Asked));
         let subject = if is_asked { Subject::Question(task) } else { Subject::Task(task) };
         self.beginning.observer.as_mut()?.observing(subject, job).ok()
     }
@@ -218,10 +241,16 @@ impl<'a> Session<'a> {
         observer.observed(subject, &[Path::new(self.tmp), &own], Some(&cwd))
     }
 
-    /// Whether the files that the call's preprocessors read may be looked at: these have ended, and a command runs that takes far longer.
+    /// Whether the files that the call's preprocessors read may be looked at: these have ended, and a command
+    /// runs that takes far longer.
     pub fn may_look_ahead(&self, done: &[Done]) -> bool {
-        let has_ended = |&task: &usize| done[task].ended.as_ref().is_some_and(|ended| ended.status.succeeded());
-        let runs = || self.candidates.values().any(|candidate| matches!(candidate.state, State::Missed(..) | State::Begun(..)));
+        let has_ended =
+            |&task: &usize| done[task].ended.as_ref().is_some_and(|ended| ended.status.succeeded());
+        let runs = || {
+            self.candidates
+                .values()
+                .any(|candidate| matches!(candidate.state, State::Missed(..) | State::Begun(..)))
+        };
         !self.preprocessors.is_empty() && is_on() && self.preprocessors.iter().all(has_ended) && runs()
     }
 
@@ -239,11 +268,17 @@ impl<'a> Session<'a> {
         Reading::new(&self.beginning.cwd, self.beginning.moment.time, &self.tools, &mut self.beginning.memory)
     }
 
-    /// What a task that has run depended on, beside what its preprocessor has entered: the text is all that counts of that.
-    /// Errors: why that isn't known, or may not be what its text says: an edit may have come while it ran, and be undone later.
+    /// What a task that has run depended on, beside what its preprocessor has entered: the text is all that
+    /// counts of that.
+    /// Errors: why that isn't known, or may not be what its text says: an edit may have come while it ran,
+    /// and be undone later.
     fn inputs_of(&mut self, task: usize, keys: &Keys, text: &[u8]) -> Result<Manifest, Refusal> {
         let changed = |what: &str| Refusal::Task(format!("{what} changed while a command ran"));
-        let recipe = self.candidates.get(&task).map(|candidate| candidate.recipe.clone()).ok_or_else(|| changed("the call"))?;
+        let recipe = self
+            .candidates
+            .get(&task)
+            .map(|candidate| candidate.recipe.clone())
+            .ok_or_else(|| changed("the call"))?;
         let mut observed = self.observed(Subject::Task(task))?;
         if let Some(script) = self.reading().script(&observed) {
             return Err(Refusal::Names(script));
@@ -257,21 +292,33 @@ impl<'a> Session<'a> {
                 return Err(Refusal::Changed(path.clone()));
             }
             let entered = host_text::files_entered(text).ok_or_else(|| changed("a file of an odd name"))?;
-            let entered: BTreeSet<PathBuf> =
-                entered.into_iter().map(|name| path_of(&recipe, name)).chain(recipe.reads.iter().cloned()).collect();
+            let entered: BTreeSet<PathBuf> = entered
+                .into_iter()
+                .map(|name| path_of(&recipe, name))
+                .chain(recipe.reads.iter().cloned())
+                .collect();
             self.reading().manifest(&asked, &entered, given)?;
             let cwd = &self.beginning.cwd;
             observed.leave_out(&asked, |path| entered.contains(&cwd.join(path)));
         }
         if let Some(other) = own.iter().find(|file| !recipe.knows(file, self.tmp)) {
-            return Err(Refusal::Task(format!("a command read {}, of which its key has nothing", other.display())));
+            return Err(Refusal::Task(format!(
+                "a command read {}, of which its key has nothing",
+                other.display()
+            )));
         }
         let inputs = self.reading().manifest(&observed, &BTreeSet::new(), given)?;
-        let is_same = self.started.is_before(&Moment::now()) && self.start(task).map(Hasher::finish) == Some(keys.start);
-        if is_same && self.has_key(task, &recipe, keys) { Ok(inputs) } else { Err(changed("the clock, a link or a source")) }
+        let is_same = self.started.is_before(&Moment::now())
+            && self.start(task).map(Hasher::finish) == Some(keys.start);
+        if is_same && self.has_key(task, &recipe, keys) {
+            Ok(inputs)
+        } else {
+            Err(changed("the clock, a link or a source"))
+        }
     }
 
-    /// Whether a compile of the user's own source still has its key, where stamps don't tell that all is as it was.
+    /// Whether a compile of the user's own source still has its key, where stamps don't tell that all is as
+    /// it was.
     fn has_key(&mut self, task: usize, recipe: &Recipe, keys: &Keys) -> bool {
         let tells = |file: &PathBuf| fs::metadata(file).is_ok_and(|status| keeps_changes(file, &status));
         let mut key = || {
@@ -287,7 +334,8 @@ impl<'a> Session<'a> {
         let Some(candidate) = self.candidates.get_mut(&task).filter(waits) else { return Step::Own };
         let recipe = &candidate.recipe;
         // A new file takes each product's place, so nothing may be there but a plain file.
-        let is_plain = |output: &Output| fs::symlink_metadata(&output.path).map_or(true, |status| status.is_file());
+        let is_plain =
+            |output: &Output| fs::symlink_metadata(&output.path).map_or(true, |status| status.is_file());
         if !recipe.outputs.iter().all(is_plain) {
             candidate.state = State::Own;
             return Step::Own;
@@ -314,7 +362,8 @@ impl<'a> Session<'a> {
         }
     }
 
-    /// Whether a task, which reads a file late, may begin before that is there: if the cache has nothing for it, whatever will be in the file.
+    /// Whether a task, which reads a file late, may begin before that is there: if the cache has nothing for
+    /// it, whatever will be in the file.
     pub fn may_begin_early(&mut self, task: usize) -> bool {
         let Some(candidate) = self.candidates.get(&task) else { return true };
         if !matches!(candidate.state, State::Fresh) || candidate.recipe.has_products() {
@@ -331,14 +380,16 @@ impl<'a> Session<'a> {
         is_new
     }
 
-    /// Hears that all is there that a task reads which has begun early. Says whether it wants to hear how its process ends.
+    /// Hears that all is there that a task reads which has begun early. Says whether it wants to hear how its
+    /// process ends.
     pub fn caught_up(&mut self, task: usize) -> bool {
         let begun = |candidate: &&mut Candidate| matches!(candidate.state, State::Begun(..));
         let Some(candidate) = self.candidates.get_mut(&task).filter(begun) else { return false };
         let State::Begun(parts, text) = mem::replace(&mut candidate.state, State::Own) else { return false };
         let recipe = &candidate.recipe;
         let late = recipe.reads.iter().filter(|file| recipe.role_of(file) == Role::Late);
-        let late: Option<Vec<Text>> = late.map(|file| Some(Text { role: Role::Late, content: content_of(file).ok()? })).collect();
+        let late: Option<Vec<Text>> =
+            late.map(|file| Some(Text { role: Role::Late, content: content_of(file).ok()? })).collect();
         let state = late.map_or(State::Own, |late| State::Missed(parts.keys(recipe, &late), text));
         self.set(task, state, None);
         true
@@ -351,8 +402,12 @@ impl<'a> Session<'a> {
 
     /// Notes how many commands the cache had, of a call that it hadn't.
     pub fn end(&self) {
-        let count = |hit| self.candidates.values().filter(|candidate| candidate.hit == Some(hit)).count() as u64;
-        counts::add(self.store.folder(), counts::Counts { hits: count(true), misses: count(false), calls: 0, others: 1 });
+        let count =
+            |hit| self.candidates.values().filter(|candidate| candidate.hit == Some(hit)).count() as u64;
+        counts::add(
+            self.store.folder(),
+            counts::Counts { hits: count(true), misses: count(false), calls: 0, others: 1 },
+        );
     }
 
     fn set(&mut self, task: usize, state: State, hit: Option<bool>) {
@@ -367,25 +422,41 @@ impl<'a> Session<'a> {
         Step::Own
     }
 
-    /// Whether a command that read other lines than those of the sources may have said something of them, given what has become of the tasks.
+    /// Whether a command that read other lines than those of the sources may have said something of them,
+    /// given what has become of the tasks.
     pub fn misnames_lines(&self, tasks: &[Task], done: &[Done]) -> bool {
-        let compiles =
-            |task: &Task| !task.preprocesses && task.job.words.first().is_none_or(|program| Kind::of(program).is_none_or(|kind| kind == Kind::Host));
-        let speaks = |(task, done): (&Task, &Done)| compiles(task) && !done.ended.as_ref().is_none_or(Ended::is_silent_success);
+        let compiles = |task: &Task| {
+            !task.preprocesses
+                && task
+                    .job
+                    .words
+                    .first()
+                    .is_none_or(|program| Kind::of(program).is_none_or(|kind| kind == Kind::Host))
+        };
+        let speaks = |(task, done): (&Task, &Done)| {
+            compiles(task) && !done.ended.as_ref().is_none_or(Ended::is_silent_success)
+        };
         self.has_other_lines && tasks.iter().zip(done).any(speaks)
     }
 
-    /// The texts that a task reads, without those that it reads late if they aren't there yet. `None` if they aren't known. The first one
-    /// has its line markers. Of a compile of the user's own source all files that it names are among them: gcc looks at comments and blanks
-    /// before it warns.
+    /// The texts that a task reads, without those that it reads late if they aren't there yet. `None` if they
+    /// aren't known. The first one has its line markers. Of a compile of the user's own source all files that
+    /// it names are among them: gcc looks at comments and blanks before it warns.
     fn texts(recipe: &Recipe, has_late: bool) -> Option<Vec<Text>> {
         let preprocessed = recipe.question.iter().map(|(_, file)| (file, Role::Preprocessed));
-        let own = recipe.reads.iter().map(|file| (file, recipe.role_of(file))).filter(|(_, role)| has_late || *role != Role::Late);
+        let own = recipe
+            .reads
+            .iter()
+            .map(|file| (file, recipe.role_of(file)))
+            .filter(|(_, role)| has_late || *role != Role::Late);
         let text = |(file, role): (&PathBuf, Role)| Some(Text { role, content: fs::read(file).ok()? });
         let mut texts: Vec<Text> = preprocessed.chain(own).map(text).collect::<Option<_>>()?;
         if recipe.has_own_source {
-            let names: Vec<Vec<u8>> = host_text::files_entered(&texts.first()?.content)?.into_iter().map(<[u8]>::to_vec).collect();
-            let entered = names.iter().map(|name| Some(Text { role: Role::Source, content: fs::read(path_of(recipe, name)).ok()? }));
+            let names: Vec<Vec<u8>> =
+                host_text::files_entered(&texts.first()?.content)?.into_iter().map(<[u8]>::to_vec).collect();
+            let entered = names.iter().map(|name| {
+                Some(Text { role: Role::Source, content: fs::read(path_of(recipe, name)).ok()? })
+            });
             texts.extend(entered.collect::<Option<Vec<_>>>()?);
         }
         Some(texts).filter(|texts| !texts.is_empty())
@@ -396,7 +467,11 @@ impl<'a> Session<'a> {
         let (start, texts) = self.asked(task, false)?;
         let recipe = &self.candidates.get(&task)?.recipe;
         let beside = start.clone().finish();
-        let parts = Parts(Part::by_texts(start.clone(), recipe, &texts)?, Part::by_tokens(start, recipe, &texts, self.store), beside);
+        let parts = Parts(
+            Part::by_texts(start.clone(), recipe, &texts)?,
+            Part::by_tokens(start, recipe, &texts, self.store),
+            beside,
+        );
         Some((parts, texts.into_iter().next()?.content))
     }
 
@@ -405,7 +480,10 @@ impl<'a> Session<'a> {
         let recipe = &self.candidates.get(&task)?.recipe;
         let program = recipe.program();
         let is_known = recipe.kind != Kind::Host
-            || *self.compilers.entry(program).or_insert_with_key(|program| HostCompiler::of(program) == HostCompiler::Gcc);
+            || *self
+                .compilers
+                .entry(program)
+                .or_insert_with_key(|program| HostCompiler::of(program) == HostCompiler::Gcc);
         if is_known { key::start_of(recipe, &recipe.environment()) } else { None }
     }
 
@@ -419,14 +497,17 @@ impl<'a> Session<'a> {
         let Some((start, texts)) = self.asked(task, true) else { return self.runs_alone(task) };
         let Some(candidate) = self.candidates.get(&task) else { return Step::Own };
         let recipe = &candidate.recipe;
-        let Some(by_texts) = Part::by_texts(start.clone(), recipe, &texts) else { return self.runs_alone(task) };
+        let Some(by_texts) = Part::by_texts(start.clone(), recipe, &texts) else {
+            return self.runs_alone(task);
+        };
         let key = by_texts.key(recipe, &texts);
         if let Some(taken) = self.entry(&key, recipe).and_then(|found| self.take(recipe, found, times)) {
             self.found(task, key);
             return self.hit(task, taken);
         }
         let beside = start.clone().finish();
-        let keys = Parts(by_texts, Part::by_tokens(start, recipe, &texts, self.store), beside).keys(recipe, &texts);
+        let keys =
+            Parts(by_texts, Part::by_tokens(start, recipe, &texts, self.store), beside).keys(recipe, &texts);
         if let Some(taken) = keys.tokens.and_then(|key| self.take_other(recipe, &key, times)) {
             self.has_other_lines = true;
             return self.hit(task, taken);
@@ -460,7 +541,8 @@ impl<'a> Session<'a> {
 
     /// Makes and says what an entry has. `None` if it doesn't fit, or can't be made here.
     fn take(&self, recipe: &Recipe, (entry, inputs): (Entry, Manifest), times: (f64, f64)) -> Option<Taken> {
-        let is_shown = |(name, digest): &(Vec<u8>, Digest)| shown_file(recipe, name).is_some_and(|now| now == *digest);
+        let is_shown =
+            |(name, digest): &(Vec<u8>, Digest)| shown_file(recipe, name).is_some_and(|now| now == *digest);
         let may_say = || entry.terminal == self.terminal && entry.shown.iter().all(is_shown);
         if recipe.outputs.len() != entry.outputs.len() || (entry.speaks() && !may_say()) {
             return None;
@@ -468,13 +550,16 @@ impl<'a> Session<'a> {
         let (directory, mut products) = (self.tmp.as_bytes(), Vec::new());
         for (output, text) in recipe.outputs.iter().zip(&entry.outputs) {
             match text {
-                Made::File(text) => products.extend(recipe.put(output, recipe.named(text.filled(directory))).ok()?),
+                Made::File(text) => {
+                    products.extend(recipe.put(output, recipe.named(text.filled(directory))).ok()?);
+                }
                 Made::Nothing if output.path.exists() => return None,
                 Made::Nothing => {}
             }
         }
         let status = Status { code: 0, signal: None, dumped: false };
-        let ended = Ended { status, out: entry.out.filled(directory), errors: entry.errors.filled(directory), times };
+        let ended =
+            Ended { status, out: entry.out.filled(directory), errors: entry.errors.filled(directory), times };
         Some(Taken { ended, products, inputs })
     }
 
@@ -483,11 +568,15 @@ impl<'a> Session<'a> {
         let Some(candidate) = self.candidates.get(&task) else { return Step::Ended(ended) };
         let recipe = &candidate.recipe;
         let moved = || recipe.outputs.iter().filter(|output| output.path != output.written_to);
-        let speaks_of = |file: &Path| [&ended.out, &ended.errors].iter().any(|text| contains(text, file.as_os_str().as_bytes()));
+        let speaks_of = |file: &Path| {
+            [&ended.out, &ended.errors].iter().any(|text| contains(text, file.as_os_str().as_bytes()))
+        };
         let shows_where = moved().any(|output| speaks_of(&output.written_to) || has_own_name(output));
         let may_move = !recipe.has_products() || (ended.status.succeeded() && !shows_where);
         let put = |output: &Output| recipe.put(output, content_of(&output.written_to).ok()?).ok()?;
-        let Some(products) = may_move.then(|| moved().map(put).collect::<Option<Vec<_>>>()).flatten() else { return self.runs_alone(task) };
+        let Some(products) = may_move.then(|| moved().map(put).collect::<Option<Vec<_>>>()).flatten() else {
+            return self.runs_alone(task);
+        };
         if let Some(entry) = self.entry_of(recipe, text, &ended).filter(|_| ended.status.succeeded()) {
             let inputs = self.inputs_of(task, keys, text);
             if let Ok(inputs) = &inputs {
@@ -501,14 +590,20 @@ impl<'a> Session<'a> {
         Step::Ended(ended)
     }
 
-    /// Keeps an entry by its texts. One without messages is found by its tokens too. Says once that the store can't be written.
+    /// Keeps an entry by its texts. One without messages is found by its tokens too. Says once that the store
+    /// can't be written.
     fn keep(&mut self, keys: &Keys, inputs: &Manifest, entry: &Entry) {
         let tokens = keys.tokens.filter(|_| !entry.speaks());
-        let lead = || keys.marks.iter().chain(&tokens).try_for_each(|key| self.store.write(key, &keys.texts.0));
+        let lead =
+            || keys.marks.iter().chain(&tokens).try_for_each(|key| self.store.write(key, &keys.texts.0));
         let written = inputs.keep(self.store, &keys.texts, entry).and_then(|()| lead());
         if let (Err(error), false) = (written, self.has_complained) {
             self.has_complained = true;
-            complain(&format!("{}: cannot write to the cache {}: {error}", called(), self.store.folder().display()));
+            complain(&format!(
+                "{}: cannot write to the cache {}: {error}",
+                called(),
+                self.store.folder().display()
+            ));
         }
     }
 
@@ -522,24 +617,32 @@ impl<'a> Session<'a> {
     /// The entry of a task that has run, if it may have one.
     fn entry_of(&self, recipe: &Recipe, text: &[u8], ended: &Ended) -> Option<Entry> {
         let modes = new_modes()?;
-        let outputs = recipe.outputs.iter().map(|output| made(recipe, output, modes)).collect::<Option<_>>()?;
+        let outputs =
+            recipe.outputs.iter().map(|output| made(recipe, output, modes)).collect::<Option<_>>()?;
         let directory = recipe.directory.as_bytes();
         let messages = [&ended.out[..], &ended.errors].concat();
         let (out, errors) = (Marked::of(&ended.out, directory), Marked::of(&ended.errors, directory));
-        let is_named = [&out, &errors].iter().any(|text| text.0.iter().any(|part| names(part, &recipe.directory)));
-        let is_named = is_named || recipe.stem.as_ref().is_some_and(|stem| contains(&messages, stem.as_bytes()));
+        let is_named =
+            [&out, &errors].iter().any(|text| text.0.iter().any(|part| names(part, &recipe.directory)));
+        let is_named =
+            is_named || recipe.stem.as_ref().is_some_and(|stem| contains(&messages, stem.as_bytes()));
         // If an assembler alone says something, nvcc makes the call.
-        let is_odd = recipe.is_assembly && !messages.is_empty();
-        // (gcc seeks a file again to show its line; nvcc's tools show that of their text, also if the file is gone)
+        let is_odd = recipe.is_assembly() && !messages.is_empty();
+        // (gcc seeks a file again to show its line; nvcc's tools show that of their text, also if the file is
+        // gone)
         let is_sought = |name: &&[u8]| recipe.kind == Kind::Host || path_of(recipe, name).exists();
-        let shown = host_text::shown_files(text, &messages).into_iter().filter(is_sought).map(|name| self.shown(recipe, name));
+        let shown = host_text::shown_files(text, &messages)
+            .into_iter()
+            .filter(is_sought)
+            .map(|name| self.shown(recipe, name));
         let shown = shown.collect::<Option<_>>()?;
         let terminal = if messages.is_empty() { Vec::new() } else { self.terminal.clone() };
         (!is_named && !is_odd).then_some(Entry { outputs, out, errors, shown, terminal })
     }
 }
 
-/// What an entry has of an output. `None` if it can't have that: only text may name the call's directory, as that of cudafe++, cicc and a compiler.
+/// What an entry has of an output. `None` if it can't have that: only text may name the call's directory, as
+/// that of cudafe++, cicc and a compiler.
 fn made(recipe: &Recipe, output: &Output, modes: u32) -> Option<Made> {
     let found = fs::symlink_metadata(&output.written_to);
     let is_missing = found.as_ref().is_err_and(|error| error.kind() == ErrorKind::NotFound);
@@ -589,7 +692,11 @@ mod tests {
         put(false, &file, b"two").unwrap();
         assert_eq!(fs::read(&other).unwrap(), b"two", "it writes to what is there");
         put(true, &file, b"three").unwrap();
-        assert_eq!([&file, &other].map(|path| fs::read(path).unwrap()), [&b"three"[..], b"two"], "it makes a new one");
+        assert_eq!(
+            [&file, &other].map(|path| fs::read(path).unwrap()),
+            [&b"three"[..], b"two"],
+            "it makes a new one"
+        );
         fs::write(&other, "").unwrap();
         fs::hard_link(&other, folder.join("empty")).unwrap();
         put(true, &folder.join("empty"), b"two").unwrap();
@@ -598,7 +705,11 @@ mod tests {
         for is_new in [true, false] {
             assert_eq!(put(is_new, &link, b"four").unwrap_err().kind(), ErrorKind::AlreadyExists);
         }
-        assert_eq!((fs::read(&other).unwrap(), fs::read_link(&link).unwrap()), (b"two".to_vec(), other), "what is no plain file stays");
+        assert_eq!(
+            (fs::read(&other).unwrap(), fs::read_link(&link).unwrap()),
+            (b"two".to_vec(), other),
+            "what is no plain file stays"
+        );
         assert!(put(true, &folder.join("missing/file"), b"five").is_err());
     }
 
@@ -616,9 +727,8 @@ mod tests {
             outputs: Vec::new(),
             directory: "/t".into(),
             lines_count: false,
-            question: None,
+            question: (kind == Kind::Host).then(|| (Job::default(), PathBuf::new())),
             assembles: false,
-            is_assembly: false,
             stem: None,
             has_own_source: false,
         }
@@ -631,7 +741,14 @@ mod tests {
         let parts = |has_late: bool| {
             let texts = Session::texts(&recipe, has_late).unwrap();
             let by_texts = Part::by_texts(Hasher::default(), &recipe, &texts).unwrap();
-            (Parts(by_texts, Part::by_tokens(Hasher::default(), &recipe, &texts, &store()), Digest::of(b"")), texts)
+            (
+                Parts(
+                    by_texts,
+                    Part::by_tokens(Hasher::default(), &recipe, &texts, &store()),
+                    Digest::of(b""),
+                ),
+                texts,
+            )
         };
         fs::write(&recipe.reads[0], "int one;\n").unwrap();
         let (early, texts) = parts(false);
@@ -640,7 +757,9 @@ mod tests {
         let mut session = Session::new(&store, "/t", &[], &[], Beginning::new("/none", "/", &[]));
         session.candidates.insert(7, Candidate::new(recipe.clone(), state));
         assert!(session.caught_up(7) && !session.caught_up(7) && !session.caught_up(8));
-        let State::Missed(keys, text) = &session.candidates[&7].state else { panic!("it runs, and is to be kept") };
+        let State::Missed(keys, text) = &session.candidates[&7].state else {
+            panic!("it runs, and is to be kept")
+        };
         let (late, texts) = parts(true);
         assert_eq!((keys, text, keys.marks.len()), (&late.keys(&recipe, &texts), &texts[0].content, 2));
     }
@@ -652,7 +771,12 @@ mod tests {
         let output = Output { path: path.clone(), is_optional: false, written_to: path.clone() };
         let has_entry = |text: &str, directory: &str| {
             fs::write(&path, text).unwrap();
-            made(&Recipe { directory: directory.into(), ..recipe(Kind::Cicc, Vec::new()) }, &output, new_modes().unwrap()).is_some()
+            made(
+                &Recipe { directory: directory.into(), ..recipe(Kind::Cicc, Vec::new()) },
+                &output,
+                new_modes().unwrap(),
+            )
+            .is_some()
         };
         assert!(has_entry("in /t/call.7/k.cu", "/t/call.7"), "a mark has the path's place");
         assert!(!has_entry("in call.7", "/t/call.7") && has_entry("in call.7", "/t/call.8"));
@@ -677,7 +801,10 @@ mod tests {
     #[test]
     fn only_messages_are_for_a_kind_of_terminal() {
         let store = store();
-        let session = Session { terminal: b"xterm".to_vec(), ..Session::new(&store, "/t", &[], &[], Beginning::new("/none", "/", &[])) };
+        let session = Session {
+            terminal: b"xterm".to_vec(),
+            ..Session::new(&store, "/t", &[], &[], Beginning::new("/none", "/", &[]))
+        };
         let recipe = recipe(Kind::Host, Vec::new());
         let terminal_of = |errors: &str| session.entry_of(&recipe, b"", &warned(errors)).unwrap().terminal;
         assert_eq!([terminal_of(""), terminal_of("warns\n")], [&b""[..], b"xterm"]);

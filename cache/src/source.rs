@@ -8,7 +8,8 @@ use std::iter;
 /// Words right before a quote that make a raw string of it.
 const RAW_PREFIXES: [&[u8]; 5] = [b"R", b"LR", b"uR", b"UR", b"u8R"];
 
-/// The layout of a text, which the proved crate `source_layouts` defines. `None` if it has none, or if memory runs out.
+/// The layout of a text, which the proved crate `source_layouts` defines. `None` if it has none, or if memory
+/// runs out.
 pub fn layout_of(text: &[u8], is_lined: bool) -> Option<List<u8>> {
     source_layouts::layout(Global, text, is_lined).ok()?
 }
@@ -23,20 +24,24 @@ pub fn is_word(byte: u8) -> bool {
     byte.is_ascii_alphanumeric() || byte == b'_' || may_be_letter(byte)
 }
 
-/// The words of a text: identifiers, numbers and their parts, wherever they stand. Behind each comes what may be words to some preprocessors.
+/// The words of a text: identifiers, numbers and their parts, wherever they stand. Behind each comes what may
+/// be words to some preprocessors.
 pub fn words_of(text: &[u8]) -> impl Iterator<Item = &[u8]> {
     let words = text.split(|&byte| !is_word(byte)).filter(|word| !word.is_empty());
     let has_parts = text.iter().any(|&byte| may_be_letter(byte));
     words.flat_map(move |word| {
         let split = if has_parts { word } else { b"" };
-        let parts = split.split(|&byte| may_be_letter(byte)).filter(|part| !part.is_empty() && part.len() < word.len());
+        let parts = split
+            .split(|&byte| may_be_letter(byte))
+            .filter(|part| !part.is_empty() && part.len() < word.len());
         iter::once(word).chain(parts)
     })
 }
 
 /// Whether a quote behind this text begins a raw string for some preprocessor.
 pub fn begins_raw_string(before: &[u8]) -> bool {
-    let begin = before.iter().rposition(|&byte| !is_word(byte) || may_be_letter(byte)).map_or(0, |place| place + 1);
+    let begin =
+        before.iter().rposition(|&byte| !is_word(byte) || may_be_letter(byte)).map_or(0, |place| place + 1);
     RAW_PREFIXES.contains(&&before[begin..])
 }
 
@@ -91,7 +96,10 @@ mod tests {
         for text in texts {
             assert_eq!(shown(text, false).as_deref(), Some(wanted), "{text}");
         }
-        assert_eq!(shown(texts[1], true).unwrap(), "\n\n#define A(x) #x // y\nint a = A( b ) ;\n\x0b\nchar* s = \"a  // b\"\n");
+        assert_eq!(
+            shown(texts[1], true).unwrap(),
+            "\n\n#define A(x) #x // y\nint a = A( b ) ;\n\x0b\nchar* s = \"a  // b\"\n"
+        );
         assert_eq!(
             (shown("", false), shown("\n\n", false), shown("/* a */", false)),
             (Some(String::new()), Some(String::new()), Some(String::new()))
@@ -185,7 +193,10 @@ mod tests {
     fn comments_with_other_letters_count() {
         let of = |text: &str| shown(text, false).unwrap();
         assert_ne!(of("a // b\u{e4}\n"), of("a // c\u{e4}\n"));
-        assert_eq!((of("a /* \u{e4} */b\n"), of("// \u{e4}\n#a\n")), ("a\x0c/* \u{e4} */\x0c b\n".into(), "\x0c// \u{e4}\x0c#a\n".into()));
+        assert_eq!(
+            (of("a /* \u{e4} */b\n"), of("// \u{e4}\n#a\n")),
+            ("a\x0c/* \u{e4} */\x0c b\n".into(), "\x0c// \u{e4}\x0c#a\n".into())
+        );
         assert_eq!(of("/* \u{e4} */ #define A(\n"), "\x0c/* \u{e4} */\x0c#define A(\n");
         assert_ne!(of("a /* \u{e4} */ b\n"), of("a b\n"));
         assert_ne!(of("a/// \u{e4}\n-b\n"), of("a/ // \u{e4}\n-b\n"), "the first has no division");
@@ -194,7 +205,16 @@ mod tests {
 
     #[test]
     fn directives_in_brackets_or_with_lines_need_lines() {
-        let texts = ["f(\n#if A\n1\n#endif\n)\n", ")\n(\n", "f(\n", "#line 5\n", "# 5 \"a\"\n", "%:line 7\n", "#\\\nli\\\nne 5\n", "# /**/ line 3\n"];
+        let texts = [
+            "f(\n#if A\n1\n#endif\n)\n",
+            ")\n(\n",
+            "f(\n",
+            "#line 5\n",
+            "# 5 \"a\"\n",
+            "%:line 7\n",
+            "#\\\nli\\\nne 5\n",
+            "# /**/ line 3\n",
+        ];
         for text in texts {
             assert!(shown(text, false).is_none() && shown(text, true).is_some(), "{text}");
         }
@@ -211,6 +231,9 @@ mod tests {
     #[test]
     fn words_are_found_anywhere() {
         let found: Vec<&[u8]> = words_of("a+b1 \"c d\" // e$_\n#define 5x \u{e4}".as_bytes()).collect();
-        assert_eq!(found, [&b"a"[..], b"b1", b"c", b"d", b"e$_", b"e", b"_", b"define", b"5x", "\u{e4}".as_bytes()]);
+        assert_eq!(
+            found,
+            [&b"a"[..], b"b1", b"c", b"d", b"e$_", b"e", b"_", b"define", b"5x", "\u{e4}".as_bytes()]
+        );
     }
 }

@@ -1,7 +1,8 @@
 //! What tells a file from what it was, without reading it.
 //!
-//! The time of a file's last change of any kind can't be set, so a file of the same size and times with other contents is another: that holds on
-//! file systems that keep this time. On any other, as FAT's, where it is the time that anybody may set, only contents count.
+//! The time of a file's last change of any kind can't be set, so a file of the same size and times with other
+//! contents is another: that holds on file systems that keep this time. On any other, as FAT's, where it is
+//! the time that anybody may set, only contents count.
 use crate::system;
 use serde::{Deserialize, Serialize};
 use std::collections::BTreeMap;
@@ -34,7 +35,8 @@ impl Moment {
         Moment { time: SystemTime::now(), instants: [before, Instant::now()] }
     }
 
-    /// Whether the clock has gone on since then, at about its pace: if it was set back, a change may seem older than it is.
+    /// Whether the clock has gone on since then, at about its pace: if it was set back, a change may seem
+    /// older than it is.
     pub fn is_before(&self, now: &Moment) -> bool {
         let passed = now.instants[0].saturating_duration_since(self.instants[1]);
         now.time.duration_since(self.time).is_ok_and(|by_clock| by_clock + GRAIN + passed / 1000 >= passed)
@@ -74,7 +76,8 @@ pub struct Stamp(pub [[u8; 8]; 7]);
 impl Stamp {
     /// That of a file with this status.
     pub fn of(status: &Metadata) -> Stamp {
-        let times = [status.mtime(), status.mtime_nsec(), status.ctime(), status.ctime_nsec()].map(i64::to_le_bytes);
+        let times =
+            [status.mtime(), status.mtime_nsec(), status.ctime(), status.ctime_nsec()].map(i64::to_le_bytes);
         let [device, number, size] = [status.dev(), status.ino(), status.size()].map(u64::to_le_bytes);
         Stamp([device, number, size, times[0], times[1], times[2], times[3]])
     }
@@ -94,7 +97,9 @@ pub fn is_unchanged(status: &Metadata, moment: SystemTime, by: Duration) -> bool
 
 /// Whether a file was last changed, in any way, some time before a moment.
 pub fn is_older(status: &Metadata, moment: SystemTime, by: Duration) -> bool {
-    let changed = |seconds: i64, part: i64| Some(SystemTime::UNIX_EPOCH + Duration::new(seconds.try_into().ok()?, part.try_into().ok()?));
+    let changed = |seconds: i64, part: i64| {
+        Some(SystemTime::UNIX_EPOCH + Duration::new(seconds.try_into().ok()?, part.try_into().ok()?))
+    };
     let times = [changed(status.mtime(), status.mtime_nsec()), changed(status.ctime(), status.ctime_nsec())];
     times.iter().all(|time| time.is_some_and(|time| moment.duration_since(time).is_ok_and(|age| age > by)))
 }
@@ -111,9 +116,17 @@ mod tests {
         let after = |clock: i64, passed: u64| {
             let ago = Duration::from_millis(clock.unsigned_abs());
             let time = if clock < 0 { moment.time - ago } else { moment.time + ago };
-            moment.is_before(&Moment { time, instants: moment.instants.map(|instant| instant + Duration::from_millis(passed)) })
+            moment.is_before(&Moment {
+                time,
+                instants: moment.instants.map(|instant| instant + Duration::from_millis(passed)),
+            })
         };
-        assert!(moment.is_before(&Moment::now()) && after(10_000, 10_000) && after(99_990, 100_000) && after(99_000, 10));
+        assert!(
+            moment.is_before(&Moment::now())
+                && after(10_000, 10_000)
+                && after(99_990, 100_000)
+                && after(99_000, 10)
+        );
         assert!(!after(-10, 5) && !after(-10_000, 10_000) && !after(9000, 10_000));
     }
 
@@ -121,7 +134,10 @@ mod tests {
     fn where_changes_are_not_kept_no_stamp_tells() {
         let room = TestFolder::new();
         let status = fs::metadata(&room).unwrap();
-        assert_eq!(keeps_changes(&room, &status), KEEPING.contains(&system::kind_of_file_system(&room).unwrap()));
+        assert_eq!(
+            keeps_changes(&room, &status),
+            KEEPING.contains(&system::kind_of_file_system(&room).unwrap())
+        );
         let proc = Path::new("/proc/version");
         assert!(!keeps_changes(proc, &fs::metadata(proc).unwrap()));
         assert_eq!(Stamp::settled(proc, &fs::metadata(proc).unwrap()), None);

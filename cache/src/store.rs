@@ -1,7 +1,8 @@
 //! A folder of entries, each in a file by its key. Many processes and machines may use one folder at once.
 //!
-//! A file gets its name once it is whole, so a writer that is killed leaves nothing that counts. Its contents carry their digest, which
-//! is checked each time. Nothing here waits for a lock: whoever comes second writes the same.
+//! A file gets its name once it is whole, so a writer that is killed leaves nothing that counts. Its contents
+//! carry their digest, which is checked each time. Nothing here waits for a lock: whoever comes second writes
+//! the same.
 use crate::digest::{Digest, Hasher};
 use machine::clock::nanoseconds;
 use machine::streams::write_all;
@@ -16,7 +17,8 @@ use std::time::{Duration, SystemTime};
 const HEAD: &[u8] = b"zigrunk cache entry 2\n";
 /// How the name of a file begins that isn't whole.
 const UNFINISHED: &str = ".new-";
-/// When the file of an entry that is used gets a new time: not at each use, since that would be another write.
+/// When the file of an entry that is used gets a new time: not at each use, since that would be another
+/// write.
 const OLD: Duration = Duration::from_secs(60);
 /// How long a file that isn't whole may be another process's.
 const ABANDONED: Duration = Duration::from_secs(24 * 3600);
@@ -109,9 +111,13 @@ impl Store {
 
     /// The files of entries that aren't as they were written, by their order.
     pub fn damaged(&self) -> Vec<PathBuf> {
-        let entries = self.folders().flat_map(|folder| files(&folder).filter(|(entry, _)| !is_unfinished(entry)).collect::<Vec<_>>());
+        let entries = self
+            .folders()
+            .flat_map(|folder| files(&folder).filter(|(entry, _)| !is_unfinished(entry)).collect::<Vec<_>>());
         let paths = entries.map(|(entry, _)| entry.path());
-        let mut damaged: Vec<PathBuf> = paths.filter(|path| whole_file(path).and_then(|(_, _, text)| content_of(text)).is_none()).collect();
+        let mut damaged: Vec<PathBuf> = paths
+            .filter(|path| whole_file(path).and_then(|(_, _, text)| content_of(text)).is_none())
+            .collect();
         damaged.sort();
         damaged
     }
@@ -141,10 +147,12 @@ impl Store {
         written
     }
 
-    /// Takes out of a folder what its writers have abandoned. If it has more than its share, the whole is looked at, unless that was done just now:
-    /// another folder may have less, and one large entry may be more than a share.
+    /// Takes out of a folder what its writers have abandoned. If it has more than its share, the whole is
+    /// looked at, unless that was done just now: another folder may have less, and one large entry may be
+    /// more than a share.
     fn tidy(&self, folder: &Path) {
-        let (unfinished, entries): (Vec<_>, Vec<_>) = files(folder).partition(|(entry, _)| is_unfinished(entry));
+        let (unfinished, entries): (Vec<_>, Vec<_>) =
+            files(folder).partition(|(entry, _)| is_unfinished(entry));
         for (entry, _) in unfinished.iter().filter(|(_, status)| age(status) > ABANDONED) {
             let _ = fs::remove_file(entry.path());
         }
@@ -159,7 +167,8 @@ impl Store {
 
     /// Removes the entries that were used least recently, if all together are larger than the limit.
     fn keep_limit(&self) {
-        let mut entries: Vec<_> = self.folders().flat_map(|folder| files(&folder).collect::<Vec<_>>()).collect();
+        let mut entries: Vec<_> =
+            self.folders().flat_map(|folder| files(&folder).collect::<Vec<_>>()).collect();
         let mut size: u64 = entries.iter().map(|(_, status)| status.len()).sum();
         if size <= self.limit {
             return;
@@ -186,8 +195,13 @@ impl Store {
 
     /// What the store has.
     pub fn content(&self) -> Content {
-        let entries = self.folders().flat_map(|folder| files(&folder).filter(|(entry, _)| !is_unfinished(entry)).collect::<Vec<_>>());
-        entries.fold(Content::default(), |sum, (_, status)| Content { entries: sum.entries + 1, bytes: sum.bytes + status.len() })
+        let entries = self
+            .folders()
+            .flat_map(|folder| files(&folder).filter(|(entry, _)| !is_unfinished(entry)).collect::<Vec<_>>());
+        entries.fold(Content::default(), |sum, (_, status)| Content {
+            entries: sum.entries + 1,
+            bytes: sum.bytes + status.len(),
+        })
     }
 
     /// Removes all entries, and what isn't whole. What else is in the folder stays.
@@ -234,14 +248,21 @@ mod tests {
     }
 
     fn set_age(path: &Path, seconds: u64) {
-        File::options().write(true).open(path).unwrap().set_modified(SystemTime::now() - Duration::from_secs(seconds)).unwrap();
+        File::options()
+            .write(true)
+            .open(path)
+            .unwrap()
+            .set_modified(SystemTime::now() - Duration::from_secs(seconds))
+            .unwrap();
     }
 
     #[test]
     fn damaged_entries_are_named() {
         let (folder, keys) = (TestFolder::new(), [1, 2, 3].map(|number| Digest([number; 32])));
         let store = Store::new(folder.join("store"), 1 << 20);
-        keys.iter().for_each(|key| store.write(key, b"text").unwrap());
+        for key in &keys {
+            store.write(key, b"text").unwrap();
+        }
         assert!(store.damaged().is_empty());
         fs::write(store.path_of(&keys[1]), "other").unwrap();
         fs::write(store.path_of(&keys[2]), [HEAD, &Digest::of(b"text").0, b"texts"].concat()).unwrap();
@@ -288,7 +309,10 @@ mod tests {
         let folder = TestFolder::new();
         let (store, key) = (Store::new(folder.join("store"), 1 << 20), key(1, false));
         fs::create_dir_all(store.path_of(&key)).unwrap();
-        assert_eq!((store.read(&key), store.write(&key, b"x").is_err(), store.path_of(&key).is_dir()), (None, true, true));
+        assert_eq!(
+            (store.read(&key), store.write(&key, b"x").is_err(), store.path_of(&key).is_dir()),
+            (None, true, true)
+        );
         fs::remove_dir(store.path_of(&key)).unwrap();
         symlink("/dev/zero", store.path_of(&key)).unwrap();
         assert_eq!(store.read(&key), None);
@@ -305,7 +329,9 @@ mod tests {
             store.write(&key(number, false), &[0; 2400]).unwrap();
             set_age(&store.path_of(&key(number, false)), seconds);
         }
-        let left = |count: u8| (1..=count).filter(|&number| store.path_of(&key(number, false)).exists()).collect::<Vec<u8>>();
+        let left = |count: u8| {
+            (1..=count).filter(|&number| store.path_of(&key(number, false)).exists()).collect::<Vec<u8>>()
+        };
         assert!(store.read(&key(2, false)).is_some(), "it is used now");
         store.write(&key(9, true), b"").unwrap();
         assert_eq!(left(4), [1, 2, 3, 4], "they have room");
@@ -370,7 +396,11 @@ mod tests {
                     for number in 0..40_u8 {
                         store.write(&key(number, number % 4 == 0), &vec![number; 20_000]).unwrap();
                         let other = number.wrapping_add(writer) % 40;
-                        assert!(store.read(&key(other, other % 4 == 0)).is_none_or(|text| text == vec![other; 20_000]));
+                        assert!(
+                            store
+                                .read(&key(other, other % 4 == 0))
+                                .is_none_or(|text| text == vec![other; 20_000])
+                        );
                     }
                 });
             }

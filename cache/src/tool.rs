@@ -1,4 +1,5 @@
-//! The tools of commands, and the digests of files, of which large ones aren't read again that the user's folder knows by place and stamp.
+//! The tools of commands, and the digests of files, of which large ones aren't read again that the user's
+//! folder knows by place and stamp.
 use crate::digest::{Digest, Hasher};
 use crate::place;
 use crate::stamps::Stamp;
@@ -98,14 +99,24 @@ pub struct Run<'a> {
 impl<'a> Run<'a> {
     /// A tool as a job runs it in an environment.
     pub fn of(kind: Kind, job: &'a Job, environment: &'a [(OsString, OsString)]) -> Option<Run<'a>> {
-        Some(Run { kind, program: Path::new(job.words.first()?), folder: Path::new(&job.folder), environment })
+        Some(Run {
+            kind,
+            program: Path::new(job.words.first()?),
+            folder: Path::new(&job.folder),
+            environment,
+        })
     }
 
     /// The libraries that the loader gives it, as that says. (A tool that has none says its version.)
     fn libraries(&self) -> Option<Vec<PathBuf>> {
         let mut tool = Command::new(self.program);
         tool.arg("--version").current_dir(self.folder).env_clear().envs(self.environment.iter().cloned());
-        let said = tool.env(LISTS_LIBRARIES, "1").stdin(Stdio::null()).output().ok().filter(|said| said.status.success())?;
+        let said = tool
+            .env(LISTS_LIBRARIES, "1")
+            .stdin(Stdio::null())
+            .output()
+            .ok()
+            .filter(|said| said.status.success())?;
         let text = String::from_utf8(said.stdout).ok().filter(|text| !text.contains("not found"))?;
         let paths = text.lines().filter_map(|line| line.rsplit_once(" (0x")?.0.split_whitespace().last());
         Some(paths.filter(|path| path.contains('/')).map(|path| self.folder.join(path)).collect())
@@ -114,7 +125,12 @@ impl<'a> Run<'a> {
     /// The files of libraries for device code that cicc may read.
     fn device_libraries(&self) -> Option<Vec<PathBuf>> {
         let beside = self.program.parent()?.parent()?.join("libdevice");
-        let named = self.environment.iter().rev().find(|(name, _)| name == "NVVMIR_LIBRARY_DIR").map(|(_, folder)| PathBuf::from(folder));
+        let named = self
+            .environment
+            .iter()
+            .rev()
+            .find(|(name, _)| name == "NVVMIR_LIBRARY_DIR")
+            .map(|(_, folder)| PathBuf::from(folder));
         let mut files: Vec<PathBuf> = Vec::new();
         for folder in [Some(beside), named].into_iter().flatten().filter(|_| self.kind == Kind::Cicc) {
             for file in fs::read_dir(folder).into_iter().flatten() {
@@ -126,10 +142,12 @@ impl<'a> Run<'a> {
     }
 }
 
-/// The turn of a call to digest large files; when it's dropped, it is the next one's. `None` if there are no turns here, or after a long wait.
+/// The turn of a call to digest large files; when it's dropped, it is the next one's. `None` if there are no
+/// turns here, or after a long wait.
 fn turn(store: &Store) -> Option<File> {
     fs::create_dir_all(store.folder()).ok()?;
-    let file = File::options().write(true).create(true).truncate(false).open(store.folder().join(TURN)).ok()?;
+    let file =
+        File::options().write(true).create(true).truncate(false).open(store.folder().join(TURN)).ok()?;
     let tries = PATIENCE.as_millis() / PAUSE.as_millis();
     let takes = |_: &u128| {
         let is_mine = system::try_lock(file.as_fd()).unwrap_or(true);
@@ -144,7 +162,10 @@ fn turn(store: &Store) -> Option<File> {
 impl Tools {
     /// Those of a call that uses this store.
     pub fn new(store: &Store) -> Tools {
-        Tools { stores: place::programs().into_iter().chain([store.clone()]).collect(), identities: Vec::new() }
+        Tools {
+            stores: place::programs().into_iter().chain([store.clone()]).collect(),
+            identities: Vec::new(),
+        }
     }
 
     /// Those that only the user's folder keeps.
@@ -181,8 +202,8 @@ impl Tools {
         if is_large { self.large_digest(path) } else { digest_of(&mut File::open(path).ok()?).ok() }
     }
 
-    /// The digest of all that one of nvcc's tools consists of: the program, the libraries that the loader gives it, and for cicc the files of its
-    /// device libraries. `None` if that isn't known, as for a script.
+    /// The digest of all that one of nvcc's tools consists of: the program, the libraries that the loader
+    /// gives it, and for cicc the files of its device libraries. `None` if that isn't known, as for a script.
     pub fn identity(&mut self, run: &Run<'_>) -> Option<Digest> {
         let runs = (run.program.to_owned(), run.folder.to_owned(), run.environment.to_vec());
         if let Some((_, known)) = self.identities.iter().find(|(other, _)| *other == runs) {
@@ -284,7 +305,12 @@ mod tests {
             let program = self.0.join("bin/cicc");
             let named = |name: &str, folder: &str| (name.into(), self.0.join(folder).into_os_string());
             let environment = [named("NVVMIR_LIBRARY_DIR", "named"), named("LD_LIBRARY_PATH", "loaded")];
-            (Tools { stores: vec![store], identities: Vec::new() }).identity(&Run { kind: Kind::Cicc, program: &program, folder: Path::new("/"), environment: &environment })
+            (Tools { stores: vec![store], identities: Vec::new() }).identity(&Run {
+                kind: Kind::Cicc,
+                program: &program,
+                folder: Path::new("/"),
+                environment: &environment,
+            })
         }
     }
 
@@ -303,13 +329,22 @@ mod tests {
         let third = scratch.identity().unwrap();
         scratch.put("named/10.bc", "b");
         let fourth = scratch.identity().unwrap();
-        let library = Run::of(Kind::Cicc, &job("/bin/true"), &[]).unwrap().libraries().unwrap().into_iter().find(|path| path.ends_with("libc.so.6")).unwrap();
+        let library = Run::of(Kind::Cicc, &job("/bin/true"), &[])
+            .unwrap()
+            .libraries()
+            .unwrap()
+            .into_iter()
+            .find(|path| path.ends_with("libc.so.6"))
+            .unwrap();
         let text = [fs::read(library).unwrap(), b"c".to_vec()].concat();
         scratch.put("loaded/libc.so.6", "");
         fs::write(scratch.0.join("loaded/libc.so.6"), text).unwrap();
         let fifth = scratch.identity().unwrap();
         scratch.put("loaded/libc.so.6", "none");
-        assert!(third != second && fourth != third && fifth != fourth && scratch.identity().is_none(), "its libraries");
+        assert!(
+            third != second && fourth != third && fifth != fourth && scratch.identity().is_none(),
+            "its libraries"
+        );
     }
 
     #[test]

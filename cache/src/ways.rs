@@ -20,8 +20,9 @@ impl<'a> Ways<'a> {
         Ways { cwd, begun, known: HashMap::new() }
     }
 
-    /// Whether all folders and links on the way to a place were what they are at that moment. Of a folder that has got another name since
-    /// then only the time of its last change of any kind tells; what is made or removed in it changes two.
+    /// Whether all folders and links on the way to a place were what they are at that moment. Of a folder
+    /// that has got another name since then only the time of its last change of any kind tells; what is made
+    /// or removed in it changes two.
     pub fn are_old(&mut self, folder: &Path) -> bool {
         if let Some(known) = self.known.get(folder.as_os_str()) {
             return *known;
@@ -29,8 +30,13 @@ impl<'a> Ways<'a> {
         // (this also ends a circle)
         self.known.insert(folder.as_os_str().to_owned(), true);
         let is_old = match fs::symlink_metadata(self.cwd.join(folder)) {
-            Ok(status) if status.is_symlink() => is_unchanged(&status, self.begun, MARGIN) && self.is_target_old(folder),
-            Ok(status) => (status.mtime(), status.mtime_nsec()) == (status.ctime(), status.ctime_nsec()) || is_unchanged(&status, self.begun, MARGIN),
+            Ok(status) if status.is_symlink() => {
+                is_unchanged(&status, self.begun, MARGIN) && self.is_target_old(folder)
+            }
+            Ok(status) => {
+                (status.mtime(), status.mtime_nsec()) == (status.ctime(), status.ctime_nsec())
+                    || is_unchanged(&status, self.begun, MARGIN)
+            }
             Err(_) => true,
         };
         let above = if folder.as_os_str().is_empty() { Some(self.cwd) } else { folder.parent() };

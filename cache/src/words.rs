@@ -1,4 +1,5 @@
-//! What the words of a command are to its key, by the table of `command_keys`. A command with a word that isn't there isn't cached.
+//! What the words of a command are to its key, by the table of `command_keys`. A command with a word that
+//! isn't there isn't cached.
 use crate::tool::Kind;
 use command_keys::{CountedWord, NamedFiles, ReadWord};
 use compilers::plans::Program;
@@ -25,8 +26,14 @@ pub fn with_read<T>(kind: Kind, words: &[String], read: impl FnOnce(&[ReadWord<'
     Some(read(known.as_slice()))
 }
 
-/// The same with each word as it counts, given the command's files. `None` if one of them names a file that the command doesn't read, too.
-pub fn with_counted<T>(kind: Kind, words: &[String], files: &NamedFiles<'_>, read: impl FnOnce(&[CountedWord<'_>]) -> T) -> Option<T> {
+/// The same with each word as it counts, given the command's files. `None` if one of them names a file that
+/// the command doesn't read, too.
+pub fn with_counted<T>(
+    kind: Kind,
+    words: &[String],
+    files: &NamedFiles<'_>,
+    read: impl FnOnce(&[CountedWord<'_>]) -> T,
+) -> Option<T> {
     let counted = command_keys::counted_words(Global, program_of(kind), &bytes_of(words), files).ok()??;
     Some(read(counted.as_slice()))
 }
@@ -63,7 +70,8 @@ pub fn is_assembly(words: &[String]) -> bool {
     makes_one(words, "assembler", &["-c"])
 }
 
-/// Whether all words of a preprocessor are known: it reads what its text's line markers name, and writes that text alone.
+/// Whether all words of a preprocessor are known: it reads what its text's line markers name, and writes that
+/// text alone.
 pub fn is_preprocess(words: &[String]) -> bool {
     let mut others = Vec::with_capacity(words.len());
     let mut rest = words.iter();
@@ -80,7 +88,8 @@ pub fn is_preprocess(words: &[String]) -> bool {
 
 /// What the words of a preprocessor define.
 pub fn defined(words: &[String]) -> Vec<&str> {
-    let joined = words.iter().filter_map(|word| word.strip_prefix("-D")).filter(|definition| !definition.is_empty());
+    let joined =
+        words.iter().filter_map(|word| word.strip_prefix("-D")).filter(|definition| !definition.is_empty());
     joined.chain(words.windows(2).filter(|pair| pair[0] == "-D").map(|pair| pair[1].as_str())).collect()
 }
 
@@ -102,13 +111,29 @@ mod tests {
     fn words_of_nvcc_are_known() {
         let front = "--c++17 --static-host-stub --device-hidden-visibility --gnu_version=120200 --display_error_number --orig_src_file_name k.cu \
                      --orig_src_path_name /w/k.cu --allow_managed";
-        assert!(is_known(Kind::CudaFe, &format!("{front} --m64 --parse_templates --gen_c_file_name a --stub_file_name b x.ii")));
-        assert!(is_known(Kind::Cicc, &format!("{front} -arch compute_80 -m64 -ftz=0 -prec_div=1 -fmad=1 -tused x.ii -o x.ptx")));
+        assert!(is_known(
+            Kind::CudaFe,
+            &format!("{front} --m64 --parse_templates --gen_c_file_name a --stub_file_name b x.ii")
+        ));
+        assert!(is_known(
+            Kind::Cicc,
+            &format!("{front} -arch compute_80 -m64 -ftz=0 -prec_div=1 -fmad=1 -tused x.ii -o x.ptx")
+        ));
         assert!(is_known(Kind::Ptxas, "-arch=sm_80 -m64 x.ptx -o x.cubin"));
         let images = "--image3=kind=elf,sm=80,file=x.cubin --image3=file=x.ptx,kind=ptx,sm=80";
-        assert!(is_known(Kind::Fatbinary, &format!("--create=x.fatbin -64 --cicc-cmdline=-fmad=1 {images} --embedded-fatbin=x.fatbin.c --device-c")));
-        assert!(is_known(Kind::Host, "-D__CUDA_ARCH__=800 -c -x c++ -Wno-psabi -I/i -isystem /s -m64 -O2 x.cpp -o k.o"));
-        assert!(is_preprocess(&list("-D__CUDACC__ -E -x c++ -I/i -D NAME=name -U X -include cuda_runtime.h -m64 k.cu -o k.ii")));
+        assert!(is_known(
+            Kind::Fatbinary,
+            &format!(
+                "--create=x.fatbin -64 --cicc-cmdline=-fmad=1 {images} --embedded-fatbin=x.fatbin.c --device-c"
+            )
+        ));
+        assert!(is_known(
+            Kind::Host,
+            "-D__CUDA_ARCH__=800 -c -x c++ -Wno-psabi -I/i -isystem /s -m64 -O2 x.cpp -o k.o"
+        ));
+        assert!(is_preprocess(&list(
+            "-D__CUDACC__ -E -x c++ -I/i -D NAME=name -U X -include cuda_runtime.h -m64 k.cu -o k.ii"
+        )));
         assert!(!is_preprocess(&list("-E -x c++ k.cu -o k.ii -D")));
     }
 
@@ -117,7 +142,11 @@ mod tests {
         let cases = [
             ("--std=c++20 --std=c++03", Kind::CudaFe, "--c++20 --c++03"),
             ("-std=c++11 -std=c++14", Kind::Cicc, "--c++11 --c++14"),
-            ("-extended-lambda -expt-relaxed-constexpr", Kind::CudaFe, "--extended-lambda --relaxed_constexpr"),
+            (
+                "-extended-lambda -expt-relaxed-constexpr",
+                Kind::CudaFe,
+                "--extended-lambda --relaxed_constexpr",
+            ),
             ("-rdc=true -keep-device-functions", Kind::Cicc, "--device-c --keep-device-functions"),
             ("-G", Kind::CudaFe, "--debug_mode"),
             ("-G", Kind::Cicc, "--debug_mode -O0 -g"),
@@ -134,9 +163,21 @@ mod tests {
             ("-split-compile 2", Kind::Cicc, "-split-compile 2"),
             ("-split-compile 2 -rdc=true", Kind::Ptxas, "-split-compile=2 --compile-only"),
             ("-Xptxas -v,-O1,-dlcm=ca", Kind::Ptxas, "-v -O1 -O0 -O2 -O3 -dlcm=ca"),
-            ("-Xptxas -warn-spills", Kind::Ptxas, "-warn-spills -warn-lmem-usage -suppress-stack-size-warning"),
-            ("-Xptxas --allow-expensive-optimizations=true", Kind::Ptxas, "--allow-expensive-optimizations=true"),
-            ("-Xcicc -extra-device-vectorization", Kind::Cicc, "-extra-device-vectorization --unicode_source_kind=UTF-8"),
+            (
+                "-Xptxas -warn-spills",
+                Kind::Ptxas,
+                "-warn-spills -warn-lmem-usage -suppress-stack-size-warning",
+            ),
+            (
+                "-Xptxas --allow-expensive-optimizations=true",
+                Kind::Ptxas,
+                "--allow-expensive-optimizations=true",
+            ),
+            (
+                "-Xcicc -extra-device-vectorization",
+                Kind::Cicc,
+                "-extra-device-vectorization --unicode_source_kind=UTF-8",
+            ),
             ("-G", Kind::Fatbinary, "--ident=k.cu --cmdline=-g -g"),
             ("-Xfatbin -compress-all", Kind::Fatbinary, "-compress-all"),
             ("-no-compress --compress-mode=size", Kind::Fatbinary, "-compress=false --compress-mode=size"),
@@ -158,9 +199,13 @@ mod tests {
 
     #[test]
     fn a_host_compiler_takes_each_word() {
-        let is_taken = |row: &&KnownWord| matches!(row.form, Form::Whole) && !matches!(row.meaning, Meaning::Refused);
+        let is_taken =
+            |row: &&KnownWord| matches!(row.form, Form::Whole) && !matches!(row.meaning, Meaning::Refused);
         let words = command_keys::own_words(Program::Other).iter().filter(is_taken).map(|row| row.text);
-        let tried = std::process::Command::new("g++").args(["-x", "c++", "-fsyntax-only", "/dev/null"]).args(words).output();
+        let tried = std::process::Command::new("g++")
+            .args(["-x", "c++", "-fsyntax-only", "/dev/null"])
+            .args(words)
+            .output();
         let tried = tried.ok().filter(|_| cfg!(target_arch = "x86_64"));
         assert!(tried.as_ref().is_none_or(|tried| tried.status.success()), "{tried:?}");
     }
@@ -212,9 +257,17 @@ mod tests {
 
     #[test]
     fn words_name_files() {
-        let pairs = |read: &[ReadWord<'_>]| read.iter().map(|word| (text_of(word.name), word.role)).collect::<Vec<_>>();
+        let pairs = |read: &[ReadWord<'_>]| {
+            read.iter().map(|word| (text_of(word.name), word.role)).collect::<Vec<_>>()
+        };
         let names = |words: &str| with_read(Kind::Fatbinary, &list(words), pairs);
-        let wanted = [("/t/a.x", Role::Names), ("b.c", Role::Names), ("x,y", Role::Names), ("c", Role::Reads), ("d=e", Role::Reads)];
+        let wanted = [
+            ("/t/a.x", Role::Names),
+            ("b.c", Role::Names),
+            ("x,y", Role::Names),
+            ("c", Role::Reads),
+            ("d=e", Role::Reads),
+        ];
         let words = "--create=/t/a.x --embedded-fatbin=b.c --create=x,y --image3=file=c,kind=elf --image3=kind=ptx,file=d=e";
         assert_eq!(names(words), Some(wanted.map(|(name, role)| (name.to_owned(), role)).to_vec()));
         assert_eq!(names("-64 --cmdline=file=x"), Some(vec![(String::new(), Role::Counts); 2]));
@@ -222,8 +275,18 @@ mod tests {
 
     #[test]
     fn what_only_the_preprocessor_reads_has_its_role() {
-        let roles = |kind, words: &str| with_read(kind, &list(words), |read| read.iter().map(|word| word.role).collect::<Vec<_>>());
-        let wanted = [Role::Preprocessor, Role::Preprocessor, Role::Preprocessor, Role::Counts, Role::Counts, Role::Names, Role::Reads];
+        let roles = |kind, words: &str| {
+            with_read(kind, &list(words), |read| read.iter().map(|word| word.role).collect::<Vec<_>>())
+        };
+        let wanted = [
+            Role::Preprocessor,
+            Role::Preprocessor,
+            Role::Preprocessor,
+            Role::Counts,
+            Role::Counts,
+            Role::Names,
+            Role::Reads,
+        ];
         assert_eq!(roles(Kind::Host, "-DA=1 -isystem /s -O2 -o k.o x.cpp"), Some(wanted.to_vec()));
         assert_eq!(roles(Kind::Cicc, "-DA=1"), None);
     }
@@ -252,7 +315,20 @@ mod tests {
         let nvccs = "-D__CUDA_ARCH__=750 -E -x c++ -D A -U B -I/i -isystem /s -I j -include cuda_runtime.h -m64 k.cu -o k.ii";
         assert!(is_preprocess(&list(nvccs)));
         assert_eq!(defined(&list(nvccs)), ["__CUDA_ARCH__=750", "A"]);
-        for word in ["-c", "-MD", "-imacros m.h", "-dD", "-C", "-P", "-H", "-nostdinc", "-iquote q", "-idirafter d", "-fdirectives-only", "-B."] {
+        for word in [
+            "-c",
+            "-MD",
+            "-imacros m.h",
+            "-dD",
+            "-C",
+            "-P",
+            "-H",
+            "-nostdinc",
+            "-iquote q",
+            "-idirafter d",
+            "-fdirectives-only",
+            "-B.",
+        ] {
             assert!(!is_preprocess(&list(&format!("{nvccs} {word}"))), "{word}");
         }
     }

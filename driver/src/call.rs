@@ -244,8 +244,8 @@ impl Call<'_> {
         Whole::of(&self.settings, line, &Job { words, ..Job::default() })
     }
 
-    /// Runs nvcc, adds a line to the log, and states what was made, as far as that is asked for. Its status is
-    /// this process's, and its signal too.
+    /// Runs nvcc, adds a line to the log, and states what was made, as far as that is asked for. Its status
+    /// is this process's, and its signal too.
     fn run_nvcc(&mut self, runner: &[OsString], reason: &Reason) -> i32 {
         let opened = if self.host.is_none() { Signals::open().ok() } else { None };
         let Some(signals) = self.host.as_ref().map(Host::signals).or(opened.as_ref()) else {

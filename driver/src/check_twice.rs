@@ -1,4 +1,5 @@
-//! Calls that are made twice, to find what isn't deterministic: the second time later, and with temporary files elsewhere.
+//! Calls that are made twice, to find what isn't deterministic: the second time later, and with temporary
+//! files elsewhere.
 use call::environments::Environment;
 use machine::streams::{complain, say};
 use report::why::{Twice, twice};
@@ -63,8 +64,8 @@ fn check(words: &[&OsStr], environment: &Environment, room: &Path) -> Result<i32
     Ok(i32::from(!is_same))
 }
 
-/// Makes what these words, a program's path first, say twice, in an environment. Says the status: that of calls that fail, else 1 if
-/// something isn't deterministic, or 2 if that can't be found out.
+/// Makes what these words, a program's path first, say twice, in an environment. Says the status: that of
+/// calls that fail, else 1 if something isn't deterministic, or 2 if that can't be found out.
 pub fn run(first: &str, words: &[&OsStr], environment: &Environment) -> i32 {
     let checked =
         room(environment).map_err(|error| format!("no temporary directory: {error}")).and_then(|room| {

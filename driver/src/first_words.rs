@@ -152,8 +152,8 @@ fn misuse(reason: &str) -> i32 {
     2
 }
 
-/// What a word is meant to be that isn't one of the first: one that is nearly alike, a word behind `cache`, or
-/// one for nvcc.
+/// What a word is meant to be that isn't one of the first: one that is nearly alike, a word behind `cache`,
+/// or one for nvcc.
 fn meant(word: &str) -> String {
     let near = question(word, FirstWord::ALL.map(FirstWord::name).into_iter().chain(["--version", "--help"]));
     if !near.is_empty() {

@@ -1,4 +1,5 @@
-//! The options of `zigrunk nvcc` and `zigrunk batch` that stand right behind these words, before nvcc's words or those of the batch.
+//! The options of `zigrunk nvcc` and `zigrunk batch` that stand right behind these words, before nvcc's words
+//! or those of the batch.
 use crate::check_twice;
 use call::environments::Environment;
 use machine::host::become_program;

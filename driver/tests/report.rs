@@ -1,5 +1,5 @@
-//! A log, and all that zigrunk report makes of it. The folder `report` has the log, and the texts as they have to be: their numbers were worked out by
-//! hand, or compared with the log.
+//! A log, and all that zigrunk report makes of it. The folder `report` has the log, and the texts as they
+//! have to be: their numbers were worked out by hand, or compared with the log.
 use std::fs;
 use std::process::Command;
 

@@ -15,8 +15,8 @@ pub fn text_of(moment: SystemTime) -> String {
     format!("{year:04}-{month:02}-{day:02}T{:02}:{:02}:{:02}Z", of_day / 3600, of_day / 60 % 60, of_day % 60)
 }
 
-/// The date of a day, counted from 1970's first. A year begins in March here, so the odd day of a leap year is
-/// its last.
+/// The date of a day, counted from 1970's first. A year begins in March here, so the odd day of a leap year
+/// is its last.
 fn date_of(days: u64) -> (u64, u64, u64) {
     let days = days + DAYS_BEFORE;
     let (cycle, of_cycle) = (days / DAYS_OF_CYCLE, days % DAYS_OF_CYCLE);

@@ -190,8 +190,8 @@ impl Witness {
         self.observer.as_ref().map_or_else(|| (Observed::default(), Some(Gap::Nothing)), part)
     }
 
-    /// Writes a statement of each product of a call that has ended with this status, if it has succeeded. Says
-    /// the status of it all: 1, with a message, if a statement can't be written.
+    /// Writes a statement of each product of a call that has ended with this status, if it has succeeded.
+    /// Says the status of it all: 1, with a message, if a statement can't be written.
     pub fn end(&self, call: &Finished<'_>, status: i32) -> i32 {
         let stated = if status == 0 { self.state(call) } else { Ok(()) };
         stated.map_or_else(

@@ -26,8 +26,8 @@ const ANSWERING: Duration = Duration::from_secs(30);
 const TRIES: u32 = 3;
 const PAUSE: Duration = Duration::from_millis(100);
 
-/// How many bytes a server may send before it hears that some have come: with HTTP/2's own 64 KiB, a stream has
-/// no more for each round trip.
+/// How many bytes a server may send before it hears that some have come: with HTTP/2's own 64 KiB, a stream
+/// has no more for each round trip.
 const WINDOW: u32 = 4 << 20;
 
 /// How many bytes of contents a message has at most: that of gRPC's own limit, 4 MiB, without room for the

@@ -1,4 +1,5 @@
-//! Why two calls made different products: the proved crate `record_causes` says where, and here is told what is there.
+//! Why two calls made different products: the proved crate `record_causes` says where, and here is told what
+//! is there.
 use crate::places::{Place, place};
 use crate::recorded::Found;
 use machine::bytes::contains;
@@ -23,8 +24,8 @@ const MOST_WORDS: usize = 6;
 pub struct Cause {
     /// The product.
     pub product: String,
-    /// What kind of thing the cause is: a word, a variable, a locale, a tool, a source, a header, a generated file, a path, a folder, a time, an id, or
-    /// something unknown.
+    /// What kind of thing the cause is: a word, a variable, a locale, a tool, a source, a header, a generated
+    /// file, a path, a folder, a time, an id, or something unknown.
     pub kind: &'static str,
     /// The command: its program and the file that it made, and which of how many it is.
     pub command: String,
@@ -357,10 +358,11 @@ mod tests {
         assert_eq!(Pair { one: &one, other: &other }.cause(), Ok(None));
     }
 
+    type Change = Box<dyn Fn(&mut RecordedCommand)>;
+
     #[test]
     fn causes_have_kinds_names_and_values() {
         let room = TestFolder::new();
-        type Change = Box<dyn Fn(&mut RecordedCommand)>;
         let cases: [(Change, &str, &str, [Option<&str>; 2]); 12] = [
             (Box::new(|it| it.words[3] = "N=2".into()), "word", "-D", [Some("N=1"), Some("N=2")]),
             (Box::new(|it| it.words[4] = "/x/k.cu".into()), "word", "", [Some("k.cu"), Some("/x/k.cu")]),

@@ -1,5 +1,5 @@
-//! zigrunk report: summarises the log that zigrunk-nvcc and zigrunk batch write to `ZIGRUNK_LOG`. zigrunk why: compares
-//! records of `ZIGRUNK_RECORDS`.
+//! zigrunk report: summarises the log that zigrunk-nvcc and zigrunk batch write to `ZIGRUNK_LOG`. zigrunk
+//! why: compares records of `ZIGRUNK_RECORDS`.
 #![forbid(unsafe_code)]
 
 mod causes;

@@ -41,7 +41,7 @@ pub fn place(one: &[u8], other: &[u8]) -> Option<Place> {
         return None;
     }
     let are_texts = is_text(one) && is_text(other);
-    let line = one[..same].iter().filter(|&&byte| byte == b'\n').count() + 1;
+    let line = one[..same].split(|&byte| byte == b'\n').count();
     let excerpts = [one, other].map(|text| excerpt(text, same, are_texts));
     Some(Place { line: are_texts.then_some(line), byte: same, excerpts })
 }

@@ -48,7 +48,8 @@ struct Line {
     record: PathBuf,
 }
 
-/// The record that a line of a log names, by the log's path, a colon and the line's number. `None` if the path isn't such.
+/// The record that a line of a log names, by the log's path, a colon and the line's number. `None` if the
+/// path isn't such.
 fn of_line(path: &Path) -> Option<Result<Found, String>> {
     let (log, number) = path.to_str()?.rsplit_once(':')?;
     let place: usize = number.parse::<usize>().ok()?.checked_sub(1)?;
@@ -61,7 +62,8 @@ fn of_line(path: &Path) -> Option<Result<Found, String>> {
     )
 }
 
-/// The records that a path names: one, that of a line of a log as in `log:3`, or those of a folder, by the names of their products. Of equal names the latest counts.
+/// The records that a path names: one, that of a line of a log as in `log:3`, or those of a folder, by the
+/// names of their products. Of equal names the latest counts.
 /// Errors: what can't be read, or that a folder has none.
 pub fn records(path: &Path) -> Result<BTreeMap<String, Found>, String> {
     if !path.is_dir() {
@@ -95,7 +97,7 @@ mod tests {
     fn records_are_found_by_their_path_their_folder_and_a_line_of_a_log() {
         let room = TestFolder::new();
         let write = |name: &str, call: &RecordedCall| {
-            fs::write(room.join(name), serde_json::to_string(call).unwrap()).unwrap()
+            fs::write(room.join(name), serde_json::to_string(call).unwrap()).unwrap();
         };
         let error = |path: PathBuf| records(&path).unwrap_err();
         assert!(error(room.to_path_buf()).ends_with("has no record of ZIGRUNK_RECORDS"));

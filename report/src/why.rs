@@ -121,15 +121,15 @@ pub fn told(cause: &Cause) -> String {
 
 fn text(answer: &Answer) -> String {
     let Answer { compared, only, causes } = answer;
-    let mut text = format!("{} of {compared} calls differ\n", causes.len());
+    let mut lines = vec![format!("{} of {compared} calls differ\n", causes.len())];
     for (side, names) in ["A", "B"].iter().zip(only).filter(|(_, names)| !names.is_empty()) {
-        text += &format!("only {side} has {} of them: {}\n", names.len(), names[0]);
+        lines.push(format!("only {side} has {} of them: {}\n", names.len(), names[0]));
     }
-    text += &causes.iter().take(MOST_SHOWN).map(told).collect::<String>();
+    lines.extend(causes.iter().take(MOST_SHOWN).map(told));
     if causes.len() > MOST_SHOWN {
-        text += &format!("and {} more: --json has all\n", causes.len() - MOST_SHOWN);
+        lines.push(format!("and {} more: --json has all\n", causes.len() - MOST_SHOWN));
     }
-    text
+    lines.concat()
 }
 
 fn answer(asked: &Asked) -> Result<i32, String> {
@@ -172,8 +172,8 @@ pub fn twice(one: &Path, other: &Path) -> Result<Twice, String> {
     Ok(Twice { text: text + &count, is_same: causes.is_empty() })
 }
 
-/// Compares the builds that these words name. Says the exit status: 0 if all products are the same, 1 if one differs, 2 for wrong usage and
-/// what can't be read.
+/// Compares the builds that these words name. Says the exit status: 0 if all products are the same, 1 if one
+/// differs, 2 for wrong usage and what can't be read.
 pub fn run(words: &[OsString]) -> i32 {
     let result = match asked(words) {
         Ok(Some(asked)) => answer(&asked),

@@ -1,7 +1,9 @@
-//! Records of calls: what each command of a call read and made, and by which tool, words and variables. `zigrunk why` compares two.
+//! Records of calls: what each command of a call read and made, and by which tool, words and variables.
+//! `zigrunk why` compares two.
 //!
-//! A record is a file of JSON in the folder that `ZIGRUNK_RECORDS` names, with the texts of what the call read and made beside it,
-//! under their digests. The path of the directory of a call's temporary files is `$TMP` in words, names and texts.
+//! A record is a file of JSON in the folder that `ZIGRUNK_RECORDS` names, with the texts of what the call
+//! read and made beside it, under their digests. The path of the directory of a call's temporary files is
+//! `$TMP` in words, names and texts.
 use cache::calls::is_free;
 use cache::digest::Digest;
 use cache::environment_of;
@@ -37,7 +39,8 @@ pub const TEXTS: &str = "texts";
 pub const SUFFIX: &str = ".json";
 /// Files of the system have their digests in records, but their texts aren't kept.
 const OF_SYSTEM: &str = "/usr/";
-/// Which variables aren't a cause by themselves: where tools are found, and where they run, a record has anyway.
+/// Which variables aren't a cause by themselves: where tools are found, and where they run, a record has
+/// anyway.
 const KNOWN_OTHERWISE: [&str; 2] = ["PATH", "PWD"];
 
 /// A path, and the digest of what is in the file. No digest if it couldn't be read.
@@ -223,8 +226,8 @@ fn variables_of(program: &str, environment: &[(OsString, OsString)]) -> Vec<(Str
     chosen.into_iter().collect()
 }
 
-/// Writes the record of a call into a folder, which is seen from the call's own. It has the name of the call's product, and a digest.
-/// Says where it is.
+/// Writes the record of a call into a folder, which is seen from the call's own. It has the name of the
+/// call's product, and a digest. Says where it is.
 /// Errors: those of the disk.
 pub fn write(folder: &Path, call: &Finished<'_>) -> io::Result<PathBuf> {
     let folder = absolute(folder, Path::new(&call.line.cwd));

@@ -43,12 +43,11 @@ fn other_word(words: &[String], others: &[String]) -> Option<usize>
     ensures { result ≡ first_other bytes_eq 0 (map string_bytes words.now) (map string_bytes others.now) }
 {
     let mut rest = others;
-    for place in 0..words.len() {
-        let word = words[place].as_str();
+    for (place, word) in words.iter().enumerate() {
         let Some((other, more)) = rest.split_first() else {
             return Some(place);
         };
-        if word != other.as_str() {
+        if word.as_str() != other.as_str() {
             return Some(place);
         }
         rest = more;
@@ -72,8 +71,7 @@ fn other_pair(pairs: &[(String, String)], others: &[(String, String)]) -> Option
     ensures { result ≡ first_other spec.is_same 0 (map pair_of pairs.now) (map pair_of others.now) }
 {
     let mut rest = others;
-    for place in 0..pairs.len() {
-        let pair = &pairs[place];
+    for (place, pair) in pairs.iter().enumerate() {
         let Some((other, more)) = rest.split_first() else {
             return Some(place);
         };
@@ -130,8 +128,7 @@ fn first_change(commands: &[Ran], others: &[Ran]) -> Cause
     ensures { result ≡ spec.first_change 0 commands.now others.now }
 {
     let mut rest = others;
-    for command in 0..commands.len() {
-        let one = &commands[command];
+    for (command, one) in commands.iter().enumerate() {
         let Some((other, more)) = rest.split_first() else {
             return Cause {
                 command,
