@@ -74,6 +74,7 @@ END_OF_PROGRAM
 
 toolkit() {
     export CUDA=$scratch/cuda DATA=$tests/drivers/test_plans/data/dry_runs STAND_IN=$tests/driver_cache/tool FATBIN=$tests/driver/fatbin.c
+    export STAND_IN_PARTS=yes
     mkdir -p "$CUDA/bin" "$CUDA/nvvm/bin"
     gcc -O1 -o "$CUDA/bin/gcc" "$tests/driver_cache/program.c" || exit 1
     for tool in bin/cudafe++ bin/ptxas bin/fatbinary bin/cc1plus bin/as nvvm/bin/cicc; do cp "$CUDA/bin/gcc" "$CUDA/$tool"; done

@@ -1,5 +1,5 @@
-/* A stand-in for a tool that is a program, as the cache wants it: a shell runs the script $STAND_IN with its name and words. As gcc it runs the programs
-   before that of which gcc consists: the compiler beside it, and to make an object the assembler that PATH has. */
+/* A stand-in for a tool that is a program, as the cache wants it: a shell runs the script $STAND_IN with its name and words. With STAND_IN_PARTS, as gcc it
+   runs the programs before that of which gcc consists: the compiler beside it, and to make an object the assembler that PATH has. */
 #include <spawn.h>
 #include <stdio.h>
 #include <stdlib.h>
@@ -36,7 +36,7 @@ int main(int count, char **words) {
     if (count == 2 && strcmp(words[1], nothing) == 0)
         return 0;
     slash = strrchr(words[0], '/');
-    if (strcmp(slash ? slash + 1 : words[0], "gcc") == 0) {
+    if (getenv("STAND_IN_PARTS") && strcmp(slash ? slash + 1 : words[0], "gcc") == 0) {
         if (slash && !has(count, words, "assembler") && snprintf(part, sizeof part, "%.*s/cc1plus", (int)(slash - words[0]), words[0]) > 0)
             run(part);
         if (has(count, words, "-c"))
