@@ -125,18 +125,22 @@ fn endpoint(server: &Server, settings: &Settings) -> Result<Endpoint, Failure> {
     endpoint.tls_config(tls(settings)?).map_err(|error| Failure::Certificate(with_causes(&error)))
 }
 
+fn says_one_of(why: &str, words: &[&str]) -> bool {
+    let why = why.to_ascii_lowercase();
+    words.iter().any(|word| why.contains(word))
+}
+
 /// Why a server wasn't reached, by what the connection says.
 fn unreached(why: String) -> Failure {
-    let is_of_tls = ["certificate", "tls", "handshake", "alert"]
-        .iter()
-        .any(|word| why.to_ascii_lowercase().contains(word));
+    let is_of_tls = says_one_of(&why, &["certificate", "tls", "handshake", "alert"]);
     if is_of_tls { Failure::Certificate(why) } else { Failure::Unreachable(why) }
 }
 
 /// Why the first call behind a handshake wasn't answered. A server that doesn't take this user's certificate
-/// says so only then, and may close the connection before that is read.
+/// says so only then, and may close the connection before that is read, or while the call is written.
 fn unanswered(why: String, is_secure: bool) -> Failure {
-    if is_secure && why.contains("connection closed") { Failure::Certificate(why) } else { unreached(why) }
+    let is_closed = says_one_of(&why, &["connection closed", "broken pipe", "connection reset"]);
+    if is_secure && is_closed { Failure::Certificate(why) } else { unreached(why) }
 }
 
 impl Connection {
@@ -235,6 +239,8 @@ mod tests {
         for (why, is_secure, is_of_certificates) in [
             (closed, true, true),
             (closed, false, false),
+            ("connection error: stream closed because of a broken pipe", true, true),
+            ("connection error: Connection reset by peer (os error 104)", true, true),
             ("no answer in time", true, false),
             ("received fatal alert: CertificateRequired", true, true),
             ("tcp connect error: Connection refused (os error 111)", true, false),
