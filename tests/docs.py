@@ -305,6 +305,7 @@ def commands(page: str) -> Iterator[str]:
     text = text_of(page)
     code = "\n".join([*re.findall(r"```.*?```", text, re.DOTALL), *re.findall(r"^    .*$", text, re.MULTILINE), *words_in_code(text)])
     goals = {goal for line in re.findall(r"^\.PHONY: (.*)$", text_of("Makefile"), re.MULTILINE) for goal in line.split()}
+    goals |= {*re.findall(r"^([a-z-]+) +nightly ", text_of("tests/parts.txt"), re.MULTILINE)}
     yield from (f"no such goal: make {goal}" for goal in re.findall(r"\bmake ([a-z][a-z-]+)\b", code) if goal not in goals | {"gcc"})
     for script in re.findall(r"(?<![\w./])((?:tests|examples|packaging|bindings|demo)/[\w./-]*\w)", code):
         if "/out/" not in script and not os.path.exists(f"{TOP}/{script}"):

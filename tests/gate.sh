@@ -57,6 +57,28 @@ without_kit 'make test-install' 2 'run: make rust-install' make test-install
 for gate in .ci/gate .ci/plain; do without_kit "$gate" 2 'needs cargo' "$gate"; done
 without_kit 'tests/quick' 1 'make rust' tests/quick dry_runs
 
+# of_gate: whether each part of the gate has a time that the gate knows, each part a command whose script is there, and no two parts a name.
+of_gate() {
+    local known name when command script
+    known=$(grep -o 'run_all [a-z]*' .ci/gate | cut -d ' ' -f 2; echo first; echo plain; echo proof; echo nightly)
+    while read -r name when _ command; do
+        grep -qx "$when" <<< "$known" || echo "$name runs $when, which is no time"
+        grep -oE '(tests|packaging|\.ci)/[a-z_./]*[a-z]' <<< "$command" | while read -r script; do [ -e "$script" ] || echo "$name: no $script"; done
+    done < <(grep -v '^#' tests/parts.txt)
+    grep -v '^#' tests/parts.txt | cut -d ' ' -f 1 | sort | uniq -d
+}
+same 'the parts of all tests' "$(of_gate)" ''
+
+# noted NAME FILE COUNT: what tests/run does with a part in a clone of its own, which has no other.
+clone=$scratch/clone
+mkdir -p "$clone/tests" && cp tests/run tests/lib.sh "$clone/tests" && git init -q "$clone"
+printf '%s\n' 'good nightly - echo 2 passed, 0 failed' 'bad nightly - echo 1 passed, 1 failed && false' 'odd built nothing_here true' > "$clone/tests/parts.txt"
+git -C "$clone" add . && git -C "$clone" -c user.name=n -c user.email=e commit -qm c
+same 'a run of all parts outside the gate' "$("$clone/tests/run" --nightly | tail -n 1)" '3 passed, 1 failed'
+same 'what is noted' "$(tr -s ' ' < "$clone/tests/passed.txt" | cut -d ' ' -f 1,3,5-)" "good $(git -C "$clone" rev-parse --short=12 HEAD) 2 passed, 0 failed"
+same 'a part that lacks a tool' "$("$clone/tests/run" odd | tr '\n' ' ')" 'odd: skipped, it needs nothing_here 0 passed, 0 failed, 1 skipped '
+same 'the parts of the gate' "$("$clone/tests/run" --of)" odd
+
 check 'what edits by lot take for a success' python3 - << 'END_OF_PROGRAM'
 import sys
 sys.path.insert(0, "tests")

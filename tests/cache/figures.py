@@ -1,4 +1,4 @@
-"""Tables of what `make cache` has measured, and how far its goals are reached."""
+"""Tables of what `make rebuilds` has measured, and how far its goals are reached."""
 import statistics
 from collections.abc import Callable
 from dataclasses import dataclass

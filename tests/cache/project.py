@@ -1,4 +1,4 @@
-"""What `make cache` builds: sources, the edits of them, and the makefile of a build."""
+"""What `make rebuilds` builds: sources, the edits of them, and the makefile of a build."""
 import shlex
 import subprocess
 from dataclasses import dataclass, field

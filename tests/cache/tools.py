@@ -1,4 +1,4 @@
-"""The tools that `make cache` compares: how each compiles, where its cache is, and which commands it ran."""
+"""The tools that `make rebuilds` compares: how each compiles, where its cache is, and which commands it ran."""
 import json
 import os
 import random
