@@ -40,6 +40,15 @@ offers() {
     done
 }
 
+# missing_in PAGE OPTIONS: those of the options that a page of the manual lacks.
+missing_in() {
+    local option
+    for option in $2; do
+        case $option in -h | --help | --version) continue ;; esac
+        sed 's/\\-/-/g' "$top/man/zigrunk-$1.1" | grep -qE -- "(^|[^-a-z])$option([^-a-z]|\$)" || echo "$option"
+    done
+}
+
 first=$(python3 - "$zigrunk" << 'END'
 import re, subprocess, sys
 print(*re.findall(r"^  ([a-z-]+)  +", subprocess.run([sys.argv[1], "help"], capture_output=True, text=True, check=True).stdout, re.MULTILINE))
@@ -54,6 +63,9 @@ for word in $first; do
     # (bash completes an empty word to all)
     options=$("$zigrunk" help "$word" | grep -oE '^-[-a-z]+' | tr '\n' ' ')
     [ "$word" = nvcc ] || [ "$word" = help ] || offers "${options% }" "$word" -
+    # (report, why and audit, and check-node, are on the pages of others)
+    case $word in report | why | audit) page='nvcc' ;; check-node) page='batch' ;; *) page=$word ;; esac
+    [ "$word" = help ] || same "the manual's options of $word" "$(missing_in "$page" "$options")" ''
 done
 offers 'json ninja shell compdb text' plan ''
 offers 'json ninja shell compdb text' plan --dry-runs one two ''

@@ -87,7 +87,6 @@ if command -v man > /dev/null; then
         # shellcheck disable=SC2016 # for sh
         check "the man page $page" sh -c '[ -s shown ] && ! grep . warnings'
     done
-    LC_ALL=C MANWIDTH=130 man -l "$root/usr/share/man/man3/zigrunk.h.3" | sed -n '/#include <stdio.h>/,/^ *}$/p' > page.c
 else
     echo 'skipped: the man pages, without man'
 fi
@@ -107,10 +106,6 @@ if command -v cc > /dev/null && command -v pkg-config > /dev/null; then
     export LD_LIBRARY_PATH=$root/usr/lib
     check 'what it prints' planned ./plan
     check 'the example that makes' cc -o schedule "$root/usr/share/zigrunk/c/schedule.c" "${words[@]}"
-    if [ -s page.c ]; then
-        check "the man page's example" cc -std=c99 -Wall -Wextra -pedantic -Werror -o page page.c "${words[@]}"
-        check 'what that prints' planned ./page
-    fi
     printf '%s\n' '#include <stdio.h>' '#include <zigrunk.h>' \
         'int main(void) { puts(zigrunk_version()); return zigrunk_abi_version() != ZIGRUNK_ABI_VERSION; }' > version.c
     check 'the versions by the shared object' cc -o by_shared version.c "${words[@]}"
