@@ -336,6 +336,7 @@ mod tests {
             ("--dry-runs a b --limit", "--limit needs a number of bytes"),
             ("--dry-runs a b --limit 2M json", "--limit needs a number of bytes, not 2M"),
             ("--dry-runs a b json --limit -1", "--limit needs a number of bytes, not -1"),
+            ("--dry-runs a b json --limit +1", "--limit needs a number of bytes, not +1"),
             ("--dry-runs a b json --limit 0", "--limit needs a number of bytes, not 0"),
             ("json --dry-runs a b --cwd", "--cwd needs a directory"),
             ("json --dry-runs a b --suffix", "--suffix needs a suffix, as .gpu"),

@@ -265,6 +265,18 @@ mod tests {
     }
 
     #[test]
+    fn a_name_may_be_too_long_for_a_disk() {
+        let command = |names: &[usize]| PlannedCommand {
+            writes: names.iter().map(|&length| format!("/t/{}", "k".repeat(length))).collect(),
+            ..PlannedCommand::default()
+        };
+        let cases: [(&[usize], bool); 4] = [(&[255], false), (&[256], true), (&[1, 300, 1], true), (&[], false)];
+        for (names, is_long) in cases {
+            assert_eq!(command(names).writes_long_name(), is_long, "{names:?}");
+        }
+    }
+
+    #[test]
     fn a_product_needs_a_folder() {
         let scratch = TestFolder::new();
         fs::create_dir(scratch.join("taken")).unwrap();

@@ -141,7 +141,9 @@ pub fn complain_of(tasks: &[Task]) {
 #[cfg(test)]
 mod tests {
     use super::*;
+    use crate::test_folder::TestFolder;
     use std::collections::HashSet;
+    use std::fs;
 
     #[test]
     fn a_note_says_what_became_of_a_command() {
@@ -165,6 +167,17 @@ mod tests {
             let read = Note::read(line);
             assert_eq!((read.as_ref().and_then(Note::is_hit), read), (is_hit, wanted), "{line}");
         }
+    }
+
+    #[test]
+    fn a_task_has_the_note_that_its_command_left() {
+        let room = TestFolder::new();
+        let path = room.join("note").to_string_lossy().into_owned();
+        let task = Task { note: Some(path.clone()), ..Task::default() };
+        assert_eq!((Note::of(&Task::default()), Note::of(&task)), (None, None));
+        let line = "found grpc://a:1 n1 1 2 \n";
+        fs::write(&path, line).unwrap();
+        assert_eq!(Note::of(&task), Note::read(line));
     }
 
     #[test]
