@@ -206,7 +206,8 @@ def variables() -> Iterator[str]:
     entries = "\n".join(line for page in MANUALS for line in re.findall(r"^\.TP\n(.*)", text_of(page), re.MULTILINE))
     there = {*re.findall(r"\bZIGRUNK_\w+", entries.replace("\\fB", " ").replace("\\fR", " "))}
     there.add("ZIGRUNK_BATCH")
-    yield from (f"no page of the manual has {name}" for name in {*re.findall(r"\w+", known[1] if known else "none")} - there - NOT_IN_MANUALS)
+    names = {*re.findall(r"\w+", known[1] if known else "none")}
+    yield from (f"no page of the manual has {name}" for name in names - there - NOT_IN_MANUALS)
 
 
 def words_of(page: str) -> int:
@@ -336,7 +337,8 @@ def version() -> Iterator[str]:
 def main() -> int:
     checks: list[tuple[str, Iterable[str]]] = [(page, links(page)) for page in PAGES]
     checks += [(page, commands(page)) for page in READ]
-    checks += [("", check()) for check in (calling, files, contracts, architecture, definitions, embedding, variables, premises, needed, lengths, version)]
+    checks += [("", check()) for check in (calling, files, contracts, architecture, definitions, embedding, variables, premises, needed, lengths,
+                                           version)]
     checks += [("", words(page)) for page in ("docs/proof/DEFINITIONS.md", "docs/proof/GUARANTEES.md")]
     counts = Counts()
     for name, findings in checks:
