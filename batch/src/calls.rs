@@ -460,7 +460,7 @@ mod tests {
             "the old one doesn't count"
         );
         assert_eq!(self::made(compiler(), room.context(), |_| Some(ended(3, "", ""))).0.status, 3);
-        // Another machine's may come later.
+        // With a runner it looks again, since another machine's file may show late on a shared disk.
         let elsewhere = || {
             let mut context = room.context();
             context.settings.runner = vec!["env".into()];

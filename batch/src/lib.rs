@@ -192,7 +192,7 @@ impl Calls for Told<'_> {
 
     fn told(&mut self, call: usize, made: &Made) {
         for (is_error, text) in &made.said {
-            // A stream that is closed gets nothing.
+            // A stream that is closed gets nothing, since nobody would read it.
             let _ = say(if *is_error { 2 } else { 1 }, text);
         }
         if made.status != 0 {

@@ -87,7 +87,7 @@ impl Records {
         let failed = before.into_iter().filter(|mark| mark.status != 0);
         let all = failed.chain([Mark { status, machine: machine_name() }]);
         let lines: Vec<String> = all.map(|mark| format!("{} {}\n", mark.status, mark.machine)).collect();
-        // Without its mark a call is made again.
+        // No error, since without its mark a call is only made again.
         let _ = replace_file(&self.marks_file(call), lines.concat().as_bytes());
     }
 

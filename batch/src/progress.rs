@@ -2,11 +2,11 @@
 use std::io::Write;
 use std::time::{Duration, Instant};
 
-/// How often it says something at most.
+/// How often it says something at most, since each line stays in a log.
 const OFTEN: Duration = Duration::from_secs(1);
-/// The same on a terminal, where it's one line.
+/// The same on a terminal. More often, because there it's one line that the next one overwrites.
 const OFTEN_ON_TERMINAL: Duration = Duration::from_millis(100);
-/// How many characters of a terminal's line are used.
+/// How many characters of a terminal's line are used: a longer one would wrap, and not be overwritten.
 const WIDTH: usize = 79;
 
 /// How a batch says it.
@@ -63,7 +63,7 @@ impl<W: Write> Progress<W> {
         if self.said.as_ref().is_some_and(|(_, said)| *said == line) {
             return;
         }
-        // Nobody has to read it.
+        // No error, since nobody has to read it.
         let _ = if self.form == Form::Terminal {
             write!(self.to, "\r\x1b[K{}", line.chars().take(WIDTH).collect::<String>())
         } else {

@@ -242,7 +242,7 @@ impl Described {
             let states: String =
                 products.chain(files.iter().filter_map(|file| state(&self.folder, file))).collect();
             let beside = self.record.with_extension(std::process::id().to_string());
-            // Without its record a call is made again.
+            // No error, since without its record a call is only made again.
             return fs::write(&beside, format!("{}{states}", self.head))
                 .and_then(|()| fs::rename(&beside, &self.record))
                 .is_ok();

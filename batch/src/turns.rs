@@ -125,7 +125,7 @@ impl<T: Send + 'static> Maker<T> {
                 given: Vec::new(),
             };
             let end = make(&mut turns);
-            // Without a batch nobody asks for the end.
+            // No error, since without a batch nobody asks for the end.
             let _ = turns.steps.send(Step::End(Some(end)));
         })?;
         Ok(Maker { steps, answers, thread: Some(thread) })
@@ -135,7 +135,7 @@ impl<T: Send + 'static> Maker<T> {
     pub fn step(&mut self) -> Step<T> {
         let step = self.steps.recv().unwrap_or(Step::End(None));
         if let Some(thread) = self.thread.take_if(|_| matches!(step, Step::End(_))) {
-            // What it panicked with is said already.
+            // Nothing more, since what it panicked with is said already.
             let _ = thread.join();
         }
         step

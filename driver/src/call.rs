@@ -24,7 +24,8 @@ use std::path::Path;
 use std::rc::Rc;
 use std::time::SystemTime;
 
-/// How many milliseconds a call that waits for nvcc sleeps at most, until it looks again.
+/// How many milliseconds a call that waits for nvcc sleeps at most. It looks again by itself, since a signal
+/// that can't be read would wake nobody.
 const LOOK: i32 = 1000;
 
 /// A call.

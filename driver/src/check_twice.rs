@@ -14,9 +14,10 @@ use std::process::{self, Command, ExitStatus};
 use std::thread;
 use std::time::Duration;
 
-/// How long it waits between both: what a clock says in seconds is another then.
+/// How long it waits between both, so that a clock that counts seconds says another one.
 const PAUSE: Duration = Duration::from_millis(1100);
-/// The folders for temporary files, of other lengths.
+/// The folders for temporary files. Their lengths differ too, since a path that gets into a file may show
+/// only by what it moves.
 const TEMPORARY: [&str; 2] = ["t", "temporary"];
 
 /// A new folder below that for temporary files, for this user alone.

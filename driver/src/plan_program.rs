@@ -23,7 +23,8 @@ use std::path::Path;
 const USAGE: &str = "usage: zigrunk plan FORMAT [--] NVCC WORD..
        zigrunk plan --dry-runs FILE FILE [OPTION].. FORMAT";
 
-/// How many bytes parsing a dry run may take by default.
+/// How many bytes parsing a dry run may take by default, because a few variables that name each other make a
+/// short one explode.
 const MOST_BYTES: usize = 1 << 21;
 
 /// Why there is no plan: the exit status, and what to say.

@@ -28,7 +28,7 @@ pub struct Stored {
 
 /// How the line begins that nvcc prints for a dependency file. It is no command.
 const FILTER: &[u8] = b"#$ -- Filter Dependencies --";
-/// How much of a text, and of a line, a message shows.
+/// How much of a text, and of a line, a message shows, since a stored line may have a megabyte.
 const MOST_TEXT: usize = 1000;
 const MOST_LINE: usize = 120;
 

@@ -1,8 +1,10 @@
 //! Texts that are sought in others.
 
-/// So many places of a text are looked at together.
+/// So many places of a text are looked at together, because a loop of a fixed length becomes a few
+/// instructions for sixteen bytes each.
 const BLOCK: usize = 64;
-/// Bytes of programs, the most frequent ones first.
+/// Bytes of programs, the most frequent ones first: a rare byte of what is sought is looked for, since a
+/// frequent one would be found on each line.
 const FREQUENT: &[u8] = b" _etnriaosdclupfmh,()\ngbv0xyTk:\"qw1;2*=";
 
 /// How rare bytes are: what isn't among the frequent ones is rarest.

@@ -18,11 +18,12 @@ pub const OWN: &str = "zigrunk.tmp";
 /// What a user can do whose calls have directories of random names.
 pub const NAME_HINT: &str = "make zigrunk-UID below TMPDIR yours alone, with mode 700: the same call then always has the same directory";
 
-/// How many equal calls may have directories at once.
+/// How many equal calls may have directories with their names at once. A further one gets a random name,
+/// since it would have to try each lock before.
 const MOST_EQUAL_CALLS: usize = 64;
 /// How long what a killed call left stays, if no equal call takes it.
 const LEFT_ALONE: Duration = Duration::new(600, 0);
-/// The same if it's an empty directory: the call was killed before it had a guard.
+/// The same if it's an empty directory, because the call was killed before it had a guard.
 const EMPTY_LEFT_ALONE: Duration = Duration::new(10, 0);
 
 /// Removes a folder with all that it holds, unless each try to open it is interrupted: std would try for
@@ -63,7 +64,7 @@ fn user_folder() -> String {
     format!("zigrunk-{}", system::user())
 }
 
-/// How long a user isn't told the same thing again.
+/// How long a user isn't told the same thing again, since each of a build's thousand calls would say it.
 const A_DAY: Duration = Duration::from_secs(24 * 60 * 60);
 
 /// Whether something of this name is due to be said: it wasn't within a day. A file in the user's folder, in

@@ -8,11 +8,13 @@ use std::sync::atomic::{AtomicI32, AtomicU8, Ordering};
 use std::thread::sleep;
 use std::time::Duration;
 
-/// How many commands may run at once.
+/// How many commands may run at once, because all have to have a place in the page that the guard sees.
 pub const MOST_GROUPS: usize = 512;
-/// How many jobs of make a call may have at once.
+/// How many jobs of make a call may have at once. Each is a byte of the same page, so that the guard gives
+/// back the very bytes that make has lent.
 pub const MOST_TOKENS: usize = 1024;
-/// How long a command may take to end after TERM, in hundredths of a second.
+/// How long a command may take to end after TERM, in hundredths of a second: so long because a compiler
+/// removes its temporary files, and no longer because nothing limits a command that ignores TERM.
 const GRACE: usize = 100;
 
 /// What a call and its guard both see: the process groups that run, the jobs that the call has of make, and

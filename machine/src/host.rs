@@ -26,12 +26,13 @@ use std::rc::Rc;
 use std::sync::atomic::Ordering;
 use std::time::{Duration, Instant};
 
-/// How many milliseconds a call that waits for a slot sleeps at most, until it looks again for a slot of a
-/// call that died.
+/// How many milliseconds a call that waits for a slot sleeps at most. It looks again by itself, because a
+/// call that died has woken nobody when the kernel freed its slot.
 const LOOK: i32 = 200;
-/// How many milliseconds what a command prints may wait until it is noticed.
+/// How many milliseconds what a command prints may wait until it is noticed. It's looked for, since a file in
+/// memory can't wake this process.
 const HEARING: i32 = 100;
-/// How long commands may take to end after a signal.
+/// How long commands may take to end after a signal, so that the call itself ends within a second of Ctrl-C.
 const GRACE: Duration = Duration::from_millis(700);
 
 /// What a job runs in: a slot, and a job of make.
@@ -302,7 +303,7 @@ impl Host {
         let waits =
             self.permit.as_ref().is_some_and(|permit| permit.token.is_some() || self.tokens.is_none());
         if waits && self.slots.as_ref().is_some_and(Slots::are_lost) {
-            // Somebody removed the folder: nothing limits this call any more.
+            // Somebody removed the folder, so nothing limits this call any more.
             self.slots = None;
             return self.has_permit();
         }
@@ -410,7 +411,7 @@ impl Host {
         let longest = if self.running.iter().any(|running| self.listened == Some(running.number)) {
             HEARING
         } else if waits.is_some() || self.lacks_slot() {
-            // Nobody wakes a call that couldn't make its ticket.
+            // Nobody wakes a call that couldn't make its ticket, so it looks again by itself.
             LOOK
         } else if holds {
             BEAT
@@ -441,7 +442,7 @@ impl Host {
                 Ok(true) => {}
                 Ok(false) => self.pipes.push((number, Some(piped))),
                 Err(_) => {
-                    // (before the pipe goes, by which the job would hear of an end)
+                    // (before the pipe goes, because the job would take that for an end of the text)
                     self.signal(number, KILL);
                     self.pipes.push((number, None));
                 }

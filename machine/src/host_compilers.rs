@@ -17,7 +17,7 @@ const PROGRAM: &[u8] = b"\x7fELF";
 /// What gcc's own program has in it, of every version, and neither clang nor a program that starts compilers:
 /// what it says of a specs file, and how the built-in specs of its languages begin.
 const OF_GCC: [&[u8]; 2] = [b"Reading specs from ", b"%{!E:%{!M:%{!MM:"];
-/// How many bytes are looked at together.
+/// How many bytes are looked at together, so that a large program isn't in memory as a whole.
 const PIECE: usize = 1 << 16;
 /// A larger program isn't gcc's, which starts the compiler proper. clang may have a hundred times as many
 /// bytes.

@@ -4,7 +4,7 @@ use lexopt::{Arg, Error, Parser};
 use std::ffi::{OsStr, OsString};
 use std::os::unix::ffi::OsStrExt;
 
-/// How much of a word a message shows.
+/// How much of a word a message shows, since the reason comes behind it, and would be out of sight.
 const MOST_SHOWN: usize = 100;
 
 /// The nearest of these names, unless even that one is another word.

@@ -85,7 +85,8 @@ pub struct Wishes<'a> {
     pub rooting: Option<&'a Rooting>,
 }
 
-/// How many bytes a file's name may have.
+/// How many bytes a file's name may have. A plan with a longer one isn't run, since its command would fail
+/// late.
 const LONGEST_NAME: usize = 255;
 
 /// Options by which a host compiler writes a dependency file, or prints its text.

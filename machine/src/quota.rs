@@ -35,7 +35,7 @@ fn quota_of(root: &Path, line: &str) -> Option<usize> {
 fn quota_in(folder: &Path) -> Option<usize> {
     let read = |name: &str| text_of(&folder.join(name));
     let both = read("cpu.max").or_else(|| Some(read("cpu.cfs_quota_us")? + &read("cpu.cfs_period_us")?))?;
-    // (without a quota, the first word is "max" or -1)
+    // (without a quota, the first word is "max" or -1, so it is no number here)
     let mut numbers = both.split_whitespace().map(|word| word.parse::<usize>().ok());
     let (time, period) = (numbers.next()??, numbers.next()??);
     Some(time.checked_div(period)?.max(1))

@@ -38,7 +38,20 @@ pub struct Waits {
     pub for_fatbin: bool,
 }
 
-/// The variables `ZIGRUNK_..` and `TMPDIR`.
+/// The variables `ZIGRUNK_..` and `TMPDIR`. Where two of them meet:
+///
+/// | Set | and | What counts, and why |
+/// |---|---|---|
+/// | `RUNNER` | `LAUNCHER` | both, the runner first, since it may take the rest elsewhere |
+/// | `RUNNER` | `SLOTS` | no limit, because commands don't run here |
+/// | `RUNNER`, `LAUNCHER`, `REMOTE` | `CACHE` | no cache, since it observes the plan's own commands |
+/// | the same | `EARLY`, `LATE` | nothing begins early, because they get the plan's own commands |
+/// | `RECORDS`, `PROVENANCE` | `EARLY`, `LATE` | the same, since they note the plan's own commands |
+/// | `PROVENANCE` | `CACHE` and those | refused, because a statement says what commands read here |
+/// | `ROOT` | `LAUNCHER` | refused, because a launcher gets the plan's own words |
+/// | `TMP` | `TMPDIR` | plans' files and commands' own, since only the first is shared |
+/// | `LAUNCHER` sccache | `TMPDIR` | commands have it, because a server may start there, and stays |
+/// | `JOBS` | `--threads` | the variable, since a build system writes the line |
 #[derive(Clone, PartialEq, Eq, Debug, Default)]
 pub struct Settings {
     /// nvcc's name or path.
@@ -286,7 +299,7 @@ impl Settings {
     fn of(of: Lookup<'_>) -> Result<Settings, String> {
         switch(of, "ZIGRUNK_CALLS", true)?;
         let mut settings = Settings::each(of)?;
-        // (records and statements are of the plan's own commands)
+        // Records and statements are of the plan's own commands, so none may begin early or in two halves.
         let is_noted = settings.records.is_some() || settings.provenance.is_some();
         settings.waits.for_needs |= is_noted;
         settings.waits.for_fatbin |= is_noted;

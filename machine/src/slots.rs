@@ -16,12 +16,14 @@ use std::os::fd::{AsFd, BorrowedFd, OwnedFd};
 use std::path::{Path, PathBuf};
 use std::time::{Duration, SystemTime};
 
-/// How long a call that doesn't touch its files counts.
+/// How long a call that doesn't touch its files counts: five beats, since a busy machine may delay one or two
+/// of a call that runs.
 const STALE: Duration = Duration::from_secs(5);
-/// How much later than its folder's last change a list of those who wait has to be read, so that a further
-/// change shows in the folder's time.
+/// How much later than its folder's last change a list of those who wait has to be read to be kept. File
+/// systems note times in ticks of up to ten milliseconds, so a further change within one would not show.
 const TICK: Duration = Duration::from_millis(50);
-/// How often holders and waiters touch their files, in milliseconds.
+/// How often holders and waiters touch their files, in milliseconds, because a stopped call keeps its locks
+/// and only its silence tells it from one that runs.
 pub const BEAT: i32 = 1000;
 
 /// A slot that a call has.
@@ -265,7 +267,7 @@ impl Slots {
             let made = system::make_pipe(self.folder.as_fd(), &name);
             let opened = system::open_below(self.folder.as_fd(), &name, Opening::Pipe).map(File::from);
             let (Ok(()), Ok(file)) = (made, opened) else { return false };
-            // Another call may take it for that of a dead one before it is locked.
+            // It looks again, since another call may take it for that of a dead one before it is locked.
             if system::try_lock(file.as_fd()).unwrap_or(false) && self.folder.names(&name, &file) {
                 self.ticket = Some(Ticket { file: file.into(), name });
                 return true;

@@ -8,7 +8,8 @@ use std::path::Path;
 
 /// How many seconds the kernel says it lets readers wait.
 const PATIENCE: &str = "/proc/sys/fs/lease-break-time";
-/// The fewest for which it's worth to begin early.
+/// The fewest for which it's worth to begin early, since a reader that had to go on costs its command once
+/// more.
 const SHORTEST: u64 = 3;
 
 /// A file that nobody can open. Who tries waits.

@@ -7,9 +7,10 @@ use std::io;
 use std::os::unix::ffi::OsStrExt;
 use std::path::{Path, PathBuf};
 
-/// How many digits of a digest tell products of one name in several folders apart.
+/// How many digits of a digest tell products apart, since several folders may have products of one name.
 const DIGITS: usize = 16;
-/// How many letters of a product's name a statement's name has at most.
+/// How many letters of a product's name a statement's name has at most, because with what is added it must
+/// stay below a file system's 255.
 const LONGEST: usize = 50;
 
 /// Where the statement of a product is, given its whole path: by its name, and by a digest of its real place.

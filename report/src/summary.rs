@@ -19,7 +19,7 @@ pub fn words_of(call: &Call, width: usize) -> String {
 /// The summary of a log.
 pub fn summary(log: &Log) -> String {
     let mut text = String::new();
-    // Writing to a text can't fail.
+    // No error, since writing to a text can't fail.
     let _ = write_all(&mut text, log);
     text
 }

@@ -13,7 +13,7 @@ use std::fs;
 use std::path::PathBuf;
 use std::slice;
 
-/// A variable by which gcc does more than its words say.
+/// A variable by which gcc compiles twice and compares, so that a compile can't be cut in two.
 const ODD_VARIABLE: &str = "GCC_COMPARE_DEBUG";
 
 /// Whether a call's commands may be begun so. A launcher and a runner get the plan's own.
@@ -70,7 +70,7 @@ impl Halves {
         self.put_files(compile).map_err(Stopped::NoProcess)?;
         let made = run::run(machine, &mut NoRule, slice::from_ref(whole), 1)?.pop();
         if let [.., compile, assemble] = done {
-            // (what the compiler's half said the whole compile says too)
+            // (not said twice, since what the compiler's half said the whole compile says too)
             compile
                 .ended
                 .iter_mut()

@@ -36,7 +36,7 @@ pub fn keep(tmp: &Path, keep_dir: &Path, begun: SystemTime) {
         if fs::rename(&from, &to).is_ok() {
             continue;
         }
-        // Another disk has that directory.
+        // Another disk has that directory, so it can't be renamed.
         let _ = fs::remove_file(&to);
         let _ = fs::copy(&from, &to);
     }

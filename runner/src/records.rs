@@ -37,7 +37,8 @@ pub const TMP: &str = "$TMP";
 pub const TEXTS: &str = "texts";
 /// How the name of a record ends.
 pub const SUFFIX: &str = ".json";
-/// Files of the system have their digests in records, but their texts aren't kept.
+/// Files of the system have their digests in records, but their texts aren't kept, since each call reads
+/// hundreds of them, and they hardly ever differ.
 const OF_SYSTEM: &str = "/usr/";
 /// Which variables aren't a cause by themselves: where tools are found, and where they run, a record has
 /// anyway.
@@ -124,7 +125,7 @@ impl Recorder<'_> {
         let digest = Digest::of(text).to_string();
         let place = self.folder.join(TEXTS).join(&digest);
         if !path.starts_with(OF_SYSTEM) && !place.exists() {
-            // (another call may keep the same text now)
+            // (another call may keep the same text now, so that it's there already is no error)
             let beside = place.with_extension(process::id().to_string());
             write_file(&beside, text).and_then(|()| fs::rename(&beside, &place))?;
         }

@@ -76,7 +76,8 @@ pub fn by_nvcc<T>(reason: Reason) -> Result<T, Stop> {
     Err(Stop::ByNvcc(reason))
 }
 
-/// With fewer files that it may still open, nvcc makes the call.
+/// With fewer files that it may still open, nvcc makes the call, since each command takes some for its
+/// streams, and the call would run out half-way.
 pub const FEWEST_FILES: usize = 27;
 
 /// Variables by which each command of gcc adds to one file, so that their order shows there.
@@ -176,7 +177,7 @@ impl Call<'_> {
             remote::send(&mut tasks, &commands, tmp, self.settings.needs_remote);
         }
         let first_wave = threads::first_wave(&tasks, self.at_once(outline));
-        // (what a command says under a root is changed as a whole)
+        // (what a command says under a root is changed as a whole, so nothing may be printed before its end)
         let holds_back = halves.is_some() || has_cache || rooting.is_some();
         let habits = habits_of(&tasks, holds_back, dry_runs, outline)?;
         Ok(Planned { commands, tasks, halves: halves.zip(whole), habits: Habits { first_wave, ..habits } })
@@ -213,9 +214,10 @@ impl Call<'_> {
         } else {
             HostCompiler::Script
         };
-        // A script's calls come in nvcc's order, unless nvcc itself has preprocessors not wait.
+        // A script's calls come in nvcc's order, since it may note them, unless nvcc itself has preprocessors
+        // not wait.
         let frees = (heads && host != HostCompiler::Script) || dry_runs.has_threads() || rule.is_some();
-        // The cache looks a host compile up by its text, for which the stub file has to be there.
+        // The cache looks a host compile up by its text, so the stub file has to be there.
         Wishes {
             in_place,
             halves: may_halve && host == HostCompiler::Gcc,

@@ -176,7 +176,7 @@ fn order_by<Key: Ord>(tasks: &[Task], key: impl Fn(&Task) -> Key) -> Vec<usize> 
     while !left.is_empty() {
         let is_ready = |number: usize| tasks[number].needs.iter().all(|need| order.contains(need));
         let ready = (0..left.len()).filter(|&place| is_ready(left[place]));
-        // The first of those left needs only earlier ones, which are placed.
+        // There is always one, because the first of those left needs only earlier ones, which are placed.
         let next = ready.min_by_key(|&place| key(&tasks[left[place]])).unwrap_or(0);
         order.push(left.remove(next));
     }

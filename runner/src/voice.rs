@@ -202,7 +202,7 @@ impl<'a> Voice<'a> {
 
     fn tell_end(&mut self, number: usize, ended: &Ended) {
         let said = match self.rule {
-            // What nvcc warns of a dry run has told.
+            // Not again, since the dry run has printed what nvcc warns of.
             Some(rule) if rule == number && self.habits.rule_speaks => &without_nvccs_warnings(&ended.errors),
             Some(rule) if rule == number => &Vec::new(),
             _ => &ended.errors,

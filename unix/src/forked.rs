@@ -14,7 +14,7 @@ use std::sync::atomic::{AtomicBool, Ordering};
 use std::thread::sleep;
 use std::time::{Duration, Instant};
 
-/// How long such a test may take.
+/// How long such a test may take, since one that waits for itself would hold all others.
 const LONGEST: Duration = Duration::from_secs(60);
 /// The status of a test that fails.
 const FAILED: i32 = 101;

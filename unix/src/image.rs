@@ -12,7 +12,8 @@ use std::os::fd::{BorrowedFd, RawFd};
 use std::ptr;
 use std::sync::atomic::{AtomicI32, Ordering};
 
-/// How many parts of sixteen bytes a child's stack has.
+/// How many parts of sixteen bytes a child's stack has: parts of that size because a stack has to be aligned
+/// so, and few because the child only sets its files and becomes the program.
 const CHILD_STACK: usize = 4096;
 /// The status of a child that can't run its program, as a shell has it.
 const NOT_RUN: i32 = 127;

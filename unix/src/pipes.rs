@@ -8,7 +8,8 @@ use std::io;
 use std::os::fd::{AsFd, AsRawFd, BorrowedFd, OwnedFd, RawFd};
 use std::sync::atomic::AtomicU8;
 
-/// How many bytes a small pipe takes at once.
+/// How many bytes a small pipe takes at once: the smallest page, so that a writer sees soon whether somebody
+/// reads.
 pub const SMALL_PIPE: usize = SMALL as usize;
 const SMALL: u16 = 4096;
 
@@ -21,7 +22,7 @@ pub fn pipe() -> io::Result<(OwnedFd, OwnedFd)> {
 /// the other.
 pub fn small_pipe() -> io::Result<(OwnedFd, OwnedFd)> {
     let (read, write) = pipe()?;
-    // (a kernel's page may be larger, but a part always takes a whole one)
+    // (a kernel's page may be larger, but a part always takes a whole one, so the pipe is full all the same)
     crate::files::set(write.as_fd(), libc::F_SETPIPE_SZ, SMALL.into())?;
     set_unblocked(write.as_fd())?;
     Ok((read, write))

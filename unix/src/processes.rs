@@ -33,7 +33,7 @@ pub fn processors() -> usize {
 /// How many more files this process may open. Its caller may have left some open.
 pub fn spare_files() -> usize {
     let Some(most) = getrlimit(Resource::Nofile).current else { return usize::MAX };
-    // The folder itself is open while it is read.
+    // The folder itself is open while it is read, so it would be in its own list.
     let open = std::fs::read_dir("/proc/self/fd").map_or(3, |files| files.count().saturating_sub(1));
     usize::try_from(most).unwrap_or(usize::MAX).saturating_sub(open)
 }
@@ -46,7 +46,8 @@ pub(crate) fn null() -> io::Result<OwnedFd> {
 pub fn open_standard_streams() {
     for stream in [stdin(), stdout(), stderr()] {
         if rustix::io::fcntl_getfd(stream).is_err() {
-            // The lowest number that is free is this stream's. It stays open.
+            // The lowest number that is free is this stream's. It stays open, because the next file that is
+            // opened would otherwise become the stream.
             let _ = null().map(OwnedFd::into_raw_fd);
         }
     }

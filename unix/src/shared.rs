@@ -3,7 +3,8 @@ use std::io;
 use std::ptr;
 use std::sync::atomic::{AtomicI32, AtomicU8};
 
-/// A page of memory that this process shares with those that it forks, all zeros at first.
+/// A page of memory that this process shares with those that it forks, all zeros at first. Its parts are
+/// atomic, since another process may look while this one writes, or after it was killed.
 #[derive(Debug)]
 #[repr(C)]
 pub struct SharedPage {

@@ -11,9 +11,12 @@ use std::os::fd::AsFd;
 use std::os::unix::fs::FileExt;
 use std::path::Path;
 
-/// How much memory is taken at once because a file says that it has so many bytes.
+/// How much memory is taken at once because a file says that it has so many bytes. One with holes may say any
+/// number, so what is beyond is taken as bytes come.
 const MOST_EXPECTED: usize = 1 << 26;
-/// How many milliseconds to wait for the reader of a stream that takes no more just now.
+/// How many milliseconds to wait for the reader of a stream that takes no more just now. With `MOST_TRIES` of
+/// these a stream that nobody reads is given up after a quarter of an hour, since the call would else never
+/// end.
 const PATIENCE: i32 = 1000;
 
 /// All that an open file holds, wherever it is read or written just now.

@@ -4,7 +4,8 @@ use std::os::fd::BorrowedFd;
 use std::thread::sleep;
 use std::time::Duration;
 
-/// How often a pipe that can't be read is tried again.
+/// How often a pipe that can't be read is tried again. Not for ever, since a guard would then outlive its
+/// call.
 const MOST_FAILURES: usize = 1000;
 
 /// Waits until one of these files is as it should be, at most so many milliseconds; -1 is for ever. Says how

@@ -9,7 +9,8 @@ use std::os::fd::OwnedFd;
 use std::os::unix::ffi::OsStringExt;
 use std::path::{Path, PathBuf};
 
-/// The largest message has a name of 255 bytes.
+/// The largest message has a name of 255 bytes, so a dozen fit. One that doesn't fit would be an error of
+/// reading.
 const ROOM: usize = 4096;
 
 /// The names that come into a folder, as the kernel tells them.

@@ -6,7 +6,8 @@ mod toolkit;
 use serde::{Deserialize, Serialize};
 use std::collections::BTreeMap;
 
-/// How many seconds the clocks of two machines may be apart.
+/// How many seconds the clocks of two machines may be apart, since make and Ninja compare times of files that
+/// several machines have written.
 const MOST_APART: f64 = 2.0;
 /// How many bytes a folder for temporary files needs at least.
 const LEAST_ROOM: u64 = 256 << 20;

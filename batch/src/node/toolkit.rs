@@ -13,7 +13,7 @@ use std::process::{Command, Stdio};
 use std::sync::atomic::{AtomicUsize, Ordering};
 use std::thread;
 
-/// How many bytes of a file are read at once.
+/// How many bytes of a file are read at once, so that a large library isn't in memory as a whole.
 const PART: usize = 1 << 18;
 /// How many files are read side by side.
 const SIDE_BY_SIDE: usize = 4;
@@ -164,7 +164,7 @@ fn digest_below(path: &Path) -> Option<Digest> {
     files.sort();
     let mut hasher = Hasher::default();
     for file in &files {
-        // Links that lead nowhere are nobody's headers.
+        // Left out, since links that lead nowhere are nobody's headers.
         if *file != path && !file.exists() {
             continue;
         }
