@@ -5,12 +5,15 @@ Prints a line for each finding, and last 'N passed, M failed'.
 
     tests/report_calls.py [--count N] [--real N]    N calls with stand-ins, 60 unless said; N calls of nvcc, 4 unless said
     tests/report_calls.py LOG..                     looks at these logs instead
+    tests/report_calls.py --lists N FILE..          looks at the log of the calls of these lists, as tests/calls.txt, each made N times by nvcc's own
+                                                    tools; `make report-calls` does so, with some 1,000 calls
     .. --shots FOLDER                               also has chromium draw the page of the last log there: 400, 700 and 1,100 pixels wide, and dark
 
 DRIVER_BIN is where zigrunk is, by default where `make rust` leaves it.
 """
 
 import argparse
+import concurrent.futures
 import html
 import json
 import os
@@ -22,6 +25,7 @@ import tempfile
 from pathlib import Path
 from typing import Any
 
+from compare_calls import Call, run
 from runner import TOOLS, Counts
 
 TOP = Path(__file__).resolve().parent.parent
@@ -57,6 +61,22 @@ def make(room: Path, count: int, variables: dict[str, str], log: Path) -> None:
     kept = {name: value for name, value in os.environ.items() if not name.startswith(("ZIGRUNK_", "NVCC_"))}
     environment = {**kept, **variables, "ZIGRUNK_LOG": str(log), "TMPDIR": str(room)}
     subprocess.run([TOOLS / "zigrunk", "batch", room / "list"], cwd=room / "work", env=environment, capture_output=True, check=False, timeout=900)
+
+
+def make_lists(files: list[Path], times: int, room: Path, log: Path) -> None:
+    """Makes each call of these lists so many times, side by side. Some end with an error, and some go to nvcc."""
+    lines = [line for file in files for line in file.read_text(encoding="utf-8").splitlines() if line and not line.startswith("#")]
+    calls = [Call(line, number) for number, line in enumerate(lines * times)]
+    os.environ["ZIGRUNK_LOG"] = str(log)
+    folders = [room / str(call.number) for call in calls]
+
+    def made(call: Call, folder: Path) -> None:
+        folder.mkdir()
+        run(str(TOOLS / "zigrunk-nvcc"), "ours", call, folder, None)
+        shutil.rmtree(folder, ignore_errors=True)
+
+    with concurrent.futures.ThreadPoolExecutor(os.cpu_count()) as pool:
+        list(pool.map(made, calls, folders))
 
 
 def report(log: str, folder: Path) -> tuple[str, str]:
@@ -145,13 +165,17 @@ def main() -> int:
     words.add_argument("--count", type=int, default=60)
     words.add_argument("--real", type=int, default=4)
     words.add_argument("--shots", type=Path)
+    words.add_argument("--lists", type=int, default=0)
     words.add_argument("logs", nargs="*", type=Path)
     asked = words.parse_args()
     counts = Counts()
-    for log in asked.logs:
-        look(log, 1, counts, asked.shots)
     with tempfile.TemporaryDirectory() as name:
         room = Path(name).resolve()
+        if asked.lists:
+            make_lists(asked.logs, asked.lists, room, room / "lists")
+            asked.logs = [room / "lists"]
+        for log in asked.logs:
+            look(log, 1, counts, asked.shots)
         if not asked.logs:
             (room / "k.cu").write_text("__global__ void k() {}\n", encoding="utf-8")
             make(room, asked.count, stand_ins(room), room / "stand-ins")
