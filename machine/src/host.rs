@@ -1015,6 +1015,26 @@ mod tests {
     }
 
     #[test]
+    fn a_call_that_was_woken_sleeps_again() {
+        in_own_process(|| {
+            let room = Room(TestFolder::new());
+            let (holder, mut waiting) = (room.slots(1, 1), room.slots(1, 2));
+            let slot = holder.try_take().unwrap();
+            assert!(waiting.begin_to_wait());
+            let mut host = host(Some(waiting), |_| None);
+            let is_awake = |host: &Host| {
+                let file = host.slots.as_ref().and_then(Slots::file).expect("it has a ticket");
+                system::wait_for(&[file], 0) == [true]
+            };
+            assert!(!is_awake(&host));
+            holder.give_back(slot);
+            assert!(is_awake(&host));
+            host.wait();
+            assert!(!is_awake(&host), "or it would look without an end");
+        });
+    }
+
+    #[test]
     fn a_call_without_a_ticket_looks_for_a_slot() {
         in_own_process(|| {
             let room = Room(TestFolder::new());

@@ -93,6 +93,7 @@ mod tests {
     use crate::system::Status;
     use crate::test_folder::TestFolder;
     use compilers::plans::NvccGeneratedSubcommand;
+    use machine::head_start::{HeadStart, Wait};
     use machine::jobs::Ended;
     use std::fs;
     use std::path::Path;
@@ -122,6 +123,32 @@ mod tests {
         }
         let missing = split(false, Path::new("/missing/k.fatbin.c"));
         assert_eq!(Halves::of(&missing, PlannedCommand::default(), place), None, "it can't be written");
+    }
+
+    #[test]
+    fn the_whole_compile_finds_its_files() {
+        let folder = TestFolder::new();
+        let [from, fatbin, stub, withheld] =
+            ["own.fatbin.c", "k.fatbin.c", "k.stub.c", "own.stub.c"].map(|name| folder.join(name));
+        let halves = Halves {
+            include: Include { from: from.clone(), ..Include::default() },
+            fatbin: fatbin.clone(),
+            ..Halves::default()
+        };
+        let start = HeadStart { file: stub.clone(), withheld: withheld.clone(), ..HeadStart::default() };
+        let late = HeadStart { wait: Wait::Reading, ..start };
+        let compile = Task { head_start: Some(late), ..Task::default() };
+        assert_eq!(halves.put_files(&compile), Err("fatbinary's file is missing".into()));
+        fs::write(&from, "fatbin").unwrap();
+        fs::write(&fatbin, "placeholder").unwrap();
+        fs::write(&stub, "stub").unwrap();
+        std::os::unix::fs::symlink("/dev/null", &withheld).unwrap();
+        assert_eq!(halves.put_files(&compile), Ok(()));
+        assert_eq!(
+            [&fatbin, &withheld].map(|path| fs::read(path).unwrap()),
+            [b"fatbin".to_vec(), b"stub".to_vec()]
+        );
+        assert!(!from.exists() && !withheld.is_symlink());
     }
 
     /// A split whose compiler's half reads this placeholder.
