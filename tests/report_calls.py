@@ -7,7 +7,8 @@ Prints a line for each finding, and last 'N passed, M failed'.
     tests/report_calls.py LOG..                     looks at these logs instead
     tests/report_calls.py --lists N FILE..          looks at the log of the calls of these lists, as tests/calls.txt, each made N times by nvcc's own
                                                     tools; `make report-calls` does so, with some 1,000 calls
-    .. --shots FOLDER                               also has chromium draw the page of the last log there: 400, 700 and 1,100 pixels wide, and dark
+    .. --shots FOLDER                               also has chromium draw the page of the last log there: 400, 700 and 1,100 pixels wide, dark, and
+                                                    that of its failed calls. Without it, to out/shots, if there is a chromium
 
 DRIVER_BIN is where zigrunk is, by default where `make rust` leaves it.
 """
@@ -132,17 +133,20 @@ def sum_findings(log: list[Entry], page: str, text: str) -> list[str]:
 
 
 # The words of chromium for each, but for those of all.
-SHOTS: dict[str, list[str]] = {"400": [], "700": [], "1100": [], "dark": ["--blink-settings=preferredColorScheme=0"]}
+SHOTS: dict[str, list[str]] = {"400": [], "700": [], "1100": [], "dark": ["--blink-settings=preferredColorScheme=0"], "failed": []}
 
 
-def draw(page: Path, folder: Path, counts: Counts) -> None:
-    """Has chromium draw a page."""
-    folder.mkdir(parents=True, exist_ok=True)
+def draw(lines: list[str], folder: Path, shots: Path, counts: Counts) -> None:
+    """Has chromium draw the page of a log, and that of its failed calls."""
+    shots.mkdir(parents=True, exist_ok=True)
+    failed = [line for line in lines if json.loads(line)["status"] != 0]
     for name, more in SHOTS.items():
-        shot = folder.resolve() / f"{name}.png"
+        shot = shots.resolve() / f"{name}.png"
+        shot.unlink(missing_ok=True)
+        report("\n".join(failed if name == "failed" else lines) + "\n", folder)
         size = f"--window-size={name if name.isdigit() else 1100},1600"
         words = ["chromium", "--headless", "--no-sandbox", "--disable-gpu", "--hide-scrollbars", size, f"--screenshot={shot}", *more]
-        subprocess.run([*words, f"file://{page}"], capture_output=True, check=False, timeout=120)
+        subprocess.run([*words, f"file://{folder}/page.html"], capture_output=True, check=False, timeout=120)
         counts.case(f"{shot}", [] if shot.is_file() else ["it isn't there"])
 
 
@@ -157,7 +161,7 @@ def look(log: Path, least: int, counts: Counts, shots: Path | None = None) -> No
         text, page = report("\n".join(lines) + "\n", folder)
         counts.case(f"{log.name}: sums", sum_findings([json.loads(line) for line in lines], page, text))
         if shots:
-            draw(folder / "page.html", shots, counts)
+            draw(lines, folder, shots, counts)
 
 
 def main() -> int:
@@ -168,6 +172,8 @@ def main() -> int:
     words.add_argument("--lists", type=int, default=0)
     words.add_argument("logs", nargs="*", type=Path)
     asked = words.parse_args()
+    if shutil.which("chromium"):
+        asked.shots = asked.shots or TOP / "out/shots"
     counts = Counts()
     with tempfile.TemporaryDirectory() as name:
         room = Path(name).resolve()
