@@ -296,6 +296,15 @@ def needed() -> Iterator[str]:
     yield from (f"GUARANTEES' table lacks {clause}" for clause in clauses - {*rows.values()})
 
 
+def proved_lines() -> Iterator[str]:
+    """Counts of lines in DECISIONS that the crates' folders have outgrown, by more than one in a hundred."""
+    said = re.search(r"Proved are ([\d,]+) lines of code, ([\d,]+) of definitions, ([\d,]+) of proofs", text_of("docs/DECISIONS.md"))
+    for number, folder in enumerate(("src", "specs", "proofs"), 1):
+        count = sum(path.read_text(encoding="utf-8").count("\n") for path in Path(TOP).glob(f"crates/*/{folder}/**/*") if path.is_file())
+        if abs(count - int(said[number].replace(",", "") if said else 0)) > count / 100:
+            yield f"DECISIONS' lines of {folder} aren't {count:,}"
+
+
 def print_words() -> int:
     for page in [*READ, *MANUALS]:
         print(f"{words_of(page):6} {page}")
@@ -338,7 +347,7 @@ def main() -> int:
     checks: list[tuple[str, Iterable[str]]] = [(page, links(page)) for page in PAGES]
     checks += [(page, commands(page)) for page in READ]
     checks += [("", check()) for check in (calling, files, contracts, architecture, definitions, embedding, variables, premises, needed, lengths,
-                                           version)]
+                                           proved_lines, version)]
     checks += [("", words(page)) for page in ("docs/proof/DEFINITIONS.md", "docs/proof/GUARANTEES.md")]
     counts = Counts()
     for name, findings in checks:
