@@ -87,10 +87,6 @@ good_lines() {
         line cicc /w --device-c -arch compute_80 --module_id_file_name kernel.module_id kernel.cpp1.ii --simt-only -o kernel.ptx
     gives 'ptxas line' -arch=sm_80 k.ptx -o /w/k.cubin -- line ptxas /w -arch=sm_80 k.ptx -o k.cubin
     gives 'cudafe++ line' --simt-only --module_id_file_name /t/k.id x_0.cpp4.ii -- line cudafe++ /t --simt-only --module_id_file_name k.id x_0.cpp4.ii
-    gives 'words with a blank, and an empty one' '-D a' '' k.cpp1.ii -o /w/k.ptx -- line cicc /w '-D a' '' k.cpp1.ii -o k.ptx
-    gives 'words of no option' -foo bar k.cpp1.ii -o /w/p -- line cicc /w -foo k.cpp1.ii bar baz -o p
-    gives 'an empty value that is joined' -arch k.ptx -o /w/k.cubin -- line ptxas /w -arch= k.ptx -o k.cubin
-    gives 'two words that end as an input does' -x b.ptx a.ptx -o /w/c -- line ptxas /w -x a.ptx b.ptx -o c
     gives 'words with newlines, quotes and backslashes' $'-a\nb' $'\'"\\' k.cpp1.ii -o $'/w/\t' -- line cicc /w $'-a\nb' $'\'"\\' k.cpp1.ii -o $'\t'
     gives 'words of two bytes a character' -Dé k.cpp1.ii -o /é/k.ptx -- line cicc /é -Dé k.cpp1.ii -o k.ptx
 }
@@ -98,14 +94,9 @@ good_lines() {
 # lines that are refused: what compiles nothing, and what names no output
 refused_lines() {
     check 'cicc without words' 1 '' "$NO_COMPILATION" line cicc /w
-    check 'cicc without an input' 1 '' "$NO_COMPILATION" line cicc /w a b
-    check 'ptxas without an input' 1 '' "$NO_COMPILATION" line ptxas /w a b
     check 'cudafe++ without words' 1 '' "$NO_COMPILATION" line cudafe++ /t
     local none=$'cudaplan: Missing "ptx" file output\n'
     check 'cicc without an output' 1 '' "$none" line cicc /w k.cpp1.ii
-    check 'cicc with an output option that ends the line' 1 '' "$none" line cicc /w k.cpp1.ii -o
-    check 'cicc whose input is found from the end' 1 '' "$none" line cicc /w a b c
-    fails 'ptxas whose option takes the output away' 'Missing "cubin" file output' line ptxas /w -arch k.ptx -o /w/k.cubin
     fails 'cudafe++ without an output' 'Missing "cuda" file output' line cudafe++ /t x.cpp4.ii
 }
 
@@ -123,43 +114,6 @@ good_plans() {
         'yes cd /t && /b/cicc --gen_device_file_name k.cudafe1.gpu x_0.cpp1.ii -o k.ptx' 'group 2' -- plan /w /t -c "$scratch/steps" "$scratch/steps"
     gives 'a further suffix' 'group 0' 'group 1' 'no cd /w && /b/gcc -D__NVCC__ -E k.cu -o x_0.cpp1.ii' \
         'yes cd /t && /b/cicc --gen_device_file_name x_0.cudafe1.gpu x_0.cpp1.ii -o k.ptx' 'group 2' -- plan /w /t -c "$scratch/steps" "$scratch/steps" .cudafe1.gpu
-}
-
-# plans NAME OUT.. -- LINE..: plans these lines behind one that sets PATH, as both runs, which prints the lines OUT.
-plans() {
-    local out=("$1")
-    while shift && [ "$1" != -- ]; do out+=("$1"); done
-    lines_of run '#$ PATH=/b' "${@:2}"
-    gives "${out[@]}" -- plan /w /t -c "$scratch/run" "$scratch/run"
-}
-
-# steps that open a group again, files that several commands read, and commands that find no group
-grouped_plans() {
-    local step='#$ gcc -D__NVCC__ -E k.cu -o k.cpp1.ii' cicc='#$ cicc k.cpp1.ii -o k.ptx'
-    local stepped='no cd /w && /b/gcc -D__NVCC__ -E k.cu -o x_0.cpp1.ii' compiled='yes cd /t && /b/cicc x_0.cpp1.ii -o k.ptx'
-    local lost_step='dropped 1 run 2 Superseded /b/gcc -D__NVCC__ -E k.cu -o x_0.cpp1.ii'
-    local lost_cicc='dropped 2 run 1 Superseded /b/cicc x_0.cpp1.ii -o k.ptx'
-    plans 'a group that is opened again' 'group 0' 'group 1' "$stepped" "$compiled" 'group 2' "$lost_step" "$lost_cicc" -- \
-        "$step" "$cicc" "$step" "$cicc"
-    plans 'two ptxas commands for one file' 'group 0' 'group 1' "$stepped" "$compiled" 'yes cd /t && /b/ptxas k.ptx -o a.cubin' \
-        'yes cd /t && /b/ptxas k.ptx -o b.cubin' 'group 2' -- "$step" "$cicc" '#$ ptxas k.ptx -o a.cubin' '#$ ptxas k.ptx -o b.cubin'
-    plans 'a ptxas command behind a superseded cicc' 'group 0' 'group 1' "$stepped" 'group 2' "$lost_step" "$lost_cicc" \
-        'dropped 4 run 1 NoPtxasGroup /b/ptxas k.ptx -o a.cubin' -- "$step" "$cicc" "$step" '#$ ptxas k.ptx -o a.cubin'
-    plans 'a step that names a PTX file' 'group 0' 'group 1' "$stepped k.ptx" 'group 2' \
-        'dropped 2 run 1 NoPtxasGroup /b/ptxas k.ptx -o a.cubin' -- "$step k.ptx" '#$ ptxas k.ptx -o a.cubin'
-    plans 'an output with a slash' 'group 0' 'group 1' 'no cd /w && /b/gcc -D__NVCC__ -E k.cu -o k.cpp1.ii/' 'group 2' \
-        'dropped 2 run 1 NoCiccGroup /b/cicc x_0.cpp1.ii -o k.ptx' -- "$step/" "$cicc"
-    plans 'a step without an output' 'group 0' 'no cd /w && /b/gcc -D__NVCC__ -E k.cu -o' 'group 1' -- '#$ gcc -D__NVCC__ -E k.cu -o'
-}
-
-# a thousand host compilers, in order
-long_plan() {
-    local commands=() want=('group 0' 'group 1') number
-    for number in {1..1000}; do
-        commands+=("#\$ gcc -D__NVCC__ -c $number.cpp")
-        want+=("yes cd /w && /b/gcc -D__NVCC__ -c $number.cpp")
-    done
-    plans 'a thousand commands' "${want[@]}" -- "${commands[@]}"
 }
 
 # lines_of FILE LINE..: writes lines to a file of the scratch folder.
@@ -209,63 +163,10 @@ unreadable_runs() {
     kernel=$(cat "$data/one_kernel.dry1")
     rest=$(tail -n +2 "$data/one_kernel.dry1")
     both    'no PATH in both runs'                 'run 1 line 0: no PATH'           '#$ gcc'
-    refuses 'no PATH in the second run'            'run 2 line 0: no PATH'           ''               '#$ gcc'
-    refuses 'PATH in the first run alone'          'run 2 line 0: no PATH'           '#$ PATH=/b\n'   '#$ gcc\n'
-    refuses 'no PATH behind a readable run'        'run 2 line 1: no PATH'           "$kernel"        "\n$rest"
-    both    'no PATH before lines that are well'   'run 1 line 0: no PATH'           "#\$ gcc\n$kernel"
-    both    'two blanks before PATH'               'run 1 line 0: no PATH'           '#$  PATH=/b\n'
-    both    'no PATH before a byte'                'run 1 line 0: no PATH'           '#$ gcc\n\xff'
-    both    'a byte before no PATH'                'run 1 line 0: not UTF-8'         '\xff\n#$ gcc'
-    both    'a byte in a line without a mark'      'run 1 line 1: not UTF-8'         "#\$ PATH=/b\n\xff\n$rest"
-    both    'a byte in the last line'              'run 1 line 8: not UTF-8'         "$kernel\n#\$ x\xff"
     refuses 'a byte in the last line of the second' 'run 2 line 8: not UTF-8'        "$kernel"        "$kernel\n#\$ x\xff"
-    both    'a character that is cut'              'run 1 line 0: not UTF-8'         '#$ PATH=/\xe2\x82\n'
-    both    'half of a pair'                       'run 1 line 0: not UTF-8'         '\xed\xa0\x80'
-    both    'an open quote'                        'Could not parse shell line'      "#\$ gcc \"a\n$rest"
-    both    'an open single quote'                 'Could not parse shell line'      "#\$ gcc 'a\n$rest"
-    both    'a backslash that ends a line'         'Could not parse shell line'      "#\$ PATH=/b\n#\$ gcc \\\\\n$rest"
     refuses 'an open quote in the second run'      'Could not parse shell line'      "$kernel"        "$kernel\n#\$ gcc \"a"
-    refuses 'an open quote before no PATH'         'Could not parse shell line'      '#$ gcc "a'      '#$ gcc'
     both    'a comment'                            'Could not split shell line'      "#\$ # note\n$rest"
-    both    'a mark and its blank alone'           'Could not split shell line'      "#\$ \n$rest"
-    both    'a mark and its blank at the end'      'Could not split shell line'      "$kernel\n#\$ "
-    refuses 'a comment in the second run'          'Could not split shell line'      "$kernel"        "$kernel\n#\$ # note"
     both    'a program that is not found'          'gcc: not found'                  '#$ PATH=\n#$ gcc'
-    both    'a name with a digit'                  'A1=x: not found'                 '#$ PATH=\n#$ A1=x'
-    both    'an empty program'                     ': not found'                     '#$ PATH=\n#$ ""'
-}
-
-# one_lost NAME: the run of one kernel without a first folder in PATH, with all programs but this one named by /b.
-one_lost() {
-    awk -v lost="$1" 'NR == 1 { print "#$ PATH="; next } $2 != lost { $2 = "/b/" $2 } { print }' "$data/one_kernel.dry1"
-}
-
-# a program of many that is not found, in both runs and in the second alone; and none that isn't
-lost_programs() {
-    local kernel run name
-    kernel=$(cat "$data/one_kernel.dry1")
-    for name in gcc cudafe++ cicc ptxas fatbinary; do
-        run=$(one_lost "$name")
-        both "$name is not found" "$name: not found" "$run"
-        refuses "$name is not found in the second run" "$name: not found" "$kernel" "$run"
-    done
-    one_lost none > "$scratch/run"
-    gives_file 'all programs are found' "$data/one_kernel.plan" plan /w /t -c "$scratch/run" "$scratch/run"
-}
-
-# odd dry runs that can be read
-odd_plans() {
-    plans 'a mark without its blank' 'group 0' 'group 1' -- '#$' $'#$gcc "' $'#$\t\''
-    plans 'a folder as program' 'group 0' 'group 1' 'dropped 1 run 2 NotCuda /b/ x' -- '#$ "" x'
-    plans 'a step with a folder as output' 'group 0' 'no cd /w && /b/gcc -D__NVCC__ -E k.cu -o ..' 'group 1' -- \
-        '#$ gcc -D__NVCC__ -E k.cu -o ..'
-    plans 'variables of a line' 'group 0' 'group 1' "dropped 2 run 2 NotCuda /b/gcc -L\$TOP" \
-        'dropped 3 run 2 NotCuda /u/gcc -L/uX' -- '#$ TOP=/u' "#\$ gcc -L\$TOP" "#\$ \$TOP/gcc -L\$TOPX"
-    lines_of rootless '#$ PATH=/' '#$ "" x'
-    gives 'a program that is the root' 'group 0' 'group 1' -- plan /w /t -c "$scratch/rootless" "$scratch/rootless"
-    printf 'kernel.cu\r\n#$ PATH=/b\r\n#$ gcc -D__NVCC__ -c x.cpp' > "$scratch/returns"
-    check 'carriage returns, and no last newline' 0 $'group 0\ngroup 1\nyes cd /w && /b/gcc -D__NVCC__ -c x.cpp\n' '' \
-        plan /w /t -c "$scratch/returns" "$scratch/returns"
 }
 
 # words that are no call
@@ -293,20 +194,6 @@ long_lines() {
     word=-$(head -c 100000 /dev/zero | tr '\0' x)
     many=("$word" "$word" "$word" "$word" "$word" "$word" "$word" "$word" "$word" "$word" "$word")
     gives 'a megabyte of words' "${many[@]}" k.cpp1.ii -o /k.ptx -- line cicc / "${many[@]}" k.cpp1.ii -o k.ptx
-}
-
-# a plan with a thousand further suffixes, and one with a thousand dropped commands
-long_suffixes() {
-    local suffixes=() steps=() want=('group 0' 'group 1') number
-    for number in {1..1000}; do
-        suffixes+=(".a$number")
-        steps+=("#\$ gcc k$number.cpp")
-        want+=("dropped $number run 2 NotCuda /b/gcc k$number.cpp")
-    done
-    lines_of suffixed '#$ PATH=/b' '#$ gcc -D__NVCC__ -c k.a1000'
-    check 'a thousand further suffixes' 0 $'group 0\ngroup 1\nyes cd /w && /b/gcc -D__NVCC__ -c x_0.a1000\n' '' \
-        plan /w /t -c "$scratch/suffixed" "$scratch/suffixed" "${suffixes[@]}"
-    plans 'a thousand dropped commands' "${want[@]}" -- "${steps[@]}"
 }
 
 # byte_by_byte FILE: writes a file one byte at a time.
@@ -611,42 +498,6 @@ counts() {
     judge "$name" 0 "$number"$'\n' ''
 }
 
-# long plans in every format: a thousand commands in one group, a hundred device groups, a thousand programs on disk
-long_exports() {
-    local group=("${KERNEL[2]}" "${KERNEL[3]}") groups=() programs=() sources=() variables=() number format dropped words
-    for number in {1..1000}; do
-        sources+=("#\$ gcc -D__CUDACC__ -E s$number.cu -o s$number.cpp4.ii")
-        group+=("#\$ ptxas k.ptx -o k$number.cubin")
-        programs+=("#\$ p$number x")
-    done
-    mapfile -t variables < <(seq 1000 | tr 0-9 A-J | sed 's/.*/#$ &=b/')
-    words=$(printf ' -DA%.0s' {1..10000})
-    for number in {1..100}; do
-        groups+=("#\$ gcc -D__NVCC__ -E k.cu -o k$number.cpp1.ii" "#\$ cicc k$number.cpp1.ii -o k$number.ptx")
-    done
-    (cd "$scratch/bin" && touch p{1..1000} && chmod +x p{1..1000})
-    run_of group "${group[@]}"
-    run_of groups "${groups[@]}"
-    run_of programs "${KERNEL[2]}" "${programs[@]}"
-    run_of sources "${sources[@]}"
-    run_of words "${KERNEL[0]}$words"
-    run_of variables "${variables[@]}" "${KERNEL[0]}"
-    run_of images "#\$ fatbinary --create=k.fatbin$(seq -s '' -f ' --image3=kind=elf,file=k%g.cubin' 1000) --image=kind=elf,file=$(printf '%0100000d' 0)"
-    for format in shell ninja json; do
-        counts "a command of ten thousand words as $format" 10000 '-DA' "$format" /w /t -c "$scratch/words" "$scratch/words.2"
-        counts "a thousand variables as $format" 1000 '[A-J]\+[",=]\+b' "$format" /w /t -c "$scratch/variables" "$scratch/variables.2"
-        counts "a group of a thousand commands as $format" 1000 'o[",]* *k[0-9]\+\.cubin' "$format" /w /t -c "$scratch/group" "$scratch/group.2"
-        counts "a hundred device groups as $format" 100 'o[",]* *k[0-9]\+\.ptx' "$format" /w /t -c "$scratch/groups" "$scratch/groups.2"
-        dropped=1000
-        [ "$format" != shell ] || dropped=0
-        counts "a thousand programs as $format" "$dropped" 'bin/p[0-9]\+' "$format" /w /t -c "$scratch/programs" "$scratch/programs.2"
-    done
-    counts 'a fatbin of a thousand images as json' 2000 'k[0-9]\+\.cubin' json /w /t -c "$scratch/images" "$scratch/images.2"
-    counts 'a command of ten thousand words as a compilation database' 10000 '-DA' compdb /w /t -c "$scratch/words" "$scratch/words.2"
-    counts 'a thousand sources as a compilation database' 1000 '"file":"/w/s[0-9]\+\.cu"' compdb /w /t -c "$scratch/sources" "$scratch/sources.2"
-    counts 'a hundred device groups as a compilation database' 100 'x_[0-9]\+\.cpp1\.ii' compdb /w /t -c "$scratch/groups" "$scratch/groups.2"
-}
-
 # found NAME PROGRAM LOOKED: the gcc of a command, found with PATH as a folder and behind it that of a kernel's programs. LOOKED is the
 # folder's name; the plan has the program at PROGRAM.
 found() {
@@ -746,58 +597,6 @@ closed_folder() {
     chmod 700 "$1/closed"
     sed -i 's/.*\("exe":"[^"]*"\).*/\1/' "$scratch/out"
     judge 'a folder of PATH that may not be searched' 0 "\"exe\":\"$1/beside/gcc\""$'\n' ''
-}
-
-# holds NAME FORMAT RUN WORD: a plan that has this long word once.
-holds() {
-    printf '%s' "$4" > "$scratch/long_word"
-    noted zigrunk_plan "$2" /w /t -c "$scratch/$3" "$scratch/$3.2" > "$scratch/text" 2> "$scratch/err"
-    # (grep takes many seconds for such a word)
-    awk 'NR == FNR { word = $0; next } { while ((at = index($0, word)) > 0) { found++; $0 = substr($0, at + length(word)) } } END { print found + 0 }' \
-        "$scratch/long_word" "$scratch/text" > "$scratch/out"
-    judge "$1 as $2" 0 $'1\n' ''
-}
-
-# values and words of over 65,536 bytes, in each format that has them
-long_values() {
-    local long format
-    long=$(printf '%070000d' 0)
-    run_of value "#\$ HOME=/h$long" "${KERNEL[2]}"
-    run_of word "#\$ gcc -D__NVCC__ -E -DA=$long k.cu -o k.cpp1.ii"
-    run_of name "#\$ gcc -D__NVCC__ -E k.cu -o n$long"
-    run_of lost_word "${KERNEL[2]}" "#\$ g++ w$long"
-    for format in shell ninja json; do
-        holds 'a variable of 70,000 bytes' "$format" value "/h$long"
-    done
-    for format in "${formats[@]}"; do
-        holds 'a word of 70,000 bytes' "$format" word "-DA=$long"
-    done
-    holds 'a dropped word of 70,000 bytes' json lost_word "w$long"
-    holds 'a dropped word of 70,000 bytes' ninja lost_word "w$long"
-    holds 'an output of 70,000 bytes' text name "n$long"
-}
-
-# a command of over 500 bytes that refers to sixty variables, and one that names sixty generated files
-many_names() {
-    local assigned=() references='' values='' files='' renamed='' name number=0 format
-    for name in {A,B,C}{A,E,I,O}{A,E,I,O,U}; do
-        assigned+=("#\$ $name=$name-$number")
-        references+=" -D\$$name"
-        values+=" -D$name-$number"
-        files+=" $name.cpp1.ii"
-        renamed+=" x_$number.cpp1.ii"
-        number=$((number + 1))
-    done
-    run_of names "${assigned[@]}" "#\$ gcc -D__NVCC__$references -E k.cu -o k" "#\$ gcc -D__NVCC__$files"
-    check 'sixty names' 0 "group 0
-no cd /w && $scratch/bin/gcc -D__NVCC__$values -E k.cu -o k
-group 1
-yes cd /w && $scratch/bin/gcc -D__NVCC__$renamed
-" '' text /w /t -c "$scratch/names" "$scratch/names.2"
-    for format in "${formats[@]}"; do
-        counts "sixty variables as $format" 60 '-D[A-C][AEIO][AEIOU]-[0-9]' "$format" /w /t -c "$scratch/names" "$scratch/names.2"
-    done
-    counts 'sixty generated files as json' 60 '"x_[0-9]*.cpp1.ii"' json /w /t -c "$scratch/names" "$scratch/names.2"
 }
 
 # files that aren't the dry runs of a call, and plans without commands, in every format
@@ -1091,20 +890,10 @@ passes() {
     judge "$1" 3 '' "zigrunk plan: goes to nvcc: $2"$'\n'
 }
 
-# nvcc lines that no plan is made of
+# nvcc lines that no plan is made of: tests/callers has one for each reason
 calls_for_nvcc() {
     passes 'no words of nvcc' 'it links'
-    passes 'a version' 'it prints something' --version
-    passes 'two sources' 'it names several inputs' -c a.cu b.cu
-    passes 'a preprocessor call' "its phase isn't split" -E k.cu
-    passes 'words in a missing file' 'an options file is missing or odd' -c k.cu -optf=words
-    passes 'an output named as a generated file' 'a name looks like that of a generated file' -ptx k.cu -o k.cpp1.ii
-    passes 'options of ptxas in a file' 'a word for a tool may name a file' -c k.cu -Xptxas --options-file=p.txt
-    passes 'standard input as an open file' 'it uses an open file' -x cu -c /dev/fd/0
-    passes 'an option without its value' 'an option lacks its value' -c k.cu --threads
-    passes 'a variable of the shell' "nvcc's shell may expand a word" -c k.cu '-DA=$B'
     NVCC_APPEND_FLAGS=--dryrun passes 'a dry run' 'it prints something' -c k.cu
-    NVCC_PREPEND_FLAGS="-DA='1'" passes 'quotes in a variable' 'NVCC_PREPEND_FLAGS or NVCC_APPEND_FLAGS has quotes' -c k.cu
 }
 
 # run FUNCTION..: calls these functions, or those of them that the script's call names.
@@ -1115,13 +904,10 @@ run() {
     done
 }
 
-run \
-    good_lines refused_lines good_plans grouped_plans long_plan refused_plans unreadable_runs lost_programs odd_plans other_calls \
-    long_suffixes long_lines slow_streams short_streams closed_streams no_memory
+run good_lines refused_lines good_plans refused_plans unreadable_runs other_calls long_lines slow_streams short_streams closed_streams no_memory
 program=$zigrunk speaker=zigrunk_plan user=()
 mapfile -t formats < <("$program" plan --formats)
 run \
     kernel_programs plan_scripts plan_files compilation_databases plan_schema whole_plans unfit_files programs_on_disk unread_files \
-    long_values many_names run_by_ninja run_as_script long_exports refused_exports limits hostile_input messages long_messages escapes \
-    standard_input orders_of_options calls_for_nvcc
+    run_by_ninja run_as_script refused_exports limits hostile_input messages long_messages escapes standard_input orders_of_options calls_for_nvcc
 summary
