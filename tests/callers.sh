@@ -6,7 +6,8 @@
 #   tests/callers.sh [FOLDER]         FOLDER: as `make install` or `make lib` leaves it, with lib and include; otherwise out, or what `make rust` built
 #   tests/callers.sh --first FOLDER   the programs of the page alone, also that in Rust, with what `make install` left in FOLDER
 #
-# SEED=N draws other pairs of dry runs and other calls than those of seed 1, PAIRS=N so many pairs in place of 100, CALLS=N so many real calls in place
+# RENEW=yes writes tests/callers/digests.txt anew: look at what has changed before. SEED=N draws other pairs of dry runs and other calls than those of
+# seed 1, PAIRS=N so many pairs in place of 100, CALLS=N so many real calls in place
 # of 8, and of 12 whose keys are compared. All that the languages say is compared of at most 2,000 pairs, and their plans of all.
 set -u
 cd "$(dirname "$0")/.." || exit 1
@@ -106,7 +107,7 @@ in_parts() {
 }
 
 # answers PART PROGRAM..: what a program says of a part of the rows.
-answers() { env -i PATH="$PATH" HOME="$HOME" "${python_environment[@]}" "${@:2}" "$room" < "$scratch/rows/$1"; }
+answers() { env -i "${environment[@]}" "${@:2}" "$room" < "$scratch/rows/$1"; }
 note() { answers "$@" > "$scratch/answers/$1"; }
 is_alike() { diff "$scratch/answers/$1" <(answers "$@"); }
 alike() { in_parts is_alike "$@"; }
@@ -116,6 +117,13 @@ told() {
     in_parts note "$scratch/answers_c" &&
         cat "$scratch"/answers/* |
         awk '/^== lot/ { all++ } /^refused 1[02] / && !/ 0 0$/ { refused++ } /^start 0$/ { planned++ } END { exit !(all && refused > all / 4 && planned > 2) }'
+}
+
+# as_stored: whether C says of the table and of the stored calls what it said when the digests were written.
+as_stored() {
+    cat "$scratch"/answers/* | python3 tests/callers/digests.py "$room" "$installed" "$python" > "$scratch/digests"
+    [ -z "${RENEW-}" ] || cp "$scratch/digests" tests/callers/digests.txt
+    diff tests/callers/digests.txt "$scratch/digests"
 }
 
 # by_cmake: a project finds the library, as it is shared and as an archive.
@@ -188,15 +196,18 @@ fi
 check 'C: the program with the archive' built_c "$scratch/first.c" "$scratch/first_static" -static "${static_flags[@]}"
 check 'C: its plan with the archive' plans "$scratch/first_static"
 pairs=${PAIRS:-100} whole=$((pairs < 2000 ? pairs : 2000))
-python_environment=(LD_LIBRARY_PATH="$LD_LIBRARY_PATH" ZIGRUNK_LIBRARY="$ZIGRUNK_LIBRARY" PYTHONPATH="$PYTHONPATH" PYTHONDONTWRITEBYTECODE=1 LC_CTYPE=C.UTF-8)
+environment=(PATH=/usr/bin:/bin HOME=/ LD_LIBRARY_PATH="$LD_LIBRARY_PATH" ZIGRUNK_LIBRARY="$ZIGRUNK_LIBRARY" PYTHONPATH="$PYTHONPATH"
+    PYTHONDONTWRITEBYTECODE=1 LC_CTYPE=C.UTF-8 EMPTY='' ODD=$'a\nb \\ "' LONG="$(printf %04096d 0)")
 mkdir "$scratch/rows" "$scratch/answers"
-{ misuse_rows && python3 tests/callers/mutated.py "$room" "${SEED:-1}" "$whole"; } | split -a 4 -l 500 - "$scratch/rows/"
+{ misuse_rows && real_rows "$room" && python3 tests/callers/mutated.py "$room" "${SEED:-1}" "$whole"; } | split -a 4 -l 500 - "$scratch/rows/"
 check 'C: answers.c' built_c tests/callers/answers.c "$scratch/answers_c" "${flags[@]}"
-check "C: what it says of the table and of $whole pairs by lot" told
+check "C: what it says of the table, of the stored calls and of $whole pairs by lot" told
+check 'C: the same as ever of the table and of the stored calls' as_stored
 check 'C++: answers.cpp' built_cpp tests/callers/answers.cpp "$scratch/answers_cpp" "${flags[@]}"
 check 'C++: the same' alike "$scratch/answers_cpp"
 # (a python3 on the path may be a script that sets variables)
 check 'Python: the same' alike "$(python3 -c 'import sys; print(sys.executable)')" tests/callers/answers.py
+check 'Python: what only it has' python3 tests/callers/alone.py "$room" bindings/c/zigrunk.h "$(cat VERSION)"
 if command -v cargo > /dev/null && [ -d "${WORKSPACE:-out/rust}/zigrunk" ]; then
     check 'Rust: answers' env -C "${WORKSPACE:-out/rust}" cargo build --quiet --offline --release -p zigrunk --example answers --example keys
     check 'Rust: the same' alike "${CARGO_TARGET_DIR:-${WORKSPACE:-out/rust}/target}/release/examples/answers"

@@ -63,26 +63,44 @@ static void print_command(const zigrunk_command *of) {
     }
 }
 
+/* What a function has made, or why not. */
+static zigrunk_answer *print_answer(const char *name, int32_t status, zigrunk_answer *answer, zigrunk_error *error) {
+    if (status != ZIGRUNK_OK) {
+        print_refusal(error);
+    } else {
+        print_texts(name, answer->texts);
+    }
+    return answer;
+}
+
 static void print_key(const zigrunk_plan *plan, size_t number) {
     zigrunk_answer *answer = NULL;
     zigrunk_error *error = NULL;
-    if (zigrunk_plan_key(plan, number, &answer, &error) != ZIGRUNK_OK) {
-        print_refusal(error);
-        return;
-    }
-    print_texts(" key", answer->texts);
-    zigrunk_free(answer);
+    int32_t status = zigrunk_plan_key(plan, number, &answer, &error);
+    zigrunk_free(print_answer(" key", status, answer, error));
 }
 
 static void print_form(const zigrunk_plan *plan, const char *format) {
     zigrunk_answer *answer = NULL;
     zigrunk_error *error = NULL;
-    if (zigrunk_plan_text(plan, (zigrunk_text){format, ZIGRUNK_ALL}, &answer, &error) != ZIGRUNK_OK) {
-        print_refusal(error);
-        return;
+    int32_t status = zigrunk_plan_text(plan, (zigrunk_text){format, ZIGRUNK_ALL}, &answer, &error);
+    zigrunk_free(print_answer(format, status, answer, error));
+}
+
+/* Words as a shell reads them, what it reads, and the words with other names. */
+static void print_own_words(zigrunk_texts words) {
+    const char *suffix = ".x.ii";
+    size_t length = 5;
+    zigrunk_answer *quoted = NULL, *split = NULL, *renamed = NULL;
+    zigrunk_error *error = NULL;
+    int32_t status = zigrunk_quote(words, &quoted, &error);
+    if (print_answer("quoted", status, quoted, error)) {
+        status = zigrunk_split((zigrunk_text){*quoted->texts.items, *quoted->texts.lengths}, &split, &error);
+        print_answer("split", status, split, error);
     }
-    print_texts(format, answer->texts);
-    zigrunk_free(answer);
+    status = zigrunk_remap(words, (zigrunk_texts){&suffix, &length, 1}, &renamed, &error);
+    print_answer("other", status, renamed, error);
+    zigrunk_free(quoted), zigrunk_free(split), zigrunk_free(renamed);
 }
 
 /* The words of the last command with other names, and what a preprocessor's output names. */
@@ -115,6 +133,22 @@ static void print_schedule(const zigrunk_plan *plan, size_t count) {
         printf("told %zu\n", zigrunk_schedule_progress(schedule, 0, count).told);
     }
     zigrunk_free(schedule), free(started);
+}
+
+/* One slot, and the third command fails. */
+static void print_failure(const zigrunk_plan *plan, size_t count) {
+    zigrunk_schedule_call given = {&plan, 1, NULL, 0, 1, ZIGRUNK_START_EARLIER};
+    zigrunk_schedule *schedule = NULL;
+    size_t next;
+    if (zigrunk_schedule_of(&given, &schedule, NULL) != ZIGRUNK_OK) {
+        exit(2);
+    }
+    while ((next = zigrunk_schedule_start(schedule)) != ZIGRUNK_ALL) {
+        zigrunk_schedule_ended(schedule, next, next == 2 ? ZIGRUNK_FAILED : ZIGRUNK_SUCCEEDED);
+        printf("alone %zu, told %zu\n", next, zigrunk_schedule_progress(schedule, 0, count).told);
+    }
+    printf("again %d\n", zigrunk_schedule_ended(schedule, 0, ZIGRUNK_SUCCEEDED) == ZIGRUNK_OK);
+    zigrunk_free(schedule);
 }
 
 /* What the line of a cicc command says, how it is written back, and the key of such a command without a plan. */
@@ -190,6 +224,7 @@ static void print_plan(const zigrunk_plan *plan) {
     }
     print_words(all->items[all->count - all->dropped - 1].words);
     print_schedule(plan, all->count - all->dropped);
+    print_failure(plan, all->count - all->dropped);
 }
 
 /* The content of a file of the room. */
@@ -206,12 +241,37 @@ static zigrunk_text content(const char *room, const char *name) {
     return (zigrunk_text){bytes, length};
 }
 
-static void print_row(const char *room, const char *tmp_name, const char *first, const char *second, const char *own) {
+/* Two dry runs without their line, within a limit: the commands, with those that are dropped. */
+static void print_alone(zigrunk_dry_runs runs, zigrunk_text cwd, zigrunk_text tmp, size_t limit) {
+    const char *variables[] = {"ODD=a b", "EMPTY=", NULL};
+    zigrunk_plan_call given = {runs.first, runs.second, cwd, tmp, {"-c", ZIGRUNK_ALL}, {variables, NULL, ZIGRUNK_ALL}, {NULL, NULL, 0}, NULL, 0, limit,
+        ZIGRUNK_GCC, 0};
+    zigrunk_plan *plan = NULL;
+    zigrunk_error *error = NULL;
+    printf("without a line, %zu\n", limit);
+    if (zigrunk_plan_of(&given, &plan, &error) != ZIGRUNK_OK) {
+        print_refusal(error);
+        return;
+    }
+    const zigrunk_commands *all = zigrunk_plan_commands(plan);
+    for (size_t i = 0; i < all->count; i++) {
+        print_command(&all->items[i]);
+    }
+    print_form(plan, "compdb");
+    zigrunk_free(plan);
+}
+
+static void print_row(const char *room, const char *tmp_name, const char *first, const char *second, const char *own, const char *line) {
     char nvcc[4096], cwd[4096], tmp[4096];
     snprintf(nvcc, sizeof nvcc, "%s/bin/nvcc", room), snprintf(cwd, sizeof cwd, "%s/w", room), snprintf(tmp, sizeof tmp, "%s/%s", room, tmp_name);
-    const char *words[] = {"-c", "kernel.cu", "-o", "kernel.o", NULL};
-    zigrunk_texts environment = {(const char *const *)environ, NULL, ZIGRUNK_ALL};
-    zigrunk_nvcc_call given = {{nvcc, ZIGRUNK_ALL}, {words, NULL, ZIGRUNK_ALL}, environment, {cwd, ZIGRUNK_ALL}, {tmp, ZIGRUNK_ALL}};
+    const char *items[64];
+    size_t lengths[64];
+    zigrunk_text whole = content(room, line);
+    zigrunk_texts words = {items, lengths, 0}, environment = {(const char *const *)environ, NULL, ZIGRUNK_ALL};
+    for (const char *at = whole.bytes; at < whole.bytes + whole.length && words.count < 64; at += lengths[words.count++] + 1) {
+        items[words.count] = at, lengths[words.count] = strlen(at);
+    }
+    zigrunk_nvcc_call given = {{nvcc, ZIGRUNK_ALL}, words, environment, {cwd, ZIGRUNK_ALL}, {tmp, ZIGRUNK_ALL}};
     zigrunk_dry_runs runs = {content(room, own), content(room, first), content(room, second), NULL, 0, 0};
     zigrunk_call *call = NULL;
     zigrunk_plan *plan = NULL;
@@ -225,7 +285,9 @@ static void print_row(const char *room, const char *tmp_name, const char *first,
         print_table(call, runs, cwd);
     }
     zigrunk_free(plan), zigrunk_free(call);
-    free((void *)runs.own.bytes), free((void *)runs.first.bytes), free((void *)runs.second.bytes);
+    print_alone(runs, given.cwd, given.tmp, 1 << 20), print_alone(runs, given.cwd, given.tmp, 1000);
+    print_own_words(words);
+    free((void *)runs.own.bytes), free((void *)runs.first.bytes), free((void *)runs.second.bytes), free((void *)whole.bytes);
 }
 
 static void print_pair(const char *room, const char *first, const char *second) {
@@ -262,18 +324,18 @@ static void print_made(const char *tmp, char **nvcc) {
 }
 
 int main(int count, char **arguments) {
-    char line[1024], name[64], tmp[64], first[64], second[64], own[64];
+    char line[1024], name[64], tmp[64], first[64], second[64], own[64], words[64];
     if (count > 3 && strcmp(arguments[1], "--call") == 0) {
         print_made(arguments[2], arguments + 3);
         return 0;
     }
     while (count >= 2 && fgets(line, sizeof line, stdin)) {
-        if (sscanf(line, "%63s %63s %63s %63s %*s %*s %*s %63s", name, tmp, first, second, own) != 5) {
+        if (sscanf(line, "%63s %63s %63s %63s %*s %*s %*s %63s %63s", name, tmp, first, second, own, words) != 6) {
             return 2;
         }
         printf("== %s\n", name);
         if (count == 2) {
-            print_row(arguments[1], tmp, first, second, own);
+            print_row(arguments[1], tmp, first, second, own, words);
         } else {
             print_pair(arguments[1], first, second);
         }

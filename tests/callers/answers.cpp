@@ -81,6 +81,57 @@ static void print_schedule(const zigrunk::Plan &plan) {
     }
 }
 
+// One slot, and the third command fails.
+static void print_failure(const zigrunk::Plan &plan) {
+    zigrunk::Schedule schedule(plan, 1);
+    std::size_t told = 0;
+    while (const auto next = schedule.start()) {
+        schedule.ended(*next, *next != 2);
+        while (schedule.tell()) {
+            ++told;
+        }
+        std::cout << "alone " << *next << ", told " << told << '\n';
+    }
+    bool is_taken = true;
+    try {
+        schedule.ended(0, true);
+    } catch (const zigrunk::Error &error) {
+        is_taken = error.status != ZIGRUNK_BAD_NUMBER;
+    }
+    std::cout << "again " << is_taken << '\n';
+}
+
+// What a function gives, or why it refuses.
+template <typename Function> static bool print_answer(Function function) {
+    try {
+        function();
+        return true;
+    } catch (const zigrunk::Error &error) {
+        print_refusal(error);
+        return false;
+    }
+}
+
+static void print_own_words(const Texts &words) {
+    std::string quoted;
+    if (print_answer([&] { print_text("quoted", quoted = zigrunk::quote(words)); })) {
+        print_answer([&] { print_texts("split", zigrunk::split(quoted)); });
+    }
+    print_answer([&] { print_texts("other", zigrunk::remap(words, {".x.ii"})); });
+}
+
+// Two dry runs without their line, within a limit: the commands, with those that are dropped.
+static void print_alone(const std::string &first, const std::string &second, const std::string &cwd, const std::string &tmp, std::size_t limit) {
+    std::cout << "without a line, " << limit << '\n';
+    const zigrunk::Plan plan = zigrunk::plan_of(first, second, cwd, tmp, "-c", {"ODD=a b", "EMPTY="}, limit);
+    for (const std::vector<zigrunk::Command> &commands : {plan.commands(), plan.dropped()}) {
+        for (const zigrunk::Command &command : commands) {
+            print_command(command);
+        }
+    }
+    print_answer([&] { print_text("compdb", plan.text("compdb")); });
+}
+
 static void print_line(const zigrunk::Command &of) {
     const Texts words(of.words.begin() + 1, of.words.end());
     const zigrunk::Line line = zigrunk::line_records(of.tool, of.cwd, words);
@@ -142,6 +193,7 @@ static void print_plan(const zigrunk::Plan &plan) {
     print_texts("renamed", zigrunk::remap(plan.commands().back().words));
     print_texts("header", zigrunk::headers("# 1 \"a.h\"\n# 2 \"k \\\"b\" 2\n# 3 \"a.h\"\n"));
     print_schedule(plan);
+    print_failure(plan);
 }
 
 static std::string content(const std::string &path) {
@@ -149,12 +201,27 @@ static std::string content(const std::string &path) {
     return {std::istreambuf_iterator<char>(file), {}};
 }
 
-static void print_row(const std::string &room, const std::string &tmp, const std::string &first, const std::string &second, const std::string &own) {
-    const zigrunk::Call call(room + "/bin/nvcc", {"-c", "kernel.cu", "-o", "kernel.o"}, zigrunk::environment(), room + "/w", room + "/" + tmp);
-    print_call(call);
-    const std::string runs[] = {content(room + "/" + own), content(room + "/" + first), content(room + "/" + second)};
-    print_plan(call.plan_of(runs[0], runs[1], runs[2]));
-    print_table(call, runs[0], runs[1], runs[2], room + "/w");
+static void print_row(const std::string &room, const std::string &tmp, const std::string runs[], const Texts &words) {
+    print_answer([&] {
+        const zigrunk::Call call(room + "/bin/nvcc", words, zigrunk::environment(), room + "/w", tmp);
+        print_call(call);
+        print_plan(call.plan_of(runs[0], runs[1], runs[2]));
+        print_table(call, runs[0], runs[1], runs[2], room + "/w");
+    });
+    for (const std::size_t limit : {1 << 20, 1000}) {
+        print_answer([&] { print_alone(runs[1], runs[2], room + "/w", tmp, limit); });
+    }
+    print_own_words(words);
+}
+
+// The words of a file, each with a NUL behind it.
+static Texts words_of(const std::string &text) {
+    Texts words;
+    std::istringstream all(text);
+    for (std::string word; std::getline(all, word, '\0');) {
+        words.push_back(word);
+    }
+    return words;
 }
 
 static void print_made(const std::string &tmp, const Texts &words) {
@@ -179,12 +246,13 @@ int main(int count, char **arguments) {
     }
     for (std::string row; std::getline(std::cin, row);) {
         std::istringstream words(row);
-        std::string name, tmp, first, second, skipped, own;
-        words >> name >> tmp >> first >> second >> skipped >> skipped >> skipped >> own;
+        std::string name, tmp, first, second, skipped, own, line;
+        words >> name >> tmp >> first >> second >> skipped >> skipped >> skipped >> own >> line;
         std::cout << "== " << name << '\n';
         try {
             if (count == 2) {
-                print_row(room, tmp, first, second, own);
+                const std::string runs[] = {content(room + "/" + own), content(room + "/" + first), content(room + "/" + second)};
+                print_row(room, room + "/" + tmp, runs, words_of(content(room + "/" + line)));
             } else {
                 print_text("text", zigrunk::plan_of(content(room + "/" + first), content(room + "/" + second), room + "/w", room + "/t", "-c").text("text"));
             }

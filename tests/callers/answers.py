@@ -4,7 +4,7 @@ answers.py --call TMP NVCC WORD.."""
 import os
 import sys
 from pathlib import Path
-from typing import Iterable, Optional, Sequence, Union
+from typing import Callable, Iterable, Optional, Sequence, Union
 
 import zigrunk
 
@@ -97,6 +97,7 @@ def print_plan(plan: zigrunk.Plan) -> None:
     print_texts("renamed", zigrunk.remap(plan.commands[-1].words))
     print_texts("header", zigrunk.headers(b'# 1 "a.h"\n# 2 "k \\"b" 2\n# 3 "a.h"\n'))
     print_schedule(zigrunk.Schedule([plan], 2))
+    print_failure(plan)
 
 
 def print_schedule(schedule: zigrunk.Schedule) -> None:
@@ -108,6 +109,65 @@ def print_schedule(schedule: zigrunk.Schedule) -> None:
             running.append(number)
         schedule.ended(running.pop(0), zigrunk.Outcome.SUCCEEDED)
         print("told", schedule.told(0, len(schedule)).commands.stop)
+
+
+def print_failure(plan: zigrunk.Plan) -> None:
+    """One slot, and the third command fails."""
+    schedule = zigrunk.Schedule([plan], 1)
+    for number in schedule.start_ready():
+        schedule.ended(number, zigrunk.Outcome.FAILED if number == 2 else zigrunk.Outcome.SUCCEEDED)
+        print(f"alone {number}, told {schedule.told(0, len(schedule)).commands.stop}")
+    try:
+        schedule.ended(0)
+        print("again 1")
+    except zigrunk.ZigrunkError as error:
+        print("again", int(error.status != zigrunk.Status.BAD_NUMBER))
+
+
+def print_answer(name: str, function: Callable[[], Iterable[Union[str, bytes]]]) -> bool:
+    """Prints what a function gives, or why it refuses."""
+    try:
+        print_texts(name, function())
+        return True
+    except zigrunk.ZigrunkError as error:
+        print_refusal(error)
+        return False
+
+
+def print_own_words(words: Sequence[str]) -> None:
+    if print_answer("quoted", lambda: [zigrunk.quote(words)]):
+        print_answer("split", lambda: zigrunk.split(zigrunk.quote(words)))
+    print_answer("other", lambda: zigrunk.remap(words, [".x.ii"]))
+
+
+def print_alone(first: bytes, second: bytes, cwd: str, tmp: str, limit: int) -> None:
+    """Two dry runs without their line, within a limit: the commands, with those that are dropped."""
+    print(f"without a line, {limit}")
+    try:
+        plan = zigrunk.plan(first, second, cwd, tmp, "-c", {"ODD": "a b", "EMPTY": ""}, limit=limit)
+    except zigrunk.ZigrunkError as error:
+        return print_refusal(error)
+    for command in (*plan.commands, *plan.dropped):
+        print_command(command)
+    print_answer("compdb", lambda: [plan.text("compdb")])
+
+
+def print_called(room: Path, tmp: str, words: Sequence[str], runs: Sequence[bytes]) -> None:
+    try:
+        call = zigrunk.Call(str(room / "bin/nvcc"), words, os.environ, str(room / "w"), tmp)
+        print_call(call)
+        own, first, second = runs
+        print_plan(call.plan_of(own, first, second))
+        print_table(call, own, first, second, f"{room}/w")
+    except zigrunk.ZigrunkError as error:
+        print_refusal(error)
+
+
+def print_row(room: Path, tmp: str, words: Sequence[str], runs: Sequence[bytes]) -> None:
+    print_called(room, tmp, words, runs)
+    for limit in (1 << 20, 1000):
+        print_alone(runs[1], runs[2], f"{room}/w", tmp, limit)
+    print_own_words(words)
 
 
 def print_made(tmp: str, nvcc: str, words: Sequence[str]) -> None:
@@ -124,18 +184,15 @@ def main(arguments: Sequence[str]) -> None:
         return print_made(arguments[1], arguments[2], arguments[3:])
     room = Path(arguments[0])
     for row in sys.stdin:
-        name, tmp, first, second, *_, own = row.split()
+        name, tmp, first, second, *_, own, words = row.split()
         print("==", name)
         try:
             if arguments[1:]:
                 plan = zigrunk.plan((room / first).read_bytes(), (room / second).read_bytes(), f"{room}/w", f"{room}/t", "-c")
                 print_texts("text", [plan.text("text")])
                 continue
-            call = zigrunk.Call(str(room / "bin/nvcc"), ["-c", "kernel.cu", "-o", "kernel.o"], os.environ, str(room / "w"), f"{room}/{tmp}")
-            print_call(call)
-            own_text, one, two = ((room / name).read_bytes() for name in (own, first, second))
-            print_plan(call.plan_of(own_text, one, two))
-            print_table(call, own_text, one, two, f"{room}/w")
+            line = os.fsdecode((room / words).read_bytes()).split("\0")[:-1]
+            print_row(room, f"{room}/{tmp}", line, [(room / name).read_bytes() for name in (own, first, second)])
         except zigrunk.ZigrunkError as error:
             print_refusal(error)
 

@@ -40,7 +40,7 @@ def main() -> None:
             # (the same edit of both, where both are changed)
             text = mutated(right[run], others, random.Random(f"{seed} {number} edit"))
             (room / f"{name}{number}.dry{run + 1}").write_bytes(text)
-        print(f"{name}{number} t", *(f"{f'{name}{number}' if run in changed else 'one'}.dry{run + 1}" for run in (0, 1)), "- - - one.own")
+        print(f"{name}{number} t", *(f"{f'{name}{number}' if run in changed else 'one'}.dry{run + 1}" for run in (0, 1)), "- - - one.own usual.words")
 
 
 if __name__ == "__main__":

@@ -110,6 +110,57 @@ func printSchedule(plan *zigrunk.Plan) {
 	}
 }
 
+// printFailure: one slot, and the third command fails.
+func printFailure(plan *zigrunk.Plan) {
+	schedule, err := zigrunk.NewSchedule(plan, 1)
+	if err != nil {
+		log.Fatal(err)
+	}
+	for next := schedule.Start(); next >= 0; next = schedule.Start() {
+		schedule.Ended(next, next != 2)
+		told, _ := schedule.Told(0)
+		fmt.Fprintf(out, "alone %d, told %d\n", next, told)
+	}
+	fmt.Fprintln(out, "again", one(schedule.Ended(0, true)))
+}
+
+// printAnswer prints what a function gives, or why it refuses.
+func printAnswer(name string, texts []string, err error) bool {
+	if err != nil {
+		printRefusal(err)
+	} else {
+		printTexts(name, texts...)
+	}
+	return err == nil
+}
+
+func printOwnWords(words []string) {
+	quoted, err := zigrunk.Quote(words)
+	if printAnswer("quoted", []string{quoted}, err) {
+		split, err := zigrunk.Split(quoted)
+		printAnswer("split", split, err)
+	}
+	renamed, err := zigrunk.Remap(words, []string{".x.ii"})
+	printAnswer("other", renamed, err)
+}
+
+// printAlone: two dry runs without their line, within a limit: the commands, with those that are dropped.
+func printAlone(first, second []byte, cwd, tmp string, limit int) {
+	fmt.Fprintf(out, "without a line, %d\n", limit)
+	plan, err := zigrunk.PlanOf(first, second, cwd, tmp, "-c", []string{"ODD=a b", "EMPTY="}, nil, limit)
+	if err != nil {
+		printRefusal(err)
+		return
+	}
+	for _, commands := range [][]zigrunk.Command{plan.Commands, plan.Dropped} {
+		for i := range commands {
+			printCommand(&commands[i])
+		}
+	}
+	text, err := plan.Text("compdb")
+	printAnswer("compdb", []string{text}, err)
+}
+
 func printLine(of *zigrunk.Command) {
 	line, err := zigrunk.LineRecords(of.Tool, of.Directory, of.Words[1:], nil)
 	if err != nil {
@@ -203,16 +254,29 @@ func printPlan(plan *zigrunk.Plan) {
 	}
 	printTexts("header", headers...)
 	printSchedule(plan)
+	printFailure(plan)
 }
 
 func printRow(room string, row []string) error {
-	line := []string{"-c", "kernel.cu", "-o", "kernel.o"}
-	call, err := zigrunk.NewCall(room+"/bin/nvcc", line, os.Environ(), room+"/w", room+"/"+row[1])
+	own, first, second := content(room, row[7]), content(room, row[2]), content(room, row[3])
+	words := strings.Split(string(content(room, row[8])), "\x00")
+	words = words[:len(words)-1]
+	if err := printCalled(room, room+"/"+row[1], words, own, first, second); err != nil {
+		printRefusal(err)
+	}
+	for _, limit := range []int{1 << 20, 1000} {
+		printAlone(first, second, room+"/w", room+"/"+row[1], limit)
+	}
+	printOwnWords(words)
+	return nil
+}
+
+func printCalled(room, tmp string, words []string, own, first, second []byte) error {
+	call, err := zigrunk.NewCall(room+"/bin/nvcc", words, os.Environ(), room+"/w", tmp)
 	if err != nil {
 		return err
 	}
 	printCall(call)
-	own, first, second := content(room, row[7]), content(room, row[2]), content(room, row[3])
 	plan, err := call.PlanOf(own, first, second, nil, 0)
 	if err != nil {
 		return err

@@ -2,14 +2,17 @@
 
 use std::collections::VecDeque;
 use std::error::Error;
+use std::ffi::{OsStr, OsString};
+use std::num::NonZeroUsize;
+use std::os::unix::ffi::OsStrExt;
 use std::path::{Path, PathBuf};
 use std::{env, fs, io};
 
 use zigrunk::schedule::{AfterFailure, Outcome, Schedule};
 use zigrunk::{
     Call, Command, CommandTool, Disk, DropReason, DryRuns, Format, FoundProgram, KeyCall, LineCall, Missing, NvccCall, Plan,
-    PlanCall, Run, Stage, Tool, Variable, candidates, command_key, headers, line_records, line_words, lookups, plan, remap,
-    variables,
+    PlanCall, Run, Stage, Tool, Variable, candidates, command_key, headers, line_records, line_words, lookups, plan, quote,
+    remap, split, variables,
 };
 
 fn print_text(name: &str, text: impl AsRef<[u8]>) {
@@ -176,6 +179,55 @@ fn print_schedule(plan: &Plan) -> Result<(), Box<dyn Error>> {
     Ok(())
 }
 
+/// One slot, and the third command fails.
+fn print_failure(plan: &Plan) -> Result<(), Box<dyn Error>> {
+    let mut schedule = Schedule::of_plans([plan], 1, AfterFailure::StartEarlier)?;
+    while let Some(next) = schedule.start_next() {
+        schedule.ended(next, if next == 2 { Outcome::Failure } else { Outcome::Success })?;
+        println!("alone {next}, told {}", schedule.told(0..schedule.len()).commands.end);
+    }
+    println!("again {}", u8::from(schedule.ended(0, Outcome::Success).is_ok()));
+    Ok(())
+}
+
+/// What a function gives, or why it refuses.
+fn print_answer<T: AsRef<[u8]>>(name: &str, answer: Result<impl IntoIterator<Item = T>, zigrunk::Error>) {
+    match answer {
+        Ok(texts) => print_texts(name, texts),
+        Err(error) => print_refusal(&error),
+    }
+}
+
+fn print_own_words(words: &[OsString]) -> Result<(), Box<dyn Error>> {
+    let Some(words) = words.iter().map(|word| word.to_str()).collect::<Option<Vec<_>>>() else {
+        // (the crate takes no other words, so this is what the others say of them)
+        print!("{}", "refused 2 0 0\nmessage a\\20text\\20is\\20not\\20UTF-8\n".repeat(2));
+        return Ok(());
+    };
+    let quoted = quote(&words)?;
+    print_text("quoted", &quoted);
+    print_answer("split", split(&quoted).as_ref().map(|words| words.iter()).map_err(Clone::clone));
+    print_answer("other", remap(&words, &[".x.ii"]).as_ref().map(|words| words.iter()).map_err(Clone::clone));
+    Ok(())
+}
+
+/// Two dry runs without their line, within a limit: the commands, with those that are dropped.
+fn print_alone(runs: &DryRuns, cwd: &Path, tmp: &Path, limit: usize) {
+    println!("without a line, {limit}");
+    let (disk, variables) = (Disk::default(), [Variable::new("ODD", "a b"), Variable::new("EMPTY", "")]);
+    let given = PlanCall::new(runs.first(), runs.second(), &disk).at(cwd, tmp);
+    match plan(&PlanCall { flag: "-c", variables: &variables, limit: NonZeroUsize::new(limit), ..given }) {
+        Ok(plan) => {
+            for group in plan.groups() {
+                group.commands().for_each(|command| print_command(command, Some(group.stage())));
+            }
+            plan.dropped().for_each(|command| print_command(command, None));
+            print_answer("compdb", plan.text(Format::Compdb).map(|text| [text]));
+        }
+        Err(error) => print_refusal(&error),
+    }
+}
+
 fn print_plan(plan: &Plan) -> Result<(), Box<dyn Error>> {
     for group in plan.groups() {
         for command in group.commands() {
@@ -201,7 +253,8 @@ fn print_plan(plan: &Plan) -> Result<(), Box<dyn Error>> {
     }
     let output = b"# 1 \"a.h\"\n# 2 \"k \\\"b\" 2\n# 3 \"a.h\"\n";
     headers(output)?.iter().for_each(|name| print_text("header", name));
-    print_schedule(plan)
+    print_schedule(plan)?;
+    print_failure(plan)
 }
 
 /// The plan of two dry runs alone.
@@ -239,7 +292,7 @@ fn main() -> Result<(), Box<dyn Error>> {
     let environment: Vec<_> = env::vars_os().collect();
     for row in io::stdin().lines() {
         let row = row?;
-        let [name, tmp, first, second, _, _, _, own] = row.split_whitespace().collect::<Vec<_>>()[..] else {
+        let [name, tmp, first, second, _, _, _, own, line] = row.split_whitespace().collect::<Vec<_>>()[..] else {
             return Err("a short row".into());
         };
         println!("== {name}");
@@ -249,23 +302,31 @@ fn main() -> Result<(), Box<dyn Error>> {
             continue;
         }
         let (nvcc, cwd, tmp) = (room.join("bin/nvcc"), room.join("w"), room.join(tmp));
-        let words = ["-c", "kernel.cu", "-o", "kernel.o"];
-        let call = match Call::new(&NvccCall::new(&nvcc, &words).at(&cwd, &tmp).variables(&variables(&environment))) {
-            Ok(call) => call,
-            Err(error) => {
-                print_refusal(&error);
-                continue;
-            }
-        };
-        print_call(&call);
         let runs = DryRuns::new(read(own)?, read(first)?, read(second)?);
-        match call.plan_of(&runs, &Disk::default(), None) {
-            Ok(plan) => {
-                print_plan(&plan)?;
-                print_table(&call, &runs, &cwd)?;
-            }
-            Err(error) => print_refusal(&error),
+        let mut words: Vec<_> = read(line)?.split(|byte| *byte == 0).map(|word| OsStr::from_bytes(word).to_owned()).collect();
+        words.pop();
+        let given = NvccCall::new(&nvcc, &words).at(&cwd, &tmp);
+        print_called(Call::new(&given.variables(&variables(&environment))), &runs, &cwd)?;
+        for limit in [1 << 20, 1000] {
+            print_alone(&runs, &cwd, &tmp, limit);
         }
+        print_own_words(&words)?;
+    }
+    Ok(())
+}
+
+fn print_called(call: Result<Call, zigrunk::Error>, runs: &DryRuns, cwd: &Path) -> Result<(), Box<dyn Error>> {
+    let planned = call.and_then(|call| {
+        print_call(&call);
+        let plan = call.plan_of(runs, &Disk::default(), None)?;
+        Ok((call, plan))
+    });
+    match planned {
+        Ok((call, plan)) => {
+            print_plan(&plan)?;
+            print_table(&call, runs, cwd)?;
+        }
+        Err(error) => print_refusal(&error),
     }
     Ok(())
 }
