@@ -14,7 +14,7 @@ from pathlib import Path
 
 TOP = Path(__file__).resolve().parent.parent
 FOLDERS = ["unix", "machine", "call", "cache", "provenance", "runner", "batch", "report", "driver"]
-CRATES = ["rustix", "lexopt", "serde", "serde_json", "postcard", "strsim"]
+CRATES = ["nix", "rustix", "lexopt", "serde", "serde_json", "postcard", "strsim"]
 # What is done: files, each with the items that do it, or whole.
 ROWS: "list[tuple[str, dict[str, list[str]]]]" = [
     ("system calls", {f"unix/src/{file}.rs": [] for file in ["files", "pipes", "waits", "words", "shared", "processes"]}),
@@ -22,7 +22,7 @@ ROWS: "list[tuple[str, dict[str, list[str]]]]" = [
     ("starting a process", {"unix/src/image.rs": []}),
     ("whole files and streams", {"unix/src/streams.rs": []}),
     ("reading JSON", {"databases.rs": ["struct Written", "fn entries", "fn entry"], "log_lines.rs": ["fn truth", "fn entry"]}),
-    ("writing JSON, lines of the log", {"call/src/json.rs": [], "log.rs": ["struct LoggedCommand", "struct Early", "struct Line", "fn short",
+    ("writing JSON, lines of the log", {"call/src/json.rs": [], "runner/src/log.rs": ["struct LoggedCommand", "struct Early", "struct Line", "fn short",
                                                                            "fn commands", "fn append"]}),
     ("stored records", {"stored.rs": []}),
     ("words of our own options", {"plan_program.rs": ["fn text", "fn limit", "impl Options", "fn asked"], "options.rs": ["fn number", "fn parse"],
@@ -30,7 +30,7 @@ ROWS: "list[tuple[str, dict[str, list[str]]]]" = [
     ("jobserver", {"jobserver.rs": []}),
     ("temporary names, locks", {"folder.rs": ["fn lock_name", "fn lock", "fn random", "fn remove_left"]}),
     ("a store with a size", {"store.rs": ["impl Store", "fn age", "fn files", "fn is_unfinished"]}),
-    ("paths, sizes", {"places.rs": [], "settings.rs": ["fn bytes_of"], "place.rs": ["fn shown"]}),
+    ("paths, sizes", {"machine/src/places.rs": [], "settings.rs": ["fn bytes_of"], "place.rs": ["fn shown"]}),
     ("progress", {"progress.rs": []}),
     ("tests' folders and processes", {"test_folder.rs": [], "forked.rs": []}),
 ]

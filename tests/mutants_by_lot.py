@@ -107,7 +107,7 @@ RUST: dict[str, list[tuple[str, str]]] = {
     "swap sum": [(r" \+ ", " - "), (r" - ", " + "), (r" \* ", " + "), (r" \+= ", " -= ")],
     "empty a branch": [(r"^(\s*.+ => )(?!\{$)[^,]+,$", r"\1{}"), (r"^(\s*.+ => )(?!\{$)(.+),$", r"\1Default::default(),")],
     "another flag": [*swaps("true~false", "TERM~KILL", "INT~HUP", "STOP~CONT", "::WouldBlock~::NotFound", "::AlreadyExists~::PermissionDenied",
-                            "Opening::Kept~Opening::Pipe", "Outcome::Success~Outcome::Failure"), (r" \| \d+\b", ""), (r"\bTSTP\b", "CHLD")],
+                            "Access::KEPT~Access::PIPE", "Outcome::Success~Outcome::Failure"), (r" \| \d+\b", ""), (r"\bTSTP\b", "CHLD")],
     "another method": swaps(".is_some()~.is_none()", ".is_ok()~.is_err()", ".any(~.all(", ".min(~.max(", ".is_some_and(~.is_none_or(",
                             ".first()~.last()", ".starts_with(~.ends_with(", ".take_while(~.skip_while(", ".push_back(~.push_front("),
     "drop a link of a chain": [(r"\.(rev|skip|filter|trim|min|max|take|chain|filter_map)\([^()]*\)", ""),

@@ -5,7 +5,8 @@
 use crate::clock::nanoseconds;
 use crate::settings::own_variable;
 use crate::streams::{called, complain, write_all};
-use crate::system::{self, Access, Opening};
+use crate::system::words::{PERMISSIONS, PRIVATE};
+use crate::system::{self, Access};
 use std::fs::{self, File, Metadata};
 use std::io;
 use std::os::fd::{AsFd, BorrowedFd, OwnedFd};
@@ -29,7 +30,7 @@ const EMPTY_LEFT_ALONE: Duration = Duration::new(10, 0);
 /// Removes a folder with all that it holds, unless each try to open it is interrupted: std would try for
 /// ever.
 fn remove_all(folder: &Path) -> io::Result<()> {
-    match system::open(folder, Access::Folder) {
+    match system::open(folder, Access::FOLDER) {
         Err(error) if error.kind() == io::ErrorKind::Interrupted => Err(error),
         _ => fs::remove_dir_all(folder),
     }
@@ -44,7 +45,7 @@ fn is_at(path: &Path, file: &File) -> bool {
 
 /// Whether a folder is the user's, and nobody else may use it.
 fn is_private(status: &Metadata) -> bool {
-    status.uid() == system::user() && status.mode() & 0o7777 == 0o700
+    status.uid() == system::user() && status.mode() & PERMISSIONS == PRIVATE
 }
 
 /// What has the name of a private folder, if it is no such folder.
@@ -55,7 +56,8 @@ fn taken_by(path: &Path) -> Option<String> {
     } else if !status.is_dir() {
         Some("it is no folder".into())
     } else {
-        (!is_private(&status)).then(|| format!("its mode is {:o}, not 700", status.mode() & 0o7777))
+        (!is_private(&status))
+            .then(|| format!("its mode is {:o}, not {PRIVATE:o}", status.mode() & PERMISSIONS))
     }
 }
 
@@ -72,7 +74,7 @@ const A_DAY: Duration = Duration::from_secs(24 * 60 * 60);
 fn is_due(name: &str, places: &[PathBuf]) -> bool {
     let open = |place: &PathBuf| {
         let folder = Folder::private(place, &user_folder()).ok()?;
-        system::open_below(folder.as_fd(), &format!("said-{name}"), Opening::Kept).map(File::from).ok()
+        system::open_below(folder.as_fd(), &format!("said-{name}"), Access::KEPT).ok()
     };
     let Some(stamp) = places.iter().find_map(open) else { return true };
     if !system::try_lock(stamp.as_fd()).unwrap_or(true) {
@@ -112,13 +114,13 @@ impl Folder {
     /// Opens a folder of this name, and makes it if it isn't there. It has to be the user's alone.
     /// An error if it can't be made, or is another's, or others may use it.
     pub fn private(above: &Path, name: &str) -> io::Result<Folder> {
-        let parent = system::open(above, Access::Read)?;
+        let parent = system::open(above, Access::READ)?;
         match system::make_folder(parent.as_fd(), name) {
             Err(error) if error.kind() != io::ErrorKind::AlreadyExists => return Err(error),
             _ => {}
         }
         let folder = Folder {
-            file: system::open_below(parent.as_fd(), name, Opening::Folder)?.into(),
+            file: system::open_below(parent.as_fd(), name, Access::FOLDER)?,
             path: above.join(name),
         };
         if is_private(&folder.file.metadata()?) {
@@ -265,7 +267,7 @@ fn lock_name(name: &str) -> String {
 fn lock(user: &Folder, name: &str) -> io::Result<Option<OwnedFd>> {
     let name = lock_name(name);
     for _ in 0..3 {
-        let file = File::from(system::open_below(user.as_fd(), &name, Opening::Kept)?);
+        let file = system::open_below(user.as_fd(), &name, Access::KEPT)?;
         if !system::try_lock(file.as_fd())? {
             return Ok(None);
         }
@@ -282,8 +284,8 @@ fn lock(user: &Folder, name: &str) -> io::Result<Option<OwnedFd>> {
 fn opened(parent: BorrowedFd<'_>, above: &Path, name: &str) -> io::Result<Folder> {
     let path = above.join(name);
     let file =
-        system::open_below(parent, name, Opening::Folder).inspect_err(|_| drop(fs::remove_dir(&path)))?;
-    Ok(Folder { file: file.into(), path })
+        system::open_below(parent, name, Access::FOLDER).inspect_err(|_| drop(fs::remove_dir(&path)))?;
+    Ok(Folder { file, path })
 }
 
 /// Opens a folder that was just made below another, unless another user has put something in its place
@@ -295,7 +297,7 @@ fn opened_own(parent: BorrowedFd<'_>, above: &Path, name: &str) -> io::Result<Fo
 
 /// A directory of a name that nobody else has.
 fn random(above: &Path) -> io::Result<CallFolder> {
-    let parent = system::open(above, Access::Read)?;
+    let parent = system::open(above, Access::READ)?;
     let mut seed = nanoseconds() ^ u64::from(std::process::id()) << 40;
     for _ in 0..100 {
         seed = seed.wrapping_mul(6_364_136_223_846_793_005).wrapping_add(1_442_695_040_888_963_407);

@@ -195,7 +195,7 @@ impl Host {
             unguarded: None,
             slots,
             tokens,
-            null: system::open(Path::new("/dev/null"), Access::Both)?,
+            null: system::open(Path::new("/dev/null"), Access::BOTH)?,
             shows_colours: io::IsTerminal::is_terminal(&io::stderr()),
             gives_way: false,
             environment,
@@ -1134,8 +1134,8 @@ mod tests {
             host.start(1, &shell("sleep 300")).unwrap();
             host.end_all(TERM);
             host.leave();
-            let path = CString::new(format!("/proc/self/fd/{}", read.as_raw_fd())).unwrap();
-            let pipe = system::open_unblocked(&path, false).unwrap();
+            let path = format!("/proc/self/fd/{}", read.as_raw_fd());
+            let pipe = system::open(Path::new(&path), Access::PIPE_TO_READ).unwrap();
             assert_eq!(system::read_byte(pipe.as_fd()), Some(b'+'));
             drop(write);
         });

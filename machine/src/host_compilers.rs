@@ -38,7 +38,7 @@ pub enum HostCompiler {
 impl HostCompiler {
     /// The compiler that a path leads to.
     pub fn of(program: &Path) -> HostCompiler {
-        system::open(program, Access::Read).and_then(HostCompiler::of_file).unwrap_or(HostCompiler::Script)
+        system::open(program, Access::READ).and_then(HostCompiler::of_file).unwrap_or(HostCompiler::Script)
     }
 
     fn of_file(mut file: File) -> io::Result<HostCompiler> {

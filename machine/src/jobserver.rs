@@ -2,9 +2,9 @@
 //! has or a further one.
 use crate::guard::{MOST_TOKENS, Shared};
 use crate::settings::own_text;
-use crate::system;
-use std::ffi::CString;
+use crate::system::{self, Access};
 use std::os::fd::{AsFd, AsRawFd, BorrowedFd, OwnedFd, RawFd};
+use std::path::Path;
 use std::sync::atomic::Ordering;
 
 /// What `MAKEFLAGS` says of jobs.
@@ -68,9 +68,9 @@ impl Jobserver {
     ///
     /// A pipe is opened again, so that not to wait for it here doesn't change it for make.
     pub fn open(text: &str) -> Option<Jobserver> {
+        let open = |path: &str, access| system::open(Path::new(path), access).map(OwnedFd::from).ok();
         if let Some(path) = text.strip_prefix("fifo:") {
-            let path = CString::new(path).ok()?;
-            let from = system::open_fifo(&path).ok()?;
+            let from = open(path, Access::PIPE)?;
             if !system::is_same_pipe(from.as_raw_fd(), from.as_raw_fd()) {
                 return None;
             }
@@ -81,10 +81,10 @@ impl Jobserver {
         if !system::is_same_pipe(read, write) {
             return None;
         }
-        let open = |number, writes| {
-            system::open_unblocked(&CString::new(format!("/proc/self/fd/{number}")).ok()?, writes).ok()
-        };
-        Some(Jobserver { from: open(read, false)?, to: open(write, true)? })
+        Some(Jobserver {
+            from: open(&format!("/proc/self/fd/{read}"), Access::PIPE_TO_READ)?,
+            to: open(&format!("/proc/self/fd/{write}"), Access::PIPE_TO_WRITE)?,
+        })
     }
 
     /// The end to which jobs are given back.

@@ -8,7 +8,7 @@
 //! touch their files each second. What wasn't touched for some seconds belongs to a call that is stopped or
 //! frozen, and doesn't count.
 use crate::folder::{self, Folder};
-use crate::system::{self, Opening};
+use crate::system::{self};
 use std::cell::{Cell, RefCell};
 use std::fs::{self, File};
 use std::io;
@@ -134,7 +134,7 @@ impl Slots {
 
     fn open_in(place: &Path, own: Waiter) -> io::Result<Slots> {
         let folder = Folder::private(place, &folder_name())?;
-        let first = system::open_below(folder.as_fd(), "1", Opening::Kept)?;
+        let first = system::open_below(folder.as_fd(), "1", Access::KEPT)?;
         system::try_lock(first.as_fd())?;
         Ok(Slots { folder, own, ticket: None, is_without_locks: Cell::new(false), known: RefCell::new(None) })
     }
@@ -161,8 +161,7 @@ impl Slots {
 
     /// Whether a call waits, and can. The ticket of one that is dead goes.
     fn is_alive(&self, waiter: Waiter) -> bool {
-        let Ok(file) = system::open_below(self.folder.as_fd(), &waiter.name(), Opening::Pipe).map(File::from)
-        else {
+        let Ok(file) = system::open_below(self.folder.as_fd(), &waiter.name(), Access::PIPE) else {
             return false;
         };
         if system::try_lock(file.as_fd()).unwrap_or(false) {
@@ -204,13 +203,13 @@ impl Slots {
     pub fn are_lost(&self) -> bool {
         self.is_without_locks.get()
             || !self.folder.is_there()
-            || system::open_below(self.folder.as_fd(), "1", Opening::Kept).is_err()
+            || system::open_below(self.folder.as_fd(), "1", Access::KEPT).is_err()
     }
 
     /// The slot of a number, or why it can't be had.
     fn lock(&self, number: usize) -> Result<Slot, Taken> {
-        let opened = system::open_below(self.folder.as_fd(), &number.to_string(), Opening::Kept);
-        let file = File::from(opened.map_err(|_| Taken::Busy)?);
+        let opened = system::open_below(self.folder.as_fd(), &number.to_string(), Access::KEPT);
+        let file = opened.map_err(|_| Taken::Busy)?;
         match system::try_lock(file.as_fd()) {
             Ok(true) => {
                 system::touch(file.as_fd());
@@ -251,7 +250,7 @@ impl Slots {
     }
 
     fn wake(&self, waiter: Waiter) -> bool {
-        let pipe = system::open_below(self.folder.as_fd(), &waiter.name(), Opening::PipeToWrite);
+        let pipe = system::open_below(self.folder.as_fd(), &waiter.name(), Access::PIPE_TO_WRITE);
         pipe.is_ok_and(|pipe| system::write_byte(pipe.as_fd(), b'+'))
     }
 
@@ -265,7 +264,7 @@ impl Slots {
         self.end_to_wait();
         for _ in 0..3 {
             let made = system::make_pipe(self.folder.as_fd(), &name);
-            let opened = system::open_below(self.folder.as_fd(), &name, Opening::Pipe).map(File::from);
+            let opened = system::open_below(self.folder.as_fd(), &name, Access::PIPE);
             let (Ok(()), Ok(file)) = (made, opened) else { return false };
             // It looks again, since another call may take it for that of a dead one before it is locked.
             if system::try_lock(file.as_fd()).unwrap_or(false) && self.folder.names(&name, &file) {

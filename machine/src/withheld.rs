@@ -45,7 +45,7 @@ impl Withheld {
         if !is_patient()? {
             return Err(io::ErrorKind::Unsupported.into());
         }
-        let file = system::open(path, Access::New)?;
+        let file = system::open(path, Access::NEW)?;
         system::withhold(file.as_fd())?;
         Ok(Withheld { file })
     }

@@ -132,7 +132,7 @@ pub fn append(file: &Path, call: &LoggedCall<'_>) {
             text += &line;
         }
     }
-    let written = system::open(file, Access::Append).and_then(|log| write_all(&log, text.as_bytes()));
+    let written = system::open(file, Access::APPEND).and_then(|log| write_all(&log, text.as_bytes()));
     if let Err(error) = written {
         complain(&format!("{}: cannot write {}: {}", called(), file.display(), plain(&error)));
     }

@@ -24,71 +24,54 @@ pub fn memory_file() -> io::Result<File> {
     Ok(fs::memfd_create(c"said", MemfdFlags::CLOEXEC)?.into())
 }
 
-/// How a file is opened by its path.
+/// How a file is opened, and what others may do with one that is made.
 #[derive(Clone, Copy)]
-pub enum Access {
+pub struct Access(OFlags, Mode);
+
+impl Access {
     /// For reading.
-    Read,
-    /// For writing what takes the place of all that is there.
-    Write,
-    /// For reading and writing, if there's no such file yet.
-    New,
+    pub const READ: Access = Access(OFlags::RDONLY, OWNERS);
     /// For reading and writing what is there.
-    Both,
+    pub const BOTH: Access = Access(OFlags::RDWR, OWNERS);
+    /// For writing what takes the place of all that is there.
+    pub const WRITE: Access = Access(OFlags::WRONLY.union(OFlags::CREATE).union(OFlags::TRUNC), EVERYBODYS);
     /// For writing behind what is there.
-    Append,
+    pub const APPEND: Access = Access(OFlags::WRONLY.union(OFlags::CREATE).union(OFlags::APPEND), EVERYBODYS);
+    /// For reading and writing, if there's no such file yet.
+    pub const NEW: Access = Access(OFlags::RDWR.union(OFlags::CREATE).union(OFlags::EXCL), EVERYBODYS);
+    /// For reading and writing a file that its owner alone may use, which is made if it isn't there.
+    pub const KEPT: Access = Access(OFlags::RDWR.union(OFlags::CREATE), OWNERS);
     /// As a folder, and no link to one.
-    Folder,
+    pub const FOLDER: Access = Access(OFlags::DIRECTORY.union(OFlags::NOFOLLOW), OWNERS);
+    /// As a pipe, to read and write, without waiting for anybody.
+    pub const PIPE: Access = Access(OFlags::RDWR.union(OFlags::NONBLOCK), OWNERS);
+    /// As the end of a pipe to read, without waiting.
+    pub const PIPE_TO_READ: Access = Access(OFlags::RDONLY.union(OFlags::NONBLOCK), OWNERS);
+    /// As the end of a pipe to write, if somebody reads it, without waiting.
+    pub const PIPE_TO_WRITE: Access = Access(OFlags::WRONLY.union(OFlags::NONBLOCK), OWNERS);
 }
 
 /// Opens a file by its path. In contrast to std's, a call that is interrupted again and again ends, with that
 /// error.
-pub fn open(path: &Path, access: Access) -> io::Result<File> {
-    let flags = match access {
-        Access::Read => OFlags::RDONLY,
-        Access::Write => OFlags::WRONLY | OFlags::CREATE | OFlags::TRUNC,
-        Access::New => OFlags::RDWR | OFlags::CREATE | OFlags::EXCL,
-        Access::Both => OFlags::RDWR,
-        Access::Append => OFlags::WRONLY | OFlags::CREATE | OFlags::APPEND,
-        Access::Folder => OFlags::DIRECTORY | OFlags::NOFOLLOW,
-    };
-    tried(|| fs::open(path, flags | OFlags::CLOEXEC, EVERYBODYS)).map(File::from)
+pub fn open(path: &Path, Access(flags, mode): Access) -> io::Result<File> {
+    tried(|| fs::open(path, flags | OFlags::CLOEXEC, mode))
 }
 
 /// What opens a file, tried again if a signal interrupts it, so often and no more.
-fn tried(open: impl Fn() -> rustix::io::Result<OwnedFd>) -> io::Result<OwnedFd> {
+fn tried(open: impl Fn() -> rustix::io::Result<OwnedFd>) -> io::Result<File> {
     let mut tries = 0;
     loop {
         match open() {
             Err(Errno::INTR) if tries < MOST_TRIES => tries += 1,
-            opened => return Ok(opened?),
+            opened => return Ok(opened?.into()),
         }
     }
 }
 
-/// How a file below a folder is opened.
-#[derive(Clone, Copy)]
-pub enum Opening {
-    /// A folder, and no link to one.
-    Folder,
-    /// A file to read and write, which is made if it isn't there.
-    Kept,
-    /// A named pipe, to read and write, without waiting for anybody.
-    Pipe,
-    /// The end of a named pipe to write, if somebody reads it.
-    PipeToWrite,
-}
-
 /// Opens a file below a folder. No link is followed.
 /// Errors: those of `openat`, and that of a name with a NUL.
-pub fn open_below(folder: BorrowedFd<'_>, name: &str, how: Opening) -> io::Result<OwnedFd> {
-    let flags = match how {
-        Opening::Folder => OFlags::DIRECTORY,
-        Opening::Kept => OFlags::RDWR | OFlags::CREATE,
-        Opening::Pipe => OFlags::RDWR | OFlags::NONBLOCK,
-        Opening::PipeToWrite => OFlags::WRONLY | OFlags::NONBLOCK,
-    };
-    tried(|| fs::openat(folder, name, flags | OFlags::NOFOLLOW | OFlags::CLOEXEC, OWNERS))
+pub fn open_below(folder: BorrowedFd<'_>, name: &str, Access(flags, mode): Access) -> io::Result<File> {
+    tried(|| fs::openat(folder, name, flags | OFlags::NOFOLLOW | OFlags::CLOEXEC, mode))
 }
 
 /// Whether this process may write a file, or the names in a folder.
@@ -111,17 +94,6 @@ pub fn may_run(path: &Path) -> bool {
 pub fn room_in(folder: &Path) -> io::Result<u64> {
     let disk = fs::statvfs(folder)?;
     Ok(disk.f_bavail * disk.f_frsize)
-}
-
-/// Opens a path for reading or for writing, without waiting.
-pub fn open_unblocked(path: &CStr, writes: bool) -> io::Result<OwnedFd> {
-    let way = if writes { OFlags::WRONLY } else { OFlags::RDONLY };
-    Ok(fs::open(path, way | OFlags::NONBLOCK | OFlags::CLOEXEC, Mode::empty())?)
-}
-
-/// Opens a named pipe for reading and writing, without waiting.
-pub fn open_fifo(path: &CStr) -> io::Result<OwnedFd> {
-    Ok(fs::open(path, OFlags::RDWR | OFlags::NONBLOCK | OFlags::CLOEXEC, Mode::empty())?)
 }
 
 /// Makes a folder that only its owner may use.
@@ -170,12 +142,13 @@ pub fn give(file: BorrowedFd<'_>) -> io::Result<()> {
     set(file, libc::F_SETLEASE, libc::F_UNLCK)
 }
 
-/// Sets what one of the words `SETSIG`, `SETLEASE` and `SETPIPE_SZ` of `fcntl` names.
-pub(crate) fn set(file: BorrowedFd<'_>, what: i32, value: i32) -> io::Result<()> {
+/// Sets what one of the words `SETSIG` and `SETLEASE` of `fcntl` names.
+fn set(file: BorrowedFd<'_>, what: i32, value: i32) -> io::Result<()> {
     // SAFETY: these words take a number and touch no memory.
     let answer = unsafe { libc::fcntl(file.as_raw_fd(), what, value) };
     if answer < 0 { Err(io::Error::last_os_error()) } else { Ok(()) }
 }
+
 /// Where a path really leads. C's library can say so without memory, and the copy reports it if there is
 /// none.
 /// Errors: those of `realpath`, and `OutOfMemory`.

@@ -1,13 +1,15 @@
 //! Tests in a process of their own: what they do with signals, children and standard streams no other test
 //! sees.
+use crate::processes::PANICKED;
 use crate::streams::{content, write_all};
 use crate::{KILL, Status};
+use nix::unistd;
 use std::env;
 use std::ffi::OsStr;
 use std::fmt::Write as _;
 use std::fs;
-use std::os::fd::{AsFd, AsRawFd, FromRawFd, OwnedFd, RawFd};
-use std::panic::{self, AssertUnwindSafe, catch_unwind};
+use std::os::fd::{AsFd, AsRawFd, RawFd};
+use std::panic;
 use std::path::PathBuf;
 use std::sync::Once;
 use std::sync::atomic::{AtomicBool, Ordering};
@@ -16,8 +18,6 @@ use std::time::{Duration, Instant};
 
 /// How long such a test may take, since one that waits for itself would hold all others.
 const LONGEST: Duration = Duration::from_secs(60);
-/// The status of a test that fails.
-const FAILED: i32 = 101;
 
 /// Whether this process is one of those that `status_of` forks.
 static IS_FORKED: AtomicBool = AtomicBool::new(false);
@@ -43,17 +43,15 @@ fn redirect_panics() {
 /// and again.
 pub fn status_of(run: impl FnOnce(), meanwhile: impl Fn(i32)) -> Status {
     redirect_panics();
-    let guarded = || {
+    let marked = || {
         IS_FORKED.store(true, Ordering::Relaxed);
-        if catch_unwind(AssertUnwindSafe(run)).is_err() {
-            crate::exit(FAILED);
-        }
+        run();
     };
-    let child = crate::fork_to(guarded).unwrap();
+    let child = crate::fork_to(marked).unwrap();
     let begun = Instant::now();
     loop {
         if let Some(status) = crate::end_of(child).unwrap() {
-            if status.code == FAILED {
+            if status.code == PANICKED {
                 let text = fs::read_to_string(message_of(child)).unwrap_or_default();
                 let _ = fs::remove_file(message_of(child));
                 panic!("in a process of its own: {text}");
@@ -102,16 +100,14 @@ pub fn dispositions(signals: &[i32]) -> String {
     })
 }
 
-/// Closes a file of this process, whoever owns it.
+/// Closes a file of this process, whoever owns it. (It is to be a process of its own, like that of `copy_to`.)
 pub fn close(number: RawFd) {
-    // SAFETY: tests call this in a process of its own, for a file that nothing there uses any more.
-    drop(unsafe { OwnedFd::from_raw_fd(number) });
+    let _ = unistd::close(number);
 }
 
 /// Has a number be that of an open file, too.
 pub fn copy_to(file: impl AsFd, number: RawFd) {
-    // SAFETY: tests call this in a process of its own, for a number that nothing there uses.
-    assert_eq!(unsafe { libc::dup2(file.as_fd().as_raw_fd(), number) }, number);
+    assert_eq!(unistd::dup2(file.as_fd().as_raw_fd(), number), Ok(number));
 }
 
 /// Gives a variable of this process a value.

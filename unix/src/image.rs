@@ -1,7 +1,9 @@
 //! Programs that are run.
 use crate::processes::{exit, process};
 use crate::signals::{Signals, TERM};
-use libc::{c_char, c_int, c_void};
+use libc::c_char;
+use nix::fcntl::{FcntlArg, FdFlag, fcntl};
+use nix::sched::{CloneFlags, clone};
 use rustix::process::{Pid, Signal, chdir, getppid, set_parent_process_death_signal, setpgid};
 use rustix::stdio::{dup2_stderr, dup2_stdin, dup2_stdout, stderr};
 use std::borrow::Cow;
@@ -12,9 +14,8 @@ use std::os::fd::{BorrowedFd, RawFd};
 use std::ptr;
 use std::sync::atomic::{AtomicI32, Ordering};
 
-/// How many parts of sixteen bytes a child's stack has: parts of that size because a stack has to be aligned
-/// so, and few because the child only sets its files and becomes the program.
-const CHILD_STACK: usize = 4096;
+/// How many bytes a child's stack has: few, because the child only sets its files and becomes the program.
+const CHILD_STACK: usize = 1 << 16;
 /// The status of a child that can't run its program, as a shell has it.
 const NOT_RUN: i32 = 127;
 
@@ -130,21 +131,12 @@ struct Child<'a> {
 
 /// Starts a child, and waits until it is the program or has ended.
 fn start(child: &Child<'_>) -> io::Result<i32> {
-    let mut stack: Vec<u128> = Vec::with_capacity(CHILD_STACK);
-    let flags = libc::CLONE_VM | libc::CLONE_VFORK | libc::SIGCHLD;
+    let mut stack = vec![0; CHILD_STACK];
+    let flags = CloneFlags::CLONE_VM | CloneFlags::CLONE_VFORK;
+    let run = Box::new(|| child.become_program());
     // SAFETY: the stack and what the child uses stay until it has become the program, since this process
     // waits for that.
-    let number = unsafe {
-        let top = stack.as_mut_ptr().add(CHILD_STACK);
-        libc::clone(become_child, top.cast(), flags, ptr::from_ref(child).cast_mut().cast())
-    };
-    if number < 0 { Err(io::Error::last_os_error()) } else { Ok(number) }
-}
-
-/// What `clone` has a child do.
-extern "C" fn become_child(child: *mut c_void) -> c_int {
-    // SAFETY: the parent waits, and hands over a `Child`.
-    unsafe { &*child.cast::<Child<'_>>() }.become_program()
+    Ok(unsafe { clone(run, &mut stack, flags, Some(libc::SIGCHLD)) }?.as_raw())
 }
 
 impl Child<'_> {
@@ -162,8 +154,7 @@ impl Child<'_> {
         let _ = dup2_stdout(output);
         let _ = dup2_stderr(errors);
         if let Some(file) = self.inherited {
-            // SAFETY: this touches no memory, and a number that is no open file's is refused.
-            unsafe { libc::fcntl(file, libc::F_SETFD, 0) };
+            let _ = fcntl(file, FcntlArg::F_SETFD(FdFlag::empty()));
         }
         self.signals.give_back();
         let folder = self.image.folder.as_ref();

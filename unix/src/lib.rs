@@ -1,8 +1,8 @@
 //! What Linux does for the driver, each call behind a safe function: files below a folder, locks, pipes,
 //! signals, processes.
 //!
-//! This is the one crate with `unsafe`. Most calls are those of `rustix`. `libc` has those that it lacks, and
-//! those that change what this process does with signals, or that start another.
+//! This is the one crate with `unsafe`. Most calls are those of `rustix`; those on signals, and on files by their
+//! numbers alone, are of `nix`. `libc` has what both lack.
 mod bounds;
 mod files;
 #[cfg(any(test, feature = "testing"))]
@@ -24,8 +24,8 @@ pub mod words;
 
 pub use bounds::{MOST_TRIES, UNBLOCKED};
 pub use files::{
-    Access, Opening, give, kind_of_file_system, make_folder, make_pipe, may_run, may_write, memory_file,
-    open, open_below, open_fifo, open_unblocked, real_path, remove_below, room_in, touch, try_lock, withhold,
+    Access, give, kind_of_file_system, make_folder, make_pipe, may_run, may_write, memory_file, open,
+    open_below, real_path, remove_below, room_in, touch, try_lock, withhold,
 };
 pub use image::Image;
 pub use pipes::{

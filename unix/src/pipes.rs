@@ -1,4 +1,5 @@
 //! Pipes and terminals.
+use nix::fcntl::{FcntlArg, fcntl};
 use rustix::fs::{self, FileType, Mode, OFlags};
 use rustix::pipe::{PipeFlags, pipe_with};
 use rustix::pty::{OpenptFlags, grantpt, openpt, ptsname, unlockpt};
@@ -23,7 +24,7 @@ pub fn pipe() -> io::Result<(OwnedFd, OwnedFd)> {
 pub fn small_pipe() -> io::Result<(OwnedFd, OwnedFd)> {
     let (read, write) = pipe()?;
     // (a kernel's page may be larger, but a part always takes a whole one, so the pipe is full all the same)
-    crate::files::set(write.as_fd(), libc::F_SETPIPE_SZ, SMALL.into())?;
+    fcntl(write.as_raw_fd(), FcntlArg::F_SETPIPE_SZ(SMALL.into()))?;
     set_unblocked(write.as_fd())?;
     Ok((read, write))
 }

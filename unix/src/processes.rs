@@ -1,5 +1,8 @@
 //! This process, and others.
 use crate::signals::TERM;
+use nix::fcntl::OFlag;
+use nix::sys::signal::kill;
+use nix::unistd::{ForkResult, dup3, fork};
 use rustix::fs::{Mode, OFlags, open};
 use rustix::process::{
     self, Pid, Resource, Signal, WaitOptions, WaitStatus, getrlimit, set_parent_process_death_signal,
@@ -8,9 +11,10 @@ use rustix::process::{
 use rustix::stdio::{dup2_stderr, dup2_stdin, dup2_stdout, stderr, stdin, stdout};
 use std::io;
 use std::os::fd::{AsRawFd, BorrowedFd, IntoRawFd, OwnedFd};
+use std::panic::{AssertUnwindSafe, catch_unwind};
 
 /// The status of a forked process whose function panics.
-const PANICKED: i32 = 101;
+pub(crate) const PANICKED: i32 = 101;
 
 /// The effective user's number.
 pub fn user() -> u32 {
@@ -112,10 +116,11 @@ pub(crate) fn status_at_end(child: i32) -> io::Result<Status> {
     }
 }
 
+/// Sends a signal to a process, or to a group if its number is negative. What is no signal's number only asks
+/// whether it is there.
 fn send(to: i32, number: i32) -> bool {
-    // SAFETY: a signal to another process touches no memory of this one; to this one it does what its
-    // handlers do.
-    unsafe { libc::kill(to, number) == 0 }
+    let signal = nix::sys::signal::Signal::try_from(number).ok();
+    kill(nix::unistd::Pid::from_raw(to), signal).is_ok()
 }
 
 /// Sends a signal to a process.
@@ -147,28 +152,17 @@ pub fn exit(status: i32) -> ! {
     unsafe { libc::_exit(status) }
 }
 
-/// Ends a forked process whose function panics: what its parent left half done isn't its own to undo.
-struct EndsHere;
-
-impl Drop for EndsHere {
-    fn drop(&mut self) {
-        exit(PANICKED);
-    }
-}
-
-/// Starts a copy of this process that runs a function and ends. Says its number.
+/// Starts a copy of this process that runs a function and ends, also if the function panics: what its parent
+/// left half done isn't its own to undo. Says its number.
 /// Errors: those of `fork`.
 pub fn fork_to(run: impl FnOnce()) -> io::Result<i32> {
     // SAFETY: the copy has its own memory and its own numbers of files, and the C library's allocator is
     // right in it. It leaves by `exit` alone, so nothing that its parent has is dropped twice. A lock that
     // another thread has here stays locked there.
-    let child = unsafe { libc::fork() };
-    if child == 0 {
-        let _end = EndsHere;
-        run();
-        exit(0);
+    if let ForkResult::Parent { child } = unsafe { fork() }? {
+        return Ok(child.as_raw());
     }
-    if child < 0 { Err(io::Error::last_os_error()) } else { Ok(child) }
+    exit(if catch_unwind(AssertUnwindSafe(run)).is_ok() { 0 } else { PANICKED })
 }
 
 /// Starts a copy as `fork_to` does, in a group of its own, which no terminal's signal reaches. It has
@@ -178,10 +172,9 @@ pub fn fork_apart(files: &[BorrowedFd<'_>], run: impl FnOnce()) -> io::Result<i3
     let null = null()?;
     fork_to(|| {
         let _ = setpgid(None, None);
-        for &file in files {
-            // SAFETY: this process is the copy. The number stays that of an open file, and its owner is in
-            // the parent.
-            unsafe { libc::dup3(null.as_raw_fd(), file.as_raw_fd(), libc::O_CLOEXEC) };
+        for file in files {
+            // (the number stays that of an open file, and its owner is in the parent)
+            let _ = dup3(null.as_raw_fd(), file.as_raw_fd(), OFlag::O_CLOEXEC);
         }
         let _ = dup2_stdin(&null).and_then(|()| dup2_stdout(&null)).and_then(|()| dup2_stderr(&null));
         run();

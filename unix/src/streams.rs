@@ -56,7 +56,7 @@ pub fn read_on(file: &mut impl Read, buffer: &mut [u8]) -> io::Result<usize> {
 /// All that the file of a path holds.
 /// Errors: those of opening and reading.
 pub fn content_of(path: &Path) -> io::Result<Vec<u8>> {
-    content(&open(path, Access::Read)?)
+    content(&open(path, Access::READ)?)
 }
 
 /// Writes a whole text.
@@ -82,7 +82,7 @@ pub fn write_all(file: impl AsFd, text: &[u8]) -> io::Result<()> {
 /// Writes a whole text to the file of a path, in place of what is there.
 /// Errors: those of opening and writing.
 pub fn write_file(path: impl AsRef<Path>, text: impl AsRef<[u8]>) -> io::Result<()> {
-    write_all(&open(path.as_ref(), Access::Write)?, text.as_ref())
+    write_all(&open(path.as_ref(), Access::WRITE)?, text.as_ref())
 }
 
 /// Puts a file with this text in the place of whatever has its path, a link too, which isn't followed.

@@ -1,8 +1,10 @@
 //! Tests of the calls beside what the kernel says.
 use crate::forked::{close, copy_to, dispositions, in_own_process, said_by, status_of};
+use crate::signals::{next_of, set_handler};
 use crate::streams::content;
 use crate::test_folder::TestFolder;
 use crate::*;
+use nix::sys::signal::{SigHandler, SigSet, Signal};
 use std::borrow::Cow;
 use std::collections::BTreeSet;
 use std::ffi::{CStr, CString, OsStr};
@@ -11,7 +13,7 @@ use std::fs::File;
 use std::io::{self, Read, Write};
 use std::iter;
 use std::os::fd::AsFd;
-use std::os::fd::{AsRawFd, OwnedFd};
+use std::os::fd::AsRawFd;
 use std::os::unix::fs::{FileTypeExt, MetadataExt, symlink};
 use std::path::Path;
 use std::sync::atomic::{AtomicU8, Ordering};
@@ -33,7 +35,7 @@ impl Scratch {
         Scratch(path, file)
     }
 
-    fn open(&self, name: &str, how: Opening) -> io::Result<OwnedFd> {
+    fn open(&self, name: &str, how: Access) -> io::Result<File> {
         open_below(self.1.as_fd(), name, how)
     }
 }
@@ -50,6 +52,10 @@ fn number_in(file: &str, name: &str, radix: u32) -> u64 {
     let text = fs::read_to_string(file).unwrap();
     let rest = text.lines().find_map(|line| line.strip_prefix(name)).unwrap().replace(',', "");
     u64::from_str_radix(rest.split_whitespace().next().unwrap(), radix).unwrap()
+}
+
+fn ignore(number: i32) {
+    set_handler(Signal::try_from(number).unwrap(), SigHandler::SigIgn);
 }
 
 fn send_self(number: i32) {
@@ -85,8 +91,8 @@ fn the_end_of_a_child_is_its_own() {
 fn a_process_ends_by_a_signal_whatever_it_does_with_it() {
     for number in [HUP, INT, TERM] {
         let end = || {
-            signals::set_handler(number, libc::SIG_IGN);
-            signals::change_mask(libc::SIG_BLOCK, &[number]);
+            ignore(number);
+            SigSet::from(Signal::try_from(number).unwrap()).thread_block().unwrap();
             let _ = end_by(number);
         };
         assert_eq!(
@@ -102,7 +108,7 @@ const ALL: [i32; 6] = [HUP, INT, TERM, CHLD, CONT, TSTP];
 fn signals_come_by_a_file() {
     let said = said_by(|| {
         for number in ALL {
-            signals::set_handler(number, libc::SIG_DFL);
+            set_handler(Signal::try_from(number).unwrap(), SigHandler::SigDfl);
         }
         let signals = Signals::open().unwrap();
         let open = dispositions(&ALL);
@@ -121,10 +127,9 @@ fn signals_come_by_a_file() {
 #[test]
 fn signals_that_cannot_be_read_take_a_moment() {
     in_own_process(|| {
-        let next_of = |signals: Signals| (Instant::now(), signals.next(), Instant::now());
-        let (begun, next, ended) =
-            next_of(Signals::of_file(File::options().write(true).open("/dev/null").unwrap().into()));
-        assert!(next.is_none() && ended - begun >= Duration::from_millis(1));
+        let unreadable = File::options().write(true).open("/dev/null").unwrap();
+        let begun = Instant::now();
+        assert!(next_of(unreadable.as_fd()).is_none() && begun.elapsed() >= Duration::from_millis(1));
     });
 }
 
@@ -132,7 +137,7 @@ fn signals_that_cannot_be_read_take_a_moment() {
 fn what_the_caller_ignores_stays_ignored() {
     let said = said_by(|| {
         for number in ALL {
-            signals::set_handler(number, libc::SIG_IGN);
+            ignore(number);
         }
         let signals = Signals::open().unwrap();
         let open = dispositions(&ALL);
@@ -337,25 +342,17 @@ fn the_machine_is_as_the_kernel_says() {
 fn programs_get_no_file_of_this_process() {
     let scratch = Scratch::new();
     make_pipe(scratch.1.as_fd(), "pipe").unwrap();
-    let path = CString::new(scratch.0.join("pipe").to_str().unwrap()).unwrap();
     let (read, write) = pipe().unwrap();
     let (owner, program) = terminal().unwrap();
-    let files = [
-        read,
-        write,
-        open_fifo(&path).unwrap(),
-        open_unblocked(&path, false).unwrap(),
-        program,
-        memory_file().unwrap().into(),
-        owner.into(),
-    ];
-    assert_eq!(files.each_ref().map(is_inherited), [false; 7]);
+    let both = open(&scratch.0.join("pipe"), Access::PIPE).unwrap();
+    let files = [read, write, program, memory_file().unwrap().into(), owner.into(), both.into()];
+    assert_eq!(files.each_ref().map(is_inherited), [false; 6]);
     let (read, write) = small_pipe().unwrap();
-    let file = open(&scratch.0.join("new"), Access::New).unwrap();
+    let file = open(&scratch.0.join("new"), Access::NEW).unwrap();
     assert_eq!([is_inherited(&read), is_inherited(&write), is_inherited(&file)], [false; 3]);
-    let kinds = [Opening::Kept, Opening::Pipe, Opening::PipeToWrite]
+    let kinds = [Access::KEPT, Access::PIPE, Access::PIPE_TO_WRITE]
         .map(|how| is_inherited(&scratch.open("pipe", how).unwrap()));
-    assert_eq!((kinds, is_inherited(&scratch.open(".", Opening::Folder).unwrap())), ([false; 3], false));
+    assert_eq!((kinds, is_inherited(&scratch.open(".", Access::FOLDER).unwrap())), ([false; 3], false));
 }
 
 #[test]
@@ -364,19 +361,19 @@ fn a_file_is_opened_by_its_path() {
     let path = scratch.0.join("file");
     let text = || fs::read_to_string(&path).unwrap();
     assert!(
-        [Access::Read, Access::Both]
+        [Access::READ, Access::BOTH]
             .iter()
             .all(|&how| open(&path, how).unwrap_err().kind() == io::ErrorKind::NotFound)
     );
-    open(&path, Access::New).unwrap().write_all(b"first").unwrap();
-    assert_eq!(open(&path, Access::New).unwrap_err().kind(), io::ErrorKind::AlreadyExists);
-    open(&path, Access::Both).unwrap().write_all(b"F").unwrap();
-    open(&path, Access::Append).unwrap().write_all(b"!").unwrap();
+    open(&path, Access::NEW).unwrap().write_all(b"first").unwrap();
+    assert_eq!(open(&path, Access::NEW).unwrap_err().kind(), io::ErrorKind::AlreadyExists);
+    open(&path, Access::BOTH).unwrap().write_all(b"F").unwrap();
+    open(&path, Access::APPEND).unwrap().write_all(b"!").unwrap();
     assert_eq!(text(), "First!");
-    assert!(open(&path, Access::Read).unwrap().write(b"x").is_err());
-    open(&path, Access::Write).unwrap().write_all(b"new").unwrap();
+    assert!(open(&path, Access::READ).unwrap().write(b"x").is_err());
+    open(&path, Access::WRITE).unwrap().write_all(b"new").unwrap();
     assert_eq!(text(), "new");
-    assert!(open(Path::new("a\0b"), Access::Write).is_err());
+    assert!(open(Path::new("a\0b"), Access::WRITE).is_err());
 }
 
 #[test]
@@ -403,19 +400,19 @@ fn no_link_is_followed_below_a_folder() {
     fs::write(scratch.0.join("file"), "text").unwrap();
     symlink("folder", scratch.0.join("to-folder")).unwrap();
     symlink("file", scratch.0.join("to-file")).unwrap();
-    assert!(scratch.open("folder", Opening::Folder).is_ok() && scratch.open("file", Opening::Kept).is_ok());
+    assert!(scratch.open("folder", Access::FOLDER).is_ok() && scratch.open("file", Access::KEPT).is_ok());
     for (name, how) in [
-        ("to-folder", Opening::Folder),
-        ("file", Opening::Folder),
-        ("to-file", Opening::Kept),
-        ("to-file", Opening::Pipe),
+        ("to-folder", Access::FOLDER),
+        ("file", Access::FOLDER),
+        ("to-file", Access::KEPT),
+        ("to-file", Access::PIPE),
     ] {
         assert!(scratch.open(name, how).is_err(), "{name}");
     }
     assert!(
-        scratch.open("missing", Opening::Folder).is_err()
-            && scratch.open("missing", Opening::Pipe).is_err()
-            && scratch.open("a\0b", Opening::Kept).is_err()
+        scratch.open("missing", Access::FOLDER).is_err()
+            && scratch.open("missing", Access::PIPE).is_err()
+            && scratch.open("a\0b", Access::KEPT).is_err()
     );
 }
 
@@ -432,7 +429,7 @@ fn what_is_made_is_the_users_alone() {
     let scratch = Scratch::new();
     make_folder(scratch.1.as_fd(), "folder").unwrap();
     make_pipe(scratch.1.as_fd(), "pipe").unwrap();
-    let mut kept = File::from(scratch.open("kept", Opening::Kept).unwrap());
+    let mut kept = scratch.open("kept", Access::KEPT).unwrap();
     kept.write_all(b"text").unwrap();
     let modes =
         ["folder", "pipe", "kept"].map(|name| fs::metadata(scratch.0.join(name)).unwrap().mode() & 0o7777);
@@ -450,19 +447,19 @@ fn what_is_made_is_the_users_alone() {
 fn a_named_pipe_is_opened_without_waiting() {
     let scratch = Scratch::new();
     make_pipe(scratch.1.as_fd(), "pipe").unwrap();
-    assert!(scratch.open("pipe", Opening::PipeToWrite).is_err(), "nobody reads it");
-    let path = CString::new(scratch.0.join("pipe").to_str().unwrap()).unwrap();
-    assert!(open_unblocked(&path, true).is_err(), "nobody reads it");
-    let read = open_unblocked(&path, false).unwrap();
+    assert!(scratch.open("pipe", Access::PIPE_TO_WRITE).is_err(), "nobody reads it");
+    let path = scratch.0.join("pipe");
+    assert!(open(&path, Access::PIPE_TO_WRITE).is_err(), "nobody reads it");
+    let read = open(&path, Access::PIPE_TO_READ).unwrap();
     let place = AtomicU8::new(7);
     assert!(
         read_byte(read.as_fd()).is_none()
             && !read_into(read.as_fd(), &place)
             && place.load(Ordering::SeqCst) == 7
     );
-    assert!(write_byte(scratch.open("pipe", Opening::PipeToWrite).unwrap().as_fd(), b'a'));
-    assert!(write_byte(open_unblocked(&path, true).unwrap().as_fd(), b'b'));
-    let both = [scratch.open("pipe", Opening::Pipe).unwrap(), open_fifo(&path).unwrap()];
+    assert!(write_byte(scratch.open("pipe", Access::PIPE_TO_WRITE).unwrap().as_fd(), b'a'));
+    assert!(write_byte(open(&path, Access::PIPE_TO_WRITE).unwrap().as_fd(), b'b'));
+    let both = [scratch.open("pipe", Access::PIPE).unwrap(), open(&path, Access::PIPE).unwrap()];
     assert!(both.iter().all(|pipe| write_byte(pipe.as_fd(), b'c')));
     assert!(read_into(read.as_fd(), &place) && place.load(Ordering::SeqCst) == b'a');
     let bytes: Vec<u8> = iter::from_fn(|| read_byte(both[1].as_fd())).collect();
@@ -472,7 +469,7 @@ fn a_named_pipe_is_opened_without_waiting() {
 #[test]
 fn one_open_file_has_a_lock() {
     let scratch = Scratch::new();
-    let [one, other] = [(); 2].map(|()| scratch.open("lock", Opening::Kept).unwrap());
+    let [one, other] = [(); 2].map(|()| scratch.open("lock", Access::KEPT).unwrap());
     assert_eq!([&one, &one, &other].map(|file| try_lock(file.as_fd()).unwrap()), [true, true, false]);
     drop(one);
     assert!(try_lock(other.as_fd()).unwrap());
