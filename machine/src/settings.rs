@@ -506,6 +506,33 @@ mod tests {
         }
     }
 
+    /// Those that aren't read here: what our programs tell each other, and the words for `zigrunk-remote`.
+    const OTHERS: [&str; 12] = [
+        "ZIGRUNK_BATCH",
+        "ZIGRUNK_IN_PLACE",
+        "ZIGRUNK_LIBRARY",
+        "ZIGRUNK_NODE",
+        "ZIGRUNK_OBSERVED",
+        "ZIGRUNK_REMOTE_CA",
+        "ZIGRUNK_REMOTE_CERTIFICATE",
+        "ZIGRUNK_REMOTE_INSTANCE",
+        "ZIGRUNK_REMOTE_KEY",
+        "ZIGRUNK_REMOTE_PLATFORM",
+        "ZIGRUNK_REMOTE_TOKEN",
+        "ZIGRUNK_REMOTE_USE",
+    ];
+
+    #[test]
+    fn our_variables_are_known_and_those_with_a_letter_more_are_mistakes() {
+        let of_ours = VARIABLES.iter().map(|&(name, _)| name).filter(|name| name.starts_with("ZIGRUNK_"));
+        let ours: Vec<&str> = of_ours.chain(OTHERS).collect();
+        assert_eq!(ours.len(), super::VARIABLES.len());
+        for name in ours {
+            let said = format!("unknown variable {name}X; did you mean {name}?");
+            assert_eq!((mistyped(name), mistyped(&format!("{name}X"))), (None, Some(said)));
+        }
+    }
+
     #[test]
     fn each_variable_has_its_setting() {
         let wanted = Settings {
@@ -535,8 +562,9 @@ mod tests {
                 set_variable(name, value);
             }
             assert_eq!((Settings::each(&variable), keeps_calls()), (Ok(wanted), false));
-            let both = "ZIGRUNK_ROOT and ZIGRUNK_LAUNCHER cannot both be set";
-            assert!(Settings::of_environment().unwrap_err().starts_with(both));
+            let both =
+                "ZIGRUNK_ROOT and ZIGRUNK_LAUNCHER cannot both be set: a launcher gets the plan's own words";
+            assert_eq!(Settings::of_environment(), Err(both.into()));
             for (name, _) in VARIABLES {
                 set_variable(name, "");
             }
@@ -559,8 +587,9 @@ mod tests {
         for (other, value) in
             [("CACHE", "yes"), ("LAUNCHER", "ccache"), ("RUNNER", "run"), ("REMOTE", "grpc://a:1")]
         {
-            let error = of(&format!("ZIGRUNK_{other}"), value).unwrap_err();
-            assert!(error.starts_with(&format!("ZIGRUNK_PROVENANCE and ZIGRUNK_{other} cannot both be set")));
+            let both = format!("ZIGRUNK_PROVENANCE and ZIGRUNK_{other} cannot both be set");
+            let said = format!("{both}: a statement says what commands read here");
+            assert_eq!(of(&format!("ZIGRUNK_{other}"), value), Err(said));
         }
         let waits = of("ZIGRUNK_EARLY", "1").map(|settings| settings.waits);
         assert_eq!(waits, Ok(Waits { for_needs: true, for_fatbin: true }));

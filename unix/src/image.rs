@@ -3,7 +3,7 @@ use crate::processes::{exit, process};
 use crate::signals::{Signals, TERM};
 use libc::c_char;
 use nix::fcntl::{FcntlArg, FdFlag, fcntl};
-use nix::sched::{CloneFlags, clone};
+use nix::sched::{CloneCb, CloneFlags, clone};
 use rustix::process::{Pid, Signal, chdir, getppid, set_parent_process_death_signal, setpgid};
 use rustix::stdio::{dup2_stderr, dup2_stdin, dup2_stdout, stderr};
 use std::borrow::Cow;
@@ -94,17 +94,17 @@ impl<'a> Image<'a> {
         group: &AtomicI32,
         complaint: &CStr,
     ) -> io::Result<i32> {
-        let child = Child {
-            image: self,
-            lists: self.lists(),
-            streams,
-            inherited,
-            signals,
-            group,
-            complaint,
-            parent: process(),
-        };
-        let number = start(&child)?;
+        let (lists, parent) = (self.lists(), process());
+        let number = start(Box::new(|| {
+            lead_group(group, parent);
+            take_files(streams, inherited);
+            signals.give_back();
+            if self.folder.as_ref().is_none_or(|folder| chdir(folder).is_ok()) {
+                self.replace(&lists);
+            }
+            let _ = rustix::io::write(stderr(), complaint.to_bytes());
+            exit(NOT_RUN)
+        }))?;
         let child = Pid::from_raw(number);
         let _ = setpgid(child, child);
         Ok(number)
@@ -117,51 +117,32 @@ fn execute(program: &CStr, argv: &[*const c_char], envp: &[*const c_char]) -> io
     io::Error::last_os_error()
 }
 
-/// What a child needs that becomes a program.
-struct Child<'a> {
-    image: &'a Image<'a>,
-    lists: Lists,
-    streams: [BorrowedFd<'a>; 3],
-    inherited: Option<RawFd>,
-    signals: &'a Signals,
-    group: &'a AtomicI32,
-    complaint: &'a CStr,
-    parent: i32,
-}
-
-/// Starts a child, and waits until it is the program or has ended.
-fn start(child: &Child<'_>) -> io::Result<i32> {
+/// Starts a child that does this, and waits until it is a program or has ended. The child allocates nothing, and
+/// changes nothing of this process's memory but its group's place.
+fn start(run: CloneCb<'_>) -> io::Result<i32> {
     let mut stack = vec![0; CHILD_STACK];
     let flags = CloneFlags::CLONE_VM | CloneFlags::CLONE_VFORK;
-    let run = Box::new(|| child.become_program());
     // SAFETY: the stack and what the child uses stay until it has become the program, since this process
     // waits for that.
     Ok(unsafe { clone(run, &mut stack, flags, Some(libc::SIGCHLD)) }?.as_raw())
 }
 
-impl Child<'_> {
-    /// What a child does until it is the program. It allocates nothing, and changes nothing of its parent's
-    /// memory but the group's place.
-    fn become_program(&self) -> ! {
-        let _ = setpgid(None, None);
-        self.group.store(process(), Ordering::SeqCst);
-        let _ = set_parent_process_death_signal(Signal::from_raw(TERM));
-        if getppid().map(|parent| parent.as_raw_nonzero().get()) != Some(self.parent) {
-            exit(128 + TERM);
-        }
-        let [input, output, errors] = self.streams;
-        let _ = dup2_stdin(input);
-        let _ = dup2_stdout(output);
-        let _ = dup2_stderr(errors);
-        if let Some(file) = self.inherited {
-            let _ = fcntl(file, FcntlArg::F_SETFD(FdFlag::empty()));
-        }
-        self.signals.give_back();
-        let folder = self.image.folder.as_ref();
-        if folder.is_none_or(|folder| chdir(folder).is_ok()) {
-            self.image.replace(&self.lists);
-        }
-        let _ = rustix::io::write(stderr(), self.complaint.to_bytes());
-        exit(NOT_RUN)
+/// Has this child lead a group, whose number goes to its place, and end with its parent.
+fn lead_group(group: &AtomicI32, parent: i32) {
+    let _ = setpgid(None, None);
+    group.store(process(), Ordering::SeqCst);
+    let _ = set_parent_process_death_signal(Signal::from_raw(TERM));
+    if getppid().map(|it| it.as_raw_nonzero().get()) != Some(parent) {
+        exit(128 + TERM);
+    }
+}
+
+/// Gives this child its standard streams, and to what it becomes the file of this number.
+fn take_files([input, output, errors]: [BorrowedFd<'_>; 3], inherited: Option<RawFd>) {
+    let _ = dup2_stdin(input);
+    let _ = dup2_stdout(output);
+    let _ = dup2_stderr(errors);
+    if let Some(file) = inherited {
+        let _ = fcntl(file, FcntlArg::F_SETFD(FdFlag::empty()));
     }
 }
