@@ -22,8 +22,8 @@ ROWS: "list[tuple[str, dict[str, list[str]]]]" = [
     ("starting a process", {"unix/src/image.rs": []}),
     ("whole files and streams", {"unix/src/streams.rs": []}),
     ("reading JSON", {"databases.rs": ["struct Written", "fn entries", "fn entry"], "log_lines.rs": ["fn truth", "fn entry"]}),
-    ("writing JSON, lines of the log", {"call/src/json.rs": [], "runner/src/log.rs": ["struct LoggedCommand", "struct Early", "struct Line", "fn short",
-                                                                           "fn commands", "fn append"]}),
+    ("writing JSON, lines of the log", {"call/src/json.rs": [], "runner/src/log.rs": [
+        "struct LoggedCommand", "struct Early", "struct Line", "fn short", "fn commands", "fn append"]}),
     ("stored records", {"stored.rs": []}),
     ("words of our own options", {"plan_program.rs": ["fn text", "fn limit", "impl Options", "fn asked"], "options.rs": ["fn number", "fn parse"],
                                   "node/program.rs": ["fn parse"], "report/src/lib.rs": ["fn asked"], "nearest.rs": []}),

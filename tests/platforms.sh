@@ -133,7 +133,7 @@ for target in powerpc64le-unknown-linux-gnu i686-unknown-linux-gnu; do
     ! is_wanted_target "$target" || check "$target: the workspace is right" by_cargo check "$target" --workspace
 done
 # (nothing here runs it, and what runs nvcc is for Linux)
-linux=(zigrunk-driver call zigrunk capi unix machine cache runner batch report 'test_*')
+linux=(zigrunk-driver call zigrunk capi unix machine cache provenance runner batch report 'test_*')
 ! is_wanted_target wasm32-unknown-unknown ||
     check 'wasm32-unknown-unknown: the proved crates are right' by_cargo check wasm32-unknown-unknown --workspace "${linux[@]/#/--exclude=}"
 [ ! -f "$scratch/counts" ] || cat "$scratch/counts"

@@ -186,6 +186,21 @@ mod tests {
     }
 
     #[test]
+    fn a_call_takes_no_more_jobs_than_its_guard_can_give_back() {
+        let (read, write) = system::pipe().unwrap();
+        assert!(system::write_byte(write.as_fd(), b'a'));
+        let shared = Shared::new().unwrap();
+        let server = Jobserver::open(&format!("{},{}", read.as_raw_fd(), write.as_raw_fd())).unwrap();
+        let mut tokens = Tokens::new(server, shared);
+        for place in 0..MOST_TOKENS {
+            shared.token(place).store(b'b', Ordering::SeqCst);
+        }
+        assert_eq!([tokens.try_take(), tokens.try_take()], [Some(Token::Own), None]);
+        shared.token(MOST_TOKENS - 1).store(0, Ordering::SeqCst);
+        assert_eq!(tokens.try_take(), Some(Token::Given(MOST_TOKENS - 1)));
+    }
+
+    #[test]
     fn other_texts_are_no_jobserver() {
         let (read, write) = system::pipe().unwrap();
         let (_other, other_end) = system::pipe().unwrap();

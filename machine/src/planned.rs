@@ -271,7 +271,8 @@ mod tests {
             writes: names.iter().map(|&length| format!("/t/{}", "k".repeat(length))).collect(),
             ..PlannedCommand::default()
         };
-        let cases: [(&[usize], bool); 4] = [(&[255], false), (&[256], true), (&[1, 300, 1], true), (&[], false)];
+        let cases: [(&[usize], bool); 4] =
+            [(&[255], false), (&[256], true), (&[1, 300, 1], true), (&[], false)];
         for (names, is_long) in cases {
             assert_eq!(command(names).writes_long_name(), is_long, "{names:?}");
         }

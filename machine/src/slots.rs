@@ -8,7 +8,7 @@
 //! touch their files each second. What wasn't touched for some seconds belongs to a call that is stopped or
 //! frozen, and doesn't count.
 use crate::folder::{self, Folder};
-use crate::system::{self};
+use crate::system::{self, Access};
 use std::cell::{Cell, RefCell};
 use std::fs::{self, File};
 use std::io;

@@ -3,6 +3,7 @@
 use crate::run::{self, NoRule, Stopped};
 use early_starts::{Split, placeholder};
 use machine::folder::OWN;
+use machine::head_start::HeadStart;
 use machine::jobs::Machine;
 use machine::planned::PlannedCommand;
 use machine::settings::{Settings, own_variable};
@@ -50,9 +51,7 @@ impl Halves {
     /// Errors: why nvcc makes the call.
     fn put_files(&self, compile: &Task) -> Result<(), String> {
         fs::rename(&self.include.from, &self.fatbin).map_err(|_| "fatbinary's file is missing")?;
-        let Some(start) = compile.head_start.as_ref() else { return Ok(()) };
-        let _ = fs::remove_file(&start.withheld);
-        start.write()
+        compile.head_start.as_ref().map_or(Ok(()), HeadStart::write)
     }
 
     /// Makes the whole compile, a task, if the assembler's half of these tasks failed or said something: it
@@ -93,7 +92,7 @@ mod tests {
     use crate::system::Status;
     use crate::test_folder::TestFolder;
     use compilers::plans::NvccGeneratedSubcommand;
-    use machine::head_start::{HeadStart, Wait};
+    use machine::head_start::Wait;
     use machine::jobs::Ended;
     use std::fs;
     use std::path::Path;

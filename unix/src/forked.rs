@@ -100,7 +100,7 @@ pub fn dispositions(signals: &[i32]) -> String {
     })
 }
 
-/// Closes a file of this process, whoever owns it. (It is to be a process of its own, like that of `copy_to`.)
+/// Closes a file of this process, whoever owns it: a process of its own, like that of `copy_to`.
 pub fn close(number: RawFd) {
     let _ = unistd::close(number);
 }

@@ -117,8 +117,8 @@ fn execute(program: &CStr, argv: &[*const c_char], envp: &[*const c_char]) -> io
     io::Error::last_os_error()
 }
 
-/// Starts a child that does this, and waits until it is a program or has ended. The child allocates nothing, and
-/// changes nothing of this process's memory but its group's place.
+/// Starts a child that does this, and waits until it is a program or has ended. The child allocates nothing,
+/// and changes nothing of this process's memory but its group's place.
 fn start(run: CloneCb<'_>) -> io::Result<i32> {
     let mut stack = vec![0; CHILD_STACK];
     let flags = CloneFlags::CLONE_VM | CloneFlags::CLONE_VFORK;

@@ -1,8 +1,8 @@
 //! What Linux does for the driver, each call behind a safe function: files below a folder, locks, pipes,
 //! signals, processes.
 //!
-//! This is the one crate with `unsafe`. Most calls are those of `rustix`; those on signals, and on files by their
-//! numbers alone, are of `nix`. `libc` has what both lack.
+//! This is the one crate with `unsafe`. Most calls are those of `rustix`; those on signals, and on files by
+//! their numbers alone, are of `nix`. `libc` has what both lack.
 mod bounds;
 mod files;
 #[cfg(any(test, feature = "testing"))]

@@ -88,6 +88,27 @@ fn the_end_of_a_child_is_its_own() {
 }
 
 #[test]
+fn a_process_hears_by_term_that_its_parent_has_ended() {
+    let (read, write) = pipe().unwrap();
+    let child = || {
+        let signals = Signals::open().unwrap();
+        end_with_parent();
+        assert!(write_byte(write.as_fd(), 0));
+        wait_for(&[signals.file()], 20_000);
+        write_byte(write.as_fd(), signals.next().and_then(|number| u8::try_from(number).ok()).unwrap_or(1));
+    };
+    let heard = || {
+        wait_for(&[read.as_fd()], 20_000);
+        read_byte(read.as_fd()).map(i32::from)
+    };
+    in_own_process(|| {
+        fork_to(child).unwrap();
+        assert_eq!(heard(), Some(0));
+    });
+    assert_eq!(heard(), Some(TERM));
+}
+
+#[test]
 fn a_process_ends_by_a_signal_whatever_it_does_with_it() {
     for number in [HUP, INT, TERM] {
         let end = || {
