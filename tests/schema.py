@@ -18,7 +18,6 @@ from pathlib import Path
 from typing import Any
 
 from isolated import Json, in_threads
-from read_plans import pairs
 from runner import Counts, skip_all
 
 try:
@@ -131,7 +130,8 @@ def main() -> int:
     validator = jsonschema.Draft202012Validator(schema)
     counts = Counts()
     with tempfile.TemporaryDirectory() as room:
-        results = [(name, check(name, zigrunk, validator, room)) for name in pairs()]
+        names = sorted(str(path.relative_to(DATA)).removesuffix(".flag") for path in Path(DATA).rglob("*.flag"))
+        results = [(name, check(name, zigrunk, validator, room)) for name in names]
     results.append(("the schema", [f"it accepts {name}" for name in refused(validator)]))
     for name, found in results:
         counts.case(name, found)

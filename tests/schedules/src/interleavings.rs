@@ -11,7 +11,7 @@ use std::sync::atomic::{AtomicUsize, Ordering};
 
 const OUTCOMES: [Outcome; 3] = [Outcome::Success, Outcome::Failure, Outcome::Cancelled];
 
-/// Cases on stored dry runs of each nvcc. tests/read_plans.py wrote them, and tests/drivers.sh compares what the planner says.
+/// Cases on stored dry runs of each nvcc, with which tests/drivers.sh compares what the planner says.
 const CASES: &str = include_str!("../../drivers/test_plans/data/nvcc_versions.txt");
 
 /// What a thread walks: needs, with a number to draw from.
