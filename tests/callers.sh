@@ -107,7 +107,10 @@ in_parts() {
 }
 
 # answers PART PROGRAM..: what a program says of a part of the rows.
-answers() { env -i "${environment[@]}" "${@:2}" "$room" < "$scratch/rows/$1"; }
+answers() {
+    env -i "${environment[@]}" "${@:2}" "$room" < "$scratch/rows/$1"
+    [ "$1" != aaaa ] || made_calls "$room" env -i "${environment[@]}" SEEN=yes "${@:2}"
+}
 note() { answers "$@" > "$scratch/answers/$1"; }
 is_alike() { diff "$scratch/answers/$1" <(answers "$@"); }
 alike() { in_parts is_alike "$@"; }

@@ -63,7 +63,7 @@ of_gate() {
     known=$(grep -o 'run_all [a-z]*' .ci/gate | cut -d ' ' -f 2; echo first; echo plain; echo proof; echo nightly)
     while read -r name when _ command; do
         grep -qx "$when" <<< "$known" || echo "$name runs $when, which is no time"
-        grep -oE '(tests|packaging|\.ci)/[a-z_./]*[a-z]' <<< "$command" | while read -r script; do [ -e "$script" ] || echo "$name: no $script"; done
+        grep -oE '(tests|packaging)/[a-z_/]*\.(sh|py)' <<< "$command" | while read -r script; do [ -e "$script" ] || echo "$name: no $script"; done
     done < <(grep -v '^#' tests/parts.txt)
     grep -v '^#' tests/parts.txt | cut -d ' ' -f 1 | sort | uniq -d
 }

@@ -37,6 +37,16 @@ real_rows() {
     done
 }
 
+# made_calls ROOM PROGRAM..: what a program says of calls whose dry runs it makes: by the stand-in for nvcc, which says what it sees of a variable, by one
+# that isn't there, one that fails, and one that prints nothing.
+made_calls() (
+    cd "$1/w" || exit
+    for nvcc in "$1/bin/nvcc" /no/nvcc /bin/false /bin/true; do
+        echo "== made by ${nvcc##*/}"
+        "${@:2}" --call "$1/t" "$nvcc" -c kernel.cu -o kernel.o
+    done
+)
+
 # are_answered ROWS ANSWERS: whether the statuses and places that answers.c says of rows of the table are those of the table.
 are_answered() {
     diff <(awk '{ print $1, $5, $6, $7 }' "$1") <(awk '/^== / { name = $2 } open && /^refused / && !planned { end = $2 " " $3 " " $4 } /^command / { planned = 1 }
@@ -105,6 +115,7 @@ make_room() {
     echo 'nvcc fatal   : none' > "$1/message"
     # shellcheck disable=SC2016 # the stand-in's own
     printf '%s\n' '#!/bin/sh' "echo \"\$*\" >> '$1/words'" 'tmp=' 'run=own' \
+        '[ -z "${SEEN-}" ] || echo "#\$ SEEN=$SEEN" >&2' \
         'while [ $# -gt 0 ]; do case $1 in --keep-dir) tmp=$2 run=dry2 ;; --keep) [ "$run" = dry2 ] || run=dry1 ;; esac; shift; done' \
         "sed \"s,$1/t/,\$tmp/,g\" '$1/one.'\$run >&2" > "$1/bin/nvcc"
     chmod +x "$1"/bin/*
