@@ -134,7 +134,8 @@ class Lane:
 
     def answers(self, program: "list[str | Path]") -> bytes:
         script = '. tests/lib.sh; . tests/callers/room.sh; made_calls "$@"'
-        made = run(["bash", "-c", script, "made", self.room, "env", *(f"{name}={value}" for name, value in self.settings.items()), "SEEN=yes", *program])
+        variables = [f"{name}={value}" for name, value in {**self.settings, "SEEN": "yes"}.items()]
+        made = run(["bash", "-c", script, "made", self.room, "env", *variables, *program])
         return run([*program, self.room], rows=self.rows, variables=self.settings)[1] + made[1]
 
     def fault(self, layer: str) -> str:
