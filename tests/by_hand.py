@@ -20,6 +20,8 @@ ROWS: "list[tuple[str, dict[str, list[str]]]]" = [
     ("system calls", {f"unix/src/{file}.rs": [] for file in ["files", "pipes", "waits", "words", "shared", "processes"]}),
     ("signals by a file", {"unix/src/signals.rs": []}),
     ("starting a process", {"unix/src/image.rs": []}),
+    ("starting nvcc for libzigrunk", {"unix/src/spawned.rs": []}),
+    ("processors of a quota", {"machine/src/quota.rs": []}),
     ("whole files and streams", {"unix/src/streams.rs": []}),
     ("reading JSON", {"databases.rs": ["struct Written", "fn entries", "fn entry"], "log_lines.rs": ["fn truth", "fn entry"]}),
     ("writing JSON, lines of the log", {"call/src/json.rs": [], "runner/src/log.rs": [
