@@ -263,7 +263,9 @@ class Trial:
         is_right = product in (wanted[0], whole) and rule in (wanted[1], b"by nvcc\n")
         if status == 0 and not by_nvcc and not is_right:
             self.problem(f"status 0 with another product or dependency file: {product!r} {rule!r}")
-        if status != 0 and not by_nvcc and product not in (None, wanted[0], whole) and not self.may_leave_part:
+        # (what seems to be the guard may be a command that isn't its program yet: then its end is the call's)
+        may_leave_part = self.may_leave_part or status == 128 + signal.SIGKILL
+        if status != 0 and not by_nvcc and product not in (None, wanted[0], whole) and not may_leave_part:
             self.problem(f"status {status} with a part of a product: {product!r}")
         if Path(f"{room.log}.PARTIAL").exists() and not self.may_read_part:
             self.problem("a command read what another wrote in part")
