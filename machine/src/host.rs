@@ -212,12 +212,13 @@ impl Host {
     /// Starts the guard, if that is still to be done. The call's first processes run by now, so nothing waits
     /// for that.
     fn start_guard(&mut self) -> io::Result<()> {
-        let Some(folder) = self.unguarded.take() else { return Ok(()) };
+        let Some(folder) = &self.unguarded else { return Ok(()) };
         let permits = self.running.iter().filter_map(|running| running.permit.as_ref()).chain(&self.permit);
         let slots = permits.filter_map(|permit| permit.slot.as_ref()).map(Slot::file);
         let locks: Vec<BorrowedFd<'_>> = slots.chain(self.slots.as_ref().and_then(Slots::file)).collect();
         let tokens = self.tokens.as_ref().map(|tokens| tokens.server().writer());
-        self.guard = Some(Guard::start(self.shared, &folder, tokens, &locks)?);
+        self.guard = Some(Guard::start(self.shared, folder, tokens, &locks)?);
+        self.unguarded = None;
         Ok(())
     }
 
@@ -521,7 +522,9 @@ pub fn image<'a, 'b>(
 
 impl Early for Host {
     fn has_spare_slot(&mut self) -> bool {
-        self.has_permit() && self.slots.as_ref().is_none_or(Slots::are_plenty)
+        let is_spare = self.has_permit() && self.slots.as_ref().is_none_or(Slots::are_plenty);
+        // A guard that started later would hold the job's pipe open, and the job would wait for its end for ever.
+        is_spare && self.start_guard().is_ok()
     }
 
     fn fill(&mut self, number: usize, piped: Piped) {
@@ -798,6 +801,20 @@ mod tests {
                 "it ends before it hears that there is nothing"
             );
             assert!(host.pipes.is_empty());
+        });
+    }
+
+    #[test]
+    fn no_guard_holds_the_pipe_of_a_job_that_begins_early() {
+        let room = Room(TestFolder::new());
+        in_own_process(|| {
+            let folder = CallFolder::take(&room.0, "call").unwrap();
+            let mut host = Host { unguarded: Some(folder.into()), ..plain_host() };
+            host.want(true);
+            assert!(matches!(host.next(), Event::Slot) && host.has_spare_slot());
+            let read = fed(&mut host, &room.path("file"), "cat $file", b"text");
+            assert_eq!(read, ((3, 0, "text".into()), true));
+            host.leave();
         });
     }
 

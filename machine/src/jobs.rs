@@ -117,7 +117,7 @@ pub trait Machine {
 /// A machine on which jobs begin before all is there that they read.
 pub trait Early {
     /// Whether a job may start that isn't next: a slot is free for it, and one more for another call, so that
-    /// none waits for a job that waits itself.
+    /// none waits for a job that waits itself. No process of the call's own that starts later has its files.
     fn has_spare_slot(&mut self) -> bool;
 
     /// Fills the pipe that a job reads, while it waits for what comes next. A job whose pipe can't be filled
