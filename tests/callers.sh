@@ -7,8 +7,8 @@
 #   tests/callers.sh --first FOLDER   the programs of the page alone, also that in Rust, with what `make install` left in FOLDER
 #
 # RENEW=yes writes tests/callers/digests.txt anew: look at what has changed before. SEED=N draws other pairs of dry runs and other calls than those of
-# seed 1, PAIRS=N so many pairs in place of 100, CALLS=N so many real calls in place
-# of 8, and of 12 whose keys are compared. All that the languages say is compared of at most 2,000 pairs, and their plans of all.
+# seed 1, PAIRS=N so many pairs in place of 100, CALLS=N so many real calls in place of 8, and of 12 whose keys are compared. All that the languages say
+# is compared of at most 2,000 pairs, and their plans of all. PROFILE=dev has cargo build Rust's programs as it builds unit tests.
 set -u
 cd "$(dirname "$0")/.." || exit 1
 . tests/lib.sh
@@ -201,6 +201,9 @@ check 'C: its plan with the archive' plans "$scratch/first_static"
 pairs=${PAIRS:-100} whole=$((pairs < 2000 ? pairs : 2000))
 environment=(PATH=/usr/bin:/bin HOME=/ LD_LIBRARY_PATH="$LD_LIBRARY_PATH" ZIGRUNK_LIBRARY="$ZIGRUNK_LIBRARY" PYTHONPATH="$PYTHONPATH"
     PYTHONDONTWRITEBYTECODE=1 LC_CTYPE=C.UTF-8 EMPTY='' ODD=$'a\nb \\ "' LONG="$(printf %04096d 0)")
+profile=${PROFILE:-release}
+target=$(realpath -m "${CARGO_TARGET_DIR:-${WORKSPACE:-out/rust}/target}")
+built=$target/release examples=$target/${profile/#dev/debug}/examples
 mkdir "$scratch/rows" "$scratch/answers"
 { misuse_rows && real_rows "$room" && python3 tests/callers/mutated.py "$room" "${SEED:-1}" "$whole"; } | split -a 4 -l 500 - "$scratch/rows/"
 check 'C: answers.c' built_c tests/callers/answers.c "$scratch/answers_c" "${flags[@]}"
@@ -212,8 +215,8 @@ check 'C++: the same' alike "$scratch/answers_cpp"
 check 'Python: the same' alike "$(python3 -c 'import sys; print(sys.executable)')" tests/callers/answers.py
 check 'Python: what only it has' python3 tests/callers/alone.py "$room" bindings/c/zigrunk.h "$(cat VERSION)"
 if command -v cargo > /dev/null && [ -d "${WORKSPACE:-out/rust}/zigrunk" ]; then
-    check 'Rust: answers' env -C "${WORKSPACE:-out/rust}" cargo build --quiet --offline --release -p zigrunk --example answers --example keys
-    check 'Rust: the same' alike "${CARGO_TARGET_DIR:-${WORKSPACE:-out/rust}/target}/release/examples/answers"
+    check 'Rust: answers' env -C "${WORKSPACE:-out/rust}" cargo build --quiet --offline --profile "$profile" -p zigrunk --example answers --example keys
+    check 'Rust: the same' alike "$examples/answers"
 else
     skip 'Rust: answers' 'there is no cargo, or no workspace: make rust'
 fi
@@ -237,8 +240,7 @@ if command -v go > /dev/null; then
 fi
 # the programs that say the same, each behind a mark
 say_the_same=(-- "$scratch/answers_c" -- "$scratch/answers_cpp" -- "$(python3 -c 'import sys; print(sys.executable)')" "$PWD/tests/callers/answers.py")
-built=$(realpath -m "${CARGO_TARGET_DIR:-${WORKSPACE:-out/rust}/target}/release")
-for program in "$built/examples/answers" "$scratch/answers_go/answers"; do
+for program in "$examples/answers" "$scratch/answers_go/answers"; do
     [ ! -x "$program" ] || say_the_same+=(-- "$program")
 done
 if [ -x "$built/cudaplan" ]; then
@@ -248,7 +250,7 @@ else
 fi
 if command -v nvcc > /dev/null && [ -x "$built/zigrunk-driver" ]; then
     check 'real calls of nvcc beside the driver' tests/callers/real_calls.py "$built/zigrunk-driver" "${SEED:-1}" "${CALLS:-8}" "${say_the_same[@]}"
-    check 'their keys beside the driver' tests/callers/real_keys.py "$built/zigrunk-driver" "$built/examples/keys" "${SEED:-1}" "${CALLS:-12}"
+    check 'their keys beside the driver' tests/callers/real_keys.py "$built/zigrunk-driver" "$examples/keys" "${SEED:-1}" "${CALLS:-12}"
 else
     skip 'real calls of nvcc beside the driver' 'there is no nvcc, or no driver'
 fi

@@ -6,6 +6,7 @@
 set -u
 cd "$(dirname "$0")/.." || exit 1
 . tests/lib.sh
+require 'completion' python3
 top=$PWD
 zigrunk=$(realpath "${DRIVER_BIN:-out/rust/target/release}/zigrunk")
 mkdir -p "$scratch/work/folder" && : > "$scratch/work/file"

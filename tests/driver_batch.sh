@@ -10,6 +10,7 @@
 cd "$(dirname "$0")/.." || exit 1
 . tests/lib.sh
 trap 'kill $(jobs -p) 2> /dev/null; rm -rf "$scratch"' EXIT
+require 'the batch' pgrep
 unset NVCC_PREPEND_FLAGS NVCC_APPEND_FLAGS CDPATH MAKEFLAGS MFLAGS "${!ZIGRUNK@}"
 # The stand-in for fatbinary writes no file for an assembler.
 export ZIGRUNK_LATE=0

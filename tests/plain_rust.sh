@@ -6,6 +6,8 @@
 #   tests/plain_rust.sh [FOLDER [PART..]]   FOLDER: where the workspace and what cargo builds stay; nothing stays unless it is given
 #                                           PART: text workspace programs drivers; all of them unless given
 #
+# PROFILE=dev has cargo build the drivers alone, as it builds unit tests, so that .ci/plain compiles each crate once.
+#
 # No answer differs from the proved build's.
 set -u
 cd "$(dirname "$0")/.." || exit 1
@@ -14,7 +16,8 @@ folder=$(realpath -m "${1:-$scratch/rust}")
 shift $(($# > 0 ? 1 : 0))
 parts=("$@")
 [ $# -gt 0 ] || parts=(text workspace programs drivers)
-built=$folder/target/release
+profile=${PROFILE:-release}
+built=$folder/target/${profile/#dev/debug}
 export CARGO_NET_OFFLINE=true
 
 # script NAME COMMAND..: runs another script, shows what it says, and adds its counts.
@@ -28,8 +31,10 @@ script() {
 
 # write: the eraser writes the workspace, with the drivers that run cases, and cargo builds it.
 write() {
+    local packages=()
+    [ "$profile" = release ] || packages=(-p test_lines -p test_plans)
     cargo run --quiet --locked --manifest-path rust/Cargo.toml -p eraser -- --drivers . "$folder" &&
-        env -C "$folder" cargo build --quiet --release --target-dir "$folder/target"
+        env -C "$folder" cargo build --quiet --profile "$profile" --target-dir "$folder/target" "${packages[@]}"
 }
 
 # no_debug_form: no crate prints a text by `{:?}`, which escapes other characters in Rust than in the kit (docs/proof/PLAIN_RUST.md).
@@ -79,8 +84,8 @@ drive() {
     mapfile -t words < "$source/args"
     (cd "$scratch/$1/data" && "$built/$1" "${words[@]}") > "$scratch/$1/out" 2> "$scratch/$1/err" < /dev/null
     status=$?
-    cases=$(sed -n 's/^[^:]*: \([0-9]*\) cases$/\1/p' "$scratch/$1/out" | paste -sd+ | bc)
-    if [ "$status" != 0 ] || ! diff "$source/stdout" "$scratch/$1/out" > "$scratch/$1/diff" || [ "${cases:-0}" -eq 0 ]; then
+    cases=$(sed -n 's/^[^:]*: \([0-9]*\) cases$/\1/p' "$scratch/$1/out" | awk '{ sum += $1 } END { print sum + 0 }')
+    if [ "$status" != 0 ] || ! diff "$source/stdout" "$scratch/$1/out" > "$scratch/$1/diff" || [ "$cases" -eq 0 ]; then
         problem="status $status"$'\n'$(cat "$scratch/$1/diff")$'\n'$(tail -c 600 "$scratch/$1/err")
     else
         passed=$((passed + cases - 1))

@@ -2,8 +2,8 @@
 # Tests the crate for Rust, bindings/rust, and the library below it, call. Cargo takes nothing from a network here, and leaves nothing in the
 # repository. Prints a line for each failure, and last 'N passed, M failed'.
 #
-# WORKSPACE=out/rust takes the workspace of `make rust` as it is, and TARGET=FOLDER keeps what cargo builds. Another cargo first on the path tests with
-# that: Rust 1.85 is the oldest.
+# WORKSPACE=out/rust takes the workspace of `make rust` as it is, and TARGET=FOLDER keeps what cargo builds. PARTS="tests projects lints" runs these
+# parts. Another cargo first on the path tests with that: Rust 1.85 is the oldest.
 set -u
 cd "$(dirname "$0")/.." || exit 1
 . tests/lib.sh
@@ -79,23 +79,36 @@ five_lines() {
         new_project five_lines && names_tools five_lines
 }
 
+# tests: the crates' own, and what the examples write.
+tests() {
+    check 'the tests' cargo test -q "${packages[@]}"
+    check 'programs are no tests' cargo test -q -p cudaplan
+    check 'what the examples write' examples_write "$CARGO_TARGET_DIR/debug/examples"
+}
+
+# projects: new ones, for which cargo compiles all crates anew.
+projects() {
+    check 'the ten lines of the page in a new project' ten_lines
+    check 'the five lines of the package in a new project' five_lines
+}
+
+# lints: what needs each crate read once more.
+lints() {
+    if cargo clippy --version > /dev/null 2>&1; then
+        check 'clippy' cargo clippy -q --no-deps --all-targets "${packages[@]}" -- -D warnings
+        check 'the pages' env RUSTDOCFLAGS='-D warnings' cargo doc -q --no-deps "${packages[@]}"
+    else
+        skip 'clippy' 'it is not installed'
+    fi
+    if cargo fmt --version > /dev/null 2>&1; then
+        check 'the format' cargo fmt --check "${packages[@]}"
+    else
+        skip 'the format' 'rustfmt is not installed'
+    fi
+}
+
 check 'the page of the package has these lines too' prints '' comm -13 <(sed -n 's/^\/\/! //p' zigrunk/src/lib.rs | sort) \
     <(sed -n '/^```rust/,/^```$/p' zigrunk/README.md | grep -v '^```' | sort)
 check 'the versions' grep -qx "version = \"$version\"" Cargo.toml
-check 'the tests' cargo test -q "${packages[@]}"
-check 'programs are no tests' cargo test -q -p cudaplan
-check 'what the examples write' examples_write "$CARGO_TARGET_DIR/debug/examples"
-check 'the ten lines of the page in a new project' ten_lines
-check 'the five lines of the package in a new project' five_lines
-if cargo clippy --version > /dev/null 2>&1; then
-    check 'clippy' cargo clippy -q --no-deps --all-targets "${packages[@]}" -- -D warnings
-    check 'the pages' env RUSTDOCFLAGS='-D warnings' cargo doc -q --no-deps "${packages[@]}"
-else
-    skip 'clippy' 'it is not installed'
-fi
-if cargo fmt --version > /dev/null 2>&1; then
-    check 'the format' cargo fmt --check "${packages[@]}"
-else
-    skip 'the format' 'rustfmt is not installed'
-fi
+for part in ${PARTS-tests projects lints}; do "$part"; done
 summary
