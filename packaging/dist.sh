@@ -8,6 +8,8 @@
 #   dist/zigrunk-VERSION-x86_64-linux.tar.gz   the proved cudaplan with the others, if crates/cudaplan/out has what these sources make
 #   dist/SHA256SUMS
 #
+# packaging/dist.sh --sources packs the first alone, and builds nothing.
+#
 # It proves nothing. Programs are static, so that they run on every Linux. Two runs from one commit give the same bytes: files have
 # the time SOURCE_DATE_EPOCH, which is that of the commit unless it is set, and all is built in out/dist.
 set -eu
@@ -258,6 +260,7 @@ pack_proved() {
 [ -d vendor ] || packaging/vendor.sh
 write_sources
 pack "$sources"
+[ "${1-}" != --sources ] || exit 0
 package amd64 x86_64-unknown-linux-gnu ''
 if can_build aarch64-unknown-linux-gnu aarch64-linux-gnu-; then
     package arm64 aarch64-unknown-linux-gnu aarch64-linux-gnu-
