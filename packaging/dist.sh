@@ -54,7 +54,7 @@ write_sources() {
     cp -r vendor "$sources/vendor"
     cargo run --quiet --manifest-path rust/Cargo.toml -p eraser -- --crates=vendor . "$sources"
     prune_vendor
-    git ls-files README.md CHANGELOG.md LICENSE NOTICE VERSION bindings/c bindings/cmake bindings/cpp bindings/go bindings/python completions demo docs examples man | while read -r file; do
+    git ls-files README.md CHANGELOG.md LICENSE NOTICE VERSION bindings/c bindings/cmake bindings/cpp bindings/go bindings/python completions demo docs examples man tests/drivers/test_plans/data/dry_runs | while read -r file; do
         mkdir -p "$sources/$(dirname "$file")"
         cp "$file" "$sources/$file"
     done

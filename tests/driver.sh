@@ -1097,6 +1097,7 @@ five_calls() {
 }
 
 slots() {
+    command -v ninja > /dev/null || { skip 'slots' 'ninja is not on the path' && return; }
     room=$scratch/room
     slot_folder=$room/run/zigrunk-slots-$user
     if case_of 'slots: a call alone'; then
@@ -1247,6 +1248,7 @@ slots() {
 }
 
 jobservers() {
+    command -v ninja > /dev/null || { skip 'jobs of make' 'ninja is not on the path' && return; }
     require_make=$(make --version 2> /dev/null | head -n 1)
     [ -n "$require_make" ] || { skip 'the jobserver of make' 'make is not on the path' && return; }
     if case_of 'make: without its jobserver'; then

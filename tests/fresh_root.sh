@@ -18,7 +18,7 @@ handlers=/proc/sys/fs/binfmt_misc
 emulator=${EMULATOR:-/usr/bin/qemu-aarch64-static}
 
 end() {
-    [ -z "${root-}" ] || umount -q "$root/proc"
+    [ -z "${root-}" ] || umount -q "$root/dev/pts" "$root/proc"
     [ -z "${lent-}" ] || echo -1 > "$handlers/qemu-aarch64"
     rm -rf --one-file-system "$scratch"
 }
@@ -66,18 +66,22 @@ make_root() {
     mkdir -p "$root/root/zigrunk"
     copy_clone || return 1
     mapfile -t names < <(packages)
+    # a machine has both
     mountpoint -q "$root/proc" || mount -t proc proc "$root/proc" || return 1
+    mountpoint -q "$root/dev/pts" || mount -t devpts -o newinstance,ptmxmode=666 devpts "$root/dev/pts" || return 1
     inside apt-get update && install_packages "${names[@]:?README names no packages}"
 }
 
-# counted WHAT COMMAND..: adds the counts of a script in the root, which has to run cases.
+# counted WHAT COMMAND..: adds the counts of a script in the root, which has to run cases. (If it fails, make says so behind them.)
 counted() {
     local status
     "${@:2}" > "$scratch/counted" 2>&1
     status=$?
-    grep -E ': skipped, |failed|^All took' "$scratch/counted" | sed "s/^/$1: /"
+    sed -i '/^make\(\[[0-9]*\]\)\?: /d' "$scratch/counted"
     echo "$1: $(tail -n 1 "$scratch/counted")"
-    add "$status" "$scratch/counted" || { echo "$1: no counts"; tail -n 20 "$scratch/counted"; }
+    grep -E '^==|^All took' "$scratch/counted"
+    [ "$status" -eq 0 ] || grep -vE '^==|: skipped, ' "$scratch/counted" | tail -n 60
+    add "$status" "$scratch/counted" || echo "$1: its last line has no counts that fit"
 }
 
 # planned: the main job. `nvcc` is a stand-in that prints what nvcc has printed of a real call.
@@ -125,7 +129,7 @@ first_hour() {
 slow=(CARGO_PROFILE_RELEASE_OPT_LEVEL=0 CARGO_PROFILE_RELEASE_LTO=off)
 [ $# -gt 0 ] || set -- bookworm trixie trixie:arm64
 for wanted in "$@"; do
-    root=$scratch/${wanted##*/} release=${wanted%:*} architecture=$(dpkg --print-architecture) profile=()
+    name=${wanted##*/} root=$scratch/${wanted##*/} release=${wanted%:*} architecture=$(dpkg --print-architecture) profile=()
     [[ $wanted != *:* ]] || architecture=${wanted#*:}
     if [ -d "$wanted" ]; then
         root=$(realpath "$wanted")
@@ -134,10 +138,10 @@ for wanted in "$@"; do
     case $release in bookworm) number=12 ;; *) number=13 ;; esac
     if [ "$architecture" != "$(dpkg --print-architecture)" ]; then
         profile=("${slow[@]}")
-        lend_emulator || { skip "$wanted" "there is no $emulator, or the kernel takes none"; continue; }
+        lend_emulator || { skip "$name" "there is no $emulator, or the kernel takes none"; continue; }
     fi
-    check "$wanted: the root" make_root "$release" "$architecture"
-    first_hour "$wanted"
-    umount -q "$root/proc"
+    check "$name: the root" make_root "$release" "$architecture"
+    first_hour "$name"
+    umount -q "$root/dev/pts" "$root/proc"
 done
 summary

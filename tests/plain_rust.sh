@@ -52,6 +52,7 @@ text() {
 # workspace: what rustfmt and cargo say of all crates, the stand-ins and the eraser among them. Each public item has a page.
 workspace() {
     local words roots name without=()
+    command -v rustfmt > /dev/null || { skip 'layout and clippy' 'rustfmt is not on the path' && return; }
     # test_.. are tests in the kit's form, which rustfmt and clippy would write otherwise; `make rust` leaves them out
     for name in "$folder"/crates/test_*; do
         without+=(--exclude "${name##*/}")
@@ -98,7 +99,7 @@ drivers() {
     drive test_plans
 }
 
-require 'plain Rust' cargo rustfmt
+require 'plain Rust' cargo
 check 'the eraser and cargo' write
 if [ "$failed" -eq 0 ]; then
     for part in "${parts[@]}"; do "$part"; done

@@ -884,14 +884,15 @@ orders_of_options() {
     fi
 }
 
-# passes NAME REASON WORD..: a line that goes to nvcc.
+# passes NAME REASON WORD..: a line that goes to nvcc, which is never run.
 passes() {
-    noted "$program" plan text -- nvcc "${@:3}" > "$scratch/out" 2> "$scratch/err"
+    noted "$program" plan text -- "$scratch/nvcc" "${@:3}" > "$scratch/out" 2> "$scratch/err"
     judge "$1" 3 '' "zigrunk plan: goes to nvcc: $2"$'\n'
 }
 
 # nvcc lines that no plan is made of: tests/callers has one for each reason
 calls_for_nvcc() {
+    printf '#!/bin/sh\nexit 9\n' > "$scratch/nvcc" && chmod +x "$scratch/nvcc"
     passes 'no words of nvcc' 'it links'
     NVCC_APPEND_FLAGS=--dryrun passes 'a dry run' 'it prints something' -c k.cu
 }
