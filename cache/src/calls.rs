@@ -5,6 +5,7 @@
 //! Their digests lead to what the call made.
 use crate::digest::{Digest, Hasher};
 use crate::manifest::Manifest;
+use crate::miss::Miss;
 use crate::processor::instructions;
 use crate::source::words_of;
 use crate::store::Store;
@@ -167,28 +168,72 @@ pub fn is_on() -> bool {
     settings::keeps_calls()
 }
 
-/// Makes what the store has of a whole call, and gives what it said. `None` if the call has to be made.
-pub fn serve(store: &Store, line: &NvccLine, nvcc: &Path) -> Option<Said> {
+/// Makes what the store has of a whole call, and gives what it said.
+/// Errors: why the call has to be made.
+pub fn serve(store: &Store, line: &NvccLine, nvcc: &Path) -> Result<Said, Miss> {
+    by_keys(store, line, nvcc, |key, cwd| served(found(store, key, cwd)?, cwd))
+}
+
+/// Why the store has nothing for a call, unless it has.
+pub fn miss(store: &Store, line: &NvccLine, nvcc: &Path) -> Option<Miss> {
+    by_keys(store, line, nvcc, |key, cwd| found(store, key, cwd)).err()
+}
+
+/// What is found first by one of a call's keys.
+/// Errors: why nothing is.
+fn by_keys<T>(
+    store: &Store,
+    line: &NvccLine,
+    nvcc: &Path,
+    find: impl Fn(&Digest, &Path) -> Result<T, Miss>,
+) -> Result<T, Miss> {
     let cwd = Path::new(&line.cwd);
     // Without a folder for temporary files nvcc fails.
     let folder = own_variable("TMPDIR").filter(|folder| !folder.is_empty()).map(|folder| cwd.join(folder));
-    let has_room = folder.is_none_or(|folder| folder.is_dir() && may_write(&folder));
-    if has_room { keys(line, nvcc).iter().find_map(|key| serve_by(store, key, cwd)) } else { None }
+    if !folder.is_none_or(|folder| folder.is_dir() && may_write(&folder)) {
+        return Err(Miss::NotLookedUp("TMPDIR is no folder that can be written"));
+    }
+    let keys = keys(line, nvcc);
+    let found = keys.iter().try_fold(Miss::Unknown, |miss, key| match find(key, cwd) {
+        Ok(found) => Err(found),
+        Err(other) => Ok(miss.or(other)),
+    });
+    found.map_or_else(Ok, |miss| Err(miss.or(refusal(store, &keys).map_or(Miss::Unknown, Miss::Refused))))
 }
 
-/// What the store has of a call with this key, and what the call depends on now. If that are other sources
-/// that stand for those, it's kept.
-fn found(store: &Store, key: &Digest, cwd: &Path) -> Option<Answer> {
-    let earlier = Manifest::read(store, key)?;
-    let now = earlier.again(cwd)?;
+/// What the store has of a call with this key. If other sources stand for those that the call depends on, it's
+/// kept for these, too.
+fn found(store: &Store, key: &Digest, cwd: &Path) -> Result<Answer, Miss> {
+    let earlier = Manifest::read(store, key).ok_or(Miss::Unknown)?;
+    let now = earlier.now(cwd, &[]).map_err(Miss::Input)?;
     if let Some(answer) = now.answer(store, key) {
         now.improve(store, key, &earlier);
-        return Some(answer).filter(Answer::may_be_said);
+        return Some(answer).filter(Answer::may_be_said).ok_or(Miss::Terminal);
     }
-    let now = earlier.alike(&now, cwd)?;
-    let answer = earlier.answer(store, key).filter(Answer::is_silent)?;
-    let _ = now.keep(store, key, &answer);
-    Some(answer)
+    let miss = || earlier.difference(&now).map_or(Miss::NoAnswer, Miss::Input);
+    let alike = earlier.alike(&now, cwd).ok_or_else(miss)?;
+    let answer = earlier.answer(store, key).filter(Answer::is_silent).ok_or_else(miss)?;
+    let _ = alike.keep(store, key, &answer);
+    Ok(answer)
+}
+
+/// The key under which is why a call isn't kept, by its other keys.
+fn refusal_key(keys: &[Digest; 2]) -> Digest {
+    let mut hasher = Hasher::default();
+    hasher.add(b"zigrunk refusal 1");
+    for key in keys {
+        hasher.update(&key.0);
+    }
+    hasher.finish()
+}
+
+fn refusal(store: &Store, keys: &[Digest; 2]) -> Option<String> {
+    String::from_utf8(store.read(&refusal_key(keys))?).ok()
+}
+
+/// Keeps why a call isn't kept, if the store can be written.
+pub fn refuse(store: &Store, line: &NvccLine, nvcc: &Path, why: &str) {
+    let _ = store.write(&refusal_key(&keys(line, nvcc)), why.as_bytes());
 }
 
 /// What the store has of a call: its keys, and what the call depends on.
@@ -196,15 +241,16 @@ pub fn known(store: &Store, line: &NvccLine, nvcc: &Path) -> Vec<(Digest, Manife
     keys(line, nvcc).into_iter().filter_map(|key| Some((key, Manifest::read(store, &key)?))).collect()
 }
 
-fn serve_by(store: &Store, key: &Digest, cwd: &Path) -> Option<Said> {
-    let answer = found(store, key, cwd)?;
+/// Makes what a call has made, and gives what it said.
+fn served(answer: Answer, cwd: &Path) -> Result<Said, Miss> {
     // (what is to be written to may not be writable: then nothing else is made either)
     let (made, written): (Vec<&Product>, Vec<&Product>) =
         answer.products.iter().partition(|product| product.is_new);
     for product in written.into_iter().chain(made) {
-        put(product.is_new, &cwd.join(&product.path), &product.text).ok()?;
+        let lost = |_| Miss::Product(product.path.clone());
+        put(product.is_new, &cwd.join(&product.path), &product.text).map_err(lost)?;
     }
-    Some(answer.said)
+    Ok(answer.said)
 }
 
 /// Keeps what a call has made, if the store can be written.
@@ -251,6 +297,7 @@ pub fn put(is_new: bool, path: &Path, text: &[u8]) -> io::Result<()> {
 mod tests {
     use super::*;
     use crate::manifest::{Form, Seen, Vain};
+    use crate::miss::{Change, Difference};
     use crate::test_folder::TestFolder;
     use std::fs;
 
@@ -344,7 +391,8 @@ mod tests {
                 &Answer { said: vec![(false, text.into())], ..answer() },
             );
         };
-        let served = || serve(&store, &line, nvcc).map(|said| String::from_utf8(said[0].1.clone()).unwrap());
+        let served =
+            || serve(&store, &line, nvcc).ok().map(|said| String::from_utf8(said[0].1.clone()).unwrap());
         keep("one", false);
         assert_eq!(
             (served(), fs::read_to_string(room.join("k.d")).unwrap()),
@@ -387,7 +435,7 @@ mod tests {
                 &Answer { said: vec![(true, said.to_vec())], ..answer() },
             );
         };
-        let served = || serve(&store, &line, nvcc).is_some();
+        let served = || serve(&store, &line, nvcc).is_ok();
         keep(b"");
         for (text, wanted) in
             [("// x\n\nint a;\n", true), ("int b;\n", false), ("int a; // y\n", true), ("int a;\n", true)]
@@ -401,5 +449,36 @@ mod tests {
         assert!(served());
         put("// x\n\nint a;\n");
         assert!(!served(), "a message may name lines");
+    }
+    #[test]
+    fn a_miss_has_a_reason() {
+        let room = TestFolder::new();
+        let (store, line, nvcc) = (
+            Store::new(room.join("store"), 1 << 20),
+            line("-c k.cu", room.to_str().unwrap()),
+            Path::new("/b/nvcc"),
+        );
+        let put = |text: &str| fs::write(room.join("k.cu"), text).unwrap();
+        let why = || miss(&store, &line, nvcc);
+        assert_eq!(why(), Some(Miss::Unknown));
+        refuse(&store, &line, nvcc, "it tells the time");
+        assert_eq!(why(), Some(Miss::Refused("it tells the time".into())));
+        put("one");
+        let files = vec![Seen::now(Path::new("k.cu"), &room).unwrap()];
+        let manifest = Manifest { files, ..Manifest::default() };
+        super::keep(&store, &line, nvcc, true, &manifest, &answer());
+        assert_eq!(why(), None);
+        put("two");
+        let changed = Difference { name: "k.cu".into(), change: Change::Content };
+        assert_eq!(why(), Some(Miss::Input(changed)), "by the key with its folder");
+        put("one");
+        fs::create_dir_all(room.join("k.o/full")).unwrap();
+        assert_eq!((why(), serve(&store, &line, nvcc)), (None, Err(Miss::Product("k.o".into()))));
+        let terminal = Answer { terminal: b"other".to_vec(), ..answer() };
+        super::keep(&store, &line, nvcc, true, &manifest, &terminal);
+        assert_eq!(why(), Some(Miss::Terminal));
+        store.clear().unwrap();
+        store.write(&keys(&line, nvcc)[0], &stored::to_bytes(&manifest)).unwrap();
+        assert_eq!(why(), Some(Miss::NoAnswer));
     }
 }

@@ -12,6 +12,7 @@ mod key;
 mod lines;
 mod manifest;
 mod marked;
+pub mod miss;
 pub mod observed;
 pub mod observer;
 pub mod place;
@@ -31,6 +32,7 @@ pub use inputs::Refusal;
 pub use recipe::environment_of;
 pub use session::{Beginning, Finished, Session};
 pub use stamps::Stamp;
+pub use store::Store;
 
 use unix as system;
 #[cfg(test)]

@@ -7,6 +7,7 @@
 //! A source whose layout is as it was may stand for what it was, if the call can't see the difference.
 use crate::digest::{Digest, Hasher};
 use crate::lines::{Macros, definitions_in, without_definitions};
+use crate::miss::{Change, Difference};
 use crate::source::{layout_of, words_of};
 use crate::stamps::Stamp;
 use crate::store::{Store, digest_of};
@@ -108,6 +109,12 @@ impl Seen {
         self.digest == now.digest && same_time
     }
 
+    /// What has changed of it.
+    fn change(&self, now: &Seen) -> Option<Change> {
+        let change = if self.digest == now.digest { Change::Time } else { Change::Content };
+        (!self.counts_as(now)).then_some(change)
+    }
+
     /// The layouts of a source.
     fn layouts(&self) -> Option<&Layouts> {
         if let Form::Source(layouts) = &self.form { Some(layouts) } else { None }
@@ -148,6 +155,13 @@ impl Vain {
         let is_link = |name: &Vec<u8>| fs::symlink_metadata(path(name)).is_ok_and(|found| found.is_symlink());
         let stamp = Stamp::settled(&cwd.join(folder), &status).filter(|_| !lacks.iter().any(is_link));
         lacks.iter().all(is_free).then(|| Vain { folder: folder.to_owned(), lacks, stamp })
+    }
+
+    /// The first of the names that it has by now, or the folder, if nobody may look into it.
+    fn found(&self, cwd: &Path) -> PathBuf {
+        let path = |name: &Vec<u8>| self.folder.join(OsStr::from_bytes(name));
+        let is_there = |path: &PathBuf| !fs::metadata(cwd.join(path)).as_ref().is_err_and(is_missing);
+        self.lacks.iter().map(path).find(is_there).unwrap_or_else(|| self.folder.clone())
     }
 
     /// The same folder as it is now. `None` if it has one of the names. A folder that is gone has none.
@@ -305,7 +319,7 @@ impl Manifest {
         given: &Variables,
     ) -> Option<(T, Manifest)> {
         let earlier = Manifest::read(store, key)?;
-        let now = earlier.again_for(cwd, given)?;
+        let now = earlier.now(cwd, given).ok()?;
         let answer = now.answer(store, key)?;
         now.improve(store, key, &earlier);
         Some((answer, now))
@@ -318,25 +332,41 @@ impl Manifest {
         }
     }
 
-    /// The same as it is now, seen from a working directory. `None` if the call would find another file, or
-    /// not find one.
-    pub fn again(&self, cwd: &Path) -> Option<Manifest> {
-        self.again_for(cwd, &[])
+    /// The same as it is now, seen from a working directory, for a command with such variables.
+    /// Errors: that it would find another file, or not find one.
+    pub fn now(&self, cwd: &Path, given: &Variables) -> Result<Manifest, Difference> {
+        let gone = |path: &Path| Difference { name: path.to_owned(), change: Change::Gone };
+        let file = |seen: &Seen| seen.again(cwd).ok_or_else(|| gone(&seen.path));
+        let vain = |vain: &Vain| {
+            vain.again(cwd).ok_or_else(|| Difference { name: vain.found(cwd), change: Change::New })
+        };
+        let listed = |listed: &Listed| Listed::now(&listed.folder, cwd).ok_or_else(|| gone(&listed.folder));
+        let place = |(path, _): &(PathBuf, PathBuf)| {
+            let real = real_place(path, cwd).ok_or_else(|| gone(path))?;
+            Ok((path.clone(), real))
+        };
+        Ok(Manifest {
+            files: self.files.iter().map(file).collect::<Result<_, _>>()?,
+            vain: self.vain.iter().map(vain).collect::<Result<_, _>>()?,
+            listed: self.listed.iter().map(listed).collect::<Result<_, _>>()?,
+            places: self.places.iter().map(place).collect::<Result<_, _>>()?,
+            variables: self.variables.iter().map(|variable| Variable::now(&variable.name, given)).collect(),
+            defines: self.defines.clone(),
+        })
     }
 
-    /// The same for a command with such variables.
-    fn again_for(&self, cwd: &Path, given: &Variables) -> Option<Manifest> {
-        let files = self.files.iter().map(|seen| seen.again(cwd)).collect::<Option<_>>()?;
-        let vain = self.vain.iter().map(|vain| vain.again(cwd)).collect::<Option<_>>()?;
-        let listed =
-            self.listed.iter().map(|listed| Listed::now(&listed.folder, cwd)).collect::<Option<_>>()?;
-        let places = self
-            .places
-            .iter()
-            .map(|(path, _)| Some((path.clone(), real_place(path, cwd)?)))
-            .collect::<Option<_>>()?;
-        let variables = self.variables.iter().map(|variable| Variable::now(&variable.name, given)).collect();
-        Some(Manifest { files, vain, listed, places, variables, defines: self.defines.clone() })
+    /// The first of all this that is otherwise now.
+    pub fn difference(&self, now: &Manifest) -> Option<Difference> {
+        let files = self.files.iter().zip(&now.files);
+        let files = files.filter_map(|(seen, now)| Some((seen.path.clone(), seen.change(now)?)));
+        let listed = self.listed.iter().zip(&now.listed).filter(|(listed, now)| listed != now);
+        let listed = listed.map(|(listed, _)| (listed.folder.clone(), Change::Names));
+        let places = self.places.iter().zip(&now.places).filter(|(place, now)| place != now);
+        let places = places.map(|((path, _), _)| (path.clone(), Change::Place));
+        let variables = self.variables.iter().zip(&now.variables).filter(|(variable, now)| variable != now);
+        let variables = variables.map(|(variable, _)| (variable.name().into(), Change::Variable));
+        let (name, change) = files.chain(listed).chain(places).chain(variables).next()?;
+        Some(Difference { name, change })
     }
 
     fn has_surroundings_of(&self, now: &Manifest) -> bool {
@@ -429,6 +459,13 @@ mod tests {
     use crate::stored::{of_bytes, to_bytes};
     use crate::test_folder::TestFolder;
     use std::time::{Duration, SystemTime};
+
+    impl Manifest {
+        /// The same as it is now.
+        fn again(&self, cwd: &Path) -> Option<Manifest> {
+            self.now(cwd, &[]).ok()
+        }
+    }
 
     /// A folder for a test, which goes with it.
     struct Scratch(TestFolder);
@@ -727,5 +764,39 @@ mod tests {
         assert_eq!(manifest.again(&scratch.0), None);
         fs::remove_dir_all(scratch.0.join("inc")).unwrap();
         assert_eq!(manifest.again(&scratch.0), None, "the folder is gone");
+    }
+    #[test]
+    fn what_has_changed_is_said() {
+        let scratch = Scratch::new();
+        let seen = |name: &str| Seen::now(Path::new(name), &scratch.0).unwrap();
+        let dated = Form::dated(&fs::metadata(scratch.0.join("k.cu")).unwrap());
+        let variables = vec![Variable::now(b"ZIGRUNK_ANY", &[])];
+        let listed = vec![Listed::now(Path::new("inc"), &scratch.0).unwrap()];
+        let files = vec![Seen { form: dated, ..seen("k.cu") }];
+        let manifest = Manifest { files, listed, variables, ..scratch.manifest() };
+        let said = |given: &Variables| {
+            let now = manifest.now(&scratch.0, given).map(|now| manifest.difference(&now));
+            let difference = now.unwrap_or_else(Some)?;
+            Some((difference.name.to_str().unwrap().to_owned(), difference.change))
+        };
+        let wanted = |name: &str, change: Change| Some((name.to_owned(), change));
+        assert_eq!(said(&[]), None);
+        let given = ("ZIGRUNK_ANY".to_owned(), Some("1".to_owned()));
+        assert_eq!(said(&[given]), wanted("ZIGRUNK_ANY", Change::Variable));
+        fs::remove_file(scratch.0.join("way")).unwrap();
+        assert_eq!(said(&[]), wanted("way", Change::Gone));
+        std::os::unix::fs::symlink(".", scratch.0.join("way")).unwrap();
+        assert_eq!(said(&[]), wanted("way", Change::Place));
+        fs::write(scratch.0.join("inc/b.h"), "").unwrap();
+        assert_eq!(said(&[]), wanted("inc", Change::Names));
+        let file = File::options().write(true).open(scratch.0.join("k.cu")).unwrap();
+        file.set_modified(SystemTime::UNIX_EPOCH).unwrap();
+        assert_eq!(said(&[]), wanted("k.cu", Change::Time));
+        fs::write(scratch.0.join("k.cu"), "two").unwrap();
+        assert_eq!(said(&[]), wanted("k.cu", Change::Content));
+        fs::create_dir(scratch.0.join("inc/sub")).unwrap();
+        assert_eq!(said(&[]), wanted("inc/sub", Change::New));
+        fs::remove_file(scratch.0.join("k.cu")).unwrap();
+        assert_eq!(said(&[]), wanted("k.cu", Change::Gone));
     }
 }

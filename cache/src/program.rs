@@ -13,6 +13,7 @@ use machine::places::working_directory;
 use machine::settings::{Settings, bytes_of, own_variable};
 use machine::streams::{complain, say};
 use std::ffi::OsString;
+use std::path::Path;
 
 const USAGE: &str =
     "usage: zigrunk cache stats|show KEY|show NVCC WORD..|verify|clear|limit [SIZE]|observe FILE COMMAND..";
@@ -81,22 +82,26 @@ fn verify(store: &Store) -> i32 {
     if damaged.is_empty() { said } else { 1 }
 }
 
+/// A call here, by nvcc's name and its words.
+pub fn line_of(settings: &Settings, nvcc: &str, words: &[&str]) -> NvccLine {
+    let is_own = nvcc.ends_with("zigrunk-nvcc");
+    NvccLine {
+        cwd: working_directory().unwrap_or_default().to_string_lossy().into_owned(),
+        nvcc: if is_own { settings.nvcc.to_string_lossy().into_owned() } else { nvcc.into() },
+        words: words.iter().map(ToString::to_string).collect(),
+        variables: Vec::new(),
+    }
+}
+
 /// What a call depends on, by its words, or what is kept under a key.
 fn show(store: &Store, settings: &Settings, words: &[&str]) -> i32 {
-    let cwd = working_directory().unwrap_or_default();
     let known = if let Ok(key) = words[0].parse::<Digest>() {
         Manifest::read(store, &key).map(|manifest| (key, manifest)).into_iter().collect()
     } else {
-        let is_own = words[0].ends_with("zigrunk-nvcc");
-        let nvcc = if is_own { settings.nvcc.clone() } else { words[0].into() };
-        let line = NvccLine {
-            cwd: cwd.to_string_lossy().into_owned(),
-            nvcc: nvcc.to_string_lossy().into_owned(),
-            words: words[1..].iter().map(ToString::to_string).collect(),
-            variables: Vec::new(),
-        };
+        let line = line_of(settings, words[0], &words[1..]);
         let path = own_variable("PATH").unwrap_or_default();
-        programs::find(&nvcc, &path, &cwd).map(|nvcc| calls::known(store, &line, &nvcc)).unwrap_or_default()
+        let nvcc = programs::find(line.nvcc.as_ref(), &path, Path::new(&line.cwd));
+        nvcc.map(|nvcc| calls::known(store, &line, &nvcc)).unwrap_or_default()
     };
     let said = |(key, manifest): &(Digest, Manifest)| {
         [format!("key {key}\n").into_bytes(), manifest.lines()].concat()

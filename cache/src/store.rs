@@ -86,6 +86,7 @@ impl Store {
         Store { folder, limit }
     }
 
+    /// Its folder.
     pub fn folder(&self) -> &Path {
         &self.folder
     }

@@ -15,6 +15,7 @@ mod small;
 mod summary;
 mod timeline;
 mod trace;
+mod missed;
 pub mod why;
 
 use lexopt::prelude::{Long, Short, Value};

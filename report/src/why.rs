@@ -1,8 +1,9 @@
 //! zigrunk why: says why two calls, of which `ZIGRUNK_RECORDS` has records, made different products.
 use crate::causes::{Cause, Pair};
+use crate::missed::Looked;
 use crate::recorded::{Found, records};
 use lexopt::Parser;
-use lexopt::prelude::{Long, Short, Value};
+use lexopt::prelude::{Long, Short, Value, ValueExt};
 use machine::nearest::unexpected;
 use machine::streams::{complain, say};
 use serde::Serialize;
@@ -10,7 +11,7 @@ use std::collections::BTreeMap;
 use std::ffi::OsString;
 use std::path::{Path, PathBuf};
 
-const USAGE: &str = "usage: zigrunk why [--json] A B";
+const USAGE: &str = "usage: zigrunk why [--json] A B\n       zigrunk why [--json] --miss NVCC WORD..";
 const HELP: &str = "
 Says why two calls made different products: the first command that made another
 file, and what it had otherwise. A and B are records of ZIGRUNK_RECORDS, lines
@@ -21,9 +22,11 @@ It names a word (a path), a variable (a locale), a tool, a source or header, or
 a folder. If all that is the same, it names what looks like a time or an id.
 
 --json       print the causes for programs
+--miss NVCC  say why the cache has nothing for a call, whose words follow
 -h, --help   print this text
 
-The status is 0 if all products are the same, 1 if one differs, 2 for trouble.
+The status is 0 if all products are the same, or the cache has the call, 1 if
+not, 2 for trouble.
 ";
 /// How many causes are shown of two builds.
 const MOST_SHOWN: usize = 2;
@@ -31,8 +34,16 @@ const MOST_SHOWN: usize = 2;
 /// What is asked for.
 #[derive(Clone, PartialEq, Eq, Debug)]
 struct Asked {
-    builds: [PathBuf; 2],
+    about: About,
     is_json: bool,
+}
+
+/// What it is asked about.
+#[derive(Clone, PartialEq, Eq, Debug)]
+enum About {
+    Builds([PathBuf; 2]),
+    /// A call, by nvcc's name and its words.
+    Miss(String, Vec<String>),
 }
 
 /// Parses the words of a call. `Ok(None)` asks for help.
@@ -44,12 +55,17 @@ fn asked(words: &[OsString]) -> Result<Option<Asked>, lexopt::Error> {
         match word {
             Short('h') | Long("help") => return Ok(None),
             Long("json") => is_json = true,
+            Long("miss") => {
+                let nvcc = words.value().map_err(|_| "--miss needs nvcc and its words")?.string()?;
+                let words = words.raw_args()?.map(OsString::into_string).collect::<Result<_, _>>()?;
+                return Ok(Some(Asked { about: About::Miss(nvcc, words), is_json }));
+            }
             Value(build) => builds.push(PathBuf::from(build)),
             option => return Err(unexpected(&option, HELP)),
         }
     }
     let builds = builds.try_into().map_err(|_| "two records, or folders of records, are needed")?;
-    Ok(Some(Asked { builds, is_json }))
+    Ok(Some(Asked { about: About::Builds(builds), is_json }))
 }
 
 /// What has come of two builds.
@@ -132,16 +148,25 @@ fn text(answer: &Answer) -> String {
     lines.concat()
 }
 
-fn answer(asked: &Asked) -> Result<i32, String> {
-    let [one, other] = asked.builds.each_ref().map(|build| records(build));
-    let answer = compare(&one?, &other?)?;
-    let text = if asked.is_json {
-        serde_json::to_string_pretty(&answer).map_err(|error| error.to_string())? + "\n"
-    } else {
-        text(&answer)
+/// An answer for programs.
+fn json(answer: &impl Serialize) -> Result<String, String> {
+    Ok(serde_json::to_string_pretty(answer).map_err(|error| error.to_string())? + "\n")
+}
+
+fn answer(Asked { about, is_json }: &Asked) -> Result<i32, String> {
+    let (text, is_same) = match about {
+        About::Builds(builds) => {
+            let [one, other] = builds.each_ref().map(|build| records(build));
+            let answer = compare(&one?, &other?)?;
+            (if *is_json { json(&answer)? } else { text(&answer) }, answer.causes.is_empty())
+        }
+        About::Miss(nvcc, words) => {
+            let looked = Looked::up(nvcc, words)?;
+            (if *is_json { json(&looked)? } else { looked.text() }, looked.found)
+        }
     };
     say(1, text.as_bytes()).map_err(|error| format!("cannot write: {error}"))?;
-    Ok(i32::from(!answer.causes.is_empty()))
+    Ok(i32::from(!is_same))
 }
 
 /// What has come of calls that were made twice.
@@ -172,8 +197,8 @@ pub fn twice(one: &Path, other: &Path) -> Result<Twice, String> {
     Ok(Twice { text: text + &count, is_same: causes.is_empty() })
 }
 
-/// Compares the builds that these words name. Says the exit status: 0 if all products are the same, 1 if one
-/// differs, 2 for wrong usage and what can't be read.
+/// Answers what these words ask. Says the exit status: 0 if all products are the same, or the cache has the
+/// call, 1 if not, 2 for wrong usage and what can't be read.
 pub fn run(words: &[OsString]) -> i32 {
     let result = match asked(words) {
         Ok(Some(asked)) => answer(&asked),
@@ -194,7 +219,7 @@ mod tests {
     fn words_are_read() {
         let words = |line: &str| line.split_whitespace().map(OsString::from).collect::<Vec<_>>();
         let read = |line: &str| asked(&words(line)).map_err(|error| error.to_string());
-        let wanted = |is_json| Ok(Some(Asked { builds: ["a".into(), "b".into()], is_json }));
+        let wanted = |is_json| Ok(Some(Asked { about: About::Builds(["a".into(), "b".into()]), is_json }));
         assert_eq!(
             (read("a b"), read("--json a b"), read("a --help")),
             (wanted(false), wanted(true), Ok(None))
@@ -205,6 +230,11 @@ mod tests {
         {
             assert_eq!(read(line), Err(complaint.into()), "{line}");
         }
+        let call = About::Miss("nvcc".into(), vec!["--json".into(), "--miss".into()]);
+        let asked = |is_json| Ok(Some(Asked { about: call.clone(), is_json }));
+        assert_eq!(read("--miss nvcc --json --miss"), asked(false));
+        assert_eq!(read("--json --miss nvcc --json --miss"), asked(true));
+        assert_eq!(read("--miss"), Err("--miss needs nvcc and its words".into()));
     }
 
     #[test]

@@ -3,7 +3,8 @@ use crate::log::{self, LoggedCommand};
 use crate::split::Outcome;
 use crate::system::Status;
 use cache::counts::{self, Counts};
-use cache::{calls, place};
+use cache::miss::Miss;
+use cache::{Store, calls, place};
 use call::NvccLine;
 use call::programs;
 use machine::clock::now;
@@ -11,22 +12,39 @@ use machine::jobs::Ended;
 use machine::settings::{Settings, own_variable};
 use machine::streams::Said;
 use machine::task::{Done, Task};
-use std::path::Path;
+use std::path::{Path, PathBuf};
 
 /// Makes what the cache has of a whole call, which has begun at a time, in seconds. Gives what it said and
 /// what has come of it, or `None` if the call has to be made.
 pub fn serve(settings: &Settings, line: &NvccLine, begun: f64) -> Option<(Said, Outcome)> {
-    let is_asked = calls::is_on() && settings.launcher.is_empty() && settings.records.is_none();
-    if !is_asked || !settings.runs_here() {
-        return None;
-    }
-    let store = place::store_of(settings, &line.cwd)?;
-    let nvcc =
-        programs::find(line.nvcc.as_ref(), &own_variable("PATH").unwrap_or_default(), Path::new(&line.cwd))?;
-    let said = calls::serve(&store, line, &nvcc)?;
+    let (store, nvcc) = looked_up(settings, line).ok()?;
+    let said = calls::serve(&store, line, &nvcc).ok()?;
     counts::add(store.folder(), Counts { calls: 1, ..Counts::default() });
     let commands = if settings.log.is_some() { logged(begun) } else { Vec::new() };
     Some((said, Outcome { commands, ..Outcome::default() }))
+}
+
+/// Why the cache has nothing for a call, unless it has.
+pub fn miss(settings: &Settings, line: &NvccLine) -> Option<Miss> {
+    let looked_up = looked_up(settings, line);
+    looked_up.map_or_else(Some, |(store, nvcc)| calls::miss(&store, line, &nvcc))
+}
+
+/// Where a call is looked up, and its nvcc.
+fn looked_up(settings: &Settings, line: &NvccLine) -> Result<(Store, PathBuf), Miss> {
+    let reasons = [
+        (calls::is_on(), "ZIGRUNK_CALLS is no"),
+        (settings.launcher.is_empty(), "ZIGRUNK_LAUNCHER is set"),
+        (settings.records.is_none(), "ZIGRUNK_RECORDS is set"),
+        (settings.runs_here(), "its commands run elsewhere"),
+    ];
+    if let Some((_, why)) = reasons.iter().find(|(holds, _)| !holds) {
+        return Err(Miss::NotLookedUp(why));
+    }
+    let store = place::store_of(settings, &line.cwd).ok_or(Miss::NotLookedUp("ZIGRUNK_CACHE is not set"))?;
+    let path = own_variable("PATH").unwrap_or_default();
+    let nvcc = programs::find(line.nvcc.as_ref(), &path, Path::new(&line.cwd));
+    Ok((store, nvcc.ok_or(Miss::NotLookedUp("nvcc is not found"))?))
 }
 
 /// What the log has of such a call.

@@ -116,8 +116,8 @@ fn is_compiler(task: &Task) -> bool {
 }
 
 impl Session<'_> {
-    /// Keeps a call as a whole, if all that it depends on is known.
-    /// Errors: why it isn't kept.
+    /// Keeps a call as a whole, if all that it depends on is known, or else why it isn't kept.
+    /// Errors: why it isn't.
     pub fn keep_call(&mut self, call: &Finished<'_>) -> Result<(), Refusal> {
         if !calls::is_on() {
             return Ok(());
@@ -126,6 +126,14 @@ impl Session<'_> {
         let nvcc =
             programs::find(call.line.nvcc.as_ref(), &own_variable("PATH").unwrap_or_default(), call.cwd())
                 .ok_or_else(lost)?;
+        let kept = self.keep_by(call, &nvcc);
+        if let Err(refusal) = &kept {
+            calls::refuse(self.store, call.line, &nvcc, &refusal.to_string());
+        }
+        kept
+    }
+
+    fn keep_by(&mut self, call: &Finished<'_>, nvcc: &Path) -> Result<(), Refusal> {
         self.check(call)?;
         let written = self.written(call)?;
         let (parts, questions) = self.parts_of(call, &written)?;
@@ -137,7 +145,7 @@ impl Session<'_> {
         self.keep_directly(&call.line.cwd, &questions, &written);
         let answer =
             self.answer(call).ok_or_else(|| Refusal::Task("its messages name its own directory".into()))?;
-        calls::keep(self.store, call.line, &nvcc, self.folder_counts(call), &manifest, &answer);
+        calls::keep(self.store, call.line, nvcc, self.folder_counts(call), &manifest, &answer);
         Ok(())
     }
 
