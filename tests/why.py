@@ -1,12 +1,13 @@
 #!/usr/bin/env python3
 """Plants causes by lot, and asks `zigrunk why` for them.
 
-    tests/why.py [--causes N] [--share PERCENT] [--seed N] ZIGRUNK
+    tests/why.py [--causes N] [--misses N] [--share PERCENT] [--seed N] ZIGRUNK
 
 A project is built in two folders, with records. Between both a cause is planted that a seed draws: another word, variable, header, source,
 tool, time, path, id or locale. If the objects differ, `zigrunk why` has to name the cause by its kind and its name; if they don't, it has to name
-none. Each third trial plants nothing, or what no object shows. Then come options of `zigrunk nvcc`: --root and --check-twice. It fails if fewer
-than PERCENT of the causes that show are named. The last line is 'N passed, M failed'; a cause that isn't named and may be is printed.
+none. Each third trial plants nothing, or what no object shows. Then calls are looked up in the cache after a change that a seed draws: `zigrunk why
+--miss` has to name it, or to say that the cache has the call, and then it has. Last come options of `zigrunk nvcc`: --root and --check-twice. It fails
+if fewer than PERCENT of the causes that show are named. The last line is 'N passed, M failed'; a cause that isn't named and may be is printed.
 """
 import argparse
 import json
@@ -16,6 +17,7 @@ import shutil
 import subprocess
 import sys
 import tempfile
+import time
 from pathlib import Path
 from typing import Callable, Dict, List, NamedTuple, Optional
 
@@ -193,7 +195,7 @@ class Trial:
         first = self.prepared(room / "top", planted, lot)
         one = self.make(first, room / "one")
         if planted.name in ("the time", "a file's time"):
-            subprocess.run(["sleep", "1.05"], check=True)
+            time.sleep(1.05)
             (first.top / "inc/deep/b.h").touch()
         second = planted.plant(first, lot)
         other = self.make(second, room / "other")
@@ -213,6 +215,81 @@ class Trial:
         named = json.dumps([causes[0][part] for part in ["name", "values", "place", *of_line]])
         is_named = causes[0]["kind"] in planted.kinds and planted.part in named
         return [] if is_named else [f"{causes[0]}"]
+
+
+class Change(NamedTuple):
+    """A change between a call that the cache has kept and the next one, and what `why --miss` says of that: nothing, if the cache has it."""
+
+    name: str
+    make: Callable[[Path, Dict[str, str], List[str], random.Random], object]
+    said: Dict[str, str]
+
+
+def put(name: str, old: str, new: Callable[[random.Random], str]) -> Callable[[Path, Dict[str, str], List[str], random.Random], object]:
+    """A file with another text."""
+    return lambda top, _, words, lot: edit(name, old, new)(Build(top, words, {}), lot)
+
+
+def of_input(change: str, name: str) -> Dict[str, str]:
+    """An input that isn't as it was."""
+    return {"why": "input", "change": change, "name": name}
+
+
+def relink(top: Path, target: str) -> None:
+    """Has a folder's link lead elsewhere."""
+    (top / "link").unlink()
+    (top / "link").symlink_to(target)
+
+
+CHANGES = [
+    Change("a header", put("inc/a.h", "a * 3", lambda lot: f"a * {lot.randint(4, 99)}"), of_input("changed", "inc/a.h")),
+    Change("a header of a header's folder", put("inc/deep/b.h", "then", lambda lot: str(lot.random())), of_input("changed", "inc/deep/b.h")),
+    Change("the source", put("k.cu", "void run", lambda lot: f"int more{lot.randint(1, 9)};\nvoid run"), of_input("changed", "k.cu")),
+    Change("a header that is gone", lambda top, *_: (top / "inc/deep/b.h").unlink(), of_input("gone", "inc/deep/b.h")),
+    Change("a header in front", lambda top, *_: shutil.copy(top / "inc/a.h", top / "first/a.h"), of_input("new", "first/a.h")),
+    Change("a folder in front", lambda top, *_: shutil.copytree(top / "inc/deep", top / "first/deep"), of_input("new", "first/deep")),
+    Change("a link", lambda top, *_: relink(top, "same"), of_input("place", "link")),
+    Change("a word", lambda top, _, words, lot: words.append(f"-DFACTOR={lot.randint(2, 9)}"), {"why": "unknown"}),
+    Change("a variable", lambda top, variables, *_: variables.update(CPATH=f"{top}/other"), {"why": "unknown"}),
+    Change("no whole calls", lambda top, variables, *_: variables.update(ZIGRUNK_CALLS="no"), {"why": "not looked up"}),
+    Change("no cache", lambda top, variables, *_: variables.update(ZIGRUNK_CACHE="no"), {"why": "not looked up"}),
+    Change("a source that tells the time", lambda *_: None, {"why": "not kept"}),
+    Change("nothing", lambda *_: None, {}),
+    Change("a comment", put("k.cu", "void run", lambda lot: f"/* {lot.random()} */ void run"), {}),
+    Change("a file that nothing seeks", lambda top, *_: (top / "first/c.h").write_text(""), {}),
+    Change("a variable that counts for nothing", lambda top, variables, *_: variables.update(XDG_ANY="1"), {}),
+]
+
+
+def miss(zigrunk: str, top: Path, change: Change, lot: random.Random) -> "List[str]":
+    """What is wrong with what is said of a call, and with what becomes of it, after a change."""
+    for name, text in [*HEADERS.items(), ("k.cu", SOURCE)]:
+        (top / name).parent.mkdir(parents=True, exist_ok=True)
+        (top / name).write_text(text)
+    (top / "first").mkdir()
+    shutil.copytree(top / "inc", top / "same")
+    (top / "link").symlink_to("inc")
+    words = ["nvcc", "-Ifirst", "-Ilink" if change.name == "a link" else "-Iinc", "-c", "k.cu", "-o", "k.o"]
+    if change.name == "a source that tells the time":
+        put("k.cu", "WHEN", lambda _: "__TIME__")(top, {}, words, lot)
+    environment = {**os.environ, "ZIGRUNK_CACHE": str(top / "cache"), "ZIGRUNK_LOG": str(top / "log")}
+
+    def run(*first: str) -> "subprocess.CompletedProcess[bytes]":
+        return subprocess.run([zigrunk, *first, *words], cwd=top, env=environment, stdout=subprocess.PIPE, stderr=subprocess.PIPE, check=False)
+    # (what has only just been made may be made again in the same moment)
+    time.sleep(0.3)
+    if run("nvcc").returncode:
+        return ["the call fails"]
+    change.make(top, environment, words, lot)
+    said, shown = run("why", "--json", "--miss"), run("why", "--miss")
+    run("nvcc")
+    looked = json.loads(said.stdout)
+    commands = json.loads((top / "log").read_text().splitlines()[-1])["commands"]
+    is_served = [command["kind"] for command in commands] == ["nvcc"]
+    found = [] if looked["found"] == is_served == (not change.said) else [f"found: {looked['found']}, and it is served: {is_served}"]
+    wrong = {key: looked.get(key) for key, value in change.said.items() if not looked.get(key, "").startswith(value)}
+    is_line = said.returncode == shown.returncode == int(bool(change.said)) and len(shown.stdout.splitlines()) == 1
+    return [*found, *([f"it says {looked}"] if wrong else []), *([] if is_line else [f"{shown}"])]
 
 
 def options(zigrunk: str, room: Path, counts: Counts) -> None:
@@ -249,12 +326,36 @@ def options(zigrunk: str, room: Path, counts: Counts) -> None:
     failing = run(tops[0], "nvcc", "--check-twice", "-c", "missing.cu")
     counts.case("--check-twice of a call that fails", [] if failing.returncode == 1 else [str(failing)])
     by_nvcc = run(tops[0], "nvcc", "--check-twice", "-E", "k.cu", "-o", "k.ii")
-    counts.case("--check-twice of a call that nvcc makes", [] if by_nvcc.returncode == 2 and b"nvcc itself" in by_nvcc.stdout else [str(by_nvcc)])
+    is_same = by_nvcc.returncode == 0 and b"0 of 1 commands" in by_nvcc.stdout
+    counts.case("--check-twice of a call that nvcc makes", [] if is_same else [str(by_nvcc)])
+    nothing = run(tops[0], "nvcc", "--check-twice", "--version")
+    counts.case("--check-twice of a call that makes no file", [] if nothing.returncode == 2 and b"no call made" in nothing.stdout else [str(nothing)])
+
+
+def links(zigrunk: str, room: Path, lot: random.Random) -> "List[str]":
+    """What is wrong with what is said of two links, which nvcc makes itself, of one other object."""
+    names = ["a", "b", "c"]
+    changed = lot.choice(names)
+    for top in [room / "one", room / "other"]:
+        top.mkdir(parents=True)
+        for name in names:
+            value = lot.randint(1, 9) if top.name == "one" or name != changed else lot.randint(10, 99)
+            (top / f"{name}.cu").write_text(f"int {name}() {{ return {value if name == changed else 0}; }}\n")
+        (top / "main.cu").write_text("int a();\nint main() { return a(); }\n")
+        for name in ["main", *names]:
+            # (nvcc writes its process's number into objects)
+            subprocess.run([zigrunk, "nvcc", "--root", str(top), "-c", f"{name}.cu", "-o", f"{name}.o"], cwd=top, check=True)
+        words = [zigrunk, "nvcc", "main.o", *[f"{name}.o" for name in names], "-o", "program"]
+        subprocess.run(words, cwd=top, env={**os.environ, "ZIGRUNK_RECORDS": str(room / f"records-{top.name}")}, check=True)
+    said = subprocess.run([zigrunk, "why", "--json", str(room / "records-one"), str(room / "records-other")], stdout=subprocess.PIPE, check=False)
+    causes = json.loads(said.stdout)["causes"]
+    return [] if [(cause["kind"], cause["name"]) for cause in causes] == [("object", f"{changed}.o")] else [f"{changed}: {causes}"]
 
 
 def main() -> int:
     parser = argparse.ArgumentParser(description=__doc__, formatter_class=argparse.RawDescriptionHelpFormatter)
     parser.add_argument("--causes", type=int, default=50)
+    parser.add_argument("--misses", type=int, default=24)
     parser.add_argument("--share", type=int, default=96)
     parser.add_argument("--seed", default="1")
     parser.add_argument("zigrunk")
@@ -275,6 +376,10 @@ def main() -> int:
         for number in range((given.causes + 1) // 2):
             planted = lot.choice(UNSHOWN)
             counts.case(planted.name, trial.try_one(given.causes + number, planted, lot))
+        for number in range(given.misses):
+            change = CHANGES[number] if number < len(CHANGES) <= given.misses else lot.choice(CHANGES)
+            counts.case(f"a miss: {change.name}", miss(zigrunk, Path(name) / f"miss{number}", change, lot))
+        counts.case("two links", links(zigrunk, Path(name) / "links", lot))
         options(zigrunk, Path(name) / "options", counts)
     return counts.summary()
 

@@ -14,6 +14,7 @@ use machine::task::Task;
 use provenance::Whole;
 use runner::log::{self, LoggedCall};
 use runner::products::keep;
+use runner::records;
 use runner::rule::Refusals;
 use runner::run::{self, NoRule};
 use runner::served;
@@ -122,13 +123,13 @@ impl Making<'_> {
     fn run(&mut self) -> Result<(), Signalled> {
         match &self.call.asked {
             Asked::Nvcc(words) => self.nvcc(&words.iter().map(OsString::from).collect::<Vec<_>>()),
-            Asked::Compiler(words) | Asked::Program(words) => self.whole(words),
-            Asked::Shell(line) => self.whole(&["sh".into(), "-c".into(), line.clone()]),
+            Asked::Compiler(words) | Asked::Program(words) => self.whole(words).map(drop),
+            Asked::Shell(line) => self.whole(&["sh".into(), "-c".into(), line.clone()]).map(drop),
         }
     }
 
-    /// Runs a command that isn't split.
-    fn whole(&mut self, words: &[String]) -> Result<(), Signalled> {
+    /// Runs a command that isn't split. Says where its record is, if it has one.
+    fn whole(&mut self, words: &[String]) -> Result<Option<PathBuf>, Signalled> {
         let given = [("TMPDIR", self.context.scratch.as_ref()), ("PWD", Some(&self.call.folder))];
         let variables = given
             .into_iter()
@@ -148,20 +149,23 @@ impl Making<'_> {
         match self.job(observing.unwrap_or(job)) {
             Ok(ended) => {
                 let status = ended.status.code;
+                let succeeded = witness.as_ref().filter(|_| ended.status.succeeded());
+                let record = succeeded.and_then(|whole| records::of_whole(&self.context.settings, whole));
                 self.made.status = witness.map_or(status, |witness| witness.end(status));
                 self.made.said.extend([
                     (false, ended.out),
                     (true, ended.errors),
                     (true, tasks::words_of_death(ended.status).into_bytes()),
                 ]);
+                Ok(record)
             }
-            Err(Stop::Signal(_)) => return Err(Signalled),
+            Err(Stop::Signal(_)) => Err(Signalled),
             Err(Stop::ByNvcc(reason)) => {
                 self.made.complain(&format!("zigrunk batch: {reason}"));
                 self.made.status = 1;
+                Ok(None)
             }
         }
-        Ok(())
     }
 
     fn job(&mut self, job: Job) -> Result<Ended, Stop> {
@@ -194,8 +198,8 @@ impl Making<'_> {
                 if self.context.settings.explains && !is_inside {
                     self.made.complain(&format!("{}: nvcc itself: {reason}", called()));
                 }
-                self.whole(&named)?;
-                (Some(reason), Outcome::default())
+                let record = self.whole(&named)?;
+                (Some(reason), Outcome { record, ..Outcome::default() })
             }
         };
         if let Some(file) = &self.context.settings.log {

@@ -16,6 +16,7 @@ use machine::streams::{called, complain, say};
 use provenance::{Whole, make_folder};
 use runner::log::{self, LoggedCall};
 use runner::products;
+use runner::records;
 use runner::rule::Refusals;
 use runner::served;
 use runner::split::{self, FEWEST_FILES, Outcome, Stop, by_nvcc};
@@ -217,7 +218,8 @@ impl Call<'_> {
             return 127;
         }
         let runner: Vec<OsString> = self.settings.runner.iter().map(OsString::from).collect();
-        if self.settings.log.is_none() && self.settings.provenance.is_none() {
+        let Settings { log, provenance, records, .. } = &self.settings;
+        if log.is_none() && provenance.is_none() && records.is_none() {
             return self.become_nvcc(&runner, &[]);
         }
         self.run_nvcc(&runner, reason)
@@ -237,7 +239,7 @@ impl Call<'_> {
         127
     }
 
-    /// What observes nvcc, if statements are asked for.
+    /// What observes nvcc, if statements or a record are asked for.
     fn witness(&self) -> Option<Whole> {
         let make = Make::of_environment();
         let line = working_directory().and_then(|cwd| self.line(&cwd, &make).ok())?;
@@ -245,8 +247,8 @@ impl Call<'_> {
         Whole::of(&self.settings, line, &Job { words, ..Job::default() })
     }
 
-    /// Runs nvcc, adds a line to the log, and states what was made, as far as that is asked for. Its status
-    /// is this process's, and its signal too.
+    /// Runs nvcc, adds a line to the log, and records and states what was made, as far as that is asked for.
+    /// Its status is this process's, and its signal too.
     fn run_nvcc(&mut self, runner: &[OsString], reason: &Reason) -> i32 {
         let opened = if self.host.is_none() { Signals::open().ok() } else { None };
         let Some(signals) = self.host.as_ref().map(Host::signals).or(opened.as_ref()) else {
@@ -266,6 +268,8 @@ impl Call<'_> {
             return 1;
         };
         let (reason, hint, words) = (Some(reason), reason.hint(), &self.logged_words());
+        let succeeded = witness.as_ref().filter(|_| status.succeeded());
+        let record = succeeded.and_then(|whole| records::of_whole(&self.settings, whole));
         let call = LoggedCall {
             begun: self.begun,
             status: status.code,
@@ -273,7 +277,7 @@ impl Call<'_> {
             hint,
             commands: &[],
             counted: None,
-            record: None,
+            record: record.as_deref(),
             words,
         };
         if let Some(file) = &self.settings.log {

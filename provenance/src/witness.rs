@@ -68,16 +68,29 @@ pub fn make_folder(settings: &Settings) -> Result<(), String> {
 /// A call that isn't split, while it runs: as one task.
 pub struct Whole {
     witness: Witness,
+    /// Whether statements are asked for.
+    states: bool,
     line: NvccLine,
     task: Task,
 }
 
 impl Whole {
-    /// Observes a call of these words in this working directory, if the settings ask for statements.
+    /// Observes a call of these words in this working directory, if the settings ask for statements or
+    /// records.
     pub fn of(settings: &Settings, line: NvccLine, job: &Job) -> Option<Whole> {
         let witness = Witness::of_whole(settings, &line.cwd)?;
         let task = Task { job: job.clone(), ..Task::default() };
-        Some(Whole { witness, line, task })
+        Some(Whole { witness, states: settings.provenance.is_some(), line, task })
+    }
+
+    /// The call's line.
+    pub fn line(&self) -> &NvccLine {
+        &self.line
+    }
+
+    /// What its processes did, as far as that is known.
+    pub fn observed(&self) -> Observed {
+        self.witness.observed(Subject::Task(0)).0
     }
 
     /// The job in the place of the call's own, if that can be observed.
@@ -85,8 +98,11 @@ impl Whole {
         self.witness.observing(0, &self.task.job)
     }
 
-    /// Writes the statements, as `Witness::end` does.
+    /// Writes the statements that are asked for, as `Witness::end` does.
     pub fn end(&self, status: i32) -> i32 {
+        if !self.states {
+            return status;
+        }
         let (tasks, done) = (std::slice::from_ref(&self.task), &[Done::default()]);
         self.witness.end(&Finished { line: &self.line, commands: &[], tasks, done, rule: None }, status)
     }
@@ -160,11 +176,12 @@ impl Witness {
         settings.provenance.as_ref().map(|folder| Witness::new(folder, cwd, &own, own.join("observer")))
     }
 
-    /// The same of a call that isn't split.
-    pub fn of_whole(settings: &Settings, cwd: &str) -> Option<Witness> {
+    /// The same of a call that isn't split. A record is asked for by its own setting.
+    fn of_whole(settings: &Settings, cwd: &str) -> Option<Witness> {
+        let folder = settings.provenance.as_ref().or(settings.records.as_ref())?;
         let name = format!("zigrunk-provenance-{}-{}", process::id(), nanoseconds());
         let files = settings.temporary.join(name);
-        settings.provenance.as_ref().map(|folder| Witness::new(folder, cwd, &files.clone(), files))
+        Some(Witness::new(folder, cwd, &files.clone(), files))
     }
 
     fn new(folder: &Path, cwd: &str, own: &Path, files: PathBuf) -> Witness {

@@ -16,6 +16,8 @@ use texts::words::Words;
 const TIMES: [&str; 3] = ["__DATE__", "__TIME__", "__TIMESTAMP__"];
 /// How variables begin that name a locale.
 const LOCALES: [&str; 2] = ["LC_", "LANG"];
+/// How the names of what linkers read end.
+const OBJECTS: [&str; 3] = [".o", ".a", ".so"];
 /// How many words of a list are shown.
 const MOST_WORDS: usize = 6;
 
@@ -24,8 +26,8 @@ const MOST_WORDS: usize = 6;
 pub struct Cause {
     /// The product.
     pub product: String,
-    /// What kind of thing the cause is: a word, a variable, a locale, a tool, a source, a header, a generated
-    /// file, a path, a folder, a time, an id, or something unknown.
+    /// What kind of thing the cause is: a word, a variable, a locale, a tool, a source, a header, an object, a
+    /// generated file, a path, a folder, a time, an id, or something unknown.
     pub kind: &'static str,
     /// The command: its program and the file that it made, and which of how many it is.
     pub command: String,
@@ -246,6 +248,7 @@ impl Pair<'_> {
         let name = names[0].clone().or(names[1].clone()).unwrap_or_default();
         let kind = match place {
             _ if name.starts_with(TMP) => "generated",
+            _ if OBJECTS.iter().any(|end| name.ends_with(end)) => "object",
             0 => "source",
             _ => "header",
         };

@@ -181,8 +181,7 @@ pub struct Twice {
 /// Compares calls that were made twice, by the folders of their records.
 /// Errors: that there are none, or memory runs out.
 pub fn twice(one: &Path, other: &Path) -> Result<Twice, String> {
-    let of =
-        |folder| records(folder).map_err(|_| "nvcc itself made all calls, so there is nothing to compare");
+    let of = |folder| records(folder).map_err(|_| "no call made a file, so there is nothing to compare");
     let (one, other) = (of(one)?, of(other)?);
     let pairs = pairs(&one, &other);
     let (mut causes, mut commands) = (Vec::new(), 0);

@@ -4,11 +4,12 @@
 //! A record is a file of JSON in the folder that `ZIGRUNK_RECORDS` names, with the texts of what the call
 //! read and made beside it, under their digests. The path of the directory of a call's temporary files is
 //! `$TMP` in words, names and texts.
-use cache::calls::is_free;
+use cache::calls::{is_free, is_harmless};
 use cache::digest::Digest;
 use cache::environment_of;
+use cache::observed::Observed;
 use cache::tool::{Kind, Run, Tools};
-use call::NvccLine;
+use call::{NvccLine, programs};
 use command_keys::tool_variables;
 use compilers::plans::Program;
 use dependency_rules::file_listed;
@@ -19,8 +20,9 @@ use machine::jobs::Job;
 use machine::places::absolute;
 use machine::planned::PlannedCommand;
 use machine::rooted::as_written;
-use machine::settings::own_variable;
-use machine::streams::{content_of, replace_file, write_file};
+use machine::settings::{Settings, own_variable};
+use machine::streams::{called, complain, content_of, replace_file, write_file};
+use provenance::Whole;
 use rattle_std::alloc::Global;
 use serde::{Deserialize, Serialize};
 use std::collections::{BTreeMap, BTreeSet};
@@ -196,21 +198,85 @@ impl Recorder<'_> {
         })
     }
 
-    fn call(&mut self) -> io::Result<RecordedCall> {
+    /// The programs and libraries of a call's processes, nvcc first.
+    fn observed_tools(&mut self, observed: &Observed) -> Vec<File> {
+        let path = own_variable("PATH").unwrap_or_default();
+        let nvcc = programs::find(self.call.line.nvcc.as_ref(), &path, Path::new(&self.call.line.cwd));
+        let mut paths: Vec<&PathBuf> = nvcc.iter().collect();
+        paths.extend(observed.programs.keys().chain(observed.libraries.keys()));
+        let digest = |path: &Path| self.tools.digest_of(path).map(|digest| digest.to_string());
+        paths
+            .into_iter()
+            .map(|path| (path.to_string_lossy().into_owned(), digest(path).unwrap_or_default()))
+            .collect()
+    }
+
+    /// A call that nvcc has made itself, as one command: by its line, and what was observed of its processes.
+    /// Of the files that these read, those come first that the line names.
+    fn whole(&mut self, observed: &Observed) -> io::Result<RecordedCommand> {
+        let line = self.call.line;
+        let cwd = Path::new(&line.cwd);
+        let is_named = |path: &&PathBuf| line.words.iter().any(|word| cwd.join(word) == **path);
+        let (mut read, others): (Vec<&PathBuf>, Vec<_>) = observed.read.keys().partition(is_named);
+        read.extend(others);
+        let temporary = own_variable("TMPDIR").unwrap_or_else(|| "/tmp".into());
+        // (nvcc removes its temporary files)
+        let made: Vec<&PathBuf> = observed.made.iter().filter(|path| path.is_file()).collect();
+        let asked = observed.variables.iter().filter(|name| !is_harmless(name) && !is_otherwise(name));
+        let asked = asked.filter_map(|name| Some((shown(name), shown(&own_variable(name)?))));
+        let variables: BTreeSet<(String, String)> = asked.chain(line.variables.iter().cloned()).collect();
+        let mut files = |paths: Vec<&PathBuf>| {
+            let file = |path: &PathBuf| Ok((shown(path.as_os_str()), self.digest(path)?));
+            paths.into_iter().map(file).collect::<io::Result<Vec<File>>>()
+        };
+        let (inputs, outputs) = (files(read)?, files(made)?);
+        Ok(RecordedCommand {
+            words: [std::slice::from_ref(&line.nvcc), &line.words].concat(),
+            variables: variables.into_iter().collect(),
+            tools: self.observed_tools(observed),
+            inputs,
+            folders: vec![line.cwd.clone(), shown(&temporary)],
+            outputs,
+        })
+    }
+
+    fn commands(&mut self) -> io::Result<Vec<RecordedCommand>> {
+        let commands = self.call.commands.iter().filter(|command| !command.is_rule);
+        commands.map(|command| self.command(command)).collect()
+    }
+
+    /// A call of these commands.
+    fn call(&self, commands: Vec<RecordedCommand>) -> RecordedCall {
         let call = self.call;
-        let commands = call.commands.iter().filter(|command| !command.is_rule);
-        let commands: Vec<RecordedCommand> =
-            commands.map(|command| self.command(command)).collect::<Result<_, _>>()?;
         let outputs = commands.iter().flat_map(|command| &command.outputs);
         let products = outputs.filter(|(name, _)| !name.starts_with(TMP)).cloned().collect();
         let words = [std::slice::from_ref(&call.line.nvcc), &call.line.words[..]].concat();
-        Ok(RecordedCall { time: now(), folder: call.line.cwd.clone(), words, commands, products })
+        RecordedCall { time: now(), folder: call.line.cwd.clone(), words, commands, products }
     }
+
+    /// Writes a record under the name of the call's product, and a digest. Says where it is.
+    fn write(&self, record: &RecordedCall) -> io::Result<PathBuf> {
+        let text = serde_json::to_string_pretty(record)? + "\n";
+        let product =
+            record.products.first().and_then(|(name, _)| Path::new(name).file_name()).unwrap_or_default();
+        let digest = Digest::of(text.as_bytes()).to_string();
+        let place = self.folder.join(format!("{}-{digest:.16}{SUFFIX}", product.to_string_lossy()));
+        replace_file(&place, text.as_bytes()).map(|()| place)
+    }
+}
+
+/// A text as a record has it.
+fn shown(text: &OsStr) -> String {
+    text.to_string_lossy().into_owned()
+}
+
+/// Whether a record has a variable's value anyway.
+fn is_otherwise(name: &OsStr) -> bool {
+    KNOWN_OTHERWISE.iter().any(|known| name == *known)
 }
 
 /// The variables of a program's environment that count: those that its tool reads, or all if it's a script.
 fn variables_of(program: &str, environment: &[(OsString, OsString)]) -> Vec<(String, String)> {
-    let shown = |text: &[u8]| String::from_utf8_lossy(text).into_owned();
     let all: Vec<(&[u8], &[u8])> =
         environment.iter().map(|(name, value)| (name.as_bytes(), value.as_bytes())).collect();
     let tool = Program::at(program);
@@ -221,33 +287,60 @@ fn variables_of(program: &str, environment: &[(OsString, OsString)]) -> Vec<(Str
     } else {
         tool_variables(Global, tool, &all).map(|chosen| chosen.as_slice().to_vec()).unwrap_or_default()
     };
-    let is_otherwise = |name: &str| KNOWN_OTHERWISE.contains(&name);
-    let pairs = chosen.into_iter().map(|(name, value)| (shown(name), shown(value)));
-    let chosen: BTreeSet<(String, String)> = pairs.filter(|(name, _)| !is_otherwise(name)).collect();
+    let pairs = chosen.into_iter().map(|(name, value)| (OsStr::from_bytes(name), OsStr::from_bytes(value)));
+    let pairs = pairs.filter(|(name, _)| !is_otherwise(name));
+    let chosen: BTreeSet<(String, String)> = pairs.map(|(name, value)| (shown(name), shown(value))).collect();
     chosen.into_iter().collect()
 }
 
-/// Writes the record of a call into a folder, which is seen from the call's own. It has the name of the
-/// call's product, and a digest. Says where it is.
+impl<'a> Recorder<'a> {
+    /// What writes records of a call into a folder, which is seen from the call's own.
+    fn new(folder: &Path, call: &'a Finished<'a>) -> io::Result<Recorder<'a>> {
+        let folder = absolute(folder, Path::new(&call.line.cwd));
+        fs::create_dir_all(folder.join(TEXTS))?;
+        Ok(Recorder { call, folder, tools: Tools::of_user(), known: BTreeMap::new() })
+    }
+}
+
+/// Writes the record of a call into a folder, and says where it is.
 /// Errors: those of the disk.
-pub fn write(folder: &Path, call: &Finished<'_>) -> io::Result<PathBuf> {
-    let folder = absolute(folder, Path::new(&call.line.cwd));
-    fs::create_dir_all(folder.join(TEXTS))?;
-    let mut recorder = Recorder { call, folder, tools: Tools::of_user(), known: BTreeMap::new() };
-    let record = recorder.call()?;
-    let text = serde_json::to_string_pretty(&record)? + "\n";
-    let product =
-        record.products.first().and_then(|(name, _)| Path::new(name).file_name()).unwrap_or_default();
-    let name =
-        format!("{}-{:.16}{SUFFIX}", product.to_string_lossy(), Digest::of(text.as_bytes()).to_string());
-    let place = recorder.folder.join(name);
-    replace_file(&place, text.as_bytes()).map(|()| place)
+fn write(folder: &Path, call: &Finished<'_>) -> io::Result<PathBuf> {
+    let mut recorder = Recorder::new(folder, call)?;
+    let commands = recorder.commands()?;
+    recorder.write(&recorder.call(commands))
+}
+
+/// The same of a call that nvcc has made itself. Nothing if it made no file.
+fn write_whole(folder: &Path, line: &NvccLine, observed: &Observed) -> io::Result<Option<PathBuf>> {
+    let call = Finished { line, commands: &[], tmp: TMP };
+    let mut recorder = Recorder::new(folder, &call)?;
+    let command = recorder.whole(observed)?;
+    let made = !command.outputs.is_empty();
+    made.then(|| recorder.write(&recorder.call(vec![command]))).transpose()
+}
+
+/// What comes of writing a record, if the settings ask for one. Complains if it can't be written.
+fn asked<T>(settings: &Settings, write: impl FnOnce(&Path) -> io::Result<T>) -> Option<T> {
+    let folder = settings.records.as_ref()?;
+    let complaint = |error| format!("{}: cannot write a record to {}: {error}", called(), folder.display());
+    write(folder).map_err(|error| complain(&complaint(error))).ok()
+}
+
+/// Writes a record of a call, if the settings ask for one, and says where. Complains if it can't.
+pub fn of_split(settings: &Settings, call: &Finished<'_>) -> Option<PathBuf> {
+    asked(settings, |folder| write(folder, call))
+}
+
+/// The same of a call that nvcc has made itself.
+pub fn of_whole(settings: &Settings, whole: &Whole) -> Option<PathBuf> {
+    asked(settings, |folder| write_whole(folder, whole.line(), &whole.observed())).flatten()
 }
 
 #[cfg(test)]
 mod tests {
     use super::*;
     use crate::test_folder::TestFolder;
+    use cache::Stamp;
 
     /// A call whose preprocessor has read a header, and whose compiler has read what that made.
     fn recorded(room: &TestFolder, header: &str) -> (RecordedCall, PathBuf) {
@@ -319,5 +412,38 @@ mod tests {
         };
         assert!(!same(0, |it| &it.inputs) && !same(0, |it| &it.outputs) && same(0, |it| &it.tools));
         assert_eq!(one.commands[0].words, other.commands[0].words);
+    }
+    #[test]
+    fn a_call_that_nvcc_makes_is_one_command() {
+        let room = TestFolder::new();
+        let folder = room.join("records");
+        let line = NvccLine {
+            cwd: room.to_str().unwrap().into(),
+            nvcc: "/bin/true".into(),
+            words: ["-lib", "z.o", "-o", "k.a"].map(String::from).to_vec(),
+            variables: vec![("NVCC_APPEND_FLAGS".into(), "-O2".into())],
+        };
+        for name in ["a.o", "z.o", "k.a"] {
+            fs::write(room.join(name), name).unwrap();
+        }
+        let stamp = |name: &str| (room.join(name), Stamp::of(&fs::metadata(room.join(name)).unwrap()));
+        let mut observed = Observed {
+            read: ["a.o", "z.o"].map(stamp).into(),
+            variables: ["PATH".into()].into(),
+            ..Observed::default()
+        };
+        assert_eq!(write_whole(&folder, &line, &observed).unwrap(), None, "it makes nothing");
+        observed.made = ["k.a", "gone"].map(|name| room.join(name)).into();
+        let place = write_whole(&folder, &line, &observed).unwrap().unwrap();
+        let record: RecordedCall = serde_json::from_slice(&fs::read(place).unwrap()).unwrap();
+        let [command] = record.commands.as_slice() else { panic!("one command") };
+        let file = |name: &str| {
+            (room.join(name).to_str().unwrap().to_owned(), Digest::of(name.as_bytes()).to_string())
+        };
+        assert_eq!(command.inputs, ["z.o", "a.o"].map(file));
+        assert_eq!((&command.outputs, &record.products), (&vec![file("k.a")], &vec![file("k.a")]));
+        assert_eq!(command.words, ["/bin/true", "-lib", "z.o", "-o", "k.a"]);
+        assert_eq!(command.variables, [("NVCC_APPEND_FLAGS".to_owned(), "-O2".to_owned())]);
+        assert!(command.tools[0].0.ends_with("true") && !command.tools[0].1.is_empty());
     }
 }

@@ -313,7 +313,9 @@ impl Call<'_> {
         if status != 0 && is_silent {
             say(true, self.words_of_silence(status).as_bytes());
         }
-        let record = if status == 0 { self.record(tmp, commands) } else { None };
+        let record = (status == 0)
+            .then(|| records::of_split(self.settings, &records::Finished { line, commands, tmp }))
+            .flatten();
         if let Some(cache) = cache.as_mut().filter(|_| status == 0 && !is_made_whole) {
             let kept = cache.keep_call(&Finished { line, commands, tasks, rule: made.clone(), said });
             if let (Err(refusal), true) = (kept, self.settings.explains) {
@@ -325,15 +327,6 @@ impl Call<'_> {
             witness.end(&provenance::Finished { line, commands, tasks, done: &done, rule }, status)
         });
         Ok(Outcome { status, commands: logged, counted, record })
-    }
-
-    /// Writes a record of the call, if one is asked for, and says where. Complains if it can't.
-    fn record(&self, tmp: &str, commands: &[PlannedCommand]) -> Option<PathBuf> {
-        let folder = self.settings.records.as_ref()?;
-        let written = records::write(folder, &records::Finished { line: self.line, commands, tmp });
-        let complaint =
-            |error| format!("{}: cannot write a record to {}: {error}", called(), folder.display());
-        written.map_err(|error| complain(&complaint(error))).ok()
     }
 
     /// What to say of a call of which a command failed without a message.
