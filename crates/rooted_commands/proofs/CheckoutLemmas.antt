@@ -1,29 +1,30 @@
 -- Commands that are alike but for a checkout's folder run alike under the root.
-use Rattle.std.proofs.Common.{◌≡◌, ℕ, Bool, true, false, not, ◌&&◌, ◌||◌, cond, nat_eq, eqb, List, [], ◌∷◌, ◌++◌, Option, Some, None, map, refl, ap, sym, ◌∙◌, subst, codes, bytes_eq}
-use Rattle.std.specs.List.{AllZip, list_any, starts_with}
+use Rattle.std.proofs.Common.{◌≡◌, inl, inr, ℕ, Bool, true, false, not, ◌&&◌, ◌||◌, cond, nat_eq, eqb, List, [], ◌∷◌, ◌++◌, Option, Some, None, map, refl, ap, sym, ◌∙◌, subst, codes, bytes_eq}
+use Rattle.std.specs.Bool.{beq}
+use Rattle.std.specs.List.{AllZip, list_all, list_any, starts_with}
 use Rattle.std.specs.Option.{is_some}
 use Rattle.std.proofs.lemmas.Bool.{false≢true, and_parts, or_parts}
+use Rattle.std.proofs.lemmas.List.Elements.{same_from_all_zip}
 use Rattle.std.proofs.lemmas.Slice.Eq.{bytes_eq-Decides}
-use Rattle.texts.proofs.EqualityLemmas.{lists}
+use Rattle.texts.proofs.EqualityLemmas.{bools, lists}
+use Rattle.texts.specs.Equality.{words_eq}
 use Rattle.texts.specs.Lists.{rest_after}
-use Rattle.texts.specs.Path.{lacks}
+use Rattle.texts.specs.Path.{joined, lacks}
 use Rattle.compilers.specs.Programs.{program_at}
 use Rattle.compilers.specs.declared.plans.plan.NvccGeneratedSubcommand.{NvccGeneratedSubcommand}
 use Rattle.compilers.specs.declared.plans.program.Program.{Program}
 use Rattle.compilers.specs.declared.plans.program.Program.TheVariants as programs
 use Rattle.command_files.specs.declared.files.CommandFiles.{CommandFiles}
-use Rattle.command_files.specs.CommandFiles.{files_of_words}
 use Rattle.command_files.specs.PlanNeeds.{preprocesses}
-use Rattle.placed_commands.specs.PlacedCommands.{are_same, files_of, has_record, placed_command}
-use Rattle.placed_commands.specs.PlacedWords.{placed_word, placed_words, word_behind}
+use Rattle.placed_commands.specs.PlacedCommands.{files_of}
+use Rattle.placed_commands.specs.PlacedWords.{is_file, placed_from, placed_word, placed_words, word_behind}
 use Rattle.rooted_commands.specs.Paths.{place_of, put, rooted_path}
-use Rattle.rooted_commands.specs.Commands.{ident_word, keeps_record, is_for_debuggers, mapped_host, names_source, placed_tool, rooted_by, rooted_command, rooted_host, rooted_tool, source_words, tool_words, with_ident, writes_names}
+use Rattle.rooted_commands.specs.Commands.{ident_word, is_for_debuggers, mapped_host, names_source, placed_tool, rooted_by, rooted_command, rooted_host, rooted_tool, source_words, tool_words, with_ident, writes_names}
 use Rattle.rooted_commands.specs.WrittenNames.{can_be_told, has_maps, is_map}
-use Rattle.rooted_commands.specs.Checkouts.{Alike, AlikeBy, AlikeHosts, AlikePlansRunAlike, AlikeTools, RunAlike, RootedWordsAgree, RunAlikeBy, WriteAlike, are_names, are_one, are_paths, host_word_alike, host_words_alike, ident_of, ident_words_alike, in_top, is_one_place, is_option, names_among, names_of, names_or_words, source_words_alike, with_root}
+use Rattle.rooted_commands.specs.Checkouts.{Alike, AlikeBy, AlikeHosts, AlikePlansRunAlike, AlikeTools, AreMoved, RootedWordsAgree, RunAlike, RunAlikeBy, RunAsOne, TakesRoot, WriteAlike, are_names, are_one, are_paths, host_word_alike, host_words_alike, ident_of, ident_words_alike, in_top, is_one_generated, is_one_place, is_option, is_tool, names_among, names_of, names_or_words, same_ends, source_words_alike, with_root, words_alike}
 use Rattle.rooted_commands.specs.declared.paths.Root.{Root}
 use Rattle.rooted_commands.proofs.PathLemmas.{rest_after-whole}
-use Rattle.rooted_commands.proofs.StepLemmas.{keeps-files, keeps-preprocessing}
-use Rattle.rooted_commands.proofs.WrittenLemmas.{hosts-write-rooted-paths}
+use Rattle.rooted_commands.proofs.WrittenLemmas.{hosts-write-generated-paths, hosts-write-rooted-paths}
 
 -- paths of one place have one rooted path
 one-put : (root path name : List ℕ) (a b : Option (List ℕ)) → are_one a b (bytes_eq path name) ≡ true → put root path a ≡ put root name b
@@ -73,25 +74,85 @@ walk-same before (w ∷ ws) = ap (λ t. w ∷ t) (walk-same w ws)
 abbrev shows : List ℕ → Bool
 shows before = bytes_eq before (codes "--orig_src_file_name")
 
-behind-same : (files : CommandFiles) (folder w0 v0 w : List ℕ) → shows v0 ≡ shows w0 → word_behind files folder w0 w ≡ word_behind files folder v0 w
-behind-same files folder w0 v0 w same = ap (λ b. cond (b || starts_with nat_eq w (codes "--ident=")) w (placed_word files folder w)) (sym same)
+-- a word that isn't the source's name, once its files have whole paths in each call's own folder
+moved-behind-one : (folder other : List ℕ) (c : ℕ) (w v : List ℕ) → AreMoved folder other w v → AreMoved folder other (c ∷ w) (c ∷ v)
+moved-behind-one folder other c w v (inl same) = inl (ap (λ t. c ∷ t) same)
+moved-behind-one folder other c w v (inr (head, name, here, there)) = inr (c ∷ head, name, ap (λ t. c ∷ t) here, ap (λ t. c ∷ t) there)
+
+whole-or-rest : (folder other name w v : List ℕ) (a b : Bool) → a ≡ b → AreMoved folder other w v
+    → AreMoved folder other (cond a (joined folder name) w) (cond b (joined other name) v)
+whole-or-rest folder other name w v true true h rest = inr ([], name, refl, refl)
+whole-or-rest folder other name w v true false h rest = absurd (false≢true (sym h))
+whole-or-rest folder other name w v false true h rest = absurd (false≢true h)
+whole-or-rest folder other name w v false false h rest = rest
+
+same-file : (begins a b : Bool) → (not begins || beq a b) ≡ true → (begins && a) ≡ (begins && b)
+same-file true a b h = (bools a b).0 h
+same-file false a b h = refl
+
+moved-from : (files others : CommandFiles) (folder other : List ℕ) (begins : Bool) (w : List ℕ) → same_ends files others folder other begins w ≡ true
+    → AreMoved folder other (placed_from files folder begins w) (placed_from others other begins w)
+moved-from files others folder other begins [] h =
+    whole-or-rest folder other [] [] [] (begins && is_file files folder []) (begins && is_file others other [])
+    (same-file begins (is_file files folder []) (is_file others other []) h)
+    (inl refl)
+moved-from files others folder other begins (c ∷ cs) h =
+    let here = is_file files folder (c ∷ cs) in
+    let there = is_file others other (c ∷ cs) in
+    let parts = and_parts (not begins || beq here there) (same_ends files others folder other (eqb c 61) cs) h in
+    whole-or-rest folder other (c ∷ cs) (c ∷ placed_from files folder (eqb c 61) cs) (c ∷ placed_from others other (eqb c 61) cs) (begins && here) (begins && there)
+    (same-file begins here there parts.0)
+    (moved-behind-one folder other c (placed_from files folder (eqb c 61) cs) (placed_from others other (eqb c 61) cs) (moved-from files others folder other (eqb c 61) cs parts.1))
+
+stays-or-moves : (folder other w p q : List ℕ) (a b : Bool) → a ≡ b → AreMoved folder other p q → AreMoved folder other (cond a w p) (cond b w q)
+stays-or-moves folder other w p q true true h moved = inl refl
+stays-or-moves folder other w p q true false h moved = absurd (false≢true (sym h))
+stays-or-moves folder other w p q false true h moved = absurd (false≢true h)
+stays-or-moves folder other w p q false false h moved = moved
+
+moved-behind : (files others : CommandFiles) (folder other w0 v0 w : List ℕ) → shows v0 ≡ shows w0 → same_ends files others folder other true w ≡ true
+    → AreMoved folder other (word_behind files folder w0 w) (word_behind others other v0 w)
+moved-behind files others folder other w0 v0 w same ends =
+    stays-or-moves folder other w (placed_word files folder w) (placed_word others other w) (shows w0 || starts_with nat_eq w (codes "--ident=")) (shows v0 || starts_with nat_eq w (codes "--ident="))
+    (ap (λ b. b || starts_with nat_eq w (codes "--ident=")) (sym same))
+    (moved-from files others folder other true w ends)
 
 shows-not : (w0 v0 : List ℕ) → names_source w0 ≡ false → names_source v0 ≡ false → shows v0 ≡ shows w0
 shows-not w0 v0 here there = (or_parts (shows v0) (bytes_eq v0 (codes "--orig_src_path_name")) there).0 ∙ sym (or_parts (shows w0) (bytes_eq w0 (codes "--orig_src_path_name")) here).0
 
-module _ (r s : Root) (root : r.root ≡ s.root) (f : List ℕ → List ℕ → List ℕ) (f-same : (w0 v0 w : List ℕ) → shows v0 ≡ shows w0 → f w0 w ≡ f v0 w) where
+-- Words of two calls that a function of each changes: what holds of words that both have, once they are changed, and of equal ones, holds of all
+-- when names are rooted.
+module _ (r s : Root) (root : r.root ≡ s.root) (E : List ℕ → List ℕ → Type 0) (equal-is : (w v : List ℕ) → w ≡ v → E w v) (f g : List ℕ → List ℕ → List ℕ) (good : List ℕ → Bool) (both : (w0 v0 w : List ℕ) → shows v0 ≡ shows w0 → good w ≡ true → E (f w0 w) (g v0 w)) where
+  -- by texts that equal them
+  holds-of : (w v p q : List ℕ) → p ≡ w → q ≡ v → E w v → E p q
+  holds-of w v p q here there holds = subst (λ t. E t q) (sym here) (subst (λ t. E w t) (sym there) holds)
+
+  both-words : (w0 v0 w v : List ℕ) → shows v0 ≡ shows w0 → w ≡ v → good w ≡ true → E (f w0 w) (g v0 v)
+  both-words w0 v0 w v same equal is = subst (λ t. E (f w0 w) (g v0 t)) equal (both w0 v0 w same is)
+
+  -- the words of a tool that names no source
+  same-words : (w0 v0 : List ℕ) (ws vs : List (List ℕ)) → shows v0 ≡ shows w0 → words_eq ws vs ≡ true → list_all good ws ≡ true → AllZip E (walk f w0 ws) (walk g v0 vs)
+  same-words w0 v0 [] [] same alike goods = tt
+  same-words w0 v0 [] (v ∷ vs) same alike goods = absurd (false≢true alike)
+  same-words w0 v0 (w ∷ ws) [] same alike goods = absurd (false≢true alike)
+  same-words w0 v0 (w ∷ ws) (v ∷ vs) same alike goods =
+      let parts = and_parts (bytes_eq w v) (words_eq ws vs) alike in
+      let fit = and_parts (good w) (list_all good ws) goods in
+      let equal : w ≡ v = (bytes_eq-Decides w v).0 parts.0 in
+      (both-words w0 v0 w v same equal fit.0, same-words w v ws vs (ap shows (sym equal)) parts.1 fit.1)
+
   -- the words of cicc and cudafe++
   same-sources : (w0 v0 p0 q0 : List ℕ) (ws vs : List (List ℕ)) → names_source v0 ≡ names_source w0
-      → names_among p0 (walk f w0 ws) ≡ names_among w0 ws → names_among q0 (walk f v0 vs) ≡ names_among v0 vs → source_words_alike r s w0 ws vs ≡ true
-      → source_words r p0 (walk f w0 ws) ≡ source_words s q0 (walk f v0 vs)
-  same-sources w0 v0 p0 q0 [] [] same here there alike = refl
-  same-sources w0 v0 p0 q0 [] (v ∷ vs) same here there alike = absurd (false≢true alike)
-  same-sources w0 v0 p0 q0 (w ∷ ws) [] same here there alike = absurd (false≢true alike)
-  same-sources w0 v0 p0 q0 (w ∷ ws) (v ∷ vs) same here there alike =
+      → names_among p0 (walk f w0 ws) ≡ names_among w0 ws → names_among q0 (walk g v0 vs) ≡ names_among v0 vs → source_words_alike r s w0 ws vs ≡ true
+      → list_all good ws ≡ true → AllZip E (source_words r p0 (walk f w0 ws)) (source_words s q0 (walk g v0 vs))
+  same-sources w0 v0 p0 q0 [] [] same here there alike goods = tt
+  same-sources w0 v0 p0 q0 [] (v ∷ vs) same here there alike goods = absurd (false≢true alike)
+  same-sources w0 v0 p0 q0 (w ∷ ws) [] same here there alike goods = absurd (false≢true alike)
+  same-sources w0 v0 p0 q0 (w ∷ ws) (v ∷ vs) same here there alike goods =
       let p = f w0 w in
-      let q = f v0 v in
+      let q = g v0 v in
       let ps = walk f w ws in
-      let qs = walk f v vs in
+      let qs = walk g v vs in
       let first-here = first-same (cond (names_source p0) (Some p) None) (cond (names_source w0) (Some w) None) (names_among p ps) (names_among w ws) here in
       let first-there = first-same (cond (names_source q0) (Some q) None) (cond (names_source v0) (Some v) None) (names_among q qs) (names_among v vs) there in
       let others-here = others-same (cond (names_source p0) (Some p) None) (cond (names_source w0) (Some w) None) (names_among p ps) (names_among w ws) here in
@@ -99,8 +160,9 @@ module _ (r s : Root) (root : r.root ≡ s.root) (f : List ℕ → List ℕ → 
       let mark-p : names_source p0 ≡ names_source w0 = same-mark (names_source p0) (names_source w0) p w first-here in
       let mark-q : names_source q0 ≡ names_source w0 = same-mark (names_source q0) (names_source v0) q v first-there ∙ same in
       let parts = and_parts (cond (names_source w0) (are_names r s w v) (bytes_eq w v)) (source_words_alike r s w ws vs) alike in
+      let fit = and_parts (good w) (list_all good ws) goods in
       elim (names_source w0)
-      as (λ b. names_source w0 ≡ b → cond b (are_names r s w v) (bytes_eq w v) ≡ true → source_words r p0 (p ∷ ps) ≡ source_words s q0 (q ∷ qs)) [
+      as (λ b. names_source w0 ≡ b → cond b (are_names r s w v) (bytes_eq w v) ≡ true → AllZip E (source_words r p0 (p ∷ ps)) (source_words s q0 (q ∷ qs))) [
         | true ↦ λ is k.
             let names = and_parts (not (names_source w) && not (names_source v)) (is_one_place r s w v) k in
             let plain = and_parts (not (names_source w)) (not (names_source v)) names.0 in
@@ -109,161 +171,118 @@ module _ (r s : Root) (root : r.root ≡ s.root) (f : List ℕ → List ℕ → 
             let q-is : q ≡ v = same-name (names_source q0) (names_source v0) q v first-there (mark-q ∙ is) (same ∙ is) in
             let here-is : cond (names_source p0) (rooted_path r p) p ≡ rooted_path r w = ap (λ b. cond b (rooted_path r p) p) (mark-p ∙ is) ∙ ap (rooted_path r) p-is in
             let there-is : cond (names_source q0) (rooted_path s q) q ≡ rooted_path s v = ap (λ b. cond b (rooted_path s q) q) (mark-q ∙ is) ∙ ap (rooted_path s) q-is in
-            let head : cond (names_source p0) (rooted_path r p) p ≡ cond (names_source q0) (rooted_path s q) q = here-is ∙ one-rooted r s w v root names.1 ∙ sym there-is in
-            let tail = same-sources w v p q ws vs next others-here others-there parts.1 in
-            λ i. head i ∷ tail i
+            let head : cond (names_source p0) (rooted_path r p) p ≡ cond (names_source q0) (rooted_path s q) q = here-is ∙ one-rooted r s w v root names.1 ∙ sym there-is in (
+              equal-is (cond (names_source p0) (rooted_path r p) p) (cond (names_source q0) (rooted_path s q) q) head,
+              same-sources w v p q ws vs next others-here others-there parts.1 fit.1,
+            )
         | false ↦ λ is k.
             let equal : w ≡ v = (bytes_eq-Decides w v).0 k in
-            let next : names_source v ≡ names_source w = ap names_source (sym equal) in
-            let word : p ≡ q = f-same w0 v0 w (shows-not w0 v0 is (same ∙ is)) ∙ ap (f v0) equal in
-            let head : cond (names_source p0) (rooted_path r p) p ≡ cond (names_source q0) (rooted_path s q) q =
-            ap (λ b. cond b (rooted_path r p) p) (mark-p ∙ is) ∙ word ∙ sym (ap (λ b. cond b (rooted_path s q) q) (mark-q ∙ is)) in
-            let tail = same-sources w v p q ws vs next others-here others-there parts.1 in
-            λ i. head i ∷ tail i
+            let word : E p q = both-words w0 v0 w v (shows-not w0 v0 is (same ∙ is)) equal fit.0 in
+            let here-is : cond (names_source p0) (rooted_path r p) p ≡ p = ap (λ b. cond b (rooted_path r p) p) (mark-p ∙ is) in
+            let there-is : cond (names_source q0) (rooted_path s q) q ≡ q = ap (λ b. cond b (rooted_path s q) q) (mark-q ∙ is) in (
+              holds-of p q (cond (names_source p0) (rooted_path r p) p) (cond (names_source q0) (rooted_path s q) q) here-is there-is word,
+              same-sources w v p q ws vs (ap names_source (sym equal)) others-here others-there parts.1 fit.1,
+            )
       ] refl parts.0
 
   -- the words of fatbinary
   ident-shows : (word name : List ℕ) → ident_of word ≡ Some name → shows word ≡ false
   ident-shows word name is = ap shows (rest_after-whole (codes "--ident=") word name is)
 
-  same-idents : (w0 v0 : List ℕ) (ws vs : List (List ℕ)) → shows v0 ≡ shows w0 → map ident_of (walk f w0 ws) ≡ map ident_of ws → map ident_of (walk f v0 vs) ≡ map ident_of vs
-      → ident_words_alike r s ws vs ≡ true → map (ident_word r) (walk f w0 ws) ≡ map (ident_word s) (walk f v0 vs)
-  same-idents w0 v0 [] [] same here there alike = refl
-  same-idents w0 v0 [] (v ∷ vs) same here there alike = absurd (false≢true alike)
-  same-idents w0 v0 (w ∷ ws) [] same here there alike = absurd (false≢true alike)
-  same-idents w0 v0 (w ∷ ws) (v ∷ vs) same here there alike =
+  same-idents : (w0 v0 : List ℕ) (ws vs : List (List ℕ)) → shows v0 ≡ shows w0 → map ident_of (walk f w0 ws) ≡ map ident_of ws → map ident_of (walk g v0 vs) ≡ map ident_of vs
+      → ident_words_alike r s ws vs ≡ true → list_all good ws ≡ true → AllZip E (map (ident_word r) (walk f w0 ws)) (map (ident_word s) (walk g v0 vs))
+  same-idents w0 v0 [] [] same here there alike goods = tt
+  same-idents w0 v0 [] (v ∷ vs) same here there alike goods = absurd (false≢true alike)
+  same-idents w0 v0 (w ∷ ws) [] same here there alike goods = absurd (false≢true alike)
+  same-idents w0 v0 (w ∷ ws) (v ∷ vs) same here there alike goods =
       let p = f w0 w in
-      let q = f v0 v in
+      let q = g v0 v in
       let ps = walk f w ws in
-      let qs = walk f v vs in
+      let qs = walk g v vs in
       let first-here : ident_of p ≡ ident_of w = first-same (ident_of p) (ident_of w) (map ident_of ps) (map ident_of ws) here in
       let first-there : ident_of q ≡ ident_of v = first-same (ident_of q) (ident_of v) (map ident_of qs) (map ident_of vs) there in
       let others-here = others-same (ident_of p) (ident_of w) (map ident_of ps) (map ident_of ws) here in
       let others-there = others-same (ident_of q) (ident_of v) (map ident_of qs) (map ident_of vs) there in
       let parts = and_parts (names_or_words r s (ident_of w) (ident_of v) (bytes_eq w v)) (ident_words_alike r s ws vs) alike in
-      elim (ident_of w) as (λ a. ident_of w ≡ a → names_or_words r s a (ident_of v) (bytes_eq w v) ≡ true → map (ident_word r) (p ∷ ps) ≡ map (ident_word s) (q ∷ qs)) [
+      let fit = and_parts (good w) (list_all good ws) goods in
+      elim (ident_of w) as (λ a. ident_of w ≡ a → names_or_words r s a (ident_of v) (bytes_eq w v) ≡ true → AllZip E (map (ident_word r) (p ∷ ps)) (map (ident_word s) (q ∷ qs))) [
         | None ↦ λ e.
-            elim (ident_of v) as (λ b. ident_of v ≡ b → names_or_words r s None b (bytes_eq w v) ≡ true → map (ident_word r) (p ∷ ps) ≡ map (ident_word s) (q ∷ qs)) [
-              | None ↦ λ g k.
+            elim (ident_of v) as (λ b. ident_of v ≡ b → names_or_words r s None b (bytes_eq w v) ≡ true → AllZip E (map (ident_word r) (p ∷ ps)) (map (ident_word s) (q ∷ qs))) [
+              | None ↦ λ h k.
                   let equal : w ≡ v = (bytes_eq-Decides w v).0 k in
-                  let word : p ≡ q = f-same w0 v0 w same ∙ ap (f v0) equal in
-                  let head : ident_word r p ≡ ident_word s q = ap (with_ident r p) (first-here ∙ e) ∙ word ∙ sym (ap (with_ident s q) (first-there ∙ g)) in
-                  let tail = same-idents w v ws vs (ap shows (sym equal)) others-here others-there parts.1 in
-                  λ i. head i ∷ tail i
+                  let here-is : ident_word r p ≡ p = ap (with_ident r p) (first-here ∙ e) in
+                  let there-is : ident_word s q ≡ q = ap (with_ident s q) (first-there ∙ h) in (
+                    holds-of p q (ident_word r p) (ident_word s q) here-is there-is (both-words w0 v0 w v same equal fit.0),
+                    same-idents w v ws vs (ap shows (sym equal)) others-here others-there parts.1 fit.1,
+                  )
               | Some m ↦ λ _ k. absurd (false≢true k)
             ] refl
         | Some n ↦ λ e.
-            elim (ident_of v) as (λ b. ident_of v ≡ b → names_or_words r s (Some n) b (bytes_eq w v) ≡ true → map (ident_word r) (p ∷ ps) ≡ map (ident_word s) (q ∷ qs)) [
+            elim (ident_of v) as (λ b. ident_of v ≡ b → names_or_words r s (Some n) b (bytes_eq w v) ≡ true → AllZip E (map (ident_word r) (p ∷ ps)) (map (ident_word s) (q ∷ qs))) [
               | None ↦ λ _ k. absurd (false≢true k)
-              | Some m ↦ λ g k.
+              | Some m ↦ λ h k.
                   let head : ident_word r p ≡ ident_word s q =
                   ap (with_ident r p) (first-here ∙ e)
                   ∙ ap (λ t. codes "--ident=" ++ t) (one-rooted r s n m root k)
-                  ∙ sym (ap (with_ident s q) (first-there ∙ g)) in
-                  let tail = same-idents w v ws vs (ident-shows v m g ∙ sym (ident-shows w n e)) others-here others-there parts.1 in
-                  λ i. head i ∷ tail i
+                  ∙ sym (ap (with_ident s q) (first-there ∙ h)) in (
+                    equal-is (ident_word r p) (ident_word s q) head,
+                    same-idents w v ws vs (ident-shows v m h ∙ sym (ident-shows w n e)) others-here others-there parts.1 fit.1,
+                  )
             ] refl
       ] refl parts.0
 
--- alike words with rooted names
-sources-agree : (r s : Root) (ws vs : List (List ℕ)) → r.root ≡ s.root → source_words_alike r s [] ws vs ≡ true → source_words r [] ws ≡ source_words s [] vs
-sources-agree r s ws vs root alike =
-    ap (source_words r []) (sym (walk-same [] ws))
-    ∙ same-sources r s root (λ _ w. w) (λ w0 v0 w e. refl) [] [] [] [] ws vs refl (ap (names_among []) (walk-same [] ws)) (ap (names_among []) (walk-same [] vs)) alike
-    ∙ ap (source_words s []) (walk-same [] vs)
+  -- any tool's
+  walked-words : (tool : Program) (ws vs : List (List ℕ)) → is_tool tool ≡ true → words_alike r s tool ws vs ≡ true → list_all good ws ≡ true
+      → names_of tool (walk f [] ws) ≡ names_of tool ws → names_of tool (walk g [] vs) ≡ names_of tool vs
+      → AllZip E (tool_words r tool (walk f [] ws)) (tool_words s tool (walk g [] vs))
+  walked-words programs.Cicc ws vs tool alike goods here there = same-sources [] [] [] [] ws vs refl here there alike goods
+  walked-words programs.Cudafe ws vs tool alike goods here there = same-sources [] [] [] [] ws vs refl here there alike goods
+  walked-words programs.Fatbinary ws vs tool alike goods here there = same-idents [] [] ws vs refl here there alike goods
+  walked-words programs.Ptxas ws vs tool alike goods here there = same-words [] [] ws vs refl alike goods
+  walked-words programs.Nvlink ws vs tool alike goods here there = same-words [] [] ws vs refl alike goods
+  walked-words programs.Other ws vs tool alike goods here there = absurd (false≢true tool)
 
-idents-agree : (r s : Root) (ws vs : List (List ℕ)) → r.root ≡ s.root → ident_words_alike r s ws vs ≡ true → map (ident_word r) ws ≡ map (ident_word s) vs
-idents-agree r s ws vs root alike =
-    ap (map (ident_word r)) (sym (walk-same [] ws))
-    ∙ same-idents r s root (λ _ w. w) (λ w0 v0 w e. refl) [] [] ws vs refl (ap (map ident_of) (walk-same [] ws)) (ap (map ident_of) (walk-same [] vs)) alike
-    ∙ ap (map (ident_word s)) (walk-same [] vs)
+-- words as they stand
+any-good : (ws : List (List ℕ)) → list_all (λ _. true) ws ≡ true
+any-good [] = refl
+any-good (w ∷ ws) = any-good ws
 
 pub rooted-words-agree : RootedWordsAgree
-rooted-words-agree r s programs.Cicc ws vs tool root alike = sources-agree r s ws vs root alike
-rooted-words-agree r s programs.Cudafe ws vs tool root alike = sources-agree r s ws vs root alike
-rooted-words-agree r s programs.Fatbinary ws vs tool root alike = idents-agree r s ws vs root alike
-rooted-words-agree r s programs.Ptxas ws vs tool root alike = (lists bytes_eq bytes_eq-Decides ws vs).0 alike
-rooted-words-agree r s programs.Nvlink ws vs tool root alike = (lists bytes_eq bytes_eq-Decides ws vs).0 alike
-rooted-words-agree r s programs.Other ws vs tool root alike = absurd (false≢true tool)
+rooted-words-agree r s tool ws vs is root alike =
+    let words : AllZip (λ (w v : List ℕ). v ≡ w) (tool_words r tool (walk (λ _ w. w) [] ws)) (tool_words s tool (walk (λ _ w. w) [] vs)) =
+    walked-words r s root (λ w v. v ≡ w) (λ w v e. sym e) (λ _ w. w) (λ _ w. w) (λ _. true) (λ w0 v0 w e k. refl) tool ws vs is alike (any-good ws)
+    (ap (names_of tool) (walk-same [] ws)) (ap (names_of tool) (walk-same [] vs)) in
+    ap (tool_words r tool) (sym (walk-same [] ws))
+    ∙ sym (same_from_all_zip (λ w v. v ≡ w) (tool_words r tool (walk (λ _ w. w) [] ws)) (tool_words s tool (walk (λ _ w. w) [] vs)) words (λ w v e. e))
+    ∙ ap (tool_words s tool) (walk-same [] vs)
 
--- What a tool's words are with rooted names, by a function of each word: first as they stand, then with whole paths of files.
-abbrev Rooting : Root → Root → Program → NvccGeneratedSubcommand → NvccGeneratedSubcommand → Type 0
-Rooting r s tool c d =
-    (f : List ℕ → List ℕ → List ℕ) → ((w0 v0 w : List ℕ) → shows v0 ≡ shows w0 → f w0 w ≡ f v0 w)
-    → names_of tool (walk f [] c.args) ≡ names_of tool c.args → names_of tool (walk f [] d.args) ≡ names_of tool d.args
-    → tool_words r tool (walk f [] c.args) ≡ tool_words s tool (walk f [] d.args)
-
-rooted-as-they-stand : (r s : Root) (tool : Program) (c d : NvccGeneratedSubcommand) → Rooting r s tool c d → tool_words r tool c.args ≡ tool_words s tool d.args
-rooted-as-they-stand r s tool c d rooting =
-    ap (tool_words r tool) (sym (walk-same [] c.args))
-    ∙ rooting (λ _ w. w) (λ w0 v0 w e. refl) (ap (names_of tool) (walk-same [] c.args)) (ap (names_of tool) (walk-same [] d.args))
-    ∙ ap (tool_words s tool) (walk-same [] d.args)
-
--- equal words with rooted names show that the records are one
-one-record : (r s : Root) (tool : Program) (c d : NvccGeneratedSubcommand) → AlikeTools r s tool c d → Rooting r s tool c d → files_of c ≡ files_of d
-one-record r s tool c d alike rooting =
-    let here = keeps-files (with_root r tool c) c alike.first.keeps_record_here in
-    let there = keeps-files (with_root s tool d) d alike.second.keeps_record_here in
-    let same = rooted-as-they-stand r s tool c d rooting in
-    sym here ∙ (λ i. files_of_words (alike.exe i) (same i) (alike.cwd i)) ∙ there
-
-placed-alike : (r s : Root) (tool : Program) (c d : NvccGeneratedSubcommand) → AlikeTools r s tool c d → Rooting r s tool c d
-    → tool_words r tool (in_top c).args ≡ tool_words s tool (in_top d).args
-placed-alike r s tool c d alike rooting =
-    let record-is = one-record r s tool c d alike rooting in
-    let here : (in_top c).args ≡ walk (word_behind (files_of c) c.cwd) [] c.args = walk-placed (files_of c) c.cwd [] c.args in
-    let there : (in_top d).args ≡ walk (word_behind (files_of c) c.cwd) [] d.args =
-    sym (λ i. placed_words (record-is i) (alike.cwd i) [] d.args) ∙ walk-placed (files_of c) c.cwd [] d.args in
-    ap (tool_words r tool) here
-    ∙ rooting (word_behind (files_of c) c.cwd) (behind-same (files_of c) c.cwd)
+-- the words of a tool's command in `/`
+placed-alike : (r s : Root) (tool : Program) (c d : NvccGeneratedSubcommand) → r.root ≡ s.root → is_tool tool ≡ true → AlikeTools r s tool c d
+    → AllZip (AreMoved r.tmp s.tmp) (tool_words r tool (in_top c).args) (tool_words s tool (in_top d).args)
+placed-alike r s tool c d root is alike =
+    let f = word_behind (files_of c) c.cwd in
+    let g = word_behind (files_of d) d.cwd in
+    let here : (in_top c).args ≡ walk f [] c.args = walk-placed (files_of c) c.cwd [] c.args in
+    let there : (in_top d).args ≡ walk g [] d.args = walk-placed (files_of d) d.cwd [] d.args in
+    let words : AllZip (AreMoved c.cwd d.cwd) (tool_words r tool (walk f [] c.args)) (tool_words s tool (walk g [] d.args)) =
+    walked-words r s root (AreMoved c.cwd d.cwd) (λ w v e. inl e) f g (same_ends (files_of c) (files_of d) c.cwd d.cwd true)
+    (moved-behind (files_of c) (files_of d) c.cwd d.cwd)
+    tool c.args d.args is alike.words alike.ends
     (ap (names_of tool) (sym here) ∙ alike.first.keeps_names)
-    (ap (names_of tool) (sym there) ∙ alike.second.keeps_names)
-    ∙ sym (ap (tool_words s tool) there)
+    (ap (names_of tool) (sym there) ∙ alike.second.keeps_names) in
+    let ours = subst (λ ws. AllZip (AreMoved c.cwd d.cwd) (tool_words r tool ws) (tool_words s tool (walk g [] d.args))) (sym here) words in
+    let both = subst (λ vs. AllZip (AreMoved c.cwd d.cwd) (tool_words r tool (in_top c).args) (tool_words s tool vs)) (sym there) ours in
+    let first = subst (λ t. AllZip (AreMoved t d.cwd) (tool_words r tool (in_top c).args) (tool_words s tool (in_top d).args)) alike.first.cwd both in
+    subst (λ t. AllZip (AreMoved r.tmp t) (tool_words r tool (in_top c).args) (tool_words s tool (in_top d).args)) alike.second.cwd first
 
--- a tool's command whose record stays, and whether it preprocesses
-takes-words : (r : Root) (tool : Program) (c : NvccGeneratedSubcommand) → keeps_record (with_root r tool c) c ≡ true → rooted_tool r tool c ≡ with_root r tool c
-takes-words r tool c keeps = ap (λ b. cond b (with_root r tool c) c) keeps
+-- such a command takes the root
+takes-root : (r : Root) (tool : Program) (c : NvccGeneratedSubcommand) → TakesRoot r tool c → placed_tool r tool c ≡ with_root r tool (in_top c)
+takes-root r tool c takes = ap (rooted_tool r tool) takes.is_placed ∙ ap (λ b. cond b (with_root r tool (in_top c)) (in_top c)) takes.keeps_rooted
 
--- both commands are placed or neither is
-either-placed : (r s : Root) (tool : Program) (c p d q : NvccGeneratedSubcommand) (a b : Bool) → rooted_tool r tool c ≡ rooted_tool s tool d → rooted_tool r tool p ≡ rooted_tool s tool q
-    → rooted_tool r tool (cond a (cond b p c) c) ≡ rooted_tool s tool (cond a (cond b q d) d)
-either-placed r s tool c p d q true true here there = there
-either-placed r s tool c p d q true false here there = here
-either-placed r s tool c p d q false b here there = here
-
-tools-run-alike : (r s : Root) (tool : Program) (c d : NvccGeneratedSubcommand) → r.tmp ≡ s.tmp → AlikeTools r s tool c d → Rooting r s tool c d
-    → placed_tool r tool c ≡ placed_tool s tool d
-tools-run-alike r s tool c d tmp alike rooting =
-    let same-here : tool_words r tool c.args ≡ tool_words s tool d.args = rooted-as-they-stand r s tool c d rooting in
-    let same-there : tool_words r tool (in_top c).args ≡ tool_words s tool (in_top d).args = placed-alike r s tool c d alike rooting in
-    let keeps-c = alike.first.keeps_record_here in
-    let keeps-d = alike.second.keeps_record_here in
-    let keeps-p = alike.first.keeps_record_there in
-    let keeps-q = alike.second.keeps_record_there in
-    let record-is = one-record r s tool c d alike rooting in
-    let placed-record-is : files_of (in_top c) ≡ files_of (in_top d) =
-    sym (keeps-files (with_root r tool (in_top c)) (in_top c) keeps-p)
-    ∙ (λ i. files_of_words (alike.exe i) (same-there i) (codes "/"))
-    ∙ keeps-files (with_root s tool (in_top d)) (in_top d) keeps-q in
-    let preprocess : preprocesses c.args ≡ preprocesses d.args =
-    sym (keeps-preprocessing (with_root r tool c) c keeps-c) ∙ ap preprocesses same-here ∙ keeps-preprocessing (with_root s tool d) d keeps-d in
-    let placed-preprocess : preprocesses (in_top c).args ≡ preprocesses (in_top d).args =
-    sym (keeps-preprocessing (with_root r tool (in_top c)) (in_top c) keeps-p)
-    ∙ ap preprocesses same-there
-    ∙ keeps-preprocessing (with_root s tool (in_top d)) (in_top d) keeps-q in
-    let moves : (bytes_eq c.cwd r.tmp && not (preprocesses c.args)) ≡ (bytes_eq d.cwd s.tmp && not (preprocesses d.args)) =
-    λ i. bytes_eq (alike.cwd i) (tmp i) && not (preprocess i) in
-    let counts : has_record (in_top c) (files_of c) ≡ has_record (in_top d) (files_of d) = λ i. are_same (placed-record-is i) (record-is i) && not (placed-preprocess i) in
-    let here : rooted_tool r tool c ≡ rooted_tool s tool d =
-    takes-words r tool c keeps-c
-    ∙ (λ i. record { exe = alike.exe i; args = same-here i; cwd = alike.cwd i; env_vars = alike.env_vars i; cacheable = alike.cacheable i })
-    ∙ sym (takes-words s tool d keeps-d) in
-    let there : rooted_tool r tool (in_top c) ≡ rooted_tool s tool (in_top d) =
-    takes-words r tool (in_top c) keeps-p
-    ∙ (λ i. record { exe = alike.exe i; args = same-there i; cwd = codes "/"; env_vars = alike.env_vars i; cacheable = alike.cacheable i })
-    ∙ sym (takes-words s tool (in_top d) keeps-q) in
-    (λ i. rooted_tool r tool (cond (moves i) (cond (counts i) (in_top c) c) c))
-    ∙ either-placed r s tool c (in_top c) d (in_top d) (bytes_eq d.cwd s.tmp && not (preprocesses d.args)) (has_record (in_top d) (files_of d)) here there
+tools-run-alike : (r s : Root) (tool : Program) (c d : NvccGeneratedSubcommand) → r.root ≡ s.root → is_tool tool ≡ true → AlikeTools r s tool c d
+    → RunAsOne r s (with_root r tool (in_top c)) (with_root s tool (in_top d))
+tools-run-alike r s tool c d root is alike =
+    record { exe = alike.exe; args = placed-alike r s tool c d root is alike; cwd = refl; env_vars = alike.env_vars; cacheable = alike.cacheable }
 
 -- a word that is no option, and one that begins with `-I`, ask for nothing
 abbrev AsksNothing : List ℕ → Type 0
@@ -294,7 +313,8 @@ words-ask-the-same : (r s : Root) (w v : List ℕ) → host_word_alike r s w v �
 words-ask-the-same r s w v alike =
     let include = λ (a b : Option (List ℕ)). names_or_words r s a b false in
     let paths : are_paths r s w v ≡ true → AskTheSame w v = λ k.
-    let parts = and_parts (not (is_option w)) (not (is_option v)) (and_parts (not (is_option w) && not (is_option v)) (is_one_place r s w v) k).0 in
+    let plain = and_parts (not (is_option w) && not (is_option v)) (is_one_place r s w v || is_one_generated r s w v) k in
+    let parts = and_parts (not (is_option w)) (not (is_option v)) plain.0 in
     neither-asks w v (path-asks-nothing w (not-true (is_option w) parts.0)) (path-asks-nothing v (not-true (is_option v) parts.1)) in
     let includes : include (rest_after (codes "-I") w) (rest_after (codes "-I") v) ≡ true → AskTheSame w v =
     elim (rest_after (codes "-I") w) as (λ a. rest_after (codes "-I") w ≡ a → include a (rest_after (codes "-I") v) ≡ true → AskTheSame w v) [
@@ -334,7 +354,7 @@ exe-stays r c = elim (writes_names c.args) as (λ b. (cond b (mapped_host r c) c
 variables-stay : (r : Root) (c : NvccGeneratedSubcommand) → (rooted_host r c).env_vars ≡ c.env_vars
 variables-stay r c = elim (writes_names c.args) as (λ b. (cond b (mapped_host r c) c).env_vars ≡ c.env_vars) [ true ↦ refl | false ↦ refl ]
 
-module _ (r s : Root) (root : r.root ≡ s.root) (tmp : r.tmp ≡ s.tmp) (can : can_be_told r ≡ true) (c d : NvccGeneratedSubcommand) where
+module _ (r s : Root) (root : r.root ≡ s.root) (can : can_be_told r ≡ true) (c d : NvccGeneratedSubcommand) where
   hosts-write-alike : program_at c.exe ≡ programs.Other → AlikeHosts r s c d → WriteAlike r s c d
   hosts-write-alike is alike =
       let also : program_at d.exe ≡ programs.Other = ap program_at (sym alike.exe) ∙ is in
@@ -350,41 +370,29 @@ module _ (r s : Root) (root : r.root ≡ s.root) (tmp : r.tmp ≡ s.tmp) (can : 
             hosts-write-rooted-paths r c path is writes alike.own_maps can clear
             ∙ one-rooted r s path name root one
             ∙ sym (hosts-write-rooted-paths s d name also (sym both ∙ writes) (sym same.2 ∙ alike.own_maps) (ap (lacks 61) (sym root) ∙ can) also-clear);
+        generated = λ rest writes.
+            hosts-write-generated-paths r c rest is writes alike.own_maps
+            ∙ sym (hosts-write-generated-paths s d rest also (sym both ∙ writes) (sym same.2 ∙ alike.own_maps));
       }
 
-  -- a tool's command, once its words are
-  tools-run : (tool : Program) → program_at c.exe ≡ tool → ((q : Root) (x : NvccGeneratedSubcommand) → rooted_by q tool x ≡ placed_tool q tool x)
-      → AlikeTools r s tool c d → Rooting r s tool c d → rooted_command r c ≡ rooted_command s d
-  tools-run tool is by alike rooting =
-      ap (λ p. rooted_by r p c) is
-      ∙ by r c
-      ∙ tools-run-alike r s tool c d tmp alike rooting
-      ∙ sym (ap (λ p. rooted_by s p d) (ap program_at (sym alike.exe) ∙ is) ∙ by s d)
-
-  -- one that the root leaves alone
-  one-runs : (tool : Program) → program_at c.exe ≡ tool → ((q : Root) (x : NvccGeneratedSubcommand) → rooted_by q tool x ≡ placed_tool q tool x)
-      → ((x : NvccGeneratedSubcommand) → rooted_tool r tool x ≡ rooted_tool s tool x) → c ≡ d → rooted_command r c ≡ rooted_command s d
-  one-runs tool is by unseen same =
-      ap (λ p. rooted_by r p c) is
-      ∙ by r c
-      ∙ (λ i. rooted_tool r tool (placed_command (tmp i) (codes "/") (same i)))
-      ∙ unseen (placed_command s.tmp (codes "/") d)
-      ∙ sym (ap (λ p. rooted_by s p d) (ap (λ x. program_at x.exe) (sym same) ∙ is) ∙ by s d)
+  -- a tool's command
+  tools-run : (tool : Program) → program_at c.exe ≡ tool → is_tool tool ≡ true → ((q : Root) (x : NvccGeneratedSubcommand) → rooted_by q tool x ≡ placed_tool q tool x)
+      → AlikeTools r s tool c d → RunAsOne r s (rooted_command r c) (rooted_command s d)
+  tools-run tool is tools by alike =
+      let here : rooted_command r c ≡ with_root r tool (in_top c) = ap (λ p. rooted_by r p c) is ∙ by r c ∙ takes-root r tool c alike.first in
+      let there : rooted_command s d ≡ with_root s tool (in_top d) =
+      ap (λ p. rooted_by s p d) (ap program_at (sym alike.exe) ∙ is) ∙ by s d ∙ takes-root s tool d alike.second in
+      let both = tools-run-alike r s tool c d root tools alike in
+      subst (λ x. RunAsOne r s x (rooted_command s d)) (sym here) (subst (λ x. RunAsOne r s (with_root r tool (in_top c)) x) (sym there) both)
 
   commands-run-alike : Alike r s c d → RunAlike r s c d
   commands-run-alike alike =
       elim (program_at c.exe) as (λ p. program_at c.exe ≡ p → AlikeBy p r s c d → RunAlikeBy p r s c d) [
-        | programs.Cicc ↦ λ is it.
-            tools-run programs.Cicc is (λ q x. refl) it
-            (λ f f-same here there. same-sources r s root f f-same [] [] [] [] c.args d.args refl here there it.words)
-        | programs.Cudafe ↦ λ is it.
-            tools-run programs.Cudafe is (λ q x. refl) it
-            (λ f f-same here there. same-sources r s root f f-same [] [] [] [] c.args d.args refl here there it.words)
-        | programs.Ptxas ↦ λ is it. one-runs programs.Ptxas is (λ q x. refl) (λ x. refl) it
-        | programs.Fatbinary ↦ λ is it.
-            tools-run programs.Fatbinary is (λ q x. refl) it
-            (λ f f-same here there. same-idents r s root f f-same [] [] c.args d.args refl here there it.words)
-        | programs.Nvlink ↦ λ is it. one-runs programs.Nvlink is (λ q x. refl) (λ x. refl) it
+        | programs.Cicc ↦ λ is it. tools-run programs.Cicc is refl (λ q x. refl) it
+        | programs.Cudafe ↦ λ is it. tools-run programs.Cudafe is refl (λ q x. refl) it
+        | programs.Ptxas ↦ λ is it. tools-run programs.Ptxas is refl (λ q x. refl) it
+        | programs.Fatbinary ↦ λ is it. tools-run programs.Fatbinary is refl (λ q x. refl) it
+        | programs.Nvlink ↦ λ is it. tools-run programs.Nvlink is refl (λ q x. refl) it
         | programs.Other ↦ λ is it. hosts-write-alike is it
       ] refl alike
 
@@ -396,5 +404,5 @@ zip-all R S f (x ∷ xs) [] h = h
 zip-all R S f (x ∷ xs) (y ∷ ys) h = (f x y h.0, zip-all R S f xs ys h.1)
 
 pub alike-plans-run-alike : AlikePlansRunAlike
-alike-plans-run-alike r s plan other root tmp can alike =
-    zip-all (AllZip (Alike r s)) (AllZip (RunAlike r s)) (zip-all (Alike r s) (RunAlike r s) (commands-run-alike r s root tmp can)) plan.groups other.groups alike
+alike-plans-run-alike r s plan other root can alike =
+    zip-all (AllZip (Alike r s)) (AllZip (RunAlike r s)) (zip-all (Alike r s) (RunAlike r s) (commands-run-alike r s root can)) plan.groups other.groups alike

@@ -22,10 +22,10 @@ pub fn roots()
 /// What runs in two checkouts of a project, by the plans of two calls.
 ///
 /// What a host compiler writes for a path that is clear to its prefix maps is the rooted path (`hosts`), and for a generated file a path
-/// below `/tmp` (`generated`). Words of a tool of nvcc that are alike but for the checkouts' folders are equal with rooted names, whatever
-/// the calls' folders of generated files are called (`words`). Where these have one name, and the commands of two plans are alike, place by
-/// place, each tool runs as one command in both, with one program, words, folder and variables, and each host compiler writes the same for
-/// clear paths of one place, its own folder among them (`checkouts`).
+/// below `/tmp` (`generated`). Words of a tool of nvcc that are alike but for the checkouts' folders are equal with rooted names (`words`).
+/// If the commands of two plans are alike, place by place, whatever the calls' folders of generated files are called, each tool has one
+/// program, folder and variables in both, and the same words, but for ends that name generated files in these folders; and each host
+/// compiler writes the same for clear paths of one place, its own folder among them, and for generated files of one name (`checkouts`).
 pub fn plans()
     ensures hosts { HostsWriteRootedPaths }
     ensures generated { HostsWriteGeneratedPaths }
