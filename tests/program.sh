@@ -8,7 +8,8 @@
 #   tests/program.sh [CUDAPLAN [ZIGRUNK [FUNCTION..]]]     the programs are those that `make build` and `make rust` leave, unless given;
 #                                                          only these functions of this script are called, if there are some
 #
-# EMULATED, if set, says that an emulator runs them: what takes a program seconds or memory is left out then.
+# EMULATED, if set, says that an emulator runs them: what takes a program seconds or memory is left out then. EVERY=N tries every Nth byte alone in
+# messages, from one on that is drawn.
 set -u
 cd "$(dirname "$0")/.." || exit 1
 program=$(realpath "${1:-crates/cudaplan/out/cudaplan}") speaker=cudaplan
@@ -706,8 +707,9 @@ long_messages() {
 # control character of two bytes, in a line, a program and PATH, a path that can't be read, one of a file with a bad line, one
 # that is there twice, and a suffix. A word of a call can't have a null byte, and a line can't have a newline.
 escapes() {
-    local code bytes
+    local code bytes every=${EVERY:-1} drawn=$RANDOM
     for code in {0..255} {384..415}; do
+        [ $(((code + drawn) % every)) -eq 0 ] || continue
         printf -v bytes '\\x%x' "$((code % 256))"
         [ "$code" -lt 256 ] || bytes="\\xc2$bytes"
         : > "$scratch/err"
