@@ -20,10 +20,10 @@ import subprocess
 import sys
 from pathlib import Path
 
-from mutants_by_lot import BUILD, ROOT, RUST, Edit, code_lines, difference, known, least, put, swaps, verdict
+from mutants_by_lot import BUILD, ROOT, RUST, Edit, code_lines, difference, known, least, patience, put, swaps, verdict
 
 WORK = Path(os.environ.get("MUTANTS_WORK", ROOT / "out/mutants")) / "layers"
-# How many seconds a test may take.
+# How many seconds a test may take on an idle machine.
 LONGEST = 120
 LAYERS = {"call": "call/src/**/*.rs", "capi": "capi/src/*.rs", "cpp": "bindings/cpp/zigrunk.hpp", "go": "bindings/go/zigrunk.go",
           "python": "bindings/python/zigrunk/__init__.py"}
@@ -67,7 +67,7 @@ def draw(chance: random.Random, path: Path, number: int) -> "Edit | None":
 def run(words: "list[str | Path]", folder: Path = ROOT, rows: "Path | None" = None, variables: "dict[str, str] | None" = None) -> "tuple[int, bytes]":
     """The status of a command, and what it printed."""
     environment = {"PATH": os.environ["PATH"], "HOME": os.environ["HOME"], "LC_CTYPE": "C.UTF-8", "PYTHONDONTWRITEBYTECODE": "1", **(variables or {})}
-    with subprocess.Popen(["timeout", "-k", "1", str(LONGEST), *map(str, words)], cwd=folder, env=environment, stdout=subprocess.PIPE,
+    with subprocess.Popen(["timeout", "-k", "1", str(LONGEST * patience()), *map(str, words)], cwd=folder, env=environment, stdout=subprocess.PIPE,
                           stderr=subprocess.STDOUT, stdin=rows.open("rb") if rows else subprocess.DEVNULL) as process:
         said, _ = process.communicate()
     return process.returncode, said
