@@ -6,8 +6,8 @@
 An edit changes one line, as those of tests/mutants_by_lot.py, or names another member of those in lines beside it. A layer is the library below all
 languages (call), that for C (capi), or the one for C++, Go or Python; that for Rust is the first. The seed and its number say which layer, line and
 operator. An edit that doesn't compile is drawn again, and so is one of tests/mutants_known.txt. It's caught if the programs of tests/callers print
-another answer to a row of the call table than before, crash or hang, or if another test fails: tests/callers/alone.py, tests/c/failing_memory.c, a
-unit test of call or the crate for Rust. FOLDER has the plain Rust, by default out/rust.
+another answer to a row of the call table than before, crash or hang, or if another test fails: tests/callers/alone.py, tests/c/failing_memory.c, the
+header beside what cbindgen writes, a unit test of call or the crate for Rust. FOLDER has the plain Rust, by default out/rust.
 
 Prints each edit that no test finds as a diff, and last how many were caught, as tests/mutants_by_lot.py does: '1 passed, 0 failed' if enough were.
 """
@@ -153,7 +153,13 @@ class Lane:
         if layer in ("capi", "python") and run([sys.executable, WORK / "tests/callers/alone.py", self.room, WORK / "bindings/c/zigrunk.h",
                                                 (ROOT / "VERSION").read_text().strip()], variables=self.settings)[0]:
             return "alone.py"
+        if layer == "capi" and shutil.which("cbindgen") and self.header() != (ROOT / "bindings/c/zigrunk.h").read_bytes():
+            return "the header"
         return "failing memory" if layer == "capi" and not self.bears_failing_memory() else ""
+
+    def header(self) -> bytes:
+        """What cbindgen writes of the sources."""
+        return run(["cbindgen", "-q", "--config", "cbindgen.toml", "--crate", "capi", "."], self.rust / "capi")[1]
 
     def bears_failing_memory(self) -> bool:
         wraps = "-Wl,--wrap=malloc,--wrap=calloc,--wrap=realloc,--wrap=posix_memalign,--wrap=free"
