@@ -100,7 +100,7 @@ class Room:
     def environment(self, mark: str, setup: Setup) -> dict[str, str]:
         kept = {name: value for name, value in os.environ.items() if not name.startswith(("ZIGRUNK", "NVCC", "MAKE"))}
         kept.update(LOG=str(self.log), TMPDIR=str(self.path("tmp")), XDG_RUNTIME_DIR=str(self.path("run")), CUDA=str(self.cuda), DATA=str(DRY_RUNS),
-                    PATH=f"{self.cuda}/bin:{kept['PATH']}", TRIAL=mark, PAUSE="15",
+                    PATH=f"{self.cuda}/bin:/usr/bin:/bin", TRIAL=mark, PAUSE="15",
                     ZIGRUNK_SLOTS=str(setup.slots), ZIGRUNK_LATE=str(int(setup.is_late)), DIES=setup.dies)
         if setup.has_make:
             kept["MAKEFLAGS"] = f" -j4 --jobserver-auth=fifo:{self.path('jobs')}"
