@@ -58,11 +58,11 @@ inside() {
     chroot "$root" env -C /root DEBIAN_FRONTEND=noninteractive LC_ALL=C "$@"
 }
 
-# offline COMMAND..: the same without a network. It has /proc, as a machine does: rustfmt 1.85 stops without it.
+# offline COMMAND..: the same without a network. It has /proc and terminals, as a machine does: rustfmt 1.85 stops without the first.
 offline() {
     # shellcheck disable=SC2016 # for sh
-    unshare --net --mount sh -c 'mount -t proc proc "$0/proc" && exec chroot "$0" "$@"' "$root" env -C /root LC_ALL=C CARGO_HOME=/root/cargo \
-        "${profile[@]}" "$@"
+    unshare --net --mount sh -c 'mount -t proc proc "$0/proc" && mount -t devpts -o newinstance,ptmxmode=666 devpts "$0/dev/pts" && exec chroot "$0" "$@"' \
+        "$root" env -C /root LC_ALL=C CARGO_HOME=/root/cargo "${profile[@]}" "$@"
 }
 
 # pages: the text of the installed pages.
