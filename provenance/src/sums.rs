@@ -8,9 +8,9 @@ use std::fs::{self, File};
 use std::io::{self, Read};
 use std::path::{Path, PathBuf};
 
-/// How many bytes are read at once.
+/// How many bytes are read at once, so that a large library isn't in memory as a whole.
 const PART: usize = 1 << 20;
-/// From this size on the sum of a file is kept.
+/// From this size on the sum of a file is kept, since a smaller one is read as soon as its record.
 const LARGE: u64 = 1 << 20;
 /// The file in a folder of statements that has the sums of large files, which are tools and libraries.
 const KEPT: &str = ".sums";
@@ -23,7 +23,7 @@ struct Known {
     sum: String,
 }
 
-/// The SHA-256 of files, each of which is read once.
+/// The SHA-256 of files, each of which is read once, because the commands of a call read the same headers.
 #[derive(Debug, Default)]
 pub struct Sums {
     of_files: BTreeMap<PathBuf, Option<String>>,

@@ -27,7 +27,7 @@ use std::path::{Path, PathBuf};
 use std::process;
 use std::time::SystemTime;
 
-/// Variables that count though no process asks for them: the kernel, the loader or this program does.
+/// Variables that count though no process asks for them, because the kernel, the loader or this program does.
 const COUNTING: [&str; 3] = ["LD_LIBRARY_PATH", "PATH", "ZIGRUNK_ROOT"];
 
 /// A call that has come to its end, and has succeeded.

@@ -9,7 +9,7 @@ pub struct Link {
     /// Its number in the call.
     pub command: usize,
     /// The seconds that count: of a command that began before the one in front of it had ended, only the
-    /// rest.
+    /// rest, since the chain would otherwise be longer than its call.
     pub seconds: f64,
 }
 
@@ -17,7 +17,8 @@ pub struct Link {
 struct Best {
     /// How long it takes.
     length: f64,
-    /// When the last of its commands ended. One that began early may have ended before the one that it needs.
+    /// When the last of its commands ended: not always that of the last one, since one that began early may
+    /// have ended before the one that it needs.
     end: f64,
     link: Link,
     before: Option<usize>,

@@ -6,9 +6,9 @@ use std::fmt::Write;
 
 /// How many of the slowest commands are shown.
 const SLOWEST: usize = 5;
-/// How many of the calls that failed are shown.
+/// How many of the calls that failed are shown, since one bad header fails a hundred of them.
 const FAILED: usize = 10;
-/// How many characters of a call's words are shown.
+/// How many characters of a call's words are shown, so that a call is a line.
 const WIDTH: usize = 100;
 
 /// The words of a call, so many characters of them.

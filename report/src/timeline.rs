@@ -8,7 +8,7 @@ const WIDTH: f64 = 1160.0;
 const HIGHEST_ROW: f64 = 18.0;
 /// How high all rows are at most.
 const HEIGHT: f64 = 640.0;
-/// What is narrower is drawn with its neighbours.
+/// What is narrower is drawn with its neighbours, since nobody would see it, and a long log has many such.
 const NARROW: f64 = 1.5;
 
 /// What a command does.

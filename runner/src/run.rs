@@ -232,7 +232,8 @@ struct Run<'a, M, W> {
     again: Vec<usize>,
 }
 
-/// The schedule of tasks, of which so many may run at once. What begins the heaviest chain starts first.
+/// The schedule of tasks, of which so many may run at once. What begins the heaviest chain starts first,
+/// because the call can't end before that chain.
 fn schedule_of(tasks: &[Task], at_once: usize) -> Result<Schedule, BadGraph> {
     let mut needs = List::with_capacity(Global, tasks.len())?;
     for task in tasks {
@@ -359,7 +360,8 @@ impl<'a, M: Machine, W: Watch> Run<'a, M, W> {
         self.tasks.iter().enumerate().filter(|_| !has_failed).find_map(may_begin)
     }
 
-    /// Starts a task beside one that it needs, if a slot is to spare. Says whether it runs, or another may.
+    /// Starts a task beside one that it needs, if a slot is to spare, since it may hold that slot and wait.
+    /// Says whether it runs, or another may.
     fn begin_early(&mut self) -> bool {
         let next = self.next_early().filter(|_| self.has_room());
         let Some((number, start)) = next.filter(|_| self.machine.early().is_some_and(Early::has_spare_slot))
