@@ -7,6 +7,7 @@ mod chains;
 mod log;
 mod log_lines;
 mod machines;
+mod missed;
 mod page;
 mod places;
 mod recorded;
@@ -15,7 +16,6 @@ mod small;
 mod summary;
 mod timeline;
 mod trace;
-mod missed;
 pub mod why;
 
 use lexopt::prelude::{Long, Short, Value};
