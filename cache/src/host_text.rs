@@ -30,23 +30,52 @@ pub fn files_entered(text: &[u8]) -> Option<BTreeSet<&[u8]>> {
         .then(|| names.into_iter().filter(|name| !name.starts_with(b"<")).collect())
 }
 
-/// The parts of a preprocessed text: each file that the main one includes begins another, at the line marker
-/// that enters it.
+/// Files that are included more deeply are of the part of those that include them.
+const DEEPEST_PART: usize = 1;
+
+/// The parts of a preprocessed text, which begin at line markers that enter a file or return to one: what
+/// the main file includes, and what that includes itself. So the main file's own text is in parts of its own.
 pub fn parts_of(text: &[u8]) -> Vec<&[u8]> {
     let (mut parts, mut begin, mut depth) = (Vec::new(), 0, 0_usize);
     for (place, marker) in markers(text) {
-        if has_flag(marker, b" 1") {
-            if depth == 0 {
-                parts.push(&text[begin..place]);
-                begin = place;
-            }
-            depth += 1;
-        } else if has_flag(marker, b" 2") {
-            depth = depth.saturating_sub(1);
+        let (enters, returns) = (has_flag(marker, b" 1"), has_flag(marker, b" 2"));
+        depth = depth.saturating_sub(usize::from(returns));
+        if (enters || returns) && depth <= DEEPEST_PART {
+            parts.push(&text[begin..place]);
+            begin = place;
         }
+        depth += usize::from(enters);
     }
     parts.push(&text[begin..]);
     parts
+}
+
+/// The name of a line marker's file, with its quotes, and its flags.
+fn named_file(line: &[u8]) -> Option<(&[u8], &[u8])> {
+    let number = line.strip_prefix(b"# ").filter(|rest| rest.first().is_some_and(u8::is_ascii_digit))?;
+    let begin = number.iter().position(|&byte| byte == b'"')?;
+    let end = number.iter().rposition(|&byte| byte == b'"').filter(|end| *end > begin)?;
+    Some((&number[begin..=end], &number[end + 1..]))
+}
+
+/// The lines of a preprocessed text, without those that are empty and without numbers of line markers. These
+/// are lines if they enter a file, return to one, or name another than the last one. `None` if a raw string
+/// may go on behind its line. Texts that have the same lines have the same tokens.
+pub fn without_numbers(text: &[u8]) -> Option<Vec<u8>> {
+    let (mut lines, mut last) = (Vec::with_capacity(text.len()), None);
+    for line in text.split(|&byte| byte == b'\n').filter(|line| !line.is_empty()) {
+        let Some((name, flags)) = named_file(line) else {
+            lines.extend([line, b"\n"].concat());
+            continue;
+        };
+        let moved = [b" 1", b" 2"].into_iter().find_map(|flag| flags.strip_prefix(flag));
+        let place = Some((name, moved.unwrap_or(flags)));
+        if moved.is_some() || place != last {
+            lines.extend([b"# ", name, flags, b"\n"].concat());
+        }
+        last = place;
+    }
+    Some(lines).filter(|_| !contains(text, b"R\""))
 }
 
 /// Whether a text has what `__DATE__`, `__TIME__` or `__TIMESTAMP__` may have become: a time of day, or a
@@ -140,6 +169,8 @@ pub fn is_stable_id(id: &[u8]) -> bool {
 #[cfg(test)]
 mod tests {
     use super::*;
+    use rattle_std::alloc::Global;
+    use std::collections::BTreeMap;
 
     #[test]
     fn a_source_may_compare_times() {
@@ -182,7 +213,10 @@ mod tests {
     fn what_the_main_file_includes_is_a_part() {
         let parts = [
             "# 0 \"k.cu\"\n",
-            "# 1 \"a.h\" 1\n# 1 \"b.h\" 1 3\n# 2 \"a.h\" 2\n# 5 \"k.cu\" 2\nint a;\n# 9 \"k.cu\"\n",
+            "# 1 \"a.h\" 1\n",
+            "# 1 \"b.h\" 1 3\n# 1 \"deep.h\" 1 3\n# 2 \"b.h\" 2 3\n",
+            "# 2 \"a.h\" 2\nint b;\n",
+            "# 5 \"k.cu\" 2\nint a;\n# 9 \"k.cu\"\n",
             "# 1 \"c.h\" 1 3 4\nint c;",
         ];
         assert_eq!(parts_of(parts.concat().as_bytes()), parts.map(str::as_bytes));
@@ -191,6 +225,51 @@ mod tests {
             (parts_of(b""), parts_of(b" # 1 \"a.h\" 1\n")),
             (vec![&b""[..]], vec![&b" # 1 \"a.h\" 1\n"[..]])
         );
+    }
+
+    #[test]
+    fn lines_have_no_numbers() {
+        let of = |text: &str| without_numbers(text.as_bytes()).map(|lines| String::from_utf8(lines).unwrap());
+        let one = of("# 0 \"k.cu\"\nint a;\n# 1 \"a.h\" 1 3\nint b;\n# 5 \"k.cu\" 2\nint c;\n");
+        assert_eq!(one.as_deref(), Some("# \"k.cu\"\nint a;\n# \"a.h\" 1 3\nint b;\n# \"k.cu\" 2\nint c;\n"));
+        let same = [
+            "# 0 \"k.cu\"\n\n\nint a;\n# 1 \"a.h\" 1 3\nint b;\n# 7 \"k.cu\" 2\nint c;\n",
+            "# 0 \"k.cu\"\nint a;\n# 9 \"k.cu\"\n# 1 \"a.h\" 1 3\n# 3 \"a.h\" 3\nint b;\n# 5 \"k.cu\" 2\n# 8 \"k.cu\"\nint c;",
+        ];
+        assert!(same.iter().all(|text| of(text) == one));
+        let others = [
+            "# 0 \"k.cu\"\nint a;\n# 1 \"a.h\" 1 3\nint b;\n# 5 \"j.cu\" 2\nint c;\n",
+            "# 0 \"k.cu\"\nint a;\n# 1 \"a.h\" 1 3\nint b;\n# 5 \"a.h\"\n# 5 \"k.cu\" 2\nint c;\n",
+            "# 0 \"k.cu\"\nint a;\n# 1 \"a.h\" 1\nint b;\n# 5 \"k.cu\" 2\nint c;\n",
+            "# 0 \"k.cu\"\nint a; \n# 1 \"a.h\" 1 3\nint b;\n# 5 \"k.cu\" 2\nint c;\n",
+        ];
+        assert!(others.iter().all(|text| of(text).is_some_and(|lines| Some(lines) != one)));
+        assert_ne!(of("# 1 \"a\nint a;\n"), of("# 2 \"a\nint a;\n"), "no line marker");
+        assert_eq!(of("auto a = u8R\"(\n# 1 \"k.cu\"\n\n)\";\n"), None);
+    }
+
+    #[test]
+    fn texts_of_the_same_lines_have_the_same_tokens() {
+        let lines = [
+            "# 0 \"k\"\n",
+            "# 1 \"a\" 1 3\n",
+            "# 3 \"a\" 3\n",
+            "# 4 \"a\"\n",
+            "# 5 \"k\" 2\n",
+            "\n",
+            "int a;\n",
+            "a \"# 7\"\n",
+            "# pragma\n",
+        ];
+        let mut known: BTreeMap<Vec<u8>, Option<Vec<u8>>> = BTreeMap::new();
+        for number in 0..lines.len().pow(5) {
+            let text: String =
+                (0..5).map(|place| lines[number / lines.len().pow(place) % lines.len()]).collect();
+            let tokens = token_texts::token_text(Global, text.as_bytes()).unwrap();
+            let tokens = tokens.map(|tokens| tokens.as_slice().to_vec());
+            let of = without_numbers(text.as_bytes()).unwrap();
+            assert_eq!(known.entry(of).or_insert_with(|| tokens.clone()), &tokens, "{text}");
+        }
     }
 
     #[test]

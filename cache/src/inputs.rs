@@ -68,6 +68,8 @@ pub struct Memory {
     known: BTreeMap<PathBuf, (Stamp, Seen)>,
     /// The same of other files, and their digests.
     digests: BTreeMap<PathBuf, (Stamp, Digest)>,
+    /// Whether folders were there when something was sought in them.
+    folders: HashMap<PathBuf, bool>,
 }
 
 impl Memory {
@@ -167,8 +169,8 @@ fn locale_files() -> Vec<PathBuf> {
 #[derive(Default)]
 struct Found {
     files: Vec<Seen>,
-    /// The names that folders lacked.
-    lacking: BTreeMap<PathBuf, BTreeSet<Vec<u8>>>,
+    /// The names that folders lacked. (As `PathBuf` a folder would be compared part by part.)
+    lacking: BTreeMap<OsString, BTreeSet<Vec<u8>>>,
     places: BTreeMap<PathBuf, PathBuf>,
 }
 
@@ -227,8 +229,10 @@ impl<'a> Reading<'a> {
         let asked = observed.variables.iter().filter(|name| !is_harmless(name));
         let variables = asked.map(|name| Variable::now(name.as_bytes(), given)).collect();
         let Found { files, lacking, places } = found;
-        let vain =
-            lacking.into_iter().map(|(folder, names)| self.vain(folder, names)).collect::<Result<_, _>>()?;
+        let vain = lacking
+            .into_iter()
+            .map(|(folder, names)| self.vain(folder.into(), names))
+            .collect::<Result<_, _>>()?;
         Ok(Manifest { files, vain, listed, places: places.into_iter().collect(), variables, defines: None })
     }
 
@@ -365,18 +369,28 @@ impl<'a> Reading<'a> {
         Ok(())
     }
 
+    /// Whether a folder was there when that was first asked: what was noted then is looked at once more (`vain`).
+    fn is_there(&mut self, folder: &Path) -> bool {
+        let known = self.memory.folders.get(folder).copied();
+        known.unwrap_or_else(|| {
+            let is_there = fs::metadata(self.cwd.join(folder)).is_ok();
+            self.memory.folders.insert(folder.to_owned(), is_there);
+            is_there
+        })
+    }
+
     /// Notes that nothing is at a path, by the deepest folder on the way there.
     fn lacks(&mut self, path: &Path, found: &mut Found) -> Result<(), Refusal> {
         let changed = || Refusal::Changed(path.to_owned());
         let mut way = path;
         loop {
             let above = way.parent().ok_or_else(changed)?;
-            if found.lacking.contains_key(above) || fs::metadata(self.cwd.join(above)).is_ok() {
+            if self.is_there(above) {
                 if !self.ways.are_old(above) {
                     return Err(changed());
                 }
                 let name = way.file_name().unwrap_or(OsStr::new("..")).as_bytes().to_vec();
-                found.lacking.entry(above.to_owned()).or_default().insert(name);
+                found.lacking.entry(above.as_os_str().to_owned()).or_default().insert(name);
                 return Ok(());
             }
             way = above;
@@ -434,7 +448,7 @@ impl<'a> Reading<'a> {
         let vain = found
             .lacking
             .into_iter()
-            .map(|(folder, names)| self.vain(folder, names))
+            .map(|(folder, names)| self.vain(folder.into(), names))
             .collect::<Result<_, _>>()?;
         // (the call's key has all others)
         let asked = parts.iter().flat_map(|part| &part.variables).filter(|variable| is_free(variable.name()));

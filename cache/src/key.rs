@@ -1,10 +1,11 @@
 //! The key of a command: what its outputs and messages depend on.
 use crate::digest::{Digest, Hasher};
-use crate::host_text::{parts_of, sees_lines};
+use crate::host_text::{parts_of, sees_lines, without_numbers};
 use crate::marked;
 use crate::processor::instructions;
 use crate::recipe::{Recipe, Role};
 use crate::store::Store;
+use crate::tool::Kind;
 use crate::words::program_of;
 use command_keys::{command_key, tool_variables};
 use machine::bytes::contains;
@@ -17,13 +18,13 @@ use std::path::{Path, PathBuf};
 use token_texts::token_text;
 
 /// What every key begins with. It changes with what is in an entry, or in a key.
-const FORM: &[u8] = b"zigrunk command 8";
+const FORM: &[u8] = b"zigrunk command 9";
 
 /// The variable that names folders in which the loader looks for libraries.
 const LOADERS_FOLDERS: &str = "LD_LIBRARY_PATH";
 
 /// A part of a text that has so many bytes is found in the store, with what its tokens are.
-const LARGE: usize = 1 << 16;
+const LARGE: usize = 1 << 13;
 
 /// A text that a command reads.
 #[derive(Clone, PartialEq, Eq, Debug)]
@@ -71,6 +72,10 @@ fn part_identity(part: &[u8], recipe: &Recipe, store: &Store) -> Option<Digest> 
 fn token_identity(text: &[u8], recipe: &Recipe, store: &Store) -> Option<Digest> {
     if sees_lines(text) {
         return None;
+    }
+    // (what cudafe++ writes has no large parts in common with others, and blanks as it puts them)
+    if let Some(lines) = (recipe.kind == Kind::Host).then(|| without_numbers(text)).flatten() {
+        return Some(text_identity(&recipe.unnamed(&lines)?, recipe.directory.as_bytes()));
     }
     let mut hasher = Hasher::default();
     for part in parts_of(text) {

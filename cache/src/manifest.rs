@@ -150,11 +150,13 @@ impl Vain {
     /// that leads to may come elsewhere.
     pub fn now(folder: &Path, lacks: Vec<Vec<u8>>, cwd: &Path) -> Option<Vain> {
         let status = fs::metadata(cwd.join(folder)).ok()?;
-        let path = |name: &Vec<u8>| cwd.join(folder).join(OsStr::from_bytes(name));
-        let is_free = |name: &Vec<u8>| fs::metadata(path(name)).as_ref().is_err_and(is_missing);
-        let is_link = |name: &Vec<u8>| fs::symlink_metadata(path(name)).is_ok_and(|found| found.is_symlink());
-        let stamp = Stamp::settled(&cwd.join(folder), &status).filter(|_| !lacks.iter().any(is_link));
-        lacks.iter().all(is_free).then(|| Vain { folder: folder.to_owned(), lacks, stamp })
+        let place = cwd.join(folder);
+        let there = lacks.iter().map(|name| place.join(OsStr::from_bytes(name)));
+        let mut there =
+            there.filter(|path| !fs::symlink_metadata(path).as_ref().is_err_and(is_missing)).peekable();
+        let stamp = Stamp::settled(&place, &status).filter(|_| there.peek().is_none());
+        let is_free = there.all(|path| fs::metadata(path).as_ref().is_err_and(is_missing));
+        is_free.then(|| Vain { folder: folder.to_owned(), lacks, stamp })
     }
 
     /// The first of the names that it has by now, or the folder, if nobody may look into it.

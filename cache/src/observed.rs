@@ -22,7 +22,7 @@
 //! process that couldn't write one says so at its end. A program that the observer couldn't enter writes no
 //! beginning after the record of the call that runs it.
 use crate::stamps::Stamp;
-use std::collections::{BTreeMap, BTreeSet};
+use std::collections::{BTreeMap, BTreeSet, HashSet};
 use std::ffi::{OsStr, OsString};
 use std::fmt::{self, Display, Formatter};
 use std::os::unix::ffi::OsStrExt;
@@ -369,6 +369,8 @@ struct List<'a> {
     first: PathBuf,
     /// What the command made below the call's own directories.
     made_own: BTreeSet<PathBuf>,
+    /// The paths that weren't there. (These are many, and ordered maps compare paths part by part.)
+    lacking: HashSet<PathBuf>,
 }
 
 impl List<'_> {
@@ -514,7 +516,7 @@ impl List<'_> {
         }
         let observed = &mut self.observed;
         if NOT_THERE.contains(&record.error) || (record.error == NO_ACCESS && record.kind != Kind::Open) {
-            observed.lacking.insert(path);
+            self.lacking.insert(path);
             return Ok(());
         }
         if record.error != 0 && !THERE.contains(&record.error) {
@@ -606,6 +608,7 @@ pub fn observed_part(records: &[u8], loads: &Loads, scope: Scope<'_>) -> (Observ
         processes: BTreeMap::new(),
         first: PathBuf::new(),
         made_own: BTreeSet::new(),
+        lacking: HashSet::new(),
     };
     let mut gap = if records.len() > MOST { Some(Gap::TooLong) } else { None };
     let mut at = 0;
@@ -628,6 +631,7 @@ pub fn observed_part(records: &[u8], loads: &Loads, scope: Scope<'_>) -> (Observ
     if let Err(other) = list.end(loads) {
         gap.get_or_insert(other);
     }
+    list.observed.lacking = list.lacking.into_iter().collect();
     (list.observed, gap)
 }
 
