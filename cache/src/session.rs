@@ -156,6 +156,8 @@ pub struct Session<'a> {
     has_other_lines: bool,
     /// The call's own preprocessors, until the files are known that they read.
     preprocessors: Vec<usize>,
+    /// What was observed of these.
+    looked_at: BTreeMap<Subject, Observed>,
 }
 
 /// The modes that a new file gets.
@@ -222,6 +224,7 @@ impl<'a> Session<'a> {
                 .filter(|(_, task)| preprocesses(task))
                 .map(|(number, _)| number)
                 .collect(),
+            looked_at: BTreeMap::new(),
         }
     }
 
@@ -235,6 +238,9 @@ impl<'a> Session<'a> {
 
     /// What was observed of a process of a call.
     fn observed(&self, subject: Subject) -> Result<Observed, Gap> {
+        if let Some(known) = self.looked_at.get(&subject) {
+            return Ok(known.clone());
+        }
         let real = |path: &Path| fs::canonicalize(path).unwrap_or_else(|_| path.to_owned());
         let (own, cwd) = (real(Path::new(self.tmp)), real(&self.beginning.cwd));
         let observer = self.beginning.observer.as_ref().ok_or(Gap::Nothing)?;
@@ -256,9 +262,10 @@ impl<'a> Session<'a> {
 
     /// Looks at them.
     pub fn look_ahead(&mut self) {
-        for task in mem::take(&mut self.preprocessors) {
-            if let Ok(observed) = self.observed(Subject::Task(task)) {
+        for subject in mem::take(&mut self.preprocessors).into_iter().map(Subject::Task) {
+            if let Ok(observed) = self.observed(subject) {
                 self.reading().look_ahead(&observed);
+                self.looked_at.insert(subject, observed);
             }
         }
     }

@@ -20,7 +20,7 @@ use std::time::Duration;
 /// What programs begin with that the kernel runs itself. A script may run anything.
 const PROGRAM: &[u8] = b"\x7fELF";
 /// A file of so many bytes is digested by one call at a time: others that want to know it wait.
-const LARGE: u64 = 1 << 20;
+const LARGE: u64 = 1 << 16;
 /// The file that has the lock of whoever digests large files.
 const TURN: &str = "turn";
 /// How long a call waits for another that digests files, and how long until it looks again.
