@@ -631,7 +631,9 @@ pub fn observed_part(records: &[u8], loads: &Loads, scope: Scope<'_>) -> (Observ
     if let Err(other) = list.end(loads) {
         gap.get_or_insert(other);
     }
-    list.observed.lacking = list.lacking.into_iter().collect();
+    let mut lacking: Vec<PathBuf> = list.lacking.into_iter().collect();
+    lacking.sort_unstable_by(|one, other| one.as_os_str().cmp(other.as_os_str()));
+    list.observed.lacking = lacking.into_iter().collect();
     (list.observed, gap)
 }
 
