@@ -6,24 +6,28 @@ use std::collections::BTreeSet;
 const LINE_WORDS: [&[u8]; 5] =
     [b"__LINE__", b"__builtin_LINE", b"__builtin_FILE", b"__builtin_COLUMN", b"source_location"];
 
-/// The line markers of a text, each with its place.
-fn markers(text: &[u8]) -> impl Iterator<Item = (usize, &[u8])> {
-    let begins = pairs(text, b'#', b' ', 1).filter(|&place| place == 0 || text[place - 1] == b'\n');
-    let lines =
-        begins.map(|place| (place, text[place..].split(|&byte| byte == b'\n').next().unwrap_or_default()));
-    lines.filter(|(_, line)| line.get(2).is_some_and(u8::is_ascii_digit))
+/// The name of a line marker's file, and its flags: 1 enters a file, 2 returns to one.
+fn named_file(line: &[u8]) -> Option<(&[u8], &[u8])> {
+    let number = line.strip_prefix(b"# ").filter(|rest| rest.first().is_some_and(u8::is_ascii_digit))?;
+    let begin = number.iter().position(|&byte| byte == b'"')? + 1;
+    let end = number.iter().rposition(|&byte| byte == b'"')?;
+    Some((number.get(begin..end)?, &number[end + 1..]))
 }
 
-/// Whether a line marker has a flag right behind its name: 1 enters a file, 2 returns to one.
-fn has_flag(marker: &[u8], flag: &[u8]) -> bool {
-    marker.iter().rposition(|&byte| byte == b'"').is_some_and(|end| marker[end + 1..].starts_with(flag))
+/// The line markers of a text: places, names and flags.
+fn markers(text: &[u8]) -> impl Iterator<Item = (usize, &[u8], &[u8])> {
+    let begins = pairs(text, b'#', b' ', 1).filter(|&place| place == 0 || text[place - 1] == b'\n');
+    begins.filter_map(|place| {
+        let (name, flags) = named_file(text[place..].split(|&byte| byte == b'\n').next()?)?;
+        Some((place, name, flags))
+    })
 }
 
 /// The files that a preprocessor has entered, by its text's line markers. `None` if a name is quoted in a way
 /// that may mean another.
 pub fn files_entered(text: &[u8]) -> Option<BTreeSet<&[u8]>> {
-    let entering = markers(text).map(|(_, marker)| marker).filter(|marker| has_flag(marker, b" 1"));
-    let names: BTreeSet<&[u8]> = entering.filter_map(between_quotes).collect();
+    let entering = markers(text).filter(|(_, _, flags)| flags.starts_with(b" 1"));
+    let names: BTreeSet<&[u8]> = entering.map(|(_, name, _)| name).collect();
     names
         .iter()
         .all(|name| !name.contains(&b'\\'))
@@ -37,8 +41,8 @@ const DEEPEST_PART: usize = 1;
 /// the main file includes, and what that includes itself. So the main file's own text is in parts of its own.
 pub fn parts_of(text: &[u8]) -> Vec<&[u8]> {
     let (mut parts, mut begin, mut depth) = (Vec::new(), 0, 0_usize);
-    for (place, marker) in markers(text) {
-        let (enters, returns) = (has_flag(marker, b" 1"), has_flag(marker, b" 2"));
+    for (place, _, flags) in markers(text) {
+        let (enters, returns) = (flags.starts_with(b" 1"), flags.starts_with(b" 2"));
         depth = depth.saturating_sub(usize::from(returns));
         if (enters || returns) && depth <= DEEPEST_PART {
             parts.push(&text[begin..place]);
@@ -48,14 +52,6 @@ pub fn parts_of(text: &[u8]) -> Vec<&[u8]> {
     }
     parts.push(&text[begin..]);
     parts
-}
-
-/// The name of a line marker's file, with its quotes, and its flags.
-fn named_file(line: &[u8]) -> Option<(&[u8], &[u8])> {
-    let number = line.strip_prefix(b"# ").filter(|rest| rest.first().is_some_and(u8::is_ascii_digit))?;
-    let begin = number.iter().position(|&byte| byte == b'"')?;
-    let end = number.iter().rposition(|&byte| byte == b'"').filter(|end| *end > begin)?;
-    Some((&number[begin..=end], &number[end + 1..]))
 }
 
 /// The lines of a preprocessed text, without those that are empty and without numbers of line markers. These
@@ -71,7 +67,7 @@ pub fn without_numbers(text: &[u8]) -> Option<Vec<u8>> {
         let moved = [b" 1", b" 2"].into_iter().find_map(|flag| flags.strip_prefix(flag));
         let place = Some((name, moved.unwrap_or(flags)));
         if moved.is_some() || place != last {
-            lines.extend([b"# ", name, flags, b"\n"].concat());
+            lines.extend([b"# \"", name, b"\"", flags, b"\n"].concat());
         }
         last = place;
     }
@@ -132,17 +128,9 @@ pub fn shown_files<'a>(text: &'a [u8], messages: &[u8]) -> BTreeSet<&'a [u8]> {
     if messages.is_empty() {
         return BTreeSet::new();
     }
-    let name = |line: &'a [u8]| {
-        between_quotes(line.strip_prefix(b"# ")?).filter(|name| !name.is_empty() && !name.starts_with(b"<"))
-    };
-    let names: BTreeSet<&[u8]> = text.split(|&byte| byte == b'\n').filter_map(name).collect();
-    names.into_iter().filter(|name| contains(messages, name)).collect()
-}
-
-fn between_quotes(line: &[u8]) -> Option<&[u8]> {
-    let begin = line.iter().position(|&byte| byte == b'"')? + 1;
-    let end = line.iter().rposition(|&byte| byte == b'"')?;
-    line.get(begin..end)
+    let names: BTreeSet<&[u8]> = markers(text).map(|(_, name, _)| name).collect();
+    let names = names.into_iter().filter(|name| !name.is_empty() && !name.starts_with(b"<"));
+    names.filter(|name| contains(messages, name)).collect()
 }
 
 /// Whether a text has eight hexadecimal digits, as nvcc writes a sum.

@@ -16,7 +16,7 @@ use crate::marked::{Marked, has_symbol};
 use crate::observed::{Gap, Observed};
 use crate::observer::{Observer, Subject};
 use crate::recipe::{Output, Recipe, Role, path_of};
-use crate::stamps::{Moment, keeps_changes};
+use crate::stamps::Moment;
 use crate::store::Store;
 use crate::tool::{Kind, Tools};
 use machine::bytes::contains;
@@ -306,7 +306,10 @@ impl<'a> Session<'a> {
                 .collect();
             self.reading().manifest(&asked, &entered, given)?;
             let cwd = &self.beginning.cwd;
-            observed.leave_out(&asked, |path| entered.contains(&cwd.join(path)));
+            // (of the user's own sources comments and blanks count too: gcc looks at them before it warns)
+            if !recipe.has_own_source {
+                observed.leave_out(&asked, |path| entered.contains(&cwd.join(path)));
+            }
         }
         if let Some(other) = own.iter().find(|file| !recipe.knows(file, self.tmp)) {
             return Err(Refusal::Task(format!(
@@ -317,22 +320,7 @@ impl<'a> Session<'a> {
         let inputs = self.reading().manifest(&observed, &BTreeSet::new(), given)?;
         let is_same = self.started.is_before(&Moment::now())
             && self.start(task).map(Hasher::finish) == Some(keys.start);
-        if is_same && self.has_key(task, &recipe, keys) {
-            Ok(inputs)
-        } else {
-            Err(changed("the clock, a link or a source"))
-        }
-    }
-
-    /// Whether a compile of the user's own source still has its key, where stamps don't tell that all is as
-    /// it was.
-    fn has_key(&mut self, task: usize, recipe: &Recipe, keys: &Keys) -> bool {
-        let tells = |file: &PathBuf| fs::metadata(file).is_ok_and(|status| keeps_changes(file, &status));
-        let mut key = || {
-            let (start, texts) = self.asked(task, true)?;
-            Some(Part::by_texts(start, recipe, &texts)?.key(recipe, &texts))
-        };
-        !recipe.has_own_source || recipe.reads.iter().all(tells) || key() == Some(keys.texts)
+        if is_same { Ok(inputs) } else { Err(changed("the clock or a link")) }
     }
 
     /// What to do with a task that may start.
@@ -447,8 +435,7 @@ impl<'a> Session<'a> {
     }
 
     /// The texts that a task reads, without those that it reads late if they aren't there yet. `None` if they
-    /// aren't known. The first one has its line markers. Of a compile of the user's own source all files that
-    /// it names are among them: gcc looks at comments and blanks before it warns.
+    /// aren't known. The first one has its line markers.
     fn texts(recipe: &Recipe, has_late: bool) -> Option<Vec<Text>> {
         let preprocessed = recipe.question.iter().map(|(_, file)| (file, Role::Preprocessed));
         let own = recipe
@@ -457,15 +444,7 @@ impl<'a> Session<'a> {
             .map(|file| (file, recipe.role_of(file)))
             .filter(|(_, role)| has_late || *role != Role::Late);
         let text = |(file, role): (&PathBuf, Role)| Some(Text { role, content: fs::read(file).ok()? });
-        let mut texts: Vec<Text> = preprocessed.chain(own).map(text).collect::<Option<_>>()?;
-        if recipe.has_own_source {
-            let names: Vec<Vec<u8>> =
-                host_text::files_entered(&texts.first()?.content)?.into_iter().map(<[u8]>::to_vec).collect();
-            let entered = names.iter().map(|name| {
-                Some(Text { role: Role::Source, content: fs::read(path_of(recipe, name)).ok()? })
-            });
-            texts.extend(entered.collect::<Option<Vec<_>>>()?);
-        }
+        let texts: Vec<Text> = preprocessed.chain(own).map(text).collect::<Option<_>>()?;
         Some(texts).filter(|texts| !texts.is_empty())
     }
 

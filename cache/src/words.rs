@@ -1,7 +1,7 @@
 //! What the words of a command are to its key, by the table of `command_keys`. A command with a word that
 //! isn't there isn't cached.
 use crate::tool::Kind;
-use command_keys::{CountedWord, NamedFiles, ReadWord};
+use command_keys::{CountedWord, NamedFiles};
 use compilers::plans::Program;
 use rattle_std::alloc::Global;
 
@@ -20,14 +20,8 @@ fn bytes_of(words: &[String]) -> Vec<&[u8]> {
     words.iter().map(String::as_bytes).collect()
 }
 
-/// Calls a function with each word of a command as it is read. `None` if the cache doesn't know one of them.
-pub fn with_read<T>(kind: Kind, words: &[String], read: impl FnOnce(&[ReadWord<'_>]) -> T) -> Option<T> {
-    let known = command_keys::read_words(Global, program_of(kind), &bytes_of(words)).ok()??;
-    Some(read(known.as_slice()))
-}
-
-/// The same with each word as it counts, given the command's files. `None` if one of them names a file that
-/// the command doesn't read, too.
+/// Calls a function with each word of a command as it counts, given the command's files. `None` if the cache
+/// doesn't know one of them, or if one names a file that the command doesn't read.
 pub fn with_counted<T>(
     kind: Kind,
     words: &[String],
@@ -44,7 +38,7 @@ pub fn text_of(part: &[u8]) -> String {
 }
 
 fn are_known(kind: Kind, words: &[String]) -> bool {
-    with_read(kind, words, |_| ()).is_some()
+    command_keys::read_words(Global, program_of(kind), &bytes_of(words)).is_ok_and(|known| known.is_some())
 }
 
 /// Whether names of files and folders may reach what a command with these words makes.
@@ -96,11 +90,16 @@ pub fn defined(words: &[String]) -> Vec<&str> {
 #[cfg(test)]
 mod tests {
     use super::*;
-    use command_keys::Role;
-    use command_keys::{Form, KnownWord, Meaning};
+    use command_keys::{Form, KnownWord, Meaning, ReadWord, Role};
 
     fn list(words: &str) -> Vec<String> {
         words.split(' ').map(String::from).collect()
+    }
+
+    /// What a function says of the words as they are read, if all are known.
+    fn with_read<T>(kind: Kind, words: &[String], read: impl FnOnce(&[ReadWord<'_>]) -> T) -> Option<T> {
+        let known = command_keys::read_words(Global, program_of(kind), &bytes_of(words)).unwrap()?;
+        Some(read(known.as_slice()))
     }
 
     fn is_known(kind: Kind, words: &str) -> bool {
