@@ -134,7 +134,7 @@ stand_ins() {
         end
     fi
     if case_of 'messages come again, in order and once'; then
-        local says='case $name in cicc.80 | ptxas.90) echo "k.cu:1: $name warns" >&2; echo "$name says" ;; esac'
+        local says='case $name in cicc.80 | ptxas.90) read -r line < k.cu; echo "k.cu:1: $name warns: $line" >&2; echo "$name says" ;; esac'
         call TOOL_DOES="$says" -c k.cu -o k.o
         cp "$room/err" "$room/err.first" && cp "$room/out" "$room/out.first"
         same lines "$(wc -l < "$room/err.first")" 2
@@ -142,9 +142,9 @@ stand_ins() {
         ran_none again
         same 'standard error' "$(cmp "$room/err" "$room/err.first" 2>&1)" ''
         same 'standard output' "$(cmp "$room/out" "$room/out.first" 2>&1)" ''
-        printf '%s\n' '// a line that messages may show' first > k.cu
+        printf '%s\n' '// a line that messages show' first > k.cu
         call TOOL_DOES="$says" -c k.cu -o k.o
-        ran 'once a file that messages name has changed' cicc.80 ptxas.90
+        ran 'once a file of which messages show lines has changed' cicc.80 ptxas.90
         end
     fi
     if case_of 'a failing command is run each time'; then

@@ -1,5 +1,4 @@
 //! What the cache keeps of a command.
-use crate::digest::Digest;
 use crate::marked::Marked;
 use serde::{Deserialize, Serialize};
 
@@ -18,8 +17,6 @@ pub struct Entry {
     pub outputs: Vec<Made>,
     pub out: Marked,
     pub errors: Marked,
-    /// Files of which its messages may show lines, and the digests of their contents.
-    pub shown: Vec<(Vec<u8>, Digest)>,
     /// The kind of terminal for which its messages are; empty if for none.
     pub terminal: Vec<u8>,
 }
@@ -47,7 +44,6 @@ mod tests {
             ],
             out: Marked::of(b"", b""),
             errors: Marked::of(b"k.cu:1: warning", b""),
-            shown: vec![(b"k.cu".to_vec(), Digest::of(b"text"))],
             terminal: b"xterm".to_vec(),
         }
     }

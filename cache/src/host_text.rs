@@ -123,16 +123,6 @@ pub fn sees_lines(text: &[u8]) -> bool {
     LINE_WORDS.iter().any(sees)
 }
 
-/// The files of a text's line markers that messages name.
-pub fn shown_files<'a>(text: &'a [u8], messages: &[u8]) -> BTreeSet<&'a [u8]> {
-    if messages.is_empty() {
-        return BTreeSet::new();
-    }
-    let names: BTreeSet<&[u8]> = markers(text).map(|(_, name, _)| name).collect();
-    let names = names.into_iter().filter(|name| !name.is_empty() && !name.starts_with(b"<"));
-    names.filter(|name| contains(messages, name)).collect()
-}
-
 /// Whether a text has eight hexadecimal digits, as nvcc writes a sum.
 fn is_sum(text: &str) -> bool {
     text.len() == 8 && text.bytes().all(|byte| byte.is_ascii_hexdigit())
@@ -178,15 +168,6 @@ mod tests {
         for (text, wanted) in cases {
             assert_eq!(compares_times(text.as_bytes()), wanted, "{text}");
         }
-    }
-
-    #[test]
-    fn messages_show_files() {
-        let text = b"# 1 \"k.cu\"\n# 1 \"<built-in>\"\n# 5 \"a b.h\" 1 3\n#pragma x\n# 2 \"other.h\"\n";
-        let shown: Vec<&[u8]> =
-            shown_files(text, b"k.cu:3: x\nIn file included from a b.h:2").into_iter().collect();
-        assert_eq!(shown, [&b"a b.h"[..], b"k.cu"]);
-        assert!(shown_files(text, b"").is_empty());
     }
 
     #[test]

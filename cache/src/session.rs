@@ -77,10 +77,10 @@ enum State {
     Fresh,
     /// What it reads is preprocessed.
     Asked,
-    /// The cache has nothing for it, and it has begun before all is there that it reads. With its text.
-    Begun(Box<Parts>, Vec<u8>),
+    /// The cache has nothing for it, and it has begun before all is there that it reads.
+    Begun(Box<Parts>),
     /// Nothing was found under its keys, and it runs.
-    Missed(Keys, Vec<u8>),
+    Missed(Keys),
     /// It has run, and the cache has what it made.
     Kept,
     Hit,
@@ -143,8 +143,7 @@ pub struct Session<'a> {
     tmp: &'a str,
     candidates: BTreeMap<usize, Candidate>,
     terminal: Vec<u8>,
-    /// When it began, in seconds, and by the clock: before that nothing was read but by nvcc's dry runs.
-    begun: f64,
+    /// When it began: before that nothing was read but by nvcc's dry runs.
     started: Moment,
     beginning: Beginning,
     /// Whether the user knows that nothing can be written.
@@ -212,7 +211,6 @@ impl<'a> Session<'a> {
             tmp,
             candidates: recipe::recipes(of_plan, tmp).into_iter().map(candidate).collect(),
             terminal: terminal(),
-            begun: now(),
             started: Moment::now(),
             beginning,
             has_complained: false,
@@ -276,10 +274,10 @@ impl<'a> Session<'a> {
     }
 
     /// What a task that has run depended on, beside what its preprocessor has entered: the text is all that
-    /// counts of that.
+    /// counts of that, unless a message may show lines.
     /// Errors: why that isn't known, or may not be what its text says: an edit may have come while it ran,
     /// and be undone later.
-    fn inputs_of(&mut self, task: usize, keys: &Keys, text: &[u8]) -> Result<Manifest, Refusal> {
+    fn inputs_of(&mut self, task: usize, keys: &Keys, speaks: bool) -> Result<Manifest, Refusal> {
         let changed = |what: &str| Refusal::Task(format!("{what} changed while a command ran"));
         let recipe = self
             .candidates
@@ -292,13 +290,14 @@ impl<'a> Session<'a> {
         }
         let given = &recipe.job.variables;
         let mut own = mem::take(&mut observed.own);
-        if recipe.question.is_some() {
+        if let Some((_, file)) = &recipe.question {
             let asked = self.observed(Subject::Question(task))?;
             own.retain(|file| !asked.own.contains(file));
             if let Some(path) = observed.read_otherwise(&asked) {
                 return Err(Refusal::Changed(path.clone()));
             }
-            let entered = host_text::files_entered(text).ok_or_else(|| changed("a file of an odd name"))?;
+            let text = content_of(file).unwrap_or_default();
+            let entered = host_text::files_entered(&text).ok_or_else(|| changed("a file of an odd name"))?;
             let entered: BTreeSet<PathBuf> = entered
                 .into_iter()
                 .map(|name| path_of(&recipe, name))
@@ -307,7 +306,7 @@ impl<'a> Session<'a> {
             self.reading().manifest(&asked, &entered, given)?;
             let cwd = &self.beginning.cwd;
             // (of the user's own sources comments and blanks count too: gcc looks at them before it warns)
-            if !recipe.has_own_source {
+            if !recipe.has_own_source && !speaks {
                 observed.leave_out(&asked, |path| entered.contains(&cwd.join(path)));
             }
         }
@@ -352,7 +351,7 @@ impl<'a> Session<'a> {
         let Some(candidate) = self.candidates.get_mut(&task) else { return Step::Ended(ended) };
         match mem::replace(&mut candidate.state, State::Own) {
             State::Asked if ended.is_silent_success() => self.look_up(task, ended.times),
-            State::Missed(keys, text) => self.ran(task, &keys, &text, ended),
+            State::Missed(keys) => self.ran(task, &keys, ended),
             _ => self.runs_alone(task),
         }
     }
@@ -364,13 +363,13 @@ impl<'a> Session<'a> {
         if !matches!(candidate.state, State::Fresh) || candidate.recipe.has_products() {
             return false;
         }
-        let Some((parts, text)) = self.parts(task) else {
+        let Some(parts) = self.parts(task) else {
             self.set(task, State::Own, None);
             return true;
         };
         let is_new = parts.marks().all(|mark| self.store.read(&mark).is_none());
         if is_new {
-            self.set(task, State::Begun(Box::new(parts), text), Some(false));
+            self.set(task, State::Begun(Box::new(parts)), Some(false));
         }
         is_new
     }
@@ -380,12 +379,12 @@ impl<'a> Session<'a> {
     pub fn caught_up(&mut self, task: usize) -> bool {
         let begun = |candidate: &&mut Candidate| matches!(candidate.state, State::Begun(..));
         let Some(candidate) = self.candidates.get_mut(&task).filter(begun) else { return false };
-        let State::Begun(parts, text) = mem::replace(&mut candidate.state, State::Own) else { return false };
+        let State::Begun(parts) = mem::replace(&mut candidate.state, State::Own) else { return false };
         let recipe = &candidate.recipe;
         let late = recipe.reads.iter().filter(|file| recipe.role_of(file) == Role::Late);
         let late: Option<Vec<Text>> =
             late.map(|file| Some(Text { role: Role::Late, content: content_of(file).ok()? })).collect();
-        let state = late.map_or(State::Own, |late| State::Missed(parts.keys(recipe, &late), text));
+        let state = late.map_or(State::Own, |late| State::Missed(parts.keys(recipe, &late)));
         self.set(task, state, None);
         true
     }
@@ -448,17 +447,13 @@ impl<'a> Session<'a> {
         Some(texts).filter(|texts| !texts.is_empty())
     }
 
-    /// A task's keys but for what it reads late, which isn't there yet, and the first text that it reads.
-    fn parts(&mut self, task: usize) -> Option<(Parts, Vec<u8>)> {
+    /// A task's keys but for what it reads late, which isn't there yet.
+    fn parts(&mut self, task: usize) -> Option<Parts> {
         let (start, texts) = self.asked(task, false)?;
         let recipe = &self.candidates.get(&task)?.recipe;
         let beside = start.clone().finish();
-        let parts = Parts(
-            Part::by_texts(start.clone(), recipe, &texts)?,
-            Part::by_tokens(start, recipe, &texts, self.store),
-            beside,
-        );
-        Some((parts, texts.into_iter().next()?.content))
+        let by_texts = Part::by_texts(start.clone(), recipe, &texts)?;
+        Some(Parts(by_texts, Part::by_tokens(start, recipe, &texts, self.store), beside))
     }
 
     /// What counts of a task beside the texts that it reads.
@@ -499,8 +494,7 @@ impl<'a> Session<'a> {
             return self.hit(task, taken);
         }
         let job = recipe.job.clone();
-        let text = texts.into_iter().next().map(|text| text.content).unwrap_or_default();
-        self.set(task, State::Missed(keys, text), Some(false));
+        self.set(task, State::Missed(keys), Some(false));
         Step::Instead(job)
     }
 
@@ -527,10 +521,8 @@ impl<'a> Session<'a> {
 
     /// Makes and says what an entry has. `None` if it doesn't fit, or can't be made here.
     fn take(&self, recipe: &Recipe, (entry, inputs): (Entry, Manifest), times: (f64, f64)) -> Option<Taken> {
-        let is_shown =
-            |(name, digest): &(Vec<u8>, Digest)| shown_file(recipe, name).is_some_and(|now| now == *digest);
-        let may_say = || entry.terminal == self.terminal && entry.shown.iter().all(is_shown);
-        if recipe.outputs.len() != entry.outputs.len() || (entry.speaks() && !may_say()) {
+        if recipe.outputs.len() != entry.outputs.len() || (entry.speaks() && entry.terminal != self.terminal)
+        {
             return None;
         }
         let (directory, mut products) = (self.tmp.as_bytes(), Vec::new());
@@ -549,8 +541,8 @@ impl<'a> Session<'a> {
         Some(Taken { ended, products, inputs })
     }
 
-    /// What to do with a task that has run, with the keys under which it's kept and its first text.
-    fn ran(&mut self, task: usize, keys: &Keys, text: &[u8], ended: Ended) -> Step {
+    /// What to do with a task that has run, with the keys under which it's kept.
+    fn ran(&mut self, task: usize, keys: &Keys, ended: Ended) -> Step {
         let Some(candidate) = self.candidates.get(&task) else { return Step::Ended(ended) };
         let recipe = &candidate.recipe;
         let moved = || recipe.outputs.iter().filter(|output| output.path != output.written_to);
@@ -563,8 +555,8 @@ impl<'a> Session<'a> {
         let Some(products) = may_move.then(|| moved().map(put).collect::<Option<Vec<_>>>()).flatten() else {
             return self.runs_alone(task);
         };
-        if let Some(entry) = self.entry_of(recipe, text, &ended).filter(|_| ended.status.succeeded()) {
-            let inputs = self.inputs_of(task, keys, text);
+        if let Some(entry) = self.entry_of(recipe, &ended).filter(|_| ended.status.succeeded()) {
+            let inputs = self.inputs_of(task, keys, entry.speaks());
             if let Ok(inputs) = &inputs {
                 self.keep(keys, inputs, &entry);
                 self.set(task, State::Kept, None);
@@ -593,15 +585,8 @@ impl<'a> Session<'a> {
         }
     }
 
-    /// A file that messages name, if it hasn't changed since a preprocessor may have read it.
-    fn shown(&self, recipe: &Recipe, name: &[u8]) -> Option<(Vec<u8>, Digest)> {
-        let changed = fs::metadata(path_of(recipe, name)).ok()?.modified().ok()?;
-        let is_old = changed.elapsed().is_ok_and(|age| age.as_secs_f64() > now() - self.begun);
-        Some((name.to_vec(), shown_file(recipe, name).filter(|_| is_old)?))
-    }
-
     /// The entry of a task that has run, if it may have one.
-    fn entry_of(&self, recipe: &Recipe, text: &[u8], ended: &Ended) -> Option<Entry> {
+    fn entry_of(&self, recipe: &Recipe, ended: &Ended) -> Option<Entry> {
         let modes = new_modes()?;
         let outputs =
             recipe.outputs.iter().map(|output| made(recipe, output, modes)).collect::<Option<_>>()?;
@@ -614,16 +599,8 @@ impl<'a> Session<'a> {
             is_named || recipe.stem.as_ref().is_some_and(|stem| contains(&messages, stem.as_bytes()));
         // If an assembler alone says something, nvcc makes the call.
         let is_odd = recipe.is_assembly() && !messages.is_empty();
-        // (gcc seeks a file again to show its line; nvcc's tools show that of their text, also if the file is
-        // gone)
-        let is_sought = |name: &&[u8]| recipe.kind == Kind::Host || path_of(recipe, name).exists();
-        let shown = host_text::shown_files(text, &messages)
-            .into_iter()
-            .filter(is_sought)
-            .map(|name| self.shown(recipe, name));
-        let shown = shown.collect::<Option<_>>()?;
         let terminal = if messages.is_empty() { Vec::new() } else { self.terminal.clone() };
-        (!is_named && !is_odd).then_some(Entry { outputs, out, errors, shown, terminal })
+        (!is_named && !is_odd).then_some(Entry { outputs, out, errors, terminal })
     }
 }
 
@@ -649,11 +626,6 @@ fn made(recipe: &Recipe, output: &Output, modes: u32) -> Option<Made> {
         return None;
     }
     Some(Made::File(marked))
-}
-
-/// The digest of a file that messages name.
-fn shown_file(recipe: &Recipe, name: &[u8]) -> Option<Digest> {
-    content_of(&path_of(recipe, name)).ok().map(|text| Digest::of(&text))
 }
 
 /// Whether a product has the name of its file in it, which isn't its own yet.
@@ -737,17 +709,15 @@ mod tests {
             )
         };
         fs::write(&recipe.reads[0], "int one;\n").unwrap();
-        let (early, texts) = parts(false);
+        let (early, _) = parts(false);
         fs::write(&recipe.reads[1], "an id").unwrap();
-        let (store, state) = (store(), State::Begun(Box::new(early), texts[0].content.clone()));
+        let (store, state) = (store(), State::Begun(Box::new(early)));
         let mut session = Session::new(&store, "/t", &[], &[], Beginning::new("/none", "/", &[]));
         session.candidates.insert(7, Candidate::new(recipe.clone(), state));
         assert!(session.caught_up(7) && !session.caught_up(7) && !session.caught_up(8));
-        let State::Missed(keys, text) = &session.candidates[&7].state else {
-            panic!("it runs, and is to be kept")
-        };
+        let State::Missed(keys) = &session.candidates[&7].state else { panic!("it runs, and is to be kept") };
         let (late, texts) = parts(true);
-        assert_eq!((keys, text, keys.marks.len()), (&late.keys(&recipe, &texts), &texts[0].content, 2));
+        assert_eq!((keys, keys.marks.len()), (&late.keys(&recipe, &texts), 2));
     }
 
     #[test]
@@ -774,17 +744,6 @@ mod tests {
     }
 
     #[test]
-    fn only_gcc_seeks_a_file_again_to_show_its_line() {
-        let store = store();
-        let session = Session::new(&store, "/t", &[], &[], Beginning::new("/none", "/", &[]));
-        let has_entry = |kind: Kind| {
-            let ended = warned("no-such.h(3): warning\n");
-            session.entry_of(&recipe(kind, Vec::new()), b"# 1 \"no-such.h\"\n", &ended).is_some()
-        };
-        assert_eq!([Kind::Host, Kind::Cicc, Kind::CudaFe].map(has_entry), [false, true, true]);
-    }
-
-    #[test]
     fn only_messages_are_for_a_kind_of_terminal() {
         let store = store();
         let session = Session {
@@ -792,7 +751,7 @@ mod tests {
             ..Session::new(&store, "/t", &[], &[], Beginning::new("/none", "/", &[]))
         };
         let recipe = recipe(Kind::Host, Vec::new());
-        let terminal_of = |errors: &str| session.entry_of(&recipe, b"", &warned(errors)).unwrap().terminal;
+        let terminal_of = |errors: &str| session.entry_of(&recipe, &warned(errors)).unwrap().terminal;
         assert_eq!([terminal_of(""), terminal_of("warns\n")], [&b""[..], b"xterm"]);
     }
 }
