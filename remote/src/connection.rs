@@ -35,7 +35,7 @@ const WINDOW: u32 = 4 << 20;
 const MOST_IN_MESSAGE: usize = (4 << 20) - (64 << 10);
 
 /// What a server can do.
-#[derive(Clone, Copy, PartialEq, Eq, Debug)]
+#[derive(Clone, Copy, PartialEq, Eq, Debug, Default)]
 pub struct Abilities {
     /// Whether it runs actions, and takes results of others.
     pub executes: bool,
@@ -144,22 +144,23 @@ fn unanswered(why: String, is_secure: bool) -> Failure {
 }
 
 impl Connection {
-    /// Reaches a server, and asks what it can do.
-    pub async fn open(server: &Server, settings: &Settings) -> Result<Connection, Failure> {
+    /// Reaches a server, and asks what it can do, unless that is known.
+    pub async fn open(
+        server: &Server,
+        settings: &Settings,
+        known: Option<Abilities>,
+    ) -> Result<Connection, Failure> {
         let (endpoint, bearer) = (endpoint(server, settings)?, bearer(settings)?);
         let reached = timeout(REACHING, endpoint.connect()).await;
         let channel = reached
             .map_err(|_| Failure::Unreachable("no answer in time".into()))?
             .map_err(|error| unreached(with_causes(&error)))?;
-        let abilities = Abilities {
-            executes: false,
-            takes_results: false,
-            most_in_message: MOST_IN_MESSAGE,
-            has_zstd: false,
-            takes_zstd: false,
-        };
         let (name, instance) = (server.name.clone(), settings.instance.clone());
+        let abilities = known.unwrap_or_default();
         let mut connection = Connection { name, instance, abilities, channel, bearer, sent: 0, received: 0 };
+        if known.is_some() {
+            return Ok(connection);
+        }
         let capabilities = connection.capabilities().await.map_err(|failure| match failure {
             Failure::Unreachable(why) => unanswered(why, server.is_secure),
             other => other,

@@ -2,20 +2,13 @@
 use crate::api::v2::Digest;
 use prost::Message;
 use sha2::{Digest as _, Sha256};
-use std::fmt::Write as _;
 use std::fs::File;
-use std::io::{self, Read};
+use std::io;
 use std::path::{Path, PathBuf};
 
-/// How many bytes are read at once.
-const PART: usize = 1 << 16;
-
 fn hexadecimal(bytes: &[u8]) -> String {
-    bytes.iter().fold(String::with_capacity(2 * bytes.len()), |mut text, byte| {
-        // (a `String` takes all that is written to it)
-        let _ = write!(text, "{byte:02x}");
-        text
-    })
+    let digit = |half: u8| char::from(b"0123456789abcdef"[usize::from(half)]);
+    bytes.iter().flat_map(|byte| [digit(byte >> 4), digit(byte & 15)]).collect()
 }
 
 fn of_parts(hash: Sha256, size: u64) -> Digest {
@@ -31,15 +24,9 @@ pub fn digest_of(content: &[u8]) -> Digest {
 /// The digest of a file's content.
 /// An error if it can't be read.
 pub fn digest_of_file(path: &Path) -> io::Result<Digest> {
-    let (mut file, mut hash, mut size, mut part) = (File::open(path)?, Sha256::new(), 0, vec![0; PART]);
-    loop {
-        let read = file.read(&mut part)?;
-        if read == 0 {
-            return Ok(of_parts(hash, size));
-        }
-        hash.update(&part[..read]);
-        size += read as u64;
-    }
+    let mut hash = Sha256::new();
+    let size = io::copy(&mut File::open(path)?, &mut hash)?;
+    Ok(of_parts(hash, size))
 }
 
 /// Where a content is.

@@ -7,6 +7,7 @@ pub mod connection;
 pub mod digest;
 pub mod failure;
 pub mod home;
+pub mod known;
 pub mod note;
 pub mod outputs;
 pub mod program;

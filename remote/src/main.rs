@@ -16,7 +16,7 @@ fn main() {
             0
         }
         Ok(Asked::Check) => program::check(),
-        Ok(Asked::Command(command)) => program::run(&command, &environment),
+        Ok(Asked::Command(command)) => program::run(*command, &environment),
         Err(error) => {
             eprint!("zigrunk-remote: {error}\n{USAGE}");
             UNDERSTOOD_NOTHING

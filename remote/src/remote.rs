@@ -5,7 +5,7 @@ use crate::api::v2::{
     ActionResult, ExecuteRequest, ExecuteResponse, GetActionResultRequest, UpdateActionResultRequest,
     WaitExecutionRequest,
 };
-use crate::connection::Connection;
+use crate::connection::{Abilities, Connection};
 use crate::digest::{Blob, digest_of};
 use crate::failure::{Failure, is_transient};
 use crate::note::Way;
@@ -45,8 +45,9 @@ pub async fn ask(
     server: &Server,
     settings: &Settings,
     action: &Action,
+    known: Option<Abilities>,
 ) -> Result<(Answer, Connection), Failure> {
-    let mut connection = Connection::open(server, settings).await?;
+    let mut connection = Connection::open(server, settings, known).await?;
     let found = found(&mut connection, action).await?;
     if let Some(made) = found {
         return Ok((Answer::Made(made, Way::Found), connection));

@@ -146,6 +146,18 @@ fn a_server_runs_commands() {
 }
 
 #[test]
+fn a_call_asks_once_what_a_server_can_do() {
+    let (server, call) = (Fake::new(State::default()), Call::new());
+    for text in ["one", "another", "one"] {
+        call.reads("k.ptx", text.as_bytes());
+        call.runs_well(&name(&server), "run");
+    }
+    let calls = server.state().calls.clone();
+    let count = |wanted| calls.iter().filter(|call| **call == wanted).count();
+    assert_eq!((count("capabilities"), count("result"), count("execute")), (1, 3, 2));
+}
+
+#[test]
 fn large_contents_go_in_streams() {
     let (server, call) = (Fake::new(State::default()), Call::new());
     call.reads("k.ptx", &b"some text\n".repeat(500_000));
