@@ -53,37 +53,46 @@ list() {
     done > list
 }
 
-# objects COUNT: a line for each object that isn't nvcc's. Symbols that strip removes hold nvcc's random file names.
-objects() {
-    for number in $(seq "$1"); do
-        nvcc -gencode=arch=compute_80,code=sm_80 -gencode=arch=compute_90,code=sm_90 -c "k$number.cu" -o right.o
-        objcopy --strip-unneeded right.o one && objcopy --strip-unneeded "k$number.o" two && cmp one two
-    done 2>&1
-}
+# alike OBJECT NVCCS: whether an object is nvcc's. Symbols that strip removes hold nvcc's random file names.
+alike() { objcopy --strip-unneeded "$1" one && objcopy --strip-unneeded "$2" two && cmp one two; }
 
 # by_slurm PARTS WORD..: makes the list of this folder on the lane's nodes.
 by_slurm() {
     timeout 900 "$examples/slurm.sh" list "$1" -p "lane$lane" "${@:2}" > out 2>&1
 }
 
-# took WHAT SECONDS IDEAL: says how long something took, beside the ideal.
-took() {
-    echo "$1: $2 s, ideal $3 s, $(awk "BEGIN { printf \"%.2f\", $2 / $3 }") of it; load $(cut -d' ' -f1 /proc/loadavg)"
+# field: puts the sources of darknet here, as Debian has them and tests/field names their file.
+field() {
+    local sum path file folder=${ZIGRUNK_FIELD:-${XDG_CACHE_HOME:-$HOME/.cache}/zigrunk/field}/files
+    read -r _ sum path < <(grep '^archive' "$here/field/darknet.sh")
+    file=$folder/${path##*/}
+    mkdir -p "$folder"
+    [ -e "$file" ] || { curl -fsSL --connect-timeout 20 -o "$file.$$" "https://deb.debian.org/debian/pool/$path" && mv "$file.$$" "$file"; } || return
+    sha256sum --status -c <<< "$sum  $file" && tar -x -f "$file" --strip-components=1
 }
 
+# Twenty sources of two projects: ten of darknet, by the lines of its own makefile, and ten of tests/project.sh.
 real() {
-    mkdir "$scratch/real" && cd "$scratch/real" || return
-    lane=1 list 20
+    mkdir "$scratch/real" "$scratch/nvcc" && cd "$scratch/real" || return
+    field || { skip 'real sources on Slurm' 'the sources of darknet are not there' && return; }
+    mkdir obj
+    "$here/project.sh" twelve
+    {
+        (cd src && printf 'obj/%s\n' *.cu) | sed 's/cu$/o/' | xargs make -n GPU=1 ARCH="$targets"
+        for number in {1..10}; do echo "nvcc $targets -rdc=true -DNAME='\"a name\"' -Itwelve/include '-Itwelve/more headers' -c twelve/$number.cu -o obj/$number.o"; done
+    } > list
+    xargs -P 4 -d '\n' -n 1 sh -c < list > "$scratch/nvcc/said" 2>&1
+    mv obj/*.o "$scratch/nvcc"
     lane=1 by_slurm 6
     same 'status of twenty calls of nvcc' "$?$(grep -v '^$' out)" 0
-    same 'objects of twenty calls of nvcc' "$(objects 20)" ''
+    same 'objects of twenty real sources' "$(for object in obj/*.o; do alike "$object" "$scratch/nvcc/${object##*/}" && echo alike; done 2>&1 | sort | uniq -c | xargs)" '20 alike'
     lane=1 by_slurm 6
     same 'tasks if nothing is missing' "$?$(cat out)$(grep -c . .zigrunk-batch/tasks)" "0$(grep -c . .zigrunk-batch/tasks)"
-    echo 'not a kernel' > k7.cu
+    echo 'not a kernel' > src/im2col_kernels.cu
     lane=1 by_slurm 6
     same 'status of a call that fails' $? 2
-    same 'a call that fails, on two nodes' "$(grep -cE '^line 7: exit status 2 on n[0-9]+ and n[0-9]+' out)" 1
-    same 'other calls that are missing' "$(zigrunk batch --missing list | grep -vc '^line 7:')" 0
+    same 'a call that fails, on two nodes' "$(grep -cE '^line 9: exit status 2 on n[0-9]+ and n[0-9]+' out)" 1
+    same 'other calls that are missing' "$(zigrunk batch --missing list | grep -vc '^line 9:')" 0
 }
 
 # The stand-ins of the driver's tests: no work but that of zigrunk, Slurm and the shell. Both cicc of a call sleep as long as real ones take, so the
@@ -109,7 +118,7 @@ many() {
     times > "$scratch/times"
     awk -F '[ms ]+' -v commands=$((count * 11)) 'NR == 2 { print 1000 * (60 * ($1 + $3) + $2 + $4) / commands }' "$scratch/times" > "$scratch/each"
     echo "processor of the submitting machine: $(cat "$scratch/each") ms for each of $((count * 11)) commands"
-    took "$count calls on three nodes" "$took" "$ideal"
+    echo "$count calls on three nodes: $took s, ideal $ideal s, $(awk "BEGIN { printf \"%.3f\", $took / $ideal }") of it; load $(cut -d' ' -f1 /proc/loadavg)"
     same 'many calls take at most 1.05 of the ideal time, and 0.1 ms of processor a command' "$(awk "{ print ($took <= 1.05 * $ideal && \$1 <= 0.1) }" "$scratch/each")" 1
     same 'products of many calls' "$(find . -name 'k*.o' | wc -l)" "$count"
     begun=$EPOCHREALTIME
@@ -125,28 +134,17 @@ ssh() {
     done
     mkdir -p "$scratch/ssh" "$keys" /run/sshd && cd "$scratch/ssh" || return
     ssh-keygen -q -t ed25519 -N '' -f "$keys/host" && ssh-keygen -q -t ed25519 -N '' -f "$keys/user"
-    cat > "$keys/sshd_config" << END
-HostKey $keys/host
-Port $port
-ListenAddress 127.0.0.1
-AuthorizedKeysFile $keys/user.pub
-StrictModes no
-UsePAM no
-PermitRootLogin yes
-PidFile $keys/pid
-END
     printf '%s\n' '#!/bin/sh' "exec /usr/bin/ssh -F $keys/config \"\$@\"" > "$scratch/links/ssh"
     chmod +x "$scratch/links/ssh"
-    for name in one two gone; do
-        printf 'Host %s\nHostName 127.0.0.1\nPort %s\nUser root\nIdentityFile %s\nUserKnownHostsFile /dev/null\nStrictHostKeyChecking no\nLogLevel ERROR\n' \
-            "$name" "$([ "$name" = gone ] && echo 1 || echo "$port")" "$keys/user"
-    done > "$keys/config"
-    "$(PATH=$PATH:/usr/sbin type -P sshd)" -f "$keys/sshd_config" || { skip 'GNU parallel over ssh' 'sshd does not start' && return; }
+    printf '%s\n' 'Host one two' "Port $port" 'Host gone' 'Port 1' 'Host *' 'HostName 127.0.0.1' 'User root' "IdentityFile $keys/user" \
+        'UserKnownHostsFile /dev/null' 'StrictHostKeyChecking no' 'LogLevel ERROR' > "$keys/config"
+    "$(PATH=$PATH:/usr/sbin type -P sshd)" -f /dev/null -h "$keys/host" -p "$port" -o ListenAddress=127.0.0.1 -o "AuthorizedKeysFile=$keys/user.pub" \
+        -o StrictModes=no -o UsePAM=no -o PermitRootLogin=yes -o "PidFile=$keys/pid" || { skip 'GNU parallel over ssh' 'sshd does not start' && return; }
     list 6
     printf '%s\n' '# machines' 1/one 2/two gone > machines
     timeout 300 "$examples/parallel.sh" list 3 machines > out 2>&1
     same 'status by GNU parallel' $? 0
-    same 'objects by GNU parallel' "$(objects 6)" ''
+    same 'objects by GNU parallel' "$(for number in {1..6}; do sh -c "$(sed -n "${number}s/k[0-9]*.o$/right.o/p" list)" && alike "k$number.o" right.o; done 2>&1)" ''
     same 'machines by GNU parallel' "$(sort .zigrunk-batch/fit | tr '\n' ' ')" '1/one 2/two '
     echo 'not a kernel' > k3.cu
     timeout 300 "$examples/parallel.sh" list 3 machines > out 2>&1
@@ -175,10 +173,10 @@ prepare() {
     case $1 in
     no_disk) echo "mount -t tmpfs -o size=1M none '$local'" ;;
     no_share) echo "mount -t tmpfs none '$folder'" ;;
-    no_toolkit) echo "mount -t tmpfs none '$scratch/tools'" ;;
-    other_toolkit) echo "mount --bind '$scratch/other.py' '$scratch/tools/tool.py'" ;;
-    other_header) echo "mount --bind '$scratch/other.py' '$header'" ;;
-    clock) echo "mount --bind '$scratch/later' '$scratch/links'" ;;
+    no_toolkit) echo "mount -t tmpfs none '$top/tools'" ;;
+    other_toolkit) echo "mount --bind '$top/other.py' '$top/tools/tool.py'" ;;
+    other_header) echo "mount --bind '$top/other.py' '$header'" ;;
+    clock) echo "mount --bind '$top/later' '$top/links'" ;;
     esac
 }
 
@@ -205,12 +203,12 @@ back() {
 
 # dies NUMBER: a list of twelve calls, of whose three nodes one dies in a way and at a moment that SEED and the number draw.
 dies() {
-    local kind node count folder=$scratch/lane.$lane
+    local kind node count folder=$scratch
     RANDOM=$((SEED + $1))
     read -ra all <<< "$KINDS"
     kind=${all[RANDOM % ${#all[@]}]} node=$((3 * lane - RANDOM % 3)) count=$((RANDOM % 12 + 1))
     rm -rf "${folder:?}"/{*,.z*}
-    cp "$scratch"/right/{list,k*.cu} "$folder" && cd "$folder" || return
+    cp "$top"/right/{list,k*.cu} "$folder" && cd "$folder" || return
     if [[ " $PREPARED " == *" $kind "* ]]; then
         end_processes "$node"
         PREPARE=$(prepare "$kind") start_node "$node"
@@ -226,15 +224,15 @@ dies() {
     fi
     wait "$job"
     same "$1: status and missing calls, $kind on n$node" "$?$(zigrunk batch --missing list)$(grep -v '^slurm.sh: ' out | grep -c 'is missing')" 00
-    same "$1: objects, $kind on n$node" "$(for number in $(seq 12); do cmp "$scratch/right/k$number.o" "k$number.o"; done 2>&1)" ''
+    same "$1: objects, $kind on n$node" "$(for number in $(seq 12); do cmp "$top/right/k$number.o" "k$number.o"; done 2>&1)" ''
     [[ $kind =~ ^(no_|other_|clock) ]] && same "$1: commands on n$node, $kind" "$(grep -cs "^start n$node cicc " log)" 0
-    echo "$kind $SECONDS" >> "$scratch/deaths"
+    echo "$kind" >> "$run/kinds"
     back "$node"
     same "$1: processes left, $kind" "$(for number in 2 1 0; do processes_of $((3 * lane - number)); done | xargs -r ps -o args= -p | grep -c tools/)" 0
 }
 
 deaths() {
-    local lane number
+    local lane top=$scratch
     header=$(nvcc --dryrun -c x.cu 2>&1 | sed -n 's/^#\$ INCLUDES="-I\([^"]*\)".*/\1/p')/cuda.h
     { cat "$scratch/tools/tool.py" && echo '# another version'; } > "$scratch/other.py"
     chmod +x "$scratch/other.py"
@@ -247,21 +245,9 @@ deaths() {
     list 12
     zigrunk batch list > out 2>&1
     same 'status on this machine alone' "$?$(cat out)" 0
-    for lane in $(seq "$partitions"); do
-        mkdir "$scratch/lane.$lane"
-        {
-            for number in $(seq "$lane" "$partitions" "${DEATHS:-60}"); do dies "$number"; done
-            echo "$passed $failed" > "$scratch/counts.$lane"
-        } > "$scratch/said.$lane" 2>&1 &
-    done
-    passed_before=$passed failed_before=$failed
-    wait
-    for lane in $(seq "$partitions"); do
-        cat "$scratch/said.$lane"
-        read -r passed_there failed_there < "$scratch/counts.$lane" || failed_there=$((failed_before + 1)) passed_there=$passed_before
-        passed=$((passed + passed_there - passed_before)) failed=$((failed + failed_there - failed_before))
-    done
-    echo "deaths with SEED=$SEED: $(cut -d' ' -f1 "$scratch/deaths" | sort | uniq -c | awk '{ printf "%s%s %s", sep, $2, $1; sep = ", " }')"
+    for lane in $(seq "$partitions"); do lane "$lane" deaths_of_lane "$partitions"; done
+    join_lanes
+    echo "deaths with SEED=$SEED: $(counted kinds)"
 }
 
 set -m
@@ -271,19 +257,8 @@ set -m
         summary
         exit 1
     fi
-    for part in ${PARTS:-real many ssh kubernetes deaths}; do
-        begun=$SECONDS
-        # (its variables go with it)
-        (
-            # shellcheck disable=SC2030 # they go to a file
-            passed=0 failed=0 skipped=0
-            "$part"
-            echo "$passed $failed $skipped" > "$scratch/part"
-        )
-        # shellcheck disable=SC2031
-        read -r good bad absent < "$scratch/part" && passed=$((passed + good)) failed=$((failed + bad)) skipped=$((skipped + absent))
-        echo "$part: $((SECONDS - begun)) s"
-    done
+    # shellcheck disable=SC2086 # several parts
+    run_parts ${PARTS:-real many ssh kubernetes deaths}
     summary
 } &
 parts=$!

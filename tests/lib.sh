@@ -112,6 +112,26 @@ join_lanes() {
     lanes=() processes=()
 }
 
+# run_parts PART..: runs parts of a script, each a function, whose variables go with it, and says how long each takes.
+run_parts() {
+    local part begun good bad absent
+    for part; do
+        [ "$(type -t "$part")" = function ] || { count "$part" 'no such part' && continue; }
+        begun=$SECONDS
+        rm -f "$scratch/part"
+        # shellcheck disable=SC2030,SC2031 # the counts go to a file
+        (
+            passed=0 failed=0 skipped=0
+            "$part"
+            echo "$passed $failed $skipped" > "$scratch/part"
+        )
+        read -r good bad absent 2> /dev/null < "$scratch/part" || good=0 bad=1 absent=0
+        # shellcheck disable=SC2031
+        passed=$((passed + good)) failed=$((failed + bad)) skipped=$((skipped + absent))
+        echo "$part: $((SECONDS - begun)) s"
+    done
+}
+
 # summary: prints the last line. Returns 1 if a case failed, or if there was none.
 summary() {
     if [ $((passed + failed + skipped)) -eq 0 ]; then

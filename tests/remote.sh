@@ -29,26 +29,33 @@ stop() {
 trap stop EXIT
 trap 'exit 130' HUP INT TERM
 
-# build: driver, client and the tests' server, in a workspace of their own.
+features=zigrunk-remote/server
+! pkg-config --exists 'libzstd >= 1.5.6' 2> /dev/null || features+=,zigrunk-remote/zstd
+
+# build: driver, client and the tests' programs, in a workspace of their own.
 build() {
-    local features=zigrunk-remote/server
-    ! pkg-config --exists 'libzstd >= 1.5.6' 2> /dev/null || features+=,zigrunk-remote/zstd
     cargo run --quiet --manifest-path rust/Cargo.toml -p eraser -- --unformatted --remote "--crates=$crates" . "$workspace" &&
         (cd "$workspace" && cargo build --quiet ${release:+"$release"} -p zigrunk-driver -p zigrunk-remote --features "$features" --bins --examples) &&
         ln -sf zigrunk-driver "$bin/zigrunk-nvcc" && ln -sf zigrunk-driver "$bin/zigrunk"
 }
 
 # (what it prints would hide the last line)
-own_tests() {
-    local features=server
-    ! pkg-config --exists 'libzstd >= 1.5.6' 2> /dev/null || features+=,zstd
-    (cd "$workspace" && cargo test --quiet -p zigrunk-remote --features "$features")
-}
+own_tests() { (cd "$workspace" && cargo test --quiet -p zigrunk-remote --features "$features"); }
 
 [ "${1-}" != --buildbox ] || boxes=$(tests/remote/buildbox.sh out/buildbox) || exit 1
 [ -n "${BIN-}" ] || build > "$scratch/built" 2>&1 || { tail -n 30 "$scratch/built"; count build 'it failed'; summary; exit 1; }
 [ -n "$boxes${BIN-}" ] || check 'tests of the crate' own_tests
 command -v nvcc > /dev/null || { skip 'calls by a server' 'nvcc is not on the path'; summary; exit; }
+
+# answers ADDRESS: waits until a server there answers.
+answers() {
+    for _ in {1..100}; do
+        ZIGRUNK_REMOTE=$1 "$bin/zigrunk-remote" --check > "$scratch/checked.${1##*/}" 2>&1 && return
+        sleep 0.1
+    done
+    cat "$scratch/checked.${1##*/}"
+    return 1
+}
 
 # start: a server here, whose address is $address.
 start() {
@@ -57,12 +64,8 @@ start() {
         "$boxes/buildbox-casd" --buildbox-run="$boxes/buildbox-run-hosttools" --jobs=2 --bind=127.0.0.1:50571 "$scratch/storage" > "$scratch/casd" 2>&1 &
         server=$!
         disown
-        for _ in {1..100}; do
-            ZIGRUNK_REMOTE=$address "$bin/zigrunk-remote" --check > "$scratch/checked" 2>&1 && return
-            sleep 0.1
-        done
-        cat "$scratch/checked"
-        return 1
+        answers "$address"
+        return
     fi
     rm -f "$scratch/held" && mkfifo "$scratch/held"
     "$bin/examples/server" < "$scratch/held" > "$scratch/address" &
@@ -102,14 +105,17 @@ call() {
     status=$?
 }
 
-# ways: how the last call's commands came to their ends, and how often, with the bytes that were sent.
+# ways LOG [NAME]..: how commands by servers came to their ends, and how often, by what their notes have under these names; the bytes that were sent,
+# and to how many servers.
 ways() {
-    python3 - "$room/log" << 'END_OF_PROGRAM'
+    python3 - "$@" << 'END_OF_PROGRAM'
 import collections, json, sys
-notes = [command["remote"] for line in open(sys.argv[1]) for command in json.loads(line)["commands"] if "remote" in command]
-print(*(f"{way} {count}" for way, count in sorted(collections.Counter(note["way"] for note in notes).items())), "sent", sum(note["sent"] for note in notes))
+notes = [command["remote"] for line in open(sys.argv[1]) for command in json.loads(line).get("commands", []) if "remote" in command]
+found = collections.Counter(" ".join(note[name] for name in ["way", *sys.argv[2:]]) for note in notes)
+print(*(f"{way} {count}" for way, count in sorted(found.items())), "sent", sum(note["sent"] for note in notes), "to", len({note["server"] for note in notes}))
 END_OF_PROGRAM
 }
+much() { sed 's/sent [1-9][0-9]*/sent much/'; }
 
 alike() { cmp -s "$1" "$2" || problems+="  $1 and $2 differ"$'\n'; }
 device_code() { objcopy -O binary -j .nv_fatbin "$1" "$1.device"; }
@@ -120,10 +126,10 @@ calls() {
         nvcc "${targets[@]}" -c k.cu -o nvcc.o
         call first.o "ZIGRUNK_REMOTE=$address"
         same 'status and words' "$status $(cat err)" '0 '
-        same 'first ways' "$(ways | sed 's/ sent.*//')" 'kept 6'
+        same 'first ways' "$(ways "$room/log" | much)" 'kept 6 sent much to 1'
         mkdir "$room/elsewhere"
         call second.o "ZIGRUNK_REMOTE=$address" "TMPDIR=$room/elsewhere" HOME=/nowhere
-        same 'second ways' "$(ways)" 'found 6 sent 0'
+        same 'second ways' "$(ways "$room/log")" 'found 6 sent 0 to 1'
         alike alone.o first.o && alike alone.o second.o
         for object in nvcc second; do device_code "$object.o"; done
         alike nvcc.o.device second.o.device
@@ -134,10 +140,10 @@ calls() {
         call alone.o
         call run.o "ZIGRUNK_REMOTE=$address" ZIGRUNK_REMOTE_USE=run
         same 'status and words' "$status $(cat err)" '0 '
-        same ways "$(ways | sed 's/ sent.*//')" 'ran 6'
+        same ways "$(ways "$room/log" | much)" 'ran 6 sent much to 1'
         alike alone.o run.o
         call again.o "ZIGRUNK_REMOTE=$address"
-        same 'ways of the cache' "$(ways)" 'found 6 sent 0'
+        same 'ways of the cache' "$(ways "$room/log")" 'found 6 sent 0 to 1'
         alike alone.o again.o
         end_case
     fi
@@ -146,7 +152,7 @@ calls() {
         call alone.o -lineinfo
         call lines.o "ZIGRUNK_REMOTE=$address" -lineinfo
         same 'status and words' "$status $(cat err)" '0 '
-        same ways "$(ways | grep -o 'own [0-9]*')" 'own 4'
+        same ways "$(ways "$room/log" | grep -o 'own [0-9]*')" 'own 4'
         alike alone.o lines.o
         end_case
     fi
@@ -186,20 +192,6 @@ if [[ $parts =~ machines|run|deaths ]]; then
     start_machines "${LANES:-3}" || { count machines 'they do not start'; summary; exit 1; }
 fi
 if [[ $parts =~ calls|costs|others ]]; then start || { count 'a server' 'it did not start'; summary; exit 1; }; fi
-for part in $parts; do
-    [ "$(type -t "$part")" = function ] || { count "$part" 'no such part' && continue; }
-    begun=$SECONDS
-    rm -f "$scratch/part"
-    # (what it sets goes with it)
-    (
-        # shellcheck disable=SC2030 # they go to a file
-        passed=0 failed=0 skipped=0
-        "$part"
-        echo "$passed $failed $skipped" > "$scratch/part"
-    )
-    read -r good bad absent 2> /dev/null < "$scratch/part" || good=0 bad=1 absent=0
-    # shellcheck disable=SC2031
-    passed=$((passed + good)) failed=$((failed + bad)) skipped=$((skipped + absent))
-    [ -z "$boxes" ] || echo "$part: $((SECONDS - begun)) s"
-done
+# shellcheck disable=SC2086 # several parts
+run_parts $parts
 summary

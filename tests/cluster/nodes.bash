@@ -78,3 +78,14 @@ stop_nodes() {
     done
     ! ip link show "$bridge" > /dev/null 2>&1 || ip link del "$bridge"
 }
+
+# deaths_of_lane LANES: of all deaths, 60 unless DEATHS says how many, those of this lane, each by a function `dies`.
+deaths_of_lane() {
+    local number
+    for number in $(seq "$lane" "$1" "${DEATHS:-60}"); do dies "$number"; done
+}
+
+# counted FILE: the lines of a file that lanes have written, each with how often it is there.
+counted() {
+    sort "$run/$1" | uniq -c | awk '{ printf "%s%s %s", sep, $2, $1; sep = ", " }'
+}

@@ -9,24 +9,16 @@ start_node() {
     HWLOC_COMPONENTS=-x86 on_node "$1" slurmd -N "n$1" -f "$SLURM_CONF" -c
 }
 
-start_controller() {
-    slurmctld "$@" -f "$SLURM_CONF" && sleep 1 && kill -0 "$(cat "$run/slurmctld.pid")"
-}
-
-start_munge() {
-    munge=$run/munge
-    mkdir "$munge"
-    chmod 755 "$munge"
-    dd if=/dev/urandom of="$munge/key" bs=1 count=1024 2> /dev/null
-    chmod 400 "$munge/key"
-    munged --force --key-file="$munge/key" --socket="$munge/socket" --pid-file="$munge/pid" --log-file="$munge/log" --seed-file="$munge/seed"
-}
-
 start_slurm() {
     local number port=$((20000 + $$ % 5000 * 2))
     mkdir -p "$run/state"
     chmod 755 "$run"
-    start_munge || return
+    munge=$run/munge
+    mkdir "$munge"
+    chmod 755 "$munge"
+    head -c 1024 /dev/urandom > "$munge/key"
+    chmod 400 "$munge/key"
+    munged --force --key-file="$munge/key" --socket="$munge/socket" --pid-file="$munge/pid" --log-file="$munge/log" --seed-file="$munge/seed" || return
     export SLURM_CONF=$run/slurm.conf
     cat > "$SLURM_CONF" << END
 SlurmdTimeout=${SLURMD_TIMEOUT:-10}
@@ -41,7 +33,6 @@ SlurmctldHost=$(hostname -s)($address)
 SlurmctldPort=$port
 SlurmdPort=$((port + 1))
 SlurmUser=root
-SlurmdUser=root
 StateSaveLocation=$run/state
 SlurmctldPidFile=$run/slurmctld.pid
 SlurmctldLogFile=$run/slurmctld.log
@@ -49,17 +40,13 @@ SlurmdSpoolDir=$run/spool.%n
 SlurmdPidFile=$run/slurmd.%n.pid
 SlurmdLogFile=$run/slurmd.%n.log
 ProctrackType=proctrack/linuxproc
-TaskPlugin=task/none
-AccountingStorageType=accounting_storage/none
-JobAcctGatherType=jobacct_gather/none
-MpiDefault=none
 SlurmdParameters=config_overrides
 END
     for number in $(seq $((3 * partitions))); do echo "NodeName=n$number NodeAddr=$net.$number CPUs=1 RealMemory=2000 State=UNKNOWN"; done >> "$SLURM_CONF"
     for number in $(seq "$partitions"); do
         echo "PartitionName=lane$number Nodes=n[$((3 * number - 2))-$((3 * number))] Default=$([ "$number" = 1 ] && echo YES || echo NO) MaxTime=INFINITE State=UP"
     done >> "$SLURM_CONF"
-    start_controller -c || return
+    slurmctld -c -f "$SLURM_CONF" && sleep 1 && kill -0 "$(cat "$run/slurmctld.pid")" || return
     for number in $(seq $((3 * partitions))); do start_node "$number" || return; done
     for number in $(seq "$partitions"); do lane=$number wait_idle || return; done
 }

@@ -8,16 +8,6 @@ build_there() {
     }
 }
 
-# told FOLDER: the ways of a build's commands by servers, the machines that made them, and what was sent, in bytes.
-told() {
-    python3 - "$1/log" << 'END_OF_PROGRAM'
-import collections, json, sys
-notes = [command["remote"] for line in open(sys.argv[1]) for command in json.loads(line).get("commands", []) if "remote" in command]
-ways = collections.Counter(f"{note['way']} {note['machine']}" for note in notes)
-print(*(f"{way} {count}," for way, count in sorted(ways.items())), "sent", sum(note["sent"] for note in notes), "to", len({note["server"] for note in notes}))
-END_OF_PROGRAM
-}
-
 # project FOLDER FIRST COUNT: sources with these numbers, which include a header, and a list of their calls.
 project() {
     local one
@@ -40,18 +30,18 @@ machines() {
     project "$folder" 1001 6
     if case_of 'a second machine sends digests alone, and finds all commands'; then
         (cd "$folder" && mkdir alone && "$bin/zigrunk" batch list > "$scratch/said" 2>&1 && mv ./*.o alone) || problems+='  no build alone'
-        build_there 4 "$folder" && same first "$(told "$folder" | sed 's/sent [1-9][0-9]*/sent much/')" 'kept n4 36, sent much to 3'
+        build_there 4 "$folder" && same first "$(ways "$folder/log" machine | much)" 'kept n4 36 sent much to 3'
         objects_alike "$folder/alone" "$folder"
         rm -f "$folder"/*.o
-        build_there 5 "$folder" && same second "$(told "$folder")" 'found n4 36, sent 0 to 3'
+        build_there 5 "$folder" && same second "$(ways "$folder/log" machine)" 'found n4 36 sent 0 to 3'
         objects_alike "$folder/alone" "$folder"
         end_case
     fi
     if case_of 'so does one with another checkout, under ZIGRUNK_ROOT'; then
         project "$scratch/one" 2001 4
         mkdir -p "$scratch/another/place" && cp -r "$scratch/one/." "$scratch/another/place"
-        build_there 4 "$scratch/one" "ZIGRUNK_ROOT=$scratch/one" && same first "$(told "$scratch/one" | sed 's/sent [1-9][0-9]*/sent much/')" 'kept n4 24, sent much to 3'
-        build_there 5 "$scratch/another/place" "ZIGRUNK_ROOT=$scratch/another/place" && same second "$(told "$scratch/another/place")" 'found n4 24, sent 0 to 3'
+        build_there 4 "$scratch/one" "ZIGRUNK_ROOT=$scratch/one" && same first "$(ways "$scratch/one/log" machine | much)" 'kept n4 24 sent much to 3'
+        build_there 5 "$scratch/another/place" "ZIGRUNK_ROOT=$scratch/another/place" && same second "$(ways "$scratch/another/place/log" machine)" 'found n4 24 sent 0 to 3'
         objects_alike "$scratch/one" "$scratch/another/place"
         end_case
     fi
@@ -64,7 +54,7 @@ run() {
     if case_of 'servers run real commands'; then
         project "$scratch/real" 3001 6
         (cd "$scratch/real" && mkdir alone && "$bin/zigrunk" batch list > "$scratch/said" 2>&1 && mv ./*.o alone) || problems+='  no build alone'
-        build_there 4 "$scratch/real" ZIGRUNK_REMOTE_USE=run && same ways "$(told "$scratch/real" | sed 's/sent [1-9][0-9]*/sent much/')" 'ran - 36, sent much to 3'
+        build_there 4 "$scratch/real" ZIGRUNK_REMOTE_USE=run && same ways "$(ways "$scratch/real/log" machine | much)" 'ran - 36 sent much to 3'
         objects_alike "$scratch/real/alone" "$scratch/real"
         end_case
     fi
@@ -77,7 +67,7 @@ run() {
         begun=$EPOCHREALTIME
         build_there 4 "$folder" ZIGRUNK_REMOTE_USE=run
         took=$(awk "BEGIN { print $EPOCHREALTIME - $begun }") ideal=$((${CALLS:-32} * 6 * 4 / 12))
-        echo "${CALLS:-32} calls by three servers of four jobs: $took s, ideal $ideal s; $(told "$folder"); load $(cut -d ' ' -f 1 /proc/loadavg)"
+        echo "${CALLS:-32} calls by three servers of four jobs: $took s, ideal $ideal s; $(ways "$folder/log" machine); load $(cut -d ' ' -f 1 /proc/loadavg)"
         same 'within 1.4 of it' "$(awk "BEGIN { print $took <= 1.4 * $ideal }")" 1
         end_case
     fi
@@ -97,8 +87,8 @@ others() {
     if case_of "buildbox's own programs read what ours wrote"; then
         nvcc -arch=sm_80 -cubin k.cu -o right.cubin
         call run.o "ZIGRUNK_REMOTE=$address" ZIGRUNK_REMOTE_USE=run
-        same ways "$(ways | sed 's/ sent.*//')" 'ran 6'
-        said=$(python3 "$here/remote/others.py" "$boxes" "$address" "$scratch/storage" right.cubin 2>&1)
+        same ways "$(ways "$room/log" | much)" 'ran 6 sent much to 1'
+        said=$(python3 "$here/remote/others.py" "$boxes" "$address" "$bin/examples/actions" "$scratch/storage" right.cubin 2>&1)
         same 'what casdownload and trexe do' "$said" '6 results, 6 made alike, 1 with the file'
         call kept.o "ZIGRUNK_REMOTE=$address"
         end_case

@@ -73,12 +73,5 @@ deaths() {
         lane "$lane" deaths_of_lane "${LANES:-3}"
     done
     join_lanes
-    counted() { sort "$run/$1" | uniq -c | awk '{ printf "%s%s %s", sep, $2, $1; sep = ", " }'; }
     echo "deaths with SEED=$SEED: $(counted kinds); what became of commands then: $(counted ways)"
-}
-
-# deaths_of_lane LANES
-deaths_of_lane() {
-    local number
-    for number in $(seq "$lane" "$1" "${DEATHS:-60}"); do dies "$number"; done
 }

@@ -20,30 +20,15 @@ class Way:
         self.free = 0.0
 
     async def carry(self, reader: asyncio.StreamReader, writer: asyncio.StreamWriter) -> None:
-        """Carries all that comes, in its order."""
+        """Carries all that comes, in its order; the sender waits until the link has taken a part."""
         loop = asyncio.get_running_loop()
-        parts: "asyncio.Queue[tuple[float, bytes]]" = asyncio.Queue(64)
-
-        async def deliver() -> None:
-            while True:
-                due, part = await parts.get()
-                await asyncio.sleep(max(0.0, due - loop.time()))
-                if not part:
-                    return writer.close()
-                writer.write(part)
-                await writer.drain()
-
-        delivery = asyncio.create_task(deliver())
         try:
-            part = b" "
-            while part and not delivery.done():
-                part = await reader.read(PART)
+            while part := await reader.read(PART):
                 self.free = max(self.free, loop.time()) + len(part) / BYTES_PER_SECOND
-                await parts.put((self.free + DELAY, part))
-            await delivery
-        except OSError:
-            delivery.cancel()
-            writer.close()
+                loop.call_at(self.free + DELAY, writer.write, part)
+                await asyncio.sleep(self.free - loop.time())
+        finally:
+            loop.call_later(2 * DELAY, writer.close)
 
 
 async def main(address: str, port: int, to_port: int) -> None:

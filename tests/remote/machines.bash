@@ -32,12 +32,7 @@ serve() {
         on_node "$1" python3 "$here/remote/link.py" "$net.$1" 8980 8981 >> "$run/link.$1" 2>&1 &
         disown
     fi
-    for _ in {1..100}; do
-        ZIGRUNK_REMOTE=$server "$bin/zigrunk-remote" --check > "$run/check.$1" 2>&1 && return
-        sleep 0.1
-    done
-    cat "$run/check.$1"
-    return 1
+    answers "$server"
 }
 
 # server_of NUMBER: the process of a machine's server.

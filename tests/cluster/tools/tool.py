@@ -3,22 +3,18 @@
 
 A product is a digest of the tool's words and of all that it reads, so a missing, old or wrong input shows in the object. It has a last
 line, and it is written in two halves, so a reader notices half a file. TOOL_LOG, if set, names a file that gets a line for each start,
-end and bad input, with the node's name. TOOL_SECONDS is how long each tool takes. Commands whose node, tool and product match TOOL_HOLD take
-ten seconds more, so that a test is in time to end them.
+end and bad input, with the node's name. TOOL_SECONDS is how long each tool takes.
 """
 import hashlib
 import os
 import re
 import sys
+import tempfile
 import time
 from typing import NoReturn
 
-PRODUCTS = {
-    "cicc": ["-o", "--gen_c_file_name", "--gen_device_file_name", "--stub_file_name"],
-    "cudafe++": ["--gen_c_file_name"],
-    "ptxas": ["-o", "--output-file"],
-    "fatbinary": ["--create", "--embedded-fatbin"],
-}
+PRODUCTS = {"cicc": ["-o", "--gen_c_file_name", "--gen_device_file_name", "--stub_file_name"], "cudafe++": ["--gen_c_file_name"],
+            "ptxas": ["-o", "--output-file"], "fatbinary": ["--create", "--embedded-fatbin"]}
 NAMES = ["--orig_src_file_name", "--orig_src_path_name", "--include_file_name", "--stub_file_name"]
 SOURCE = re.compile(r"[^-].*\.(ii|cu|cpp|c|ptx|cubin)$")
 IMAGE = re.compile(r"--image\d?=.*file=([^,]*)")
@@ -88,18 +84,13 @@ text = digest()
 seconds = float(os.environ.get("TOOL_SECONDS", "0"))
 note("start", " ".join(makes[:1]))
 # as a compiler does, on the disk of its node
-scratch = os.path.join(os.environ.get("TOOL_DISK", "/tmp"), f"tool.{os.getpid()}")
 try:
-    with open(scratch, "w", encoding="utf-8") as file:
-        file.write(text * 100)
+    with tempfile.TemporaryFile("w", dir="/tmp") as scratch:
+        scratch.write(text * 100)
 except OSError as error:
-    note("full", scratch)
-    sys.exit(f"{tool}: {scratch}: {error.strerror}")
-finally:
-    if os.path.exists(scratch):
-        os.remove(scratch)
-hold = os.environ.get("TOOL_HOLD", "")
-time.sleep(seconds + 10 if hold and re.match(hold, f"{node} {tool} {''.join(makes[:1])}") else seconds)
+    note("full", "/tmp")
+    sys.exit(f"{tool}: /tmp: {error.strerror}")
+time.sleep(seconds)
 # By this a batch knows what a call has read.
 marker = b'# 0 "<built-in>"\n' if "-E" in words else b""
 for number, name in enumerate(makes):
