@@ -87,19 +87,19 @@ fn renamed(word: &str, root: &str) -> Option<String> {
     (!word.contains(root)).then_some(word)
 }
 
+/// A variable's name and value.
+type Variable<'a> = (&'a [u8], &'a [u8]);
+
 /// The variables that a tool sees, as far as an environment sets them.
-fn seen<'a>(
-    tool: Program,
-    environment: &'a [(Vec<u8>, Vec<u8>)],
-) -> Result<Vec<(&'a [u8], &'a [u8])>, AllocError> {
-    let given: Vec<(&[u8], &[u8])> =
+fn seen(tool: Program, environment: &[(Vec<u8>, Vec<u8>)]) -> Result<Vec<Variable<'_>>, AllocError> {
+    let given: Vec<Variable> =
         environment.iter().map(|(name, value)| (name.as_slice(), value.as_slice())).collect();
-    let others: Vec<(&[u8], &[u8])> =
+    let others: Vec<Variable> =
         given.iter().copied().filter(|(name, _)| *name != WORKING_DIRECTORY).collect();
     let read = tool_variables(Global, tool, &others)?;
     let place =
         given.iter().copied().filter(|(name, _)| matches!(tool, Program::Cicc) && *name == PLACE_OF_PARTS);
-    let mut all: Vec<(&[u8], &[u8])> = read.as_slice().iter().copied().chain(place).collect();
+    let mut all: Vec<Variable> = read.as_slice().iter().copied().chain(place).collect();
     all.sort_unstable();
     Ok(all)
 }
@@ -167,7 +167,7 @@ fn outputs_of(command: &Command) -> Result<Vec<Output>, Unfit> {
 fn key_of(
     tool: Program,
     command: &Command,
-    variables: &[(&[u8], &[u8])],
+    variables: &[Variable],
     inputs: &BTreeMap<&str, Blob>,
     outputs: &[Output],
 ) -> Result<Vec<u8>, Unfit> {
@@ -196,7 +196,7 @@ fn key_of(
 /// The message of a command.
 fn message_of(
     command: &Command,
-    variables: &[(&[u8], &[u8])],
+    variables: &[Variable],
     outputs: &[Output],
     platform: &Platform,
 ) -> Result<v2::Command, Unfit> {
@@ -204,7 +204,7 @@ fn message_of(
         String::from_utf8(bytes.to_vec()).map_err(|_| Unfit::Command("a variable isn't UTF-8"))
     };
     let variable =
-        |(name, value): &(&[u8], &[u8])| Ok(EnvironmentVariable { name: text(name)?, value: text(value)? });
+        |(name, value): &Variable| Ok(EnvironmentVariable { name: text(name)?, value: text(value)? });
     let word = |word: &String| {
         renamed(word, &command.root)
             .ok_or(Unfit::Command("a word has the call's directory, not a file in it"))
@@ -249,7 +249,9 @@ pub fn action_of(
     let words = message.arguments.clone();
     let message = Blob::of_message(&message);
     let mut folder = Folder::default();
-    inputs.iter().for_each(|(name, blob)| folder.add(name, blob.digest.clone()));
+    for (name, blob) in &inputs {
+        folder.add(name, blob.digest.clone());
+    }
     let mut blobs = Vec::new();
     let root = folder.message(&mut blobs);
     let action = Blob::of_message(&v2::Action {

@@ -205,7 +205,7 @@ impl Connection {
             match answer.map_err(|_| Failure::Unreachable("no answer in time".into()))? {
                 Ok(answer) => return Ok(answer.into_inner()),
                 Err(status) if tried < TRIES && is_transient(status.code()) => {
-                    sleep(PAUSE * 2u32.pow(tried - 1)).await
+                    sleep(PAUSE * 2u32.pow(tried - 1)).await;
                 }
                 Err(status) => return Err(status.into()),
             }

@@ -38,12 +38,6 @@ impl Source {
     }
 }
 
-/// The file of a result that is an output. `None` if the result lacks one that it must have.
-fn file_of<'a>(output: &Output, result: &'a ActionResult) -> Option<Option<&'a OutputFile>> {
-    let file = result.output_files.iter().find(|file| file.path == output.name);
-    (file.is_some() || !output.is_certain).then_some(file)
-}
-
 impl Made {
     /// Gets what a result says that an action made. `None` if it is no result of this action: it lacks an
     /// output.
@@ -52,16 +46,13 @@ impl Made {
         action: &Action,
         result: &ActionResult,
     ) -> Result<Option<Made>, Failure> {
-        let is_success = result.exit_code == 0;
-        let outputs: Option<Vec<_>> = action
-            .outputs
-            .iter()
-            .filter(|_| is_success)
-            .map(|output| Some((output, file_of(output, result)?)))
-            .collect();
-        let Some(outputs) = outputs else { return Ok(None) };
+        let file_of = |output: &Output| result.output_files.iter().find(|file| file.path == output.name);
+        let outputs = if result.exit_code == 0 { action.outputs.as_slice() } else { &[] };
+        if outputs.iter().any(|output| output.is_certain && file_of(output).is_none()) {
+            return Ok(None);
+        }
         let files: Vec<(&Output, &OutputFile)> =
-            outputs.into_iter().filter_map(|(output, file)| Some((output, file?))).collect();
+            outputs.iter().filter_map(|output| Some((output, file_of(output)?))).collect();
         let said = [(&result.stdout_raw, &result.stdout_digest), (&result.stderr_raw, &result.stderr_digest)];
         let said = said.map(|(raw, digest)| Source::of(raw, digest.as_ref()));
         let file_digests = files.iter().map(|(_, file)| file.digest.clone().unwrap_or_default());

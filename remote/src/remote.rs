@@ -163,20 +163,17 @@ impl Connection {
 
     async fn stream(&self, action: &Action, name: Option<&String>) -> Result<Streaming<Operation>, Status> {
         let mut execution = self.execution();
-        let answer = match name {
-            Some(name) => {
-                execution.wait_execution(self.request(WaitExecutionRequest { name: name.clone() })).await
-            }
-            None => {
-                let action_digest = Some(action.digest.clone());
-                // (the cache was asked before, and may have what it can't give)
-                let message = ExecuteRequest {
-                    instance_name: self.instance.clone(),
-                    skip_cache_lookup: true,
-                    action_digest,
-                };
-                execution.execute(self.request(message)).await
-            }
+        let answer = if let Some(name) = name {
+            execution.wait_execution(self.request(WaitExecutionRequest { name: name.clone() })).await
+        } else {
+            let action_digest = Some(action.digest.clone());
+            // (the cache was asked before, and may have what it can't give)
+            let message = ExecuteRequest {
+                instance_name: self.instance.clone(),
+                skip_cache_lookup: true,
+                action_digest,
+            };
+            execution.execute(self.request(message)).await
         };
         answer.map(tonic::Response::into_inner)
     }

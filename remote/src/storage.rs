@@ -51,12 +51,11 @@ fn in_messages<T>(all: Vec<T>, most: usize, size: impl Fn(&T) -> usize) -> Vec<V
     let (mut messages, mut left): (Vec<Vec<T>>, usize) = (Vec::new(), 0);
     for one in all {
         let size = size(&one) + AROUND;
-        match messages.last_mut().filter(|_| size <= left) {
-            Some(message) => message.push(one),
-            None => {
-                messages.push(vec![one]);
-                left = most;
-            }
+        if let Some(message) = messages.last_mut().filter(|_| size <= left) {
+            message.push(one);
+        } else {
+            messages.push(vec![one]);
+            left = most;
         }
         left = left.saturating_sub(size);
     }

@@ -1,5 +1,7 @@
 //! A server in the test's own process: contents, results, and execution that really runs a command in a
 //! folder. It fails on request.
+#![allow(clippy::wildcard_imports)]
+
 use prost::Message;
 use std::collections::{BTreeMap, BTreeSet};
 use std::fs;
@@ -252,7 +254,7 @@ async fn serve(server: Server, service: Service, listener: TcpListener, ended: o
         .add_service(ExecutionServer::new(service.clone()))
         .add_service(ByteStreamServer::new(service));
     tokio::select! {
-        served = server.serve_with_incoming(TcpListenerStream::new(listener)) => served.unwrap(),
+        result = server.serve_with_incoming(TcpListenerStream::new(listener)) => result.unwrap(),
         _ = ended => {}
     }
 }
@@ -418,7 +420,7 @@ impl ActionCache for Service {
 
 impl Service {
     /// An execution as its stream has it: a first word, and its end unless the stream breaks.
-    fn operations(&self, state: &mut State, name: &str, digest: &Digest) -> Answers<Operation> {
+    fn operations(state: &mut State, name: &str, digest: &Digest) -> Answers<Operation> {
         let begun = Operation { name: name.into(), done: false, result: None };
         if state.fails() {
             return Box::pin(tokio_stream::iter([Ok(begun), Err(Status::unavailable("the stream broke"))]));
@@ -455,7 +457,7 @@ impl Execution for Service {
         let digest = request.into_inner().action_digest.unwrap_or_default();
         let name = format!("execution-{}", state.executions.len());
         state.executions.insert(name.clone(), digest.clone());
-        Ok(Response::new(self.operations(&mut state, &name, &digest)))
+        Ok(Response::new(Service::operations(&mut state, &name, &digest)))
     }
 
     async fn wait_execution(
@@ -469,7 +471,7 @@ impl Execution for Service {
         let name = request.into_inner().name;
         let digest =
             state.executions.get(&name).cloned().ok_or_else(|| Status::not_found("no such execution"))?;
-        Ok(Response::new(self.operations(&mut state, &name, &digest)))
+        Ok(Response::new(Service::operations(&mut state, &name, &digest)))
     }
 }
 
