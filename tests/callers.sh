@@ -6,9 +6,9 @@
 #   tests/callers.sh [FOLDER]         FOLDER: as `make install` or `make lib` leaves it, with lib and include; otherwise out, or what `make rust` built
 #   tests/callers.sh --first FOLDER   the programs of the page alone, also that in Rust, with what `make install` left in FOLDER
 #
-# RENEW=yes writes tests/callers/digests.txt anew: look at what has changed before. SEED=N draws other pairs of dry runs and other calls than those of
-# seed 1, PAIRS=N so many pairs in place of 100, CALLS=N so many real calls in place of 8, and of 12 whose keys are compared. All that the languages say
-# is compared of at most 2,000 pairs, and their plans of all. PROFILE=dev has cargo build Rust's programs as it builds unit tests.
+# RENEW=yes writes tests/callers/data/digests.txt anew: look at what has changed before. SEED=N draws other pairs of dry runs and other calls than
+# those of seed 1, PAIRS=N so many pairs in place of 100, CALLS=N so many real calls in place of 8, and of 12 whose keys are compared. PROFILE=dev has
+# cargo build Rust's programs as it builds unit tests.
 set -u
 cd "$(dirname "$0")/.." || exit 1
 . tests/lib.sh
@@ -125,8 +125,8 @@ told() {
 # as_stored: whether C says of the table and of the stored calls what it said when the digests were written.
 as_stored() {
     cat "$scratch"/answers/* | python3 tests/callers/digests.py "$room" "$installed" "$python" > "$scratch/digests"
-    [ -z "${RENEW-}" ] || cp "$scratch/digests" tests/callers/digests.txt
-    diff tests/callers/digests.txt "$scratch/digests"
+    [ -z "${RENEW-}" ] || cp "$scratch/digests" tests/callers/data/digests.txt
+    diff tests/callers/data/digests.txt "$scratch/digests"
 }
 
 # by_cmake: a project finds the library, as it is shared and as an archive.
@@ -198,16 +198,16 @@ if [ -n "$only_first" ]; then
 fi
 check 'C: the program with the archive' built_c "$scratch/first.c" "$scratch/first_static" -static "${static_flags[@]}"
 check 'C: its plan with the archive' plans "$scratch/first_static"
-pairs=${PAIRS:-100} whole=$((pairs < 2000 ? pairs : 2000))
+pairs=${PAIRS:-100}
 environment=(PATH=/usr/bin:/bin HOME=/ LD_LIBRARY_PATH="$LD_LIBRARY_PATH" ZIGRUNK_LIBRARY="$ZIGRUNK_LIBRARY" PYTHONPATH="$PYTHONPATH"
     PYTHONDONTWRITEBYTECODE=1 LC_CTYPE=C.UTF-8 EMPTY='' ODD=$'a\nb \\ "' LONG="$(printf %04096d 0)")
 profile=${PROFILE:-release}
 target=$(realpath -m "${CARGO_TARGET_DIR:-${WORKSPACE:-out/rust}/target}")
 built=$target/release examples=$target/${profile/#dev/debug}/examples
 mkdir "$scratch/rows" "$scratch/answers"
-{ misuse_rows && real_rows "$room" && python3 tests/callers/mutated.py "$room" "${SEED:-1}" "$whole"; } | split -a 4 -l 500 - "$scratch/rows/"
+{ misuse_rows && real_rows "$room" && python3 tests/callers/mutated.py "$room" "${SEED:-1}" "$pairs"; } | split -a 4 -l 500 - "$scratch/rows/"
 check 'C: answers.c' built_c tests/callers/answers.c "$scratch/answers_c" "${flags[@]}"
-check "C: what it says of the table, of the stored calls and of $whole pairs by lot" told
+check "C: what it says of the table, of the stored calls and of $pairs pairs by lot" told
 check 'C: the same as ever of the table and of the stored calls' as_stored
 check 'C++: answers.cpp' built_cpp tests/callers/answers.cpp "$scratch/answers_cpp" "${flags[@]}"
 check 'C++: the same' alike "$scratch/answers_cpp"
@@ -243,11 +243,6 @@ say_the_same=(-- "$scratch/answers_c" -- "$scratch/answers_cpp" -- "$(python3 -c
 for program in "$examples/answers" "$scratch/answers_go/answers"; do
     [ ! -x "$program" ] || say_the_same+=(-- "$program")
 done
-if [ -x "$built/cudaplan" ]; then
-    check "$pairs pairs by lot beside cudaplan" tests/callers/pairs.py "$built/cudaplan" "$room" "${SEED:-1}" "$pairs" "${say_the_same[@]}"
-else
-    skip 'pairs by lot beside cudaplan' 'cargo has not built it'
-fi
 if command -v nvcc > /dev/null && [ -x "$built/zigrunk-driver" ]; then
     check 'real calls of nvcc beside the driver' tests/callers/real_calls.py "$built/zigrunk-driver" "${SEED:-1}" "${CALLS:-8}" "${say_the_same[@]}"
     check 'their keys beside the driver' tests/callers/real_keys.py "$built/zigrunk-driver" "$examples/keys" "${SEED:-1}" "${CALLS:-12}"

@@ -1,5 +1,5 @@
-/* All that the C library says of the rows of misuses.txt: `answers ROOM < misuses.txt`. With a further word, the plan of each row's two dry runs alone, as
- * text. `answers --call TMP NVCC WORD..` makes the dry runs of a call in the working directory. The programs for the other languages print the same. */
+/* All that the C library says of the rows of misuses.txt: `answers ROOM < misuses.txt`.
+ * `answers --call TMP NVCC WORD..` makes the dry runs of a call in the working directory. The programs for the other languages print the same. */
 #include <stdio.h>
 #include <stdlib.h>
 #include <string.h>
@@ -290,22 +290,6 @@ static void print_row(const char *room, const char *tmp_name, const char *first,
     free((void *)runs.own.bytes), free((void *)runs.first.bytes), free((void *)runs.second.bytes), free((void *)whole.bytes);
 }
 
-static void print_pair(const char *room, const char *first, const char *second) {
-    char cwd[4096], tmp[4096];
-    snprintf(cwd, sizeof cwd, "%s/w", room), snprintf(tmp, sizeof tmp, "%s/t", room);
-    zigrunk_plan_call given = {content(room, first), content(room, second), {cwd, ZIGRUNK_ALL}, {tmp, ZIGRUNK_ALL}, {"-c", ZIGRUNK_ALL}, {NULL, NULL, 0},
-        {NULL, NULL, 0}, NULL, 0, 0, ZIGRUNK_GCC, 0};
-    zigrunk_plan *plan = NULL;
-    zigrunk_error *error = NULL;
-    if (zigrunk_plan_of(&given, &plan, &error) != ZIGRUNK_OK) {
-        print_refusal(error);
-    } else {
-        print_form(plan, "text");
-    }
-    zigrunk_free(plan);
-    free((void *)given.dry1.bytes), free((void *)given.dry2.bytes);
-}
-
 static void print_made(const char *tmp, char **nvcc) {
     char cwd[4096];
     zigrunk_texts words = {(const char *const *)nvcc + 1, NULL, ZIGRUNK_ALL}, environment = {(const char *const *)environ, NULL, ZIGRUNK_ALL};
@@ -334,11 +318,7 @@ int main(int count, char **arguments) {
             return 2;
         }
         printf("== %s\n", name);
-        if (count == 2) {
-            print_row(arguments[1], tmp, first, second, own, words);
-        } else {
-            print_pair(arguments[1], first, second);
-        }
+        print_row(arguments[1], tmp, first, second, own, words);
     }
     return count < 2;
 }

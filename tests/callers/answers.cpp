@@ -1,4 +1,4 @@
-// All that the C++ layer says of the rows of misuses.txt, as answers.c prints it: `answers ROOM [text] < misuses.txt`, or `answers --call
+// All that the C++ layer says of the rows of misuses.txt, as answers.c prints it: `answers ROOM < misuses.txt`, or `answers --call
 // TMP NVCC WORD..`.
 #include <zigrunk.hpp>
 
@@ -249,15 +249,7 @@ int main(int count, char **arguments) {
         std::string name, tmp, first, second, skipped, own, line;
         words >> name >> tmp >> first >> second >> skipped >> skipped >> skipped >> own >> line;
         std::cout << "== " << name << '\n';
-        try {
-            if (count == 2) {
-                const std::string runs[] = {content(room + "/" + own), content(room + "/" + first), content(room + "/" + second)};
-                print_row(room, room + "/" + tmp, runs, words_of(content(room + "/" + line)));
-            } else {
-                print_text("text", zigrunk::plan_of(content(room + "/" + first), content(room + "/" + second), room + "/w", room + "/t", "-c").text("text"));
-            }
-        } catch (const zigrunk::Error &error) {
-            print_refusal(error);
-        }
+        const std::string runs[] = {content(room + "/" + own), content(room + "/" + first), content(room + "/" + second)};
+        print_row(room, room + "/" + tmp, runs, words_of(content(room + "/" + line)));
     }
 }

@@ -1,4 +1,4 @@
-"""All that the Python layer says of the rows of misuses.txt, as answers.c prints it: answers.py ROOM [text] < misuses.txt, or
+"""All that the Python layer says of the rows of misuses.txt, as answers.c prints it: answers.py ROOM < misuses.txt, or
 answers.py --call TMP NVCC WORD.."""
 
 import os
@@ -186,15 +186,8 @@ def main(arguments: Sequence[str]) -> None:
     for row in sys.stdin:
         name, tmp, first, second, *_, own, words = row.split()
         print("==", name)
-        try:
-            if arguments[1:]:
-                plan = zigrunk.plan((room / first).read_bytes(), (room / second).read_bytes(), f"{room}/w", f"{room}/t", "-c")
-                print_texts("text", [plan.text("text")])
-                continue
-            line = os.fsdecode((room / words).read_bytes()).split("\0")[:-1]
-            print_row(room, f"{room}/{tmp}", line, [(room / name).read_bytes() for name in (own, first, second)])
-        except zigrunk.ZigrunkError as error:
-            print_refusal(error)
+        line = os.fsdecode((room / words).read_bytes()).split("\0")[:-1]
+        print_row(room, f"{room}/{tmp}", line, [(room / name).read_bytes() for name in (own, first, second)])
 
 
 if __name__ == "__main__":

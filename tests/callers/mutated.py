@@ -1,5 +1,5 @@
 """Writes pairs of dry runs by lot into a room of tests/callers/room.sh, made of its own ones by an edit of one run or of both, and prints a row as in
-misuses.txt for each: mutated.py ROOM SEED COUNT [NAME]. The name of each begins with NAME, or `lot`."""
+misuses.txt for each: mutated.py ROOM SEED COUNT."""
 
 import random
 import sys
@@ -31,7 +31,6 @@ def mutated(text: bytes, others: list[bytes], lot: random.Random) -> bytes:
 
 def main() -> None:
     room, seed, count = Path(sys.argv[1]), sys.argv[2], int(sys.argv[3])
-    name = sys.argv[4] if len(sys.argv) > 4 else "lot"
     right = [(room / f"one.dry{run}").read_bytes() for run in (1, 2)]
     others = [(room / f"{name}.dry{run}").read_bytes() for name in ("two", "ptx") for run in (1, 2)]
     for number in range(count):
@@ -39,8 +38,8 @@ def main() -> None:
         for run in changed:
             # (the same edit of both, where both are changed)
             text = mutated(right[run], others, random.Random(f"{seed} {number} edit"))
-            (room / f"{name}{number}.dry{run + 1}").write_bytes(text)
-        print(f"{name}{number} t", *(f"{f'{name}{number}' if run in changed else 'one'}.dry{run + 1}" for run in (0, 1)), "- - - one.own usual.words")
+            (room / f"lot{number}.dry{run + 1}").write_bytes(text)
+        print(f"lot{number} t", *(f"{f'lot{number}' if run in changed else 'one'}.dry{run + 1}" for run in (0, 1)), "- - - one.own usual.words")
 
 
 if __name__ == "__main__":

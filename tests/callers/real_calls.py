@@ -19,12 +19,15 @@ from typing import Any, Dict, List, Tuple
 
 sys.path.insert(0, str(Path(__file__).resolve().parent.parent))
 from compare_calls import Call, environment, write_sources
-from pairs import escaped
 from random_calls import WEIGHTS, line_of, options
 
 # What answers.c prints of a command, and the driver's name for it.
 LISTS = {" reads": "reads", " writes": "writes", " may write": "may_write", " needs": "needs"}
 HEAD = re.compile(r"command of \w+ group, (\d+), stage \d+, tool \d+, missing (\d+), reason (\d+), run (\d+), line (\d+), cacheable (\d+)")
+
+
+def escaped(text: bytes) -> str:
+    return "".join(chr(it) if 32 < it < 127 and it != 92 else f"\\{it:02x}" for it in text)
 
 
 def by_driver(zigrunk: str, words: List[str], place: Dict[str, Any]) -> Tuple[str, List[Any], str]:

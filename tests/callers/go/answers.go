@@ -1,4 +1,4 @@
-// All that the Go layer says of the rows of misuses.txt, as answers.c prints it: `answers ROOM [text] < misuses.txt`, or
+// All that the Go layer says of the rows of misuses.txt, as answers.c prints it: `answers ROOM < misuses.txt`, or
 // `answers --call TMP NVCC WORD..`.
 package main
 
@@ -257,7 +257,7 @@ func printPlan(plan *zigrunk.Plan) {
 	printFailure(plan)
 }
 
-func printRow(room string, row []string) error {
+func printRow(room string, row []string) {
 	own, first, second := content(room, row[7]), content(room, row[2]), content(room, row[3])
 	words := strings.Split(string(content(room, row[8])), "\x00")
 	words = words[:len(words)-1]
@@ -268,7 +268,6 @@ func printRow(room string, row []string) error {
 		printAlone(first, second, room+"/w", room+"/"+row[1], limit)
 	}
 	printOwnWords(words)
-	return nil
 }
 
 func printCalled(room, tmp string, words []string, own, first, second []byte) error {
@@ -291,16 +290,6 @@ func content(room, name string) []byte {
 		log.Fatal(err)
 	}
 	return read
-}
-
-func printPair(room string, row []string) error {
-	plan, err := zigrunk.PlanOf(content(room, row[2]), content(room, row[3]), room+"/w", room+"/t", "-c", nil, nil, 0)
-	if err != nil {
-		return err
-	}
-	text, err := plan.Text("text")
-	printTexts("text", text)
-	return err
 }
 
 func printMade(tmp string, words []string) error {
@@ -328,15 +317,9 @@ func main() {
 		}
 		return
 	}
-	print := printRow
-	if len(os.Args) > 2 {
-		print = printPair
-	}
 	for rows := bufio.NewScanner(os.Stdin); rows.Scan(); {
 		row := strings.Fields(rows.Text())
 		fmt.Fprintln(out, "==", row[0])
-		if err := print(os.Args[1], row); err != nil {
-			printRefusal(err)
-		}
+		printRow(os.Args[1], row)
 	}
 }

@@ -1,4 +1,4 @@
-//! All that the crate says of the rows of `tests/callers/misuses.txt`, as `answers.c` there prints it: `answers ROOM [text] < misuses.txt`.
+//! All that the crate says of the rows of `tests/callers/misuses.txt`, as `answers.c` there prints it: `answers ROOM < misuses.txt`.
 
 use std::collections::VecDeque;
 use std::error::Error;
@@ -257,16 +257,6 @@ fn print_plan(plan: &Plan) -> Result<(), Box<dyn Error>> {
     print_failure(plan)
 }
 
-/// The plan of two dry runs alone.
-fn print_pair(room: &Path, first: &[u8], second: &[u8]) {
-    let (cwd, tmp, disk) = (room.join("w"), room.join("t"), Disk::default());
-    let planned = plan(&PlanCall { flag: "-c", ..PlanCall::new(first, second, &disk).at(&cwd, &tmp) });
-    match planned.and_then(|plan| plan.text(Format::Text)) {
-        Ok(text) => print_text("text", text),
-        Err(error) => print_refusal(&error),
-    }
-}
-
 fn print_made(tmp: &str, nvcc: &str, words: &[String]) -> Result<(), Box<dyn Error>> {
     let environment: Vec<_> = env::vars_os().collect();
     let made = Call::new(&NvccCall::new(nvcc, words).at(&env::current_dir()?, tmp).variables(&variables(&environment)));
@@ -297,10 +287,6 @@ fn main() -> Result<(), Box<dyn Error>> {
         };
         println!("== {name}");
         let read = |name: &str| fs::read(room.join(name));
-        if env::args_os().nth(2).is_some() {
-            print_pair(&room, &read(first)?, &read(second)?);
-            continue;
-        }
         let (nvcc, cwd, tmp) = (room.join("bin/nvcc"), room.join("w"), room.join(tmp));
         let runs = DryRuns::new(read(own)?, read(first)?, read(second)?);
         let mut words: Vec<_> = read(line)?.split(|byte| *byte == 0).map(|word| OsStr::from_bytes(word).to_owned()).collect();
