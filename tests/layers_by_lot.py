@@ -39,6 +39,8 @@ OPERATORS: dict[str, Operators] = {
     ".py": {**SHARED, "swap and, or": swaps(" and ~ or "), "another flag": [*swaps("True~False"), (r" if (.+) else ", r" if not (\1) else ")],
             "negate a condition": [(r"\bif (?!not )(.+):$", r"if not (\1):")], "drop a call": [(r"^(\s+)[\w.]+\(.*\)$", r"\1pass")]},
 }
+# A name that Python shows alone.
+NAMED = re.compile(r'(_record|IntEnum|TypeVar)\("\w*"')
 MEMBER = re.compile(r"\b([a-z_]\w*(?:\.|->))([a-z_]\w*)(?=(\(?))")
 
 
@@ -189,7 +191,7 @@ class Lot:
         layer = chance.choice(self.layers)
         while True:
             edit = draw(chance, *chance.choice(self.lines[layer]))
-            if edit is None or (str(edit.path), edit.old.strip(), edit.new.strip()) in self.known:
+            if edit is None or NAMED.sub("", edit.old) == NAMED.sub("", edit.new) or (str(edit.path), edit.old.strip(), edit.new.strip()) in self.known:
                 continue
             if lane is None:
                 return layer, edit
