@@ -185,13 +185,17 @@ class Lot:
         self.lines = {layer: [(path, number) for path in sorted(ROOT.glob(LAYERS[layer])) for number in code_lines(path)] for layer in layers}
         self.not_compiled = 0
 
+    def changes_nothing(self, edit: Edit) -> bool:
+        """Whether it is known that no test could see an edit."""
+        return NAMED.sub("", edit.old) == NAMED.sub("", edit.new) or (str(edit.path), edit.old.strip(), edit.new.strip()) in self.known
+
     def edit(self, number: int, lane: "Lane | None") -> "tuple[str, Edit]":
         """The edit of a number and its layer, built in a lane."""
         chance = random.Random(f"{self.seed}.{number}")
         layer = chance.choice(self.layers)
         while True:
             edit = draw(chance, *chance.choice(self.lines[layer]))
-            if edit is None or NAMED.sub("", edit.old) == NAMED.sub("", edit.new) or (str(edit.path), edit.old.strip(), edit.new.strip()) in self.known:
+            if edit is None or self.changes_nothing(edit):
                 continue
             if lane is None:
                 return layer, edit
