@@ -1,9 +1,10 @@
 #!/usr/bin/env python3
 """Makes calls in two checkouts of one project under ZIGRUNK_ROOT, and compares what they leave and say.
 
-    tests/checkouts.py [--calls N] [--seed N] [--nvcc FILE] ZIGRUNK-NVCC
+    tests/checkouts.py [--calls N] [--seed N] [--nvcc FILE] [--user NAME] ZIGRUNK-NVCC
 
-The checkouts have paths of other lengths, sources of other times, and directories for temporary files of their own. A call's source, targets,
+The checkouts have paths of other lengths, sources of other times, and directories for temporary files of their own. With --user, which needs root,
+the second one is another user's, who makes its calls. A call's source, targets,
 options, working directory and forms of paths are drawn by the seed. Both products have to be equal, byte for byte, and have no path of a
 checkout; a dependency file has to be nvcc's; messages may differ by the checkout's folder alone. Then come the cases of a few calls that are
 given. The last line is 'N passed, M failed'.
@@ -11,6 +12,7 @@ given. The last line is 'N passed, M failed'.
 import argparse
 import copy
 import os
+import pwd
 import random
 import re
 import shutil
@@ -43,7 +45,17 @@ WARNS = """#include "deep/h.h"
 __global__ void warns(int* p) { int unused; *p = checked(2); }
 int host(int a) { int b; return a; }
 """
+LIBRARIES = """#include <cub/cub.cuh>
+#include <thrust/device_vector.h>
+#include <thrust/transform.h>
+#include "deep/h.h"
+struct Check { __host__ __device__ int operator()(int a) const { return checked(a); } };
+void transforms(thrust::device_vector<int>& v) { thrust::transform(v.begin(), v.end(), v.begin(), Check()); }
+cudaError_t sums(void* t, size_t& size, int* p, int n) { return cub::DeviceReduce::Sum(t, size, p, p, n); }
+"""
 SOURCES = {"a/k.cu": KERNELS.replace("NAME", "a"), "b/k.cu": KERNELS.replace("NAME", "b"), "raw.cu": RAW, "warns.cu": WARNS}
+# What takes long is in one call of so many.
+LONG, LONG_SHARE = {"libraries.cu": LIBRARIES}, 20
 OPTIONS = ["-O2", "-g", "-G", "-lineinfo", "-rdc=true", "-std=c++17", "-DNDEBUG", "-Xcompiler -Wall", "-Xptxas -v", "-MD", "-t2", "-use_fast_math",
            "--expt-relaxed-constexpr", "-maxrregcount=32", "-Xcompiler -g3", "-Xcompiler -ggdb,-O1", "-src-in-ptx -lineinfo", "-dopt=on -G"]
 TARGETS = ["-arch=sm_80", "-arch=sm_90 -dlto -rdc=true", "-gencode arch=compute_80,code=sm_80 -gencode arch=compute_90,code=sm_90",
@@ -83,16 +95,18 @@ class Made(NamedTuple):
 class Checkout:
     """A checkout of the project, with a directory for temporary files beside it."""
 
-    def __init__(self, top: Path, temporary: Path, source: "Checkout | None" = None) -> None:
-        self.top, self.temporary = top, temporary
+    def __init__(self, top: Path, temporary: Path, source: "Checkout | None" = None, user: "str | None" = None) -> None:
+        self.top, self.temporary, self.user = top, temporary, user
         temporary.mkdir()
         if source is not None:
             shutil.copytree(source.top, top, copy_function=shutil.copy)
+            if user is not None:
+                subprocess.run(["chown", "-R", user, top, temporary], check=True)
             return
         for folder in ["inc/deep", "src/a", "src/b", "build/deeper"]:
             (top / folder).mkdir(parents=True)
         (top / "inc/deep/h.h").write_text(HEADER)
-        for name, text in SOURCES.items():
+        for name, text in {**SOURCES, **LONG}.items():
             (top / "src" / name).write_text(text.replace("FOLDER", str(top)))
 
     def linked(self, name: str) -> "Checkout":
@@ -101,6 +115,13 @@ class Checkout:
         same.top = self.top.with_name(name)
         same.top.symlink_to(self.top.name)
         return same
+
+    def as_user(self, words: "list[str]") -> "list[str]":
+        """Words that its user runs."""
+        if self.user is None:
+            return words
+        entry = pwd.getpwnam(self.user)
+        return ["setpriv", f"--reuid={entry.pw_uid}", f"--regid={entry.pw_gid}", "--clear-groups", "env", "HOME=/nonexistent", *words]
 
     def make(self, compiler: str, call: Call, root: "str | None") -> Made:
         """Makes a call, under a root or not."""
@@ -111,7 +132,7 @@ class Checkout:
         environment = {**os.environ, "TMPDIR": str(self.temporary)}
         if root is not None:
             environment["ZIGRUNK_ROOT"] = f"{self.top}{root}"
-        words = [compiler, *call.line(self.top)]
+        words = self.as_user([compiler, *call.line(self.top)])
         ran = subprocess.run(words, cwd=folder, env=environment, stdout=subprocess.PIPE, stderr=subprocess.STDOUT, check=False)
         left = [file.read_bytes() if file.exists() else None for file in (product, rule)]
         said = TIMES.sub(b"", ran.stdout.replace(bytes(self.top), b"CHECKOUT"))
@@ -124,17 +145,19 @@ def drawn(lot: random.Random) -> Call:
     words = [form, *([lot.choice(TARGETS)] if "arch" not in form else []), *lot.sample(OPTIONS, lot.randint(0, 4))]
     if "-O1" in " ".join(words) and "-G" in words:
         words.remove("-G")
-    return Call(lot.choice(list(SOURCES)), " ".join(words).split(), lot.choice([".", "build", "build/deeper"]), lot.random() < 0.5)
+    sources = LONG if lot.randrange(LONG_SHARE) == 0 else SOURCES
+    return Call(lot.choice(list(sources)), " ".join(words).split(), lot.choice([".", "build", "build/deeper"]), lot.random() < 0.5)
 
 
 class Trial:
     """Two checkouts, and the two compilers."""
 
-    def __init__(self, ours: str, nvcc: str, room: Path) -> None:
+    def __init__(self, ours: str, nvcc: str, room: Path, user: "str | None") -> None:
         self.ours, self.nvcc = ours, nvcc
         # (with -t, nvcc itself fails if the path of its temporary files has a blank)
         self.one = Checkout(room / "one", room / "temporary")
-        self.other = Checkout(room / "a longer name" / "checkout", room / "others-temporary", self.one)
+        self.other = Checkout(room / "a longer name" / "checkout", room / "others-temporary", self.one, user)
+        room.chmod(0o755)
 
     def problem_of(self, call: Call) -> str:
         """What is wrong with a call in both checkouts."""
@@ -154,6 +177,20 @@ class Trial:
             return "the product has a checkout's path"
         return "" if one.said == other.said else f"one says {one.said!r}, the other {other.said!r}"
 
+    def linked_ids(self) -> "set[bytes]":
+        """The module ids in a program of two sources of one name."""
+        folder = self.one.top / "build"
+        objects = []
+        for name in "ab":
+            made = self.one.make(self.ours, Call(f"{name}/k.cu", ["-c", "-rdc=true", "-arch=sm_80"], "build", True), "")
+            objects.append(f"{name}.o")
+            (folder / objects[-1]).write_bytes(made.product or b"")
+        (folder / "main.cu").write_text("void run_a(int*); void run_b(int*); int main() { run_a(0); run_b(0); }\n")
+        words = [self.nvcc, "-arch=sm_80", "-rdc=true", "main.cu", *objects, "-o", "program"]
+        subprocess.run(words, cwd=folder, check=False)
+        program = folder / "program"
+        return set(re.findall(rb"__fatbinwrap_([0-9a-f]{8})_", program.read_bytes())) if program.exists() else set()
+
     def given(self) -> "list[tuple[str, str]]":
         """The cases that are given, each with its problem."""
         make = self.one.make
@@ -168,6 +205,7 @@ class Trial:
         return [("without a root", "" if product_ids(nvccs.product or b"") == ids[0] else f"{ids[0]}, nvcc has other ids"),
                 ("a root has ids of its own", "" if ids[0] and ids[1] and not ids[0] & ids[1] else f"{ids}"),
                 ("two sources of one name", "" if ids[2] and not ids[1] & ids[2] else f"{ids}"),
+                ("a program of two sources of one name", "" if len(self.linked_ids()) >= 3 else f"{self.linked_ids()}"),
                 ("a link that the folder's name begins", "" if owns.product and owns.product == linked.product else "the products differ"),
                 ("what stands for the folder", "" if b"/src/inc/deep/h.h" in (named.product or b"") else "the product lacks /src/inc/deep/h.h")]
 
@@ -184,6 +222,7 @@ def main() -> int:
     parser.add_argument("--calls", type=int, default=20)
     parser.add_argument("--seed", default="roots")
     parser.add_argument("--nvcc", default=shutil.which("nvcc"))
+    parser.add_argument("--user")
     args = parser.parse_args()
     if args.nvcc is None:
         print("names under a root: skipped, nvcc is not on the path\n0 passed, 0 failed, 1 skipped")
@@ -191,7 +230,7 @@ def main() -> int:
     lot = random.Random(args.seed)
     passed = failed = 0
     with tempfile.TemporaryDirectory(prefix="roots.") as room:
-        trial = Trial(os.path.abspath(args.driver), args.nvcc, Path(os.path.realpath(room)))
+        trial = Trial(os.path.abspath(args.driver), args.nvcc, Path(os.path.realpath(room)), args.user)
         os.environ.update(ZIGRUNK_NVCC=args.nvcc)
         for number in range(args.calls):
             call = drawn(lot)
