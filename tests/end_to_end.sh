@@ -129,7 +129,7 @@ else
     start early tests/early.sh
     start provenance tests/provenance.py --seed "$(git rev-parse HEAD 2> /dev/null)" "${wrapper%-nvcc}"
     start checkouts tests/checkouts.py --calls 12 --seed "$(git rev-parse HEAD 2> /dev/null)" "$wrapper"
-    start why tests/why.py --causes 12 --share 90 --seed "$(git rev-parse HEAD 2> /dev/null)" "${wrapper%-nvcc}"
+    start why tests/why.py --causes 12 --misses 8 --share 90 --seed "$(git rev-parse HEAD 2> /dev/null)" "${wrapper%-nvcc}"
     start signals interrupts TERM INT HUP
     start isolated tests/isolated.py "${alone[@]}" "$wrapper"
     start conditions tests/conditions.sh "$program"
