@@ -629,6 +629,25 @@ mod tests {
     }
 
     #[test]
+    fn nvcc_runs_preprocessors_side_by_side_that_fail() {
+        let usual = b"#$ cudafe++ k.cu\n#$ cicc k.ii\n#$ gcc -c k.cpp\n";
+        let dry = |own: &str| DryRuns::new(own.into(), usual.to_vec(), Vec::new());
+        let [beside, alone] =
+            [" > /t/a_stdout 2>/t/a_stderr", ""].map(|to| dry(&format!("#$ gcc -E k.cu{to}\n")));
+        assert!(beside.has_threads() && !alone.has_threads());
+        let check = |dry_runs: &DryRuns, [preprocessor, cicc]: [i32; 2], is_rule: bool| {
+            let done = [ended(preprocessor, "", ""), ended(cicc, "", ""), ended(0, "", "")];
+            let mut tasks = tasks(&[false, false, is_rule]);
+            tasks[0].preprocesses = true;
+            check_end(true, &done, &tasks, dry_runs)
+        };
+        assert_eq!(check(&beside, [1, 0], true), to_nvcc(Reason::PreprocessorFails));
+        let others =
+            [check(&beside, [0, 1], true), check(&beside, [1, 0], false), check(&alone, [1, 0], true)];
+        assert_eq!(others, [Ok(()), Ok(()), Ok(())]);
+    }
+
+    #[test]
     fn ends_keep_their_meaning() {
         assert_eq!(Stop::from(nvcc_jobs::Stopped::Signal(2)), Stop::Signal(2));
         assert_eq!(Stop::from(Stopped::Signal(15)), Stop::Signal(15));
