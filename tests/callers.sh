@@ -212,7 +212,7 @@ check 'C: the same as ever of the table and of the stored calls' as_stored
 check 'C++: answers.cpp' built_cpp tests/callers/answers.cpp "$scratch/answers_cpp" "${flags[@]}"
 check 'C++: the same' alike "$scratch/answers_cpp"
 # (a python3 on the path may be a script that sets variables)
-check 'Python: the same' alike "$(python3 -c 'import sys; print(sys.executable)')" tests/callers/answers.py
+check 'Python: the same' alike "$(python3 -c 'import sys; print(sys.executable)')" "$PWD/tests/callers/answers.py"
 check 'Python: what only it has' python3 tests/callers/alone.py "$room" bindings/c/zigrunk.h "$(cat VERSION)"
 if command -v cargo > /dev/null && [ -d "${WORKSPACE:-out/rust}/zigrunk" ]; then
     check 'Rust: answers' env -C "${WORKSPACE:-out/rust}" cargo build --quiet --offline --profile "$profile" -p zigrunk --example answers --example keys
