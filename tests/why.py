@@ -7,7 +7,8 @@ A project is built in two folders, with records. Between both a cause is planted
 tool, time, path, id or locale. If the objects differ, `zigrunk why` has to name the cause by its kind and its name; if they don't, it has to
 name none. Each third trial plants nothing, or what no object shows. Then calls are looked up in the cache after a change that a seed draws:
 `zigrunk why --miss` has to name it, or to say that the cache has the call, and then it has. Last come options of `zigrunk nvcc`: --root and
---check-twice. It fails if fewer than PERCENT of the causes that show are named. The last line is 'N passed, M failed'; a cause that isn't named and may be is printed.
+--check-twice. It fails if fewer than PERCENT of the causes that show are named. The last line is 'N passed, M failed'; a cause that isn't
+named and may be is printed.
 """
 import argparse
 import json
