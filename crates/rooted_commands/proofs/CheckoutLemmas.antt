@@ -5,6 +5,7 @@ use Rattle.std.specs.List.{AllZip, list_all, list_any, starts_with}
 use Rattle.std.specs.Option.{is_some}
 use Rattle.std.proofs.lemmas.Bool.{false≢true, and_parts, or_parts}
 use Rattle.std.proofs.lemmas.List.Elements.{same_from_all_zip}
+use Rattle.std.proofs.lemmas.List.{append_cancel_left}
 use Rattle.std.proofs.lemmas.Slice.Eq.{bytes_eq-Decides}
 use Rattle.texts.proofs.EqualityLemmas.{bools, lists}
 use Rattle.texts.specs.Equality.{words_eq}
@@ -18,12 +19,12 @@ use Rattle.command_files.specs.declared.files.CommandFiles.{CommandFiles}
 use Rattle.command_files.specs.PlanNeeds.{preprocesses}
 use Rattle.placed_commands.specs.PlacedCommands.{files_of}
 use Rattle.placed_commands.specs.PlacedWords.{is_file, placed_from, placed_word, placed_words, word_behind}
-use Rattle.rooted_commands.specs.Paths.{place_of, put, rooted_path}
+use Rattle.rooted_commands.specs.Paths.{behind, place_of, put, rooted_path}
 use Rattle.rooted_commands.specs.Commands.{ident_word, is_for_debuggers, mapped_host, names_source, placed_tool, rooted_by, rooted_command, rooted_host, rooted_tool, source_words, tool_words, with_ident, writes_names}
 use Rattle.rooted_commands.specs.WrittenNames.{can_be_told, has_maps, is_map}
-use Rattle.rooted_commands.specs.Checkouts.{Alike, AlikeBy, AlikeHosts, AlikePlansRunAlike, AlikeTools, AreMoved, RootedWordsAgree, RunAlike, RunAlikeBy, RunAsOne, TakesRoot, WriteAlike, are_names, are_one, are_paths, host_word_alike, host_words_alike, ident_of, ident_words_alike, in_top, is_one_generated, is_one_place, is_option, is_tool, names_among, names_of, names_or_words, same_ends, source_words_alike, with_root, words_alike}
+use Rattle.rooted_commands.specs.Checkouts.{Alike, AlikeBy, AlikeHosts, AlikePlansRunAlike, AlikeTools, AreMoved, EqualPathsAreOnePlace, RootedWordsAgree, RunAlike, RunAlikeBy, RunAsOne, TakesRoot, WriteAlike, are_names, are_one, are_paths, host_word_alike, host_words_alike, ident_of, ident_words_alike, in_top, is_one_generated, is_one_place, is_option, is_tool, names_among, names_of, names_or_words, same_ends, source_words_alike, with_root, words_alike}
 use Rattle.rooted_commands.specs.declared.paths.Root.{Root}
-use Rattle.rooted_commands.proofs.PathLemmas.{rest_after-whole}
+use Rattle.rooted_commands.proofs.PathLemmas.{place-ends, rest_after-whole, stays}
 use Rattle.rooted_commands.proofs.WrittenLemmas.{hosts-write-generated-paths, hosts-write-rooted-paths}
 
 -- paths of one place have one rooted path
@@ -35,6 +36,19 @@ one-put root path name (Some x) (Some y) h = ap (λ t. root ++ t) ((bytes_eq-Dec
 
 one-rooted : (r s : Root) (path name : List ℕ) → r.root ≡ s.root → is_one_place r s path name ≡ true → rooted_path r path ≡ rooted_path s name
 one-rooted r s path name root h = one-put r.root path name (place_of r path) (place_of s name) h ∙ ap (λ t. put t name (place_of s name)) root
+
+-- paths that have one rooted path are one place
+one-of : (r s : Root) (path name : List ℕ) → r.root ≡ s.root → behind r.root path ≡ None → behind s.root name ≡ None → (a b : Option (List ℕ)) → place_of r path ≡ a → place_of s name ≡ b → put r.root path a ≡ put s.root name b → are_one a b (bytes_eq path name) ≡ true
+one-of r s path name root none nothing None None at there same = (bytes_eq-Decides path name).1 same
+one-of r s path name root none nothing None (Some y) at there same =
+    stays r.root path name y (place-ends s name y there) none (same ∙ ap (λ t. t ++ y) (sym root)) _
+one-of r s path name root none nothing (Some x) None at there same =
+    stays s.root name path x (place-ends r path x at) nothing (sym same ∙ ap (λ t. t ++ x) root) _
+one-of r s path name root none nothing (Some x) (Some y) at there same =
+    (bytes_eq-Decides x y).1 (append_cancel_left s.root x y (ap (λ t. t ++ x) (sym root) ∙ same))
+
+pub equal-paths-are-one-place : EqualPathsAreOnePlace
+equal-paths-are-one-place r s path name root none nothing same = one-of r s path name root none nothing (place_of r path) (place_of s name) refl refl same
 
 -- parts of equal lists, and of words that are marked as names
 first-same : (x y : Option (List ℕ)) (xs ys : List (Option (List ℕ))) → x ∷ xs ≡ y ∷ ys → x ≡ y

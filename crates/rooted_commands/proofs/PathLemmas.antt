@@ -2,11 +2,11 @@
 use Rattle.std.proofs.Common.{◌≡◌, ◌⊎◌, inl, inr, ℕ, true, false, cond, eqb, eqb-true, List, [], ◌∷◌, ◌++◌, Some, None, refl, ap, sym, ◌∙◌, subst, option_and_then}
 use Rattle.std.specs.Option.{option_or, is_some}
 use Rattle.std.proofs.lemmas.List.{append_cancel_left}
-use Rattle.texts.specs.Lists.{rest_after}
+use Rattle.texts.specs.Lists.{first_word, rest_after}
 use Rattle.texts.specs.Path.{joined}
 use Rattle.texts.proofs.RestLemmas.{rest_after-append}
-use Rattle.rooted_commands.specs.Paths.{ends_name, if_name_ends, behind, behind_first, place, place_of, put, rooted_path}
-use Rattle.rooted_commands.specs.Laws.{CheckoutsAgree, PathsStayDistinct, OneFolderIsExact}
+use Rattle.rooted_commands.specs.Paths.{ends_name, if_name_ends, behind, behind_first, own_in, own_path, place, place_of, put, rooted_path}
+use Rattle.rooted_commands.specs.Laws.{CheckoutsAgree, PathsStayDistinct, OneFolderIsExact, RootedPathsLeadHome}
 use Rattle.rooted_commands.specs.declared.paths.Root.{Root}
 
 -- a text with what follows it
@@ -64,8 +64,23 @@ pub checkouts-agree : CheckoutsAgree
 checkouts-agree r s folder other rest path name folders others is its root ends whole named none generated =
     rooted-below r folder rest path folders is ends whole none ∙ ap (λ t. t ++ rest) root ∙ sym (rooted-below s other rest name others its ends named generated)
 
+-- a path below the root is below the folder
+home : (s : Root) (other rest : List ℕ) (others : List (List ℕ)) → s.folders ≡ other ∷ others → ends_name rest ≡ true → own_path s (s.root ++ rest) ≡ other ++ rest
+home s other rest others its ends =
+    ap (λ fs. own_in s (s.root ++ rest) (first_word fs)) its ∙ ap (put other (s.root ++ rest)) (behind-below s.root rest ends)
+
+pub rooted-paths-lead-home : RootedPathsLeadHome
+rooted-paths-lead-home r s folder other rest path folders others is its root ends whole none =
+    ap (own_path s) (rooted-below r folder rest path folders is ends whole none)
+    ∙ ap (λ t. own_path s (t ++ rest)) root
+    ∙ home s other rest others its ends
+
+-- a path's place in the checkout ends a name
+pub place-ends : (r : Root) (path rest : List ℕ) → place_of r path ≡ Some rest → ends_name rest ≡ true
+place-ends r path rest at = first-ends r.folders (joined r.cwd path) rest (not-generated r (joined r.cwd path) rest at)
+
 -- nothing that stays as it is equals what is below the root
-stays : (root path other rest : List ℕ) → ends_name rest ≡ true → behind root path ≡ None → path ≡ root ++ rest → (A : Type 0) → A
+pub stays : (root path other rest : List ℕ) → ends_name rest ≡ true → behind root path ≡ None → path ≡ root ++ rest → (A : Type 0) → A
 stays root path other rest ends none same A = let k : None ≡ Some rest = sym none ∙ ap (behind root) same ∙ behind-below root rest ends in cc
 
 pub paths-stay-distinct : PathsStayDistinct

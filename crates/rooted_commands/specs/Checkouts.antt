@@ -17,7 +17,7 @@ use Rattle.compilers.specs.declared.plans.program.Program.TheVariants as program
 use Rattle.command_files.specs.declared.files.CommandFiles.{CommandFiles}
 use Rattle.placed_commands.specs.PlacedCommands.{files_of, moved, placed_command}
 use Rattle.placed_commands.specs.PlacedWords.{is_file}
-use Rattle.rooted_commands.specs.Paths.{behind, call_in, place_of}
+use Rattle.rooted_commands.specs.Paths.{behind, call_in, place_of, rooted_path}
 use Rattle.rooted_commands.specs.Commands.{keeps_record, names_source, rooted_command, tool_words, with_words, writes_names}
 use Rattle.rooted_commands.specs.WrittenNames.{can_be_told, has_maps, is_clear, written_name}
 use Rattle.rooted_commands.specs.declared.paths.Root.{Root}
@@ -30,6 +30,12 @@ are_one _ _ same = false
 
 abbrev pub is_one_place : Root → Root → List ℕ → List ℕ → Bool
 is_one_place r s path name = are_one (place_of r path) (place_of s name) (bytes_eq path name)
+
+-- paths of two calls that have one rooted path, and aren't below the root themselves, are one place
+abbrev pub EqualPathsAreOnePlace : Type 0
+EqualPathsAreOnePlace =
+    (r s : Root) (path name : List ℕ)
+    → r.root ≡ s.root → behind r.root path ≡ None → behind s.root name ≡ None → rooted_path r path ≡ rooted_path s name → is_one_place r s path name ≡ true
 
 -- Words are alike if they are equal, or name one place where the root is put in.
 

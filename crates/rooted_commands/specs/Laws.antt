@@ -4,7 +4,7 @@ use Rattle.std.specs.List.{list_all}
 use Rattle.texts.specs.Path.{joined}
 use Rattle.compilers.specs.declared.plans.plan.NvccGeneratedSubcommand.{NvccGeneratedSubcommand}
 use Rattle.command_files.specs.PlanNeeds.{step_of}
-use Rattle.rooted_commands.specs.Paths.{behind, ends_name, place_of, rooted_path}
+use Rattle.rooted_commands.specs.Paths.{behind, ends_name, own_path, place_of, rooted_path}
 use Rattle.rooted_commands.specs.Commands.{rooted_command}
 use Rattle.rooted_commands.specs.OwnTexts.{is_in_name, own_text}
 use Rattle.rooted_commands.specs.declared.paths.Root.{Root}
@@ -41,3 +41,11 @@ abbrev pub OwnPathsComeBack : Type 0
 OwnPathsComeBack =
     (r : Root) (folder rest tail : List ℕ) (folders : List (List ℕ)) (c : ℕ) → r.folders ≡ folder ∷ folders → r.root ≡ c ∷ tail
     → list_all is_in_name rest ≡ true → own_text r (r.root ++ 47 ∷ rest) ≡ folder ++ 47 ∷ rest
+
+-- what is below one checkout's folder is below another one's there, by its rooted path
+abbrev pub RootedPathsLeadHome : Type 0
+RootedPathsLeadHome =
+    (r s : Root) (folder other rest path : List ℕ) (folders others : List (List ℕ))
+    → r.folders ≡ folder ∷ folders → s.folders ≡ other ∷ others → r.root ≡ s.root → ends_name rest ≡ true
+    → joined r.cwd path ≡ folder ++ rest → behind r.tmp (folder ++ rest) ≡ None
+    → own_path s (rooted_path r path) ≡ other ++ rest

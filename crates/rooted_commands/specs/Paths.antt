@@ -1,8 +1,9 @@
 -- Paths below a checkout, as they are everywhere. The byte 47 is `/`.
-use Rattle.std.specs.Prelude.{ℕ, ◌==◌, List, [], ◌∷◌, ◌++◌, Bool, true, if◌then◌else◌, Option, Some, None, codes, refl, option_and_then}
+use Rattle.std.specs.Prelude.{ℕ, ◌==◌, nat_eq, List, [], ◌∷◌, ◌++◌, Bool, true, if◌then◌else◌, Option, Some, None, codes, refl, option_and_then}
+use Rattle.std.specs.List.{starts_with}
 use Rattle.std.specs.Option.{option_or, is_some}
-use Rattle.texts.specs.Lists.{rest_after}
-use Rattle.texts.specs.Path.{joined}
+use Rattle.texts.specs.Lists.{first_word, rest_after}
+use Rattle.texts.specs.Path.{is_absolute_path, joined}
 use Rattle.texts.specs.Rows.{Gives}
 use Rattle.rooted_commands.specs.declared.paths.Root.{Root}
 
@@ -65,3 +66,52 @@ pub paths_elsewhere : Gives (rooted_path (call_in (codes "/build") (codes "/tmp/
     ∷ ([], [])
     ∷ [])
 paths_elsewhere = refl
+
+-- a path with the checkout's first folder in place of the root, if it is the root or below it
+abbrev pub own_in : Root → List ℕ → Option (List ℕ) → List ℕ
+own_in r path None = path
+own_in r path (Some folder) = put folder path (behind r.root path)
+
+abbrev pub own_path : Root → List ℕ → List ℕ
+own_path r path = own_in r path (first_word r.folders)
+
+pub own_paths : Gives (own_path (call_in (codes "/data/p/a") (codes "/t"))) (
+    (codes "/src/a/k.cu", codes "/home/u/p/a/k.cu")
+    ∷ (codes "/src", codes "/home/u/p")
+    ∷ (codes "/srcs/k.cu", codes "/srcs/k.cu")
+    ∷ (codes "../src/k.cu", codes "../src/k.cu")
+    ∷ (codes "/usr/src/k.cu", codes "/usr/src/k.cu")
+    ∷ [])
+own_paths = refl
+
+-- what is before a path in a word of nvcc's line
+abbrev pub front_of : List ℕ → List ℕ
+front_of word =
+    if starts_with nat_eq word (codes "-I") then codes "-I"
+    else (if starts_with nat_eq word (codes "-isystem=") then codes "-isystem="
+    else (if starts_with nat_eq word (codes "--include-path=") then codes "--include-path="
+    else (if starts_with nat_eq word (codes "--system-include=") then codes "--system-include=" else [])))
+
+-- a path that is rooted if it is absolute: a relative one has no name of the checkout
+abbrev pub whole_path : Root → List ℕ → List ℕ
+whole_path r path = if is_absolute_path path then rooted_path r path else path
+
+abbrev pub word_in : Root → List ℕ → List ℕ → Option (List ℕ) → List ℕ
+word_in r word front None = word
+word_in r word front (Some path) = front ++ whole_path r path
+
+-- a word of nvcc's line as any checkout has it
+abbrev pub line_word : Root → List ℕ → List ℕ
+line_word r word = word_in r word (front_of word) (rest_after (front_of word) word)
+
+pub line_words : Gives (line_word (call_in (codes "/data/p/a") (codes "/t"))) (
+    (codes "/home/u/p/a/k.cu", codes "/src/a/k.cu")
+    ∷ (codes "-I/data/p/inc", codes "-I/src/inc")
+    ∷ (codes "-isystem=/data/p/inc", codes "-isystem=/src/inc")
+    ∷ (codes "--system-include=/data/p", codes "--system-include=/src")
+    ∷ (codes "-I../inc", codes "-I../inc")
+    ∷ (codes "k.cu", codes "k.cu")
+    ∷ (codes "-DTOP=/data/p", codes "-DTOP=/data/p")
+    ∷ (codes "-I/usr/include", codes "-I/usr/include")
+    ∷ [])
+line_words = refl

@@ -1,7 +1,7 @@
 //! Laws of rooted names.
 
-ghost use Rattle.rooted_commands.specs.Laws.{CheckoutsAgree, PathsStayDistinct, OneFolderIsExact, RootKeepsSteps, OwnPathsComeBack};
-ghost use Rattle.rooted_commands.specs.Checkouts.{AlikePlansRunAlike, RootedWordsAgree};
+ghost use Rattle.rooted_commands.specs.Laws.{CheckoutsAgree, PathsStayDistinct, OneFolderIsExact, RootKeepsSteps, OwnPathsComeBack, RootedPathsLeadHome};
+ghost use Rattle.rooted_commands.specs.Checkouts.{AlikePlansRunAlike, EqualPathsAreOnePlace, RootedWordsAgree};
 ghost use Rattle.rooted_commands.specs.WrittenNames.{HostsWriteGeneratedPaths, HostsWriteRootedPaths};
 ghost use Rattle.rooted_commands.specs.MarkerExamples.{NamesAreRooted, RawStringsStay, DoubtfulLinesStay};
 
@@ -10,13 +10,16 @@ ghost use Rattle.rooted_commands.specs.MarkerExamples.{NamesAreRooted, RawString
 /// What is below one checkout and below another has one rooted path (`same`). Two paths that aren't below the root themselves have
 /// different ones, unless the same is behind the checkout's folders in both (`distinct`); where it has one folder, they are one path as
 /// seen from the call's directory (`exact`). A command's record, its role in any group, and whether it preprocesses stay (`steps`).
-/// In what a tool says, a plain name's path below the first folder comes back from its rooted path (`back`).
+/// In what a tool says, a plain name's path below the first folder comes back from its rooted path (`back`). By its rooted path, what is
+/// below one checkout's folder is the same below another one's (`home`), and paths of two calls that have one are one place (`places`).
 pub fn roots()
     ensures same { CheckoutsAgree }
     ensures distinct { PathsStayDistinct }
     ensures exact { OneFolderIsExact }
     ensures steps { RootKeepsSteps }
     ensures back { OwnPathsComeBack }
+    ensures home { RootedPathsLeadHome }
+    ensures places { EqualPathsAreOnePlace }
 {}
 
 /// What runs in two checkouts of a project, by the plans of two calls.

@@ -13,4 +13,4 @@ mod paths;
 pub use commands::rooted_command;
 pub use markers::rooted_text;
 pub use own::own_text;
-pub use paths::{Root, rooted_path};
+pub use paths::{Root, line_word, own_path, rooted_path};

@@ -84,3 +84,66 @@ pub fn rooted_path(alloc: Global, root: &Root, path: &str) -> Result<Text, Alloc
         Some(rest) => joined_texts(alloc, root.root.as_str(), rest),
     }
 }
+
+// A path with a folder in place of the root.
+fn with_folder(alloc: Global, root: &Root, folder: &str, path: &str) -> Result<Text, AllocError>
+    ensures { IfOk result (λ own. own ≡ spec.put folder.now path.now (spec.behind root.now.root path.now)) }
+{
+    match behind(root.root.as_str(), path) {
+        None => Text::copy_of(alloc, path),
+        Some(rest) => joined_texts(alloc, folder, rest),
+    }
+}
+
+/// A rooted path as it is in a checkout: the first folder stands in place of the root. A path that isn't the root, nor below it, stays.
+pub fn own_path(alloc: Global, root: &Root, path: &str) -> Result<Text, AllocError>
+    ensures { IfOk result (λ own. own ≡ spec.own_path root.now path.now) }
+{
+    match root.folders.as_slice() {
+        [] => Text::copy_of(alloc, path),
+        [folder, ..] => with_folder(alloc, root, folder.as_str(), path),
+    }
+}
+
+// What is before a path in a word of nvcc's line.
+fn front_of(word: &str) -> &'static str
+    ensures { result.now ≡ spec.front_of word.now }
+{
+    if word.as_bytes().starts_with(b"-I") {
+        "-I"
+    } else if word.as_bytes().starts_with(b"-isystem=") {
+        "-isystem="
+    } else if word.as_bytes().starts_with(b"--include-path=") {
+        "--include-path="
+    } else if word.as_bytes().starts_with(b"--system-include=") {
+        "--system-include="
+    } else {
+        ""
+    }
+}
+
+// A path that is rooted if it is absolute.
+fn whole_path(alloc: Global, root: &Root, path: &str) -> Result<Text, AllocError>
+    ensures { IfOk result (λ rooted. rooted ≡ spec.whole_path root.now path.now) }
+{
+    if is_absolute(path) {
+        rooted_path(alloc, root, path)
+    } else {
+        Text::copy_of(alloc, path)
+    }
+}
+
+/// A word of nvcc's line as any checkout has it: an absolute path below the checkout's folder has the root in its place, if it's the whole
+/// word or behind `-I`, `-isystem=`, `--include-path=` or `--system-include=`. Any other word stays: a path in it may reach a product.
+pub fn line_word(alloc: Global, root: &Root, word: &str) -> Result<Text, AllocError>
+    ensures { IfOk result (λ rooted. rooted ≡ spec.line_word root.now word.now) }
+{
+    let front = front_of(word);
+    match rest_of(word, front) {
+        None => Text::copy_of(alloc, word),
+        Some(path) => {
+            let whole = whole_path(alloc, root, path)?;
+            joined_texts(alloc, front, whole.as_str())
+        }
+    }
+}

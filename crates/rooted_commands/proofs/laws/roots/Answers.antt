@@ -1,5 +1,6 @@
 use Rattle.rooted_commands.proofs.OwnLemmas.{own-paths-come-back}
-use Rattle.rooted_commands.proofs.PathLemmas.{checkouts-agree, paths-stay-distinct, one-folder-is-exact}
+use Rattle.rooted_commands.proofs.PathLemmas.{checkouts-agree, paths-stay-distinct, one-folder-is-exact, rooted-paths-lead-home}
+use Rattle.rooted_commands.proofs.CheckoutLemmas.{equal-paths-are-one-place}
 use Rattle.rooted_commands.proofs.StepLemmas.{root-keeps-steps}
 use Rattle.rooted_commands.proofs.laws.roots.Goals as goal
 
@@ -10,4 +11,6 @@ returns c = record {
   exact = one-folder-is-exact;
   steps = root-keeps-steps;
   back = own-paths-come-back;
+  home = rooted-paths-lead-home;
+  places = equal-paths-are-one-place;
 }
