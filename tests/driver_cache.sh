@@ -1613,6 +1613,43 @@ int main(int n, char** words) { return execv(\"$(command -v nvcc)\", words); }"
         cd "$source" || return
         end
     fi
+    if case_of 'whole: checkouts under a root'; then
+        project
+        mkdir -p "$room/one/sub" "$room/one/early" && cp -r . "$room/one/src" && ln -s ../src/inc "$room/one/sub/inc"
+        for name in two 'a b'; do cp -r "$room/one" "$room/$name"; done
+        ln -s two "$room/link"
+        # under NAME WANTED [SETTING..] WORD..: makes a call in a checkout. @ is the checkout.
+        under() {
+            cd "$room/${1%%/*}/src" && rm -f k.d || return
+            whole "$2" ZIGRUNK_ROOT="$room/$1" "${@:3}"
+        }
+        # called NAME WANTED WORD..: the usual call with whole paths and these words.
+        called() { under "$1" "$2" -MD -MF k.d -arch=sm_80 "${@:3}" "-I$room/$1/early" "-I$room/$1/sub/inc" -c "$room/$1/src/k.cu" -o k.o; }
+        called one '' && called one whole && called two whole
+        called 'a b' '' && called link whole
+        for name in one two; do under $name "$([ $name = one ] || echo whole)" -lineinfo -arch=sm_80 -I../sub/inc -c k.cu -o k.o; done
+        under one/sub/.. whole -lineinfo -arch=sm_80 -I../sub/inc -c k.cu -o k.o
+        under two/ whole -lineinfo -arch=sm_80 -I../sub/inc -c k.cu -o k.o
+        called one '' -lineinfo && under two '' ZIGRUNK_ROOT="$room" -arch=sm_80 -I../sub/inc -c k.cu -o k.o
+        # a header that differs in the other checkout, one that is only there, a link that leads elsewhere
+        echo '#define SIZE 64' > "$room/two/src/inc/size.h" && called two '' && called one whole
+        cp "$room/one/src/inc/size.h" "$room/two/src/inc" && called two whole
+        cp "$room/one/src/inc/size.h" "$room/two/early" && called two '' && rm "$room/two/early/size.h" && called one '' && called two whole
+        ln -sfn "$room/one/src/inc" "$room/two/sub/inc" && called two ''
+        # a message names the lines of this text, and the product is rooted
+        echo 'int narrow(double value) { return value; }' >> "$room/one/src/k.cu" && called one '' -Xcompiler -Wconversion
+        sed -i '1i // a line' "$room/one/src/k.cu" && called one '' -Xcompiler -Wconversion
+        same 'a message' "$(grep -c 'one/src/k.cu:8:' "$room/err")" 1
+        cp "$room/two/src/k.cu" "$room/one/src"
+        # words and files that name a checkout reach products
+        called one '' "-DTOP=$room/one" && called two '' "-DTOP=$room/one" && called two '' "-DTOP=$room/two"
+        for name in one two; do sed -i "1i #include \"$room/one/src/inc/size.h\"" "$room/$name/src/k.cu"; done
+        called one '' && called two ''
+        for name in one two; do sed -i "1s,.*,#line 7 \"$room/two/src/named.cu\"," "$room/$name/src/k.cu"; done
+        called one '' && called two ''
+        cd "$room/work" || return
+        end
+    fi
     if case_of 'whole: a batch'; then
         project
         sed 's/return count/int never; return count/' k.cu > l.cu

@@ -3,6 +3,7 @@
 //!
 //! A call's key leads to a manifest, the files that were read and the places where some were sought in vain.
 //! Their digests lead to what the call made.
+use crate::checkout::Checkout;
 use crate::digest::{Digest, Hasher};
 use crate::manifest::Manifest;
 use crate::miss::Miss;
@@ -12,7 +13,7 @@ use crate::store::Store;
 use crate::stored;
 use crate::system::may_write;
 use call::NvccLine;
-use machine::settings::{self, own_variable, own_variables};
+use machine::settings::{self, AskedRoot, own_variable, own_variables};
 use machine::streams::{Said, write_all};
 use serde::{Deserialize, Serialize};
 use std::ffi::{OsStr, OsString};
@@ -69,15 +70,15 @@ const FREE_BEGINNINGS: [&str; 9] =
     ["CCACHE_", "CMAKE_", "DBUS_", "GITHUB_", "SLURM_", "SSH_", "VSCODE_", "XDG_", "ZIGRUNK_"];
 
 /// The one among these that counts: products are others under a root.
-const COUNTING: &[u8] = b"ZIGRUNK_ROOT";
+const COUNTING: &str = "ZIGRUNK_ROOT";
 
 /// Whether nothing of what a call makes depends on a variable, unless a process asks for it. All others are
 /// in its key.
 pub fn is_free(name: &OsStr) -> bool {
-    let name = name.as_bytes();
     if name == COUNTING {
         return false;
     }
+    let name = name.as_bytes();
     FREE_VARIABLES.iter().any(|free| name == free.as_bytes())
         || FREE_BEGINNINGS.iter().any(|begin| name.starts_with(begin.as_bytes()))
 }
@@ -114,6 +115,8 @@ pub struct Product {
 pub struct Answer {
     /// What it has put in places outside its directory.
     pub products: Vec<Product>,
+    /// Its dependency file, if it has one.
+    pub rule: Option<Product>,
     /// What it has said.
     pub said: Said,
     /// The kind of terminal for which its messages are.
@@ -136,24 +139,79 @@ fn keys(line: &NvccLine, nvcc: &Path) -> [Digest; 2] {
     let places = fs::canonicalize(&line.cwd)
         .map(|real| [line.cwd.as_bytes(), b"\0", real.as_os_str().as_bytes()].concat());
     let places = places.unwrap_or_else(|_| line.cwd.clone().into_bytes());
-    [&b""[..], &places].map(|folder| key(line, nvcc, folder, own_variables()))
+    [&b""[..], &places].map(|folder| key(&line.words, nvcc, folder, own_variables()))
+}
+
+/// The variables that name folders: what is found there counts, not how they are called.
+const LISTS: [&str; 7] = [
+    "COMPILER_PATH",
+    "CPATH",
+    "CPLUS_INCLUDE_PATH",
+    "C_INCLUDE_PATH",
+    "LD_LIBRARY_PATH",
+    "LIBRARY_PATH",
+    "PATH",
+];
+
+/// A variable's value as any checkout has it. `None` if it may name the checkout's folder in another way.
+fn value_in(checkout: &Checkout, name: &OsStr, value: &OsStr) -> Option<OsString> {
+    match value.to_str().filter(|_| LISTS.iter().any(|list| name == *list)) {
+        Some(list) => Some(checkout.list(list)?.into()),
+        None => Some(OsStr::from_bytes(checkout.value(value.as_bytes())?).to_owned()),
+    }
+}
+
+/// What a call's key has in each checkout under a root.
+pub struct Rooted {
+    /// The words of the line.
+    pub words: Vec<String>,
+    variables: Vec<(OsString, OsString)>,
+}
+
+impl Rooted {
+    /// That of a call in a checkout. `None` if a product may have more of the folder's path than the root
+    /// stands for.
+    pub fn of(checkout: &Checkout, line: &NvccLine, nvcc: &Path) -> Option<Rooted> {
+        let words = line.words.iter().map(|word| checkout.word(word)).collect::<Option<_>>()?;
+        let counting = own_variables().filter(|(name, _)| !is_free(name) && name != COUNTING);
+        let rooted = |(name, value): (OsString, OsString)| {
+            value_in(checkout, &name, &value).map(|value| (name, value))
+        };
+        let variables = counting.map(rooted).collect::<Option<_>>()?;
+        (!checkout.is_named_in(nvcc.as_os_str().as_bytes())).then_some(Rooted { words, variables })
+    }
+
+    /// The folders that its variables name.
+    pub fn lists(&self) -> impl Iterator<Item = &str> {
+        let lists = self.variables.iter().filter(|(name, _)| LISTS.iter().any(|list| name == *list));
+        lists.filter_map(|(_, value)| value.to_str()).flat_map(|list| list.split(':'))
+    }
+
+    /// The call's key.
+    pub fn key(&self, checkout: &Checkout, nvcc: &Path) -> Option<Digest> {
+        let [cwd, real] = checkout.places()?;
+        let folder = [cwd.as_os_str(), real.as_os_str(), checkout.name.as_ref()].map(OsStr::as_bytes);
+        Some(key(&self.words, nvcc, &folder.join(&0), self.variables.iter().cloned()))
+    }
 }
 
 /// The key of a call: the processor, its nvcc, its words and its variables, and its folder, with where that
 /// really is, if that counts.
 fn key(
-    line: &NvccLine,
+    words: &[String],
     nvcc: &Path,
     folder: &[u8],
     variables: impl Iterator<Item = (OsString, OsString)>,
 ) -> Digest {
     let mut hasher = Hasher::default();
-    hasher.add(b"zigrunk call 8");
+    hasher.add(b"zigrunk call 9");
     hasher.add(instructions().as_bytes());
     hasher.add(folder);
     hasher.add(nvcc.as_os_str().as_bytes());
-    hasher.update(&(line.words.len() as u64).to_le_bytes());
-    line.words.iter().for_each(|word| hasher.add(word.as_bytes()));
+    hasher.update(&(words.len() as u64).to_le_bytes());
+    for word in words {
+        hasher.add(word.as_bytes());
+    }
     let mut variables: Vec<_> = variables.filter(|(name, _)| !is_free(name)).collect();
     variables.sort();
     for (name, value) in variables {
@@ -168,24 +226,25 @@ pub fn is_on() -> bool {
     settings::keeps_calls()
 }
 
-/// Makes what the store has of a whole call, and gives what it said.
+/// Makes what the store has of a whole call, which may be under a root, and gives what it said.
 /// Errors: why the call has to be made.
-pub fn serve(store: &Store, line: &NvccLine, nvcc: &Path) -> Result<Said, Miss> {
-    by_keys(store, line, nvcc, |key, cwd| served(found(store, key, cwd)?, cwd))
+pub fn serve(store: &Store, line: &NvccLine, nvcc: &Path, root: Option<&AskedRoot>) -> Result<Said, Miss> {
+    by_places(store, line, nvcc, root, |place, cwd| place.served(place.found(store, cwd)?, cwd))
 }
 
 /// Why the store has nothing for a call, unless it has.
-pub fn miss(store: &Store, line: &NvccLine, nvcc: &Path) -> Option<Miss> {
-    by_keys(store, line, nvcc, |key, cwd| found(store, key, cwd)).err()
+pub fn miss(store: &Store, line: &NvccLine, nvcc: &Path, root: Option<&AskedRoot>) -> Option<Miss> {
+    by_places(store, line, nvcc, root, |place, cwd| place.found(store, cwd)).err()
 }
 
-/// What is found first by one of a call's keys.
+/// What is found at the first place of a call.
 /// Errors: why nothing is.
-fn by_keys<T>(
+fn by_places<T>(
     store: &Store,
     line: &NvccLine,
     nvcc: &Path,
-    find: impl Fn(&Digest, &Path) -> Result<T, Miss>,
+    root: Option<&AskedRoot>,
+    find: impl Fn(&Place<'_>, &Path) -> Result<T, Miss>,
 ) -> Result<T, Miss> {
     let cwd = Path::new(&line.cwd);
     // Without a folder for temporary files nvcc fails.
@@ -193,28 +252,14 @@ fn by_keys<T>(
     if !folder.is_none_or(|folder| folder.is_dir() && may_write(&folder)) {
         return Err(Miss::NotLookedUp("TMPDIR is no folder that can be written"));
     }
-    let keys = keys(line, nvcc);
-    let found = keys.iter().try_fold(Miss::Unknown, |miss, key| match find(key, cwd) {
+    let checkout = root.and_then(|root| Checkout::of(root, &line.cwd));
+    let places = places_of(line, nvcc, checkout.as_ref());
+    let found = places.iter().try_fold(Miss::Unknown, |miss, place| match find(place, cwd) {
         Ok(found) => Err(found),
         Err(other) => Ok(miss.or(other)),
     });
-    found.map_or_else(Ok, |miss| Err(miss.or(refusal(store, &keys).map_or(Miss::Unknown, Miss::Refused))))
-}
-
-/// What the store has of a call with this key. If other sources stand for those that the call depends on, it's
-/// kept for these, too.
-fn found(store: &Store, key: &Digest, cwd: &Path) -> Result<Answer, Miss> {
-    let earlier = Manifest::read(store, key).ok_or(Miss::Unknown)?;
-    let now = earlier.now(cwd, &[]).map_err(Miss::Input)?;
-    if let Some(answer) = now.answer(store, key) {
-        now.improve(store, key, &earlier);
-        return Some(answer).filter(Answer::may_be_said).ok_or(Miss::Terminal);
-    }
-    let miss = || earlier.difference(&now).map_or(Miss::NoAnswer, Miss::Input);
-    let alike = earlier.alike(&now, cwd).ok_or_else(miss)?;
-    let answer = earlier.answer(store, key).filter(Answer::is_silent).ok_or_else(miss)?;
-    let _ = alike.keep(store, key, &answer);
-    Ok(answer)
+    let refused = || refusal(store, &keys(line, nvcc)).map_or(Miss::Unknown, Miss::Refused);
+    found.map_or_else(Ok, |miss| Err(miss.or(refused())))
 }
 
 /// The key under which is why a call isn't kept, by its other keys.
@@ -236,21 +281,83 @@ pub fn refuse(store: &Store, line: &NvccLine, nvcc: &Path, why: &str) {
     let _ = store.write(&refusal_key(&keys(line, nvcc)), why.as_bytes());
 }
 
-/// What the store has of a call: its keys, and what the call depends on.
-pub fn known(store: &Store, line: &NvccLine, nvcc: &Path) -> Vec<(Digest, Manifest)> {
-    keys(line, nvcc).into_iter().filter_map(|key| Some((key, Manifest::read(store, &key)?))).collect()
+/// Where a call may be in the store.
+struct Place<'a> {
+    key: Digest,
+    /// The checkout whose paths have a mark there, if they have one.
+    checkout: Option<&'a Checkout>,
 }
 
-/// Makes what a call has made, and gives what it said.
-fn served(answer: Answer, cwd: &Path) -> Result<Said, Miss> {
-    // (what is to be written to may not be writable: then nothing else is made either)
-    let (made, written): (Vec<&Product>, Vec<&Product>) =
-        answer.products.iter().partition(|product| product.is_new);
-    for product in written.into_iter().chain(made) {
-        let lost = |_| Miss::Product(product.path.clone());
-        put(product.is_new, &cwd.join(&product.path), &product.text).map_err(lost)?;
+fn places_of<'a>(line: &NvccLine, nvcc: &Path, checkout: Option<&'a Checkout>) -> Vec<Place<'a>> {
+    let rooted = checkout.and_then(|own| Rooted::of(own, line, nvcc)?.key(own, nvcc));
+    let rooted = rooted.map(|key| Place { key, checkout });
+    rooted.into_iter().chain(keys(line, nvcc).map(|key| Place { key, checkout: None })).collect()
+}
+
+impl Place<'_> {
+    /// What the store has of a call here. If other sources stand for those that the call depends on, it's
+    /// kept for these, too.
+    fn found(&self, store: &Store, cwd: &Path) -> Result<Answer, Miss> {
+        let stored = Manifest::read(store, &self.key).ok_or(Miss::Unknown)?;
+        let earlier = stored.own_in(self.checkout).ok_or(Miss::NoAnswer)?;
+        let now = earlier.now(cwd, &[]).map_err(Miss::Input)?;
+        let kept = now.kept_in(self.checkout).ok_or(Miss::NoAnswer)?;
+        if let Some(answer) = kept.answer(store, &self.key) {
+            kept.improve(store, &self.key, &stored);
+            return Some(answer).filter(Answer::may_be_said).ok_or(Miss::Terminal);
+        }
+        let miss = || earlier.difference(&now).map_or(Miss::NoAnswer, Miss::Input);
+        let alike = earlier.alike(&now, cwd).and_then(|alike| alike.kept_in(self.checkout));
+        let alike = alike.ok_or_else(miss)?;
+        let answer = stored.answer(store, &self.key).filter(Answer::is_silent).ok_or_else(miss)?;
+        let _ = alike.keep(store, &self.key, &answer);
+        Ok(answer)
     }
-    Ok(answer.said)
+
+    /// An answer as it is in this checkout.
+    fn own(&self, mut answer: Answer) -> Option<Answer> {
+        if let Some(checkout) = self.checkout {
+            for product in answer.products.iter_mut().chain(&mut answer.rule) {
+                product.path = checkout.own(&product.path)?;
+            }
+            if let Some(rule) = &mut answer.rule {
+                rule.text = checkout.own_rule(&rule.text)?;
+            }
+            answer.said.iter_mut().for_each(|(_, text)| *text = checkout.own_said(text));
+        }
+        Some(answer)
+    }
+
+    /// Makes what a call has made, and gives what it said.
+    fn served(&self, answer: Answer, cwd: &Path) -> Result<Said, Miss> {
+        let answer = self.own(answer).ok_or(Miss::NoAnswer)?;
+        // (what is to be written to may not be writable: then nothing else is made either)
+        let (made, written): (Vec<&Product>, Vec<&Product>) =
+            answer.products.iter().chain(&answer.rule).partition(|product| product.is_new);
+        for product in written.into_iter().chain(made) {
+            let lost = |_| Miss::Product(product.path.clone());
+            put(product.is_new, &cwd.join(&product.path), &product.text).map_err(lost)?;
+        }
+        Ok(answer.said)
+    }
+}
+
+/// What the store has of a call: its keys, and what the call depends on.
+pub fn known(
+    store: &Store,
+    line: &NvccLine,
+    nvcc: &Path,
+    root: Option<&AskedRoot>,
+) -> Vec<(Digest, Manifest)> {
+    let checkout = root.and_then(|root| Checkout::of(root, &line.cwd));
+    let known =
+        |place: Place<'_>| Some((place.key, Manifest::read(store, &place.key)?.own_in(place.checkout)?));
+    places_of(line, nvcc, checkout.as_ref()).into_iter().filter_map(known).collect()
+}
+
+/// Keeps what a call has made for all checkouts under a root, if the store can be written.
+pub fn keep_shared(store: &Store, key: &Digest, manifest: &Manifest, answer: &Answer) {
+    let _ = manifest.keep(store, key, answer);
 }
 
 /// Keeps what a call has made, if the store can be written.
@@ -312,7 +419,7 @@ mod tests {
 
     fn key_of(words: &str, folder: Option<&str>, nvcc: &str, variables: &[(&str, &str)]) -> Digest {
         let variables = variables.iter().map(|(name, value)| (name.into(), value.into()));
-        key(&line(words, "/w"), Path::new(nvcc), folder.unwrap_or_default().as_bytes(), variables)
+        key(&line(words, "/w").words, Path::new(nvcc), folder.unwrap_or_default().as_bytes(), variables)
     }
 
     #[test]
@@ -352,7 +459,8 @@ mod tests {
     fn answer() -> Answer {
         let product = |path: &str, is_new: bool| Product { path: path.into(), is_new, text: path.into() };
         Answer {
-            products: vec![product("k.o", true), product("k.d", false)],
+            products: vec![product("k.o", true), product("k.ptx", false)],
+            rule: Some(product("k.d", false)),
             said: vec![(true, b"warns".to_vec())],
             terminal: terminal(),
         }
@@ -391,8 +499,9 @@ mod tests {
                 &Answer { said: vec![(false, text.into())], ..answer() },
             );
         };
-        let served =
-            || serve(&store, &line, nvcc).ok().map(|said| String::from_utf8(said[0].1.clone()).unwrap());
+        let served = || {
+            serve(&store, &line, nvcc, None).ok().map(|said| String::from_utf8(said[0].1.clone()).unwrap())
+        };
         keep("one", false);
         assert_eq!(
             (served(), fs::read_to_string(room.join("k.d")).unwrap()),
@@ -435,7 +544,7 @@ mod tests {
                 &Answer { said: vec![(true, said.to_vec())], ..answer() },
             );
         };
-        let served = || serve(&store, &line, nvcc).is_ok();
+        let served = || serve(&store, &line, nvcc, None).is_ok();
         keep(b"");
         for (text, wanted) in
             [("// x\n\nint a;\n", true), ("int b;\n", false), ("int a; // y\n", true), ("int a;\n", true)]
@@ -459,7 +568,7 @@ mod tests {
             Path::new("/b/nvcc"),
         );
         let put = |text: &str| fs::write(room.join("k.cu"), text).unwrap();
-        let why = || miss(&store, &line, nvcc);
+        let why = || miss(&store, &line, nvcc, None);
         assert_eq!(why(), Some(Miss::Unknown));
         refuse(&store, &line, nvcc, "it tells the time");
         assert_eq!(why(), Some(Miss::Refused("it tells the time".into())));
@@ -473,7 +582,7 @@ mod tests {
         assert_eq!(why(), Some(Miss::Input(changed)), "by the key with its folder");
         put("one");
         fs::create_dir_all(room.join("k.o/full")).unwrap();
-        assert_eq!((why(), serve(&store, &line, nvcc)), (None, Err(Miss::Product("k.o".into()))));
+        assert_eq!((why(), serve(&store, &line, nvcc, None)), (None, Err(Miss::Product("k.o".into()))));
         let terminal = Answer { terminal: b"other".to_vec(), ..answer() };
         super::keep(&store, &line, nvcc, true, &manifest, &terminal);
         assert_eq!(why(), Some(Miss::Terminal));

@@ -34,6 +34,11 @@ pub fn files_entered(text: &[u8]) -> Option<BTreeSet<&[u8]>> {
         .then(|| names.into_iter().filter(|name| !name.starts_with(b"<")).collect())
 }
 
+/// The absolute paths that a text's line markers name.
+pub fn absolute_names(text: &[u8]) -> BTreeSet<&[u8]> {
+    markers(text).map(|(_, name, _)| name).filter(|name| name.starts_with(b"/")).collect()
+}
+
 /// Files that are included more deeply are of the part of those that include them.
 const DEEPEST_PART: usize = 1;
 

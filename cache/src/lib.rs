@@ -3,6 +3,7 @@
 #![forbid(unsafe_code)]
 
 pub mod calls;
+mod checkout;
 pub mod counts;
 pub mod digest;
 mod entry;

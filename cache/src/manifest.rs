@@ -5,6 +5,7 @@
 //! it is for a while when it was read. A folder's stamp says in the same way that nothing has appeared in it.
 //!
 //! A source whose layout is as it was may stand for what it was, if the call can't see the difference.
+use crate::checkout::Checkout;
 use crate::digest::{Digest, Hasher};
 use crate::lines::{Macros, definitions_in, without_definitions};
 use crate::miss::{Change, Difference};
@@ -18,7 +19,7 @@ use serde::de::DeserializeOwned;
 use serde::{Deserialize, Serialize};
 use std::ffi::OsStr;
 use std::fs::{self, File, Metadata};
-use std::io::{self, ErrorKind};
+use std::io::{self, ErrorKind, Read};
 use std::os::unix::ffi::{OsStrExt, OsStringExt};
 use std::os::unix::fs::MetadataExt;
 use std::path::{Path, PathBuf};
@@ -119,6 +120,15 @@ impl Seen {
     fn layouts(&self) -> Option<&Layouts> {
         if let Form::Source(layouts) = &self.form { Some(layouts) } else { None }
     }
+}
+
+/// What programs and libraries begin with: no compiler takes it for a text.
+const PROGRAM: &[u8] = b"\x7fELF";
+
+/// Whether a file is a program or a library.
+pub fn is_program(path: &Path) -> bool {
+    let mut begin = [0; PROGRAM.len()];
+    File::open(path).is_ok_and(|mut file| file.read_exact(&mut begin).is_ok() && begin == PROGRAM)
 }
 
 /// Where a path leads, seen from a working directory as the path is.
@@ -288,6 +298,52 @@ impl Manifest {
         lines
     }
 
+    /// Whether a variable has such a value.
+    pub fn has_value(&self, is_such: impl Fn(&[u8]) -> bool) -> bool {
+        self.variables.iter().filter_map(|variable| variable.value.as_deref()).any(is_such)
+    }
+
+    /// All paths that it has.
+    pub fn paths(&self) -> impl Iterator<Item = &Path> {
+        let files = self.files.iter().map(|seen| &seen.path);
+        let folders =
+            self.vain.iter().map(|vain| &vain.folder).chain(self.listed.iter().map(|listed| &listed.folder));
+        let places = self.places.iter().flat_map(|(path, real)| [path, real]);
+        files.chain(folders).chain(places).map(PathBuf::as_path)
+    }
+
+    /// The same as it is in the store: as in any checkout, if the call is made in one.
+    pub fn kept_in(&self, checkout: Option<&Checkout>) -> Option<Manifest> {
+        let Some(checkout) = checkout else { return Some(self.clone()) };
+        self.with_paths(|path| checkout.path(path), |path| checkout.path(path))
+    }
+
+    /// What one in the store is in a checkout.
+    pub fn own_in(&self, checkout: Option<&Checkout>) -> Option<Manifest> {
+        let Some(checkout) = checkout else { return Some(self.clone()) };
+        self.with_paths(|path| checkout.own(path), |path| checkout.own_real(path))
+    }
+
+    /// The same with other paths, and others for where these lead. `None` if one of them has none.
+    fn with_paths(
+        &self,
+        path: impl Fn(&Path) -> Option<PathBuf>,
+        real: impl Fn(&Path) -> Option<PathBuf>,
+    ) -> Option<Manifest> {
+        let files = self.files.iter().map(|seen| Some(Seen { path: path(&seen.path)?, ..seen.clone() }));
+        let vain = self.vain.iter().map(|vain| Some(Vain { folder: path(&vain.folder)?, ..vain.clone() }));
+        let listed =
+            self.listed.iter().map(|listed| Some(Listed { folder: path(&listed.folder)?, ..listed.clone() }));
+        let places = self.places.iter().map(|(from, to)| Some((path(from)?, real(to)?)));
+        Some(Manifest {
+            files: files.collect::<Option<_>>()?,
+            vain: vain.collect::<Option<_>>()?,
+            listed: listed.collect::<Option<_>>()?,
+            places: places.collect::<Option<_>>()?,
+            ..self.clone()
+        })
+    }
+
     /// Whether it says more of the same than an earlier one, so that less has to be read.
     fn is_better_than(&self, earlier: &Manifest) -> bool {
         self != earlier && self.fresh() <= earlier.fresh()
@@ -313,17 +369,18 @@ impl Manifest {
     }
 
     /// The answer under a key, if all is there on which it depends, and what this is now, to a command with
-    /// such variables.
+    /// such variables. In the store it may be as in any checkout.
     pub fn find<T: DeserializeOwned>(
         store: &Store,
         key: &Digest,
-        cwd: &Path,
+        (cwd, checkout): (&Path, Option<&Checkout>),
         given: &Variables,
     ) -> Option<(T, Manifest)> {
-        let earlier = Manifest::read(store, key)?;
-        let now = earlier.now(cwd, given).ok()?;
-        let answer = now.answer(store, key)?;
-        now.improve(store, key, &earlier);
+        let stored = Manifest::read(store, key)?;
+        let now = stored.own_in(checkout)?.now(cwd, given).ok()?;
+        let kept = now.kept_in(checkout)?;
+        let answer = kept.answer(store, key)?;
+        kept.improve(store, key, &stored);
         Some((answer, now))
     }
 
@@ -408,7 +465,13 @@ impl Manifest {
 
     /// Whether the lines of some sources may count. `None` if that isn't known.
     fn may_see_lines(&self, places: &[usize], defines: &[Vec<u8>], cwd: &Path) -> Option<bool> {
-        let files = self.files.iter().filter(|seen| !matches!(seen.form, Form::Other));
+        // (a tool that was looked at is large)
+        let is_text = |seen: &&Seen| match seen.form {
+            Form::Other => false,
+            Form::Dated(..) => !is_program(&cwd.join(&seen.path)),
+            Form::Text | Form::Source(_) => true,
+        };
+        let files = self.files.iter().filter(is_text);
         let texts: Vec<Vec<u8>> =
             files.map(|seen| content_of(&cwd.join(&seen.path)).ok()).collect::<Option<_>>()?;
         let definitions = texts.iter().map(|text| definitions_in(text)).collect::<Option<Vec<_>>>()?;
@@ -460,6 +523,7 @@ mod tests {
     use crate::stamps::is_older;
     use crate::stored::{of_bytes, to_bytes};
     use crate::test_folder::TestFolder;
+    use machine::settings::AskedRoot;
     use std::time::{Duration, SystemTime};
 
     impl Manifest {
@@ -684,6 +748,25 @@ mod tests {
     }
 
     #[test]
+    fn a_program_defines_nothing() {
+        let scratch = Scratch::new();
+        fs::write(scratch.0.join("k.cu"), "int a = A;\n").unwrap();
+        let is_alike = |tool: &str| {
+            fs::write(scratch.0.join("tool"), tool).unwrap();
+            let dated = Form::dated(&fs::metadata(scratch.0.join("tool")).unwrap());
+            let seen =
+                |name: &str, form: Form| Seen { form, ..Seen::now(Path::new(name), &scratch.0).unwrap() };
+            let files = vec![seen("k.cu", Form::of_source(b"int a = A;\n")), seen("tool", dated)];
+            let manifest = Manifest { files, defines: Some(Vec::new()), ..Manifest::default() };
+            fs::write(scratch.0.join("k.cu"), "\nint a = A;\n").unwrap();
+            let is_alike = manifest.alike(&manifest.again(&scratch.0).unwrap(), &scratch.0).is_some();
+            fs::write(scratch.0.join("k.cu"), "int a = A;\n").unwrap();
+            is_alike
+        };
+        assert_eq!(["#define A __LINE__\n", "\x7fELF\n#define A __LINE__\n"].map(is_alike), [false, true]);
+    }
+
+    #[test]
     fn lines_that_do_not_count_are_known_the_next_time() {
         let scratch = Scratch::new();
         let manifest = alike(&scratch, "#define A 1\n", ["A\n", "\nA\n"], "").unwrap();
@@ -800,5 +883,46 @@ mod tests {
         assert_eq!(said(&[]), wanted("inc/sub", Change::New));
         fs::remove_file(scratch.0.join("k.cu")).unwrap();
         assert_eq!(said(&[]), wanted("k.cu", Change::Gone));
+    }
+
+    #[test]
+    fn a_manifest_leads_to_the_checkout_that_asks() {
+        let room = TestFolder::new();
+        for top in ["one", "two"] {
+            fs::create_dir_all(room.join(top).join("inc")).unwrap();
+            fs::write(room.join(top).join("inc/a.h"), "a").unwrap();
+            std::os::unix::fs::symlink("inc", room.join(top).join("way")).unwrap();
+        }
+        std::os::unix::fs::symlink("two", room.join("link")).unwrap();
+        let of = |name: &str| {
+            let top = room.join(name).display().to_string();
+            let asked = AskedRoot { folder: top.clone(), name: "/src".into() };
+            Checkout::of(&asked, &top).unwrap()
+        };
+        let (one, two) = (of("one"), of("link"));
+        let cwd = |name: &str| room.join(name);
+        let path = |name: &str| cwd("one").join(name);
+        let own = Manifest {
+            files: vec![Seen::now(&path("inc/a.h"), &cwd("one")).unwrap()],
+            vain: vec![Vain::now(&path("inc"), vec![b"b.h".to_vec()], &cwd("one")).unwrap()],
+            places: vec![(path("way"), path("inc"))],
+            ..Manifest::default()
+        };
+        let kept = own.kept_in(Some(&one)).unwrap();
+        let key = Digest::of(b"call");
+        let holds = || {
+            let now = kept.own_in(Some(&two))?.again(&cwd("link"))?;
+            Some(now.kept_in(Some(&two))?.digest(&key) == kept.digest(&key))
+        };
+        assert_eq!(holds(), Some(true));
+        fs::write(room.join("two/inc/a.h"), "b").unwrap();
+        assert_eq!(holds(), Some(false), "a header that differs there");
+        fs::write(room.join("two/inc/a.h"), "a").unwrap();
+        fs::write(room.join("two/inc/b.h"), "").unwrap();
+        assert_eq!(holds(), None, "a header that is only there");
+        fs::remove_file(room.join("two/inc/b.h")).unwrap();
+        fs::remove_file(room.join("two/way")).unwrap();
+        std::os::unix::fs::symlink("../one/inc", room.join("two/way")).unwrap();
+        assert_eq!(holds(), Some(false), "a link that leads out");
     }
 }

@@ -101,7 +101,7 @@ fn show(store: &Store, settings: &Settings, words: &[&str]) -> i32 {
         let line = line_of(settings, words[0], &words[1..]);
         let path = own_variable("PATH").unwrap_or_default();
         let nvcc = programs::find(line.nvcc.as_ref(), &path, Path::new(&line.cwd));
-        nvcc.map(|nvcc| calls::known(store, &line, &nvcc)).unwrap_or_default()
+        nvcc.map(|nvcc| calls::known(store, &line, &nvcc, settings.root.as_ref())).unwrap_or_default()
     };
     let said = |(key, manifest): &(Digest, Manifest)| {
         [format!("key {key}\n").into_bytes(), manifest.lines()].concat()

@@ -1,5 +1,6 @@
 //! The cache during a call.
 mod direct;
+mod shared;
 mod whole;
 
 use crate::{counts, host_text, key, recipe};
@@ -7,6 +8,7 @@ use direct::Direct;
 pub use whole::Finished;
 
 use crate::calls::{Product, is_on, put, terminal};
+use crate::checkout::Checkout;
 use crate::digest::{Digest, Hasher};
 use crate::entry::{Entry, Made};
 use crate::inputs::{Memory, Reading, Refusal};
@@ -24,6 +26,7 @@ use machine::clock::now;
 use machine::host_compilers::HostCompiler;
 use machine::jobs::{Ended, Job};
 use machine::planned::PlannedCommand;
+use machine::settings::AskedRoot;
 use machine::streams::{called, complain, content_of};
 use machine::task::{Done, Step, Task};
 use std::collections::{BTreeMap, BTreeSet};
@@ -116,16 +119,23 @@ pub struct Beginning {
     /// What observes the call's processes, if that is possible here.
     observer: Option<Observer>,
     memory: Memory,
+    /// The checkout in which the call is made, if a root stands for it.
+    checkout: Option<Checkout>,
+    /// Whether it is made under a root: then nvcc can't make it in our place, if a message would name the
+    /// lines of another text.
+    has_root: bool,
 }
 
 impl Beginning {
     /// Notes how things are, and has all processes observed of a call with these words, whose files go to
-    /// `tmp`.
-    pub fn new(tmp: &str, cwd: &str, words: &[String]) -> Beginning {
+    /// `tmp`, and which may be under a root.
+    pub fn new(tmp: &str, cwd: &str, words: &[String], root: Option<&AskedRoot>) -> Beginning {
         let observer = Observer::new(Path::new(tmp).join("observer")).ok();
         // (before the moment at which all is to be as it will be)
         let memory = Memory::new(Path::new(cwd), words);
-        Beginning { moment: Moment::now(), cwd: cwd.into(), observer, memory }
+        let checkout = root.and_then(|root| Checkout::of(root, cwd));
+        let has_root = root.is_some();
+        Beginning { moment: Moment::now(), cwd: cwd.into(), observer, memory, checkout, has_root }
     }
 
     /// What is to observe the call's processes.
@@ -489,7 +499,8 @@ impl<'a> Session<'a> {
         let beside = start.clone().finish();
         let keys =
             Parts(by_texts, Part::by_tokens(start, recipe, &texts, self.store), beside).keys(recipe, &texts);
-        if let Some(taken) = keys.tokens.and_then(|key| self.take_other(recipe, &key, times)) {
+        let tokens = keys.tokens.filter(|_| !self.beginning.has_root);
+        if let Some(taken) = tokens.and_then(|key| self.take_other(recipe, &key, times)) {
             self.has_other_lines = true;
             return self.hit(task, taken);
         }
@@ -500,7 +511,8 @@ impl<'a> Session<'a> {
 
     /// What the store has under a key, and what that depends on.
     fn entry(&self, key: &Digest, recipe: &Recipe) -> Option<(Entry, Manifest)> {
-        Manifest::find(self.store, key, &self.beginning.cwd, &recipe.job.variables)
+        let place = (self.beginning.cwd.as_path(), self.beginning.checkout.as_ref());
+        Manifest::find(self.store, key, place, &recipe.job.variables)
     }
 
     fn hit(&mut self, task: usize, taken: Taken) -> Step {
@@ -574,6 +586,7 @@ impl<'a> Session<'a> {
         let tokens = keys.tokens.filter(|_| !entry.speaks());
         let lead =
             || keys.marks.iter().chain(&tokens).try_for_each(|key| self.store.write(key, &keys.texts.0));
+        let Some(inputs) = inputs.kept_in(self.beginning.checkout.as_ref()) else { return };
         let written = inputs.keep(self.store, &keys.texts, entry).and_then(|()| lead());
         if let (Err(error), false) = (written, self.has_complained) {
             self.has_complained = true;
@@ -712,7 +725,7 @@ mod tests {
         let (early, _) = parts(false);
         fs::write(&recipe.reads[1], "an id").unwrap();
         let (store, state) = (store(), State::Begun(Box::new(early)));
-        let mut session = Session::new(&store, "/t", &[], &[], Beginning::new("/none", "/", &[]));
+        let mut session = Session::new(&store, "/t", &[], &[], Beginning::new("/none", "/", &[], None));
         session.candidates.insert(7, Candidate::new(recipe.clone(), state));
         assert!(session.caught_up(7) && !session.caught_up(7) && !session.caught_up(8));
         let State::Missed(keys) = &session.candidates[&7].state else { panic!("it runs, and is to be kept") };
@@ -748,7 +761,7 @@ mod tests {
         let store = store();
         let session = Session {
             terminal: b"xterm".to_vec(),
-            ..Session::new(&store, "/t", &[], &[], Beginning::new("/none", "/", &[]))
+            ..Session::new(&store, "/t", &[], &[], Beginning::new("/none", "/", &[], None))
         };
         let recipe = recipe(Kind::Host, Vec::new());
         let terminal_of = |errors: &str| session.entry_of(&recipe, &warned(errors)).unwrap().terminal;

@@ -26,7 +26,7 @@ fn kept_place(file: &Path) -> Option<PathBuf> {
 
 /// The names of a checkout's folder: the user's, and the one without links. The user's is last, too, if the
 /// other begins it: gcc compares bytes, and takes the last name that begins a path.
-fn names_of(folder: &str) -> Vec<String> {
+pub fn names_of(folder: &str) -> Vec<String> {
     let real = fs::canonicalize(folder).ok().and_then(|real| real.into_os_string().into_string().ok());
     let other = real.filter(|real| real != folder);
     let again = other.as_ref().filter(|real| folder.starts_with(real.as_str())).map(|_| folder.to_owned());

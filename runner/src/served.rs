@@ -18,7 +18,7 @@ use std::path::{Path, PathBuf};
 /// what has come of it, or `None` if the call has to be made.
 pub fn serve(settings: &Settings, line: &NvccLine, begun: f64) -> Option<(Said, Outcome)> {
     let (store, nvcc) = looked_up(settings, line).ok()?;
-    let said = calls::serve(&store, line, &nvcc).ok()?;
+    let said = calls::serve(&store, line, &nvcc, settings.root.as_ref()).ok()?;
     counts::add(store.folder(), Counts { calls: 1, ..Counts::default() });
     let commands = if settings.log.is_some() { logged(begun) } else { Vec::new() };
     Some((said, Outcome { commands, ..Outcome::default() }))
@@ -27,7 +27,7 @@ pub fn serve(settings: &Settings, line: &NvccLine, begun: f64) -> Option<(Said, 
 /// Why the cache has nothing for a call, unless it has.
 pub fn miss(settings: &Settings, line: &NvccLine) -> Option<Miss> {
     let looked_up = looked_up(settings, line);
-    looked_up.map_or_else(Some, |(store, nvcc)| calls::miss(&store, line, &nvcc))
+    looked_up.map_or_else(Some, |(store, nvcc)| calls::miss(&store, line, &nvcc, settings.root.as_ref()))
 }
 
 /// Where a call is looked up, and its nvcc.

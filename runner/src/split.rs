@@ -261,21 +261,22 @@ impl Call<'_> {
     ) -> Result<Outcome, Stop> {
         let (line, tmp, outline) = (self.line, call.tmp(), call.outline());
         let store = if outline.keep_dir.is_some() { None } else { place::store_of(self.settings, &line.cwd) };
-        let mut beginning = store.as_ref().map(|_| Beginning::new(tmp, &line.cwd, &line.words));
+        let root = self.settings.root.as_ref().filter(|_| self.runs_in_place());
+        let mut beginning = store.as_ref().map(|_| Beginning::new(tmp, &line.cwd, &line.words, root));
         let mut witness = Witness::of_split(self.settings, &line.cwd, tmp);
         let observer = match &mut witness {
             Some(witness) => witness.observer(),
             None => beginning.as_mut().and_then(Beginning::observer),
         };
         let dry_runs = dry_runs_of(machine, call, observer)?;
-        let root = self.settings.root.as_ref().filter(|_| self.runs_in_place());
         let rooting = root.map(|root| Rooting::of(root, &line.cwd, tmp)).transpose()?;
         let planned = self.planned(call, &dry_runs, rooting.as_ref(), store.is_some())?;
         let Planned { commands, tasks, .. } = &planned;
         let launcher = self.settings.launcher.first().map(String::as_str).unwrap_or_default();
         let before = caches::counts(machine, self.settings)?;
-        let mut said = Said::new();
+        let (mut said, mut rooted_said) = (Said::new(), Said::new());
         let mut say = |is_error: bool, text: &[u8]| {
+            rooted_said.extend(store.is_some().then(|| (is_error, text.to_vec())));
             let text = rooting.as_ref().map_or(Cow::Borrowed(text), |rooting| rooting.own(text).into());
             said.extend(store.is_some().then(|| (is_error, text.to_vec())));
             say(is_error, &text);
@@ -317,7 +318,8 @@ impl Call<'_> {
             .then(|| records::of_split(self.settings, &records::Finished { line, commands, tmp }))
             .flatten();
         if let Some(cache) = cache.as_mut().filter(|_| status == 0 && !is_made_whole) {
-            let kept = cache.keep_call(&Finished { line, commands, tasks, rule: made.clone(), said });
+            let (rule, rooted_said) = (made.clone(), root.map(|_| rooted_said));
+            let kept = cache.keep_call(&Finished { line, commands, tasks, rule, said, rooted_said });
             if let (Err(refusal), true) = (kept, self.settings.explains) {
                 complain(&format!("{}: the call is not kept as a whole: {refusal}", called()));
             }

@@ -4,7 +4,7 @@ from collections.abc import Callable
 from dataclasses import dataclass
 
 from project import CHECKOUT, COLD, CONSTANT, FOLDER, TARGET
-from tools import CCACHE, CCACHE_THREADS, NVCC, NVCC_THREADS, OURS, OURS_CACHE
+from tools import CCACHE, CCACHE_THREADS, NVCC, NVCC_THREADS, OURS, OURS_CACHE, OURS_ROOT
 
 
 @dataclass
@@ -46,6 +46,7 @@ GOALS = [
         ("unchanged", 0.8), ("text of a comment", 0.8), ("comment line in a header", 0.2), ("kernel", 0.4), ("host function", 0.5),
         (TARGET, 0.35), (FOLDER, 0.7), (CHECKOUT, 1.0)]),
     Goal("edits", CONSTANT, OURS_CACHE, NVCC, 1.0),
+    Goal("edits", CHECKOUT, OURS_ROOT, NVCC, 0.1),
     *(Goal("edits", edit, OURS_CACHE, CCACHE_THREADS, most) for edit, most in [
         (COLD, 0.9), ("unchanged", 0.9), ("text of a comment", 0.9), ("line of a comment", 0.9), ("blanks", 0.9), ("host function", 0.9),
         ("kernel", 0.6), ("branch of a target", 0.9), (CONSTANT, 0.9), ("comment line in a header", 0.9), (TARGET, 0.5), (FOLDER, 0.9),

@@ -9,10 +9,10 @@ import sys
 from html import escape
 from pathlib import Path
 
-from tools import CCACHE, CCACHE_OURS, CCACHE_THREADS, NVCC, NVCC_THREADS, OURS, OURS_CACHE, SCCACHE
+from tools import CCACHE, CCACHE_OURS, CCACHE_THREADS, NVCC, NVCC_THREADS, OURS, OURS_CACHE, OURS_ROOT, SCCACHE
 
 COLORS = {NVCC: "#8c8c8c", NVCC_THREADS: "#bdbdbd", CCACHE: "#4477aa", CCACHE_THREADS: "#88bbdd", SCCACHE: "#aa8844", CCACHE_OURS: "#bb99cc",
-          OURS: "#ee9988", OURS_CACHE: "#cc3311"}
+          OURS: "#ee9988", OURS_CACHE: "#cc3311", OURS_ROOT: "#882200"}
 COLUMNS, BAR, GAP, WIDTH, HEAD = 2, 13, 16, 430, 28
 Row = tuple[str, float]
 

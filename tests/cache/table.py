@@ -28,8 +28,8 @@ from pathlib import Path
 
 from figures import Figure, Figures, print_goals, print_tables, seconds
 from floors import wrong_examples
-from project import COLD, CONSTANT, EDITS, Call, Edit, Project
-from tools import CACHES, NVCC, NVCC_THREADS, OURS, OURS_CACHE, SCCACHE, TOOLS, UNCACHED, Programs, Tool
+from project import CHECKOUT, COLD, CONSTANT, EDITS, Call, Edit, Project
+from tools import CACHES, NVCC, NVCC_THREADS, OURS, OURS_CACHE, OURS_ROOT, SCCACHE, TOOLS, UNCACHED, Programs, Tool
 
 RELEASE = Path(__file__).resolve().parent.parent.parent / "out/rust/target/release"
 PROCESSORS = os.cpu_count() or 1
@@ -77,7 +77,8 @@ class Bench:
         (folder / "Makefile").write_text(self.project.makefile(tool.compiler(), folder.parent, call), encoding="utf-8")
         tool.begin()
         served, used, begun = tool.processor(), children(), time.monotonic()
-        made = subprocess.run(["make", "-s", f"-j{jobs}"], cwd=folder, env=tool.environment, capture_output=True, text=True, check=False)
+        variables = tool.environment_in(folder.parent)
+        made = subprocess.run(["make", "-s", f"-j{jobs}"], cwd=folder, env=variables, capture_output=True, text=True, check=False)
         passed, processor = time.monotonic() - begun, children() - used + tool.processor() - served
         self.cases.count(f"{tool.name}, build", "" if made.returncode == 0 else made.stderr[-2000:])
         work = tool.work(len(self.project.sources))
@@ -98,11 +99,12 @@ class Bench:
         return self.stripped[raw]
 
     def compare(self, name: str, tool: Tool, made: Products, wanted: Products) -> None:
-        """A case: products are nvcc's. What other caches keep of another checkout, and say of another place, isn't ours to judge."""
+        """A case: products are nvcc's. What other caches keep of another checkout, and say of another place, isn't ours to judge; under a root
+        those of two checkouts are equal."""
         other = [product for product in sorted({*made, *wanted}) if made.get(product) != wanted.get(product)]
         if tool.name in (NVCC_THREADS, OURS, OURS_CACHE):
             self.cases.count(name, f"products that aren't nvcc's: {' '.join(other)}" if other else "")
-        elif objects := [product for product in other if product.endswith(".o")]:
+        elif tool.name != OURS_ROOT and (objects := [product for product in other if product.endswith(".o")]):
             print(f"of others, {name}: objects that aren't nvcc's: {' '.join(objects)}", flush=True)
 
 
@@ -128,7 +130,7 @@ def tools_of(names: list[str], programs: Programs, room: Path) -> Iterator[list[
 def measure_edits(bench: Bench, tools: list[Tool], edits: list[Edit], figures: Figures) -> None:
     """Builds after each edit by each tool, in an order drawn by lot."""
     bench.write()
-    lot = random.Random(len(edits))
+    lot, rooted = random.Random(len(edits)), dict[str, str]()
     for edit in edits:
         for checkout in ("one", "two"):
             edit.apply(bench.room / checkout)
@@ -139,6 +141,10 @@ def measure_edits(bench: Bench, tools: list[Tool], edits: list[Edit], figures: F
             figures[tool.name, edit.name].append(figure)
         for tool in tools:
             bench.compare(f"{edit.name}, {tool.name}", tool, made[tool.name], made.get(NVCC, {}))
+        objects = {name: digest for name, digest in made.get(OURS_ROOT, {}).items() if name.endswith(".o")}
+        if edit.name == CHECKOUT and rooted:
+            bench.cases.count("checkouts under a root", "" if objects == rooted else "objects differ")
+        rooted = objects
         print(f"  {edit.name}: " + ", ".join(f"{tool.name} {figures[tool.name, edit.name][-1].seconds:.2f}" for tool in tools), flush=True)
 
 

@@ -14,7 +14,8 @@ from floors import Seconds, Work, from_log
 NVCC, NVCC_THREADS = "nvcc", "nvcc -t4"
 CCACHE, CCACHE_THREADS, SCCACHE = "ccache nvcc", "ccache nvcc -t4", "sccache nvcc"
 CCACHE_OURS, OURS, OURS_CACHE = "ccache zigrunk-nvcc", "zigrunk-nvcc", "zigrunk-nvcc, its cache"
-TOOLS = [NVCC, NVCC_THREADS, CCACHE, CCACHE_THREADS, SCCACHE, CCACHE_OURS, OURS, OURS_CACHE]
+OURS_ROOT = "zigrunk-nvcc, its cache, under a root"
+TOOLS = [NVCC, NVCC_THREADS, CCACHE, CCACHE_THREADS, SCCACHE, CCACHE_OURS, OURS, OURS_CACHE, OURS_ROOT]
 UNCACHED = [NVCC, NVCC_THREADS, OURS]
 CACHES = ("CCACHE_", "SCCACHE_", "ZIGRUNK_", "NVCC_", "CUDA", "CMAKE_", "MAKE", "MFLAGS")
 
@@ -90,7 +91,11 @@ class Tool:
             own |= {"ZIGRUNK_LOG": str(self.log)}
         own |= {"CCACHE_DEPEND": "1"} if self.name == CCACHE_THREADS else {}
         own |= {"CCACHE_COMPILERCHECK": "%compiler% --version"} if self.name == CCACHE_OURS else {}
-        return own | ({"ZIGRUNK_CACHE": str(self.cache)} if self.name == OURS_CACHE else {})
+        return own | ({"ZIGRUNK_CACHE": str(self.cache)} if self.name in (OURS_CACHE, OURS_ROOT) else {})
+
+    def environment_in(self, checkout: Path) -> dict[str, str]:
+        """The variables of a build in a checkout."""
+        return self.environment | ({"ZIGRUNK_ROOT": str(checkout)} if self.name == OURS_ROOT else {})
 
     def compiler(self) -> list[str]:
         """The first words of a line."""

@@ -4,10 +4,11 @@ have to be alike, but for the names of temporary files. Some edits are not of so
 elsewhere, libraries that the loader finds, clocks, variables, and edits that are made while a call runs and undone later. nvcc isn't asked again for
 what it has made of the same state.
 
-    tests/driver_cache/edits.py DRIVER [--seed N] [--count N] [--calls 0] [--keep FOLDER]
+    tests/driver_cache/edits.py DRIVER [--seed N] [--count N] [--calls 0] [--keep FOLDER] [--roots]
 
---calls 0 has no call kept as a whole. --keep copies all folders as they are behind an edit that fails: which edits come while a call runs depends on
-how fast it is, so that a seed alone doesn't make them again.
+With --roots calls are made in two checkouts, of which one may differ, each under itself as a root, and what they make has to be what the driver
+makes without a cache. --calls 0 has no call kept as a whole. --keep copies all folders as they are behind an edit that fails: which edits come
+while a call runs depends on how fast it is, so that a seed alone doesn't make them again.
 
 Of FEWEST edits or more it's a failure, too, if fewer than a fortieth of the calls were found whole: then whole calls aren't tested.
 
@@ -92,14 +93,20 @@ WORDS: list[list[str]] = [
     ["-Xcompiler", "-fPIC"], ["-Xcompiler", "-Wconversion"], ["-Xcompiler", "-Wall"], [], [], ["-DHERE_IS=__LINE__"],
 ]
 FEWEST = 50
+# What changes beside the others under a root: where calls are made, how they name files and the root, and what is in one checkout alone.
+ROOTED_KINDS = ["folder"] * 40 + ["whole"] * 3 + ["root"] * 3 + ["apart"] * 5
+ROOTS = ["{}", "{}", "{}/", "{}/inc/..", "{}=/elsewhere", "{}/.."]
+APART = ["inc1/size.h", "early/size.h", "inc2/far.h", "far/far.h", "inc/asked.h"]
 Build = tuple[int, bytes, int | None, bytes | None]
 
 
 class Project:
     """The sources of a project and the words of its calls. There are two folders with it, and a link to one of them, where calls are made."""
 
-    def __init__(self, room: pathlib.Path, lot: random.Random) -> None:
+    def __init__(self, room: pathlib.Path, lot: random.Random, has_roots: bool) -> None:
         self.room, self.lot, self.folder = room, lot, room / "here"
+        self.kinds, self.has_roots, self.root, self.is_whole = KINDS + ROOTED_KINDS * has_roots, has_roots, ROOTS[0], False
+        self.apart: dict[str, str] = {}
         self.header: Values = {"size": 64, "other": 1, "block": 32, "lines": "", "line": "0", "inside": " "}
         values: Values = {"comment": "one", "kernel": 1, "newer": 2, "older": 3, "host": 4, "blank": "", "lines": "", "line": 0, "unused": "",
                           "here": "0", "inside": "", "large": ""}
@@ -148,14 +155,15 @@ class Project:
     def put(self, name: str, text: str | None) -> None:
         """Gives a file a text in both folders, or removes it."""
         for path in self.all(name):
-            if text is None:
+            own = self.apart.get(name, text) if "twin" in path.parts else text
+            if own is None:
                 path.unlink(missing_ok=True)
-            elif not path.exists() or path.read_text() != text:
-                path.write_text(text)
+            elif not path.exists() or path.read_text() != own:
+                path.write_text(own)
 
     def edit(self, source: str) -> str:
         """Makes one edit and says which."""
-        kind = self.lot.choice(KINDS)
+        kind = self.lot.choice(self.kinds)
         self.earlier.append((dict(self.header), {name: dict(values) for name, values in self.sources.items()}, list(self.targets)))
         if kind in ("size", "other", "block"):
             self.header[kind] = self.lot.randrange(1, 4)
@@ -166,6 +174,8 @@ class Project:
             self.edit_source(self.sources[source], kind)
         elif kind.startswith("link_"):
             self.edit_link(source, kind)
+        elif kind in ROOTED_KINDS:
+            self.edit_root(kind)
         else:
             self.edit_call(source, kind)
         self.write()
@@ -181,9 +191,26 @@ class Project:
                 path.unlink()
                 path.symlink_to(target)
         else:
-            target = "twin" if os.readlink(self.folder) == "work" else "work"
-            self.folder.unlink()
-            self.folder.symlink_to(target)
+            link = self.room / "here"
+            target = "twin" if os.readlink(link) == "work" else "work"
+            link.unlink()
+            link.symlink_to(target)
+
+    def edit_root(self, kind: str) -> None:
+        """Makes calls elsewhere, or names files in another way, or lets one checkout differ."""
+        if kind == "folder":
+            self.folder = self.room / self.lot.choice(["here", "work", "twin", "twin"])
+        elif kind == "whole":
+            self.is_whole = not self.is_whole
+        elif kind == "root":
+            self.root = self.lot.choice(ROOTS)
+        elif name := self.lot.choice(["", *APART]):
+            header: Values = {**self.header, "size": 5}
+            self.apart[name] = self.lot.choice(["#define FAR 7\n", HEADER.format(**header)])
+        else:
+            self.apart.clear()
+            for path in (self.room / "twin/far/far.h", self.room / "twin/inc/asked.h"):
+                path.unlink(missing_ok=True)
 
     def edit_source(self, values: Values, kind: str) -> None:
         """Changes something in a source."""
@@ -257,18 +284,21 @@ class Project:
     def call(self, name: str) -> list[str]:
         targets = [word for target in self.targets for word in ("-gencode", f"arch=compute_{target},code=sm_{target}")]
         phase = [] if {"-dc", "-fatbin"} & set(self.words) else ["-c"]
-        return [*targets, *self.words, "-Iearly", "-Iinc", *phase, self.source(name), "-o", self.product.format(name)]
+        top = f"{self.folder}/" if self.is_whole else ""
+        return [*targets, *self.words, f"-I{top}early", f"-I{top}inc", *phase, f"{top}{self.source(name)}", "-o", self.product.format(name)]
 
     def environment(self) -> dict[str, str]:
         """The variables of a call."""
-        return {**self.variables, **({"LD_LIBRARY_PATH": self.path} if self.path is not None else {}), "PWD": str(self.folder)}
+        root = {"ZIGRUNK_ROOT": self.root.format(self.folder)} if self.has_roots else {}
+        return {**self.variables, **({"LD_LIBRARY_PATH": self.path} if self.path is not None else {}), **root, "PWD": str(self.folder)}
 
     def state(self, name: str) -> str:
         """What a call may depend on: its words, modes, variables and folder, and all files but other sources and products, with where they are.
         Their times count for line information."""
         files = [*sorted(path for path in self.folder.resolve().rglob("*.h") if path.exists()), self.folder / self.source(name)]
         libraries = [folder for folder in ("mod", "other", ".") if (self.folder / folder / LIBRARY).exists()]
-        parts = [repr((self.call(name), self.umask, self.environment(), libraries, os.readlink(self.folder), os.readlink(self.folder / "inc")))]
+        places = [self.folder, self.folder.resolve(), os.readlink(self.folder / "inc")]
+        parts = [repr((self.call(name), self.umask, self.environment(), libraries, places))]
         has_times = "-lineinfo" in self.words
         for path in files:
             moment = path.stat().st_mtime_ns if has_times else 0
@@ -303,11 +333,11 @@ class Builds:
                             "ZIGRUNK_CALLS": calls, "ZIGRUNK_SLOTS": "0"}
         self.seconds = 0.0
 
-    def start(self, program: str, project: Project, name: str) -> "subprocess.Popen[bytes]":
+    def start(self, program: str, project: Project, name: str, cache: str | None = None) -> "subprocess.Popen[bytes]":
         """Starts a call."""
         (project.folder / project.product.format(name)).unlink(missing_ok=True)
         command = ["sh", "-c", f'umask {project.umask:03o}; exec "$@"', "sh", program, *project.call(name)]
-        environment = {**self.environment, **project.environment()}
+        environment = {**self.environment, **project.environment(), **({"ZIGRUNK_CACHE": cache} if cache is not None else {})}
         return subprocess.Popen(command, cwd=project.folder, env=environment, stdout=subprocess.PIPE, stderr=subprocess.STDOUT)
 
     def kill(self, project: Project, name: str, seconds: float) -> None:
@@ -318,10 +348,10 @@ class Builds:
             except subprocess.TimeoutExpired:
                 process.kill()
 
-    def run(self, program: str, project: Project, name: str) -> Build:
+    def run(self, program: str, project: Project, name: str, cache: str | None = None) -> Build:
         """Makes a call, and gives its status, what it says, and the modes and bytes of what it makes."""
         product = project.folder / project.product.format(name)
-        with self.start(program, project, name) as process:
+        with self.start(program, project, name, cache) as process:
             said = process.communicate()[0]
         if process.returncode or not product.exists():
             return process.returncode, said, None, None
@@ -335,10 +365,10 @@ class Builds:
         return process.returncode, said, mode, stripped.read_bytes()
 
     def wanted(self, project: Project, name: str) -> Build:
-        """What nvcc makes of a source."""
+        """What nvcc makes of a source, or under a root the driver without its cache."""
         state = project.state(name)
         if state not in self.by_nvcc:
-            self.by_nvcc[state] = self.run("nvcc", project, name)
+            self.by_nvcc[state] = self.run(self.own, project, name, "") if project.has_roots else self.run("nvcc", project, name)
         return self.by_nvcc[state]
 
     def undo(self, project: Project, name: str, kind: str) -> None:
@@ -409,6 +439,7 @@ def main() -> int:
     parser.add_argument("--count", type=int, default=200)
     parser.add_argument("--calls", default="1")
     parser.add_argument("--keep", type=pathlib.Path)
+    parser.add_argument("--roots", action="store_true")
     options = parser.parse_args()
     if not (shutil.which("nvcc") and shutil.which("objcopy")):
         print("random edits: skipped, nvcc or objcopy is not on the path\n0 passed, 0 failed, 1 skipped")
@@ -420,9 +451,9 @@ def main() -> int:
     with tempfile.TemporaryDirectory() as folder:
         room = pathlib.Path(folder)
         make_library(room)
-        project, builds = Project(room, lot), Builds(room, options.driver.resolve(), lot, options.calls)
+        project, builds = Project(room, lot, options.roots), Builds(room, options.driver.resolve(), lot, options.calls)
         for number in range(options.count):
-            name = lot.choice("abmmnn")
+            name = lot.choice("aaabm" if options.roots else "abmmnn")
             edit = project.edit(name) if number else "none"
             problem = builds.problem(project, name, edit)
             if problem:

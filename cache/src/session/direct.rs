@@ -95,7 +95,7 @@ impl Session<'_> {
         self.candidates.get_mut(&task)?.direct.key = Some(key);
         let recipe = &self.candidates.get(&task)?.recipe;
         let (entry, now) =
-            Manifest::find(self.store, &key, Path::new(&recipe.job.folder), &recipe.job.variables)?;
+            Manifest::find(self.store, &key, (Path::new(&recipe.job.folder), None), &recipe.job.variables)?;
         let taken = self.take(recipe, self.entry(&entry, recipe)?, times)?;
         self.candidates.get_mut(&task)?.direct.found = Some(now);
         Some(taken)

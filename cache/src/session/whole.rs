@@ -1,7 +1,7 @@
 //! Keeps a whole call, by what was observed of its processes.
 use super::{Session, State, names};
 use crate::calls::{self, Answer, Product, terminal};
-use crate::host_text::{files_entered, sees_lines, tells_time};
+use crate::host_text::{absolute_names, files_entered, sees_lines, tells_time};
 use crate::inputs::Refusal;
 use crate::manifest::Manifest;
 use crate::observed::{Gap, Observed};
@@ -13,6 +13,7 @@ use call::NvccLine;
 use call::programs;
 use machine::jobs::Job;
 use machine::planned::PlannedCommand;
+use machine::rooted::as_written;
 use machine::settings::own_variable;
 use machine::streams::Said;
 use machine::task::Task;
@@ -35,10 +36,12 @@ pub struct Finished<'a> {
     pub rule: Option<Product>,
     /// What it has said.
     pub said: Said,
+    /// The same with names under the root, if it was made under one.
+    pub rooted_said: Option<Said>,
 }
 
 impl Finished<'_> {
-    fn cwd(&self) -> &Path {
+    pub(super) fn cwd(&self) -> &Path {
         Path::new(&self.line.cwd)
     }
 
@@ -58,12 +61,16 @@ pub(super) struct Written {
     entered: BTreeMap<PathBuf, BTreeSet<PathBuf>>,
     /// The texts that may see their lines.
     lined: BTreeSet<PathBuf>,
+    /// The whole paths that their line markers name.
+    pub named: BTreeSet<PathBuf>,
 }
 
 impl Written {
     /// Notes a text.
     fn add(&mut self, file: &Path) -> Result<(), Refusal> {
-        let text = fs::read(file).map_err(|_| Refusal::Changed(file.to_owned()))?;
+        let text = fs::read(as_written(file)).map_err(|_| Refusal::Changed(file.to_owned()))?;
+        self.named
+            .extend(absolute_names(&text).into_iter().map(|name| PathBuf::from(OsStr::from_bytes(name))));
         let entered = files_entered(&text).filter(|_| !tells_time(&text));
         let entered = entered.ok_or_else(|| {
             Refusal::Task("a source may tell the time, or name a file in an odd way".into())
@@ -102,6 +109,12 @@ fn sought_before(program: &Path, path: &OsStr) -> Vec<PathBuf> {
     // One that isn't on the path was named in another way.
     let before = places.iter().position(|place| place == program).unwrap_or_default();
     places.into_iter().take(before).collect()
+}
+
+/// The words of a preprocessor without those by which it writes rooted names, which are in front.
+fn without_maps<'a>(call: &Finished<'_>, command: &'a PlannedCommand) -> &'a [String] {
+    let is_own = |word: &&String| call.rooted_said.is_some() && word.starts_with("-ffile-prefix-map=");
+    &command.words[command.words.iter().take_while(is_own).count()..]
 }
 
 /// Whether a line asks for the targets of the machine's own GPUs, which nvcc looks for at each call.
@@ -145,7 +158,11 @@ impl Session<'_> {
         self.keep_directly(&call.line.cwd, &questions, &written);
         let answer =
             self.answer(call).ok_or_else(|| Refusal::Task("its messages name its own directory".into()))?;
-        calls::keep(self.store, call.line, nvcc, self.folder_counts(call), &manifest, &answer);
+        if let Some(shared) = self.shared(call, nvcc, &written, &manifest, &answer) {
+            shared.keep(self.store);
+        } else {
+            calls::keep(self.store, call.line, nvcc, self.folder_counts(call), &manifest, &answer);
+        }
         Ok(())
     }
 
@@ -158,7 +175,7 @@ impl Session<'_> {
                 .candidates
                 .get(&number)
                 .is_some_and(|candidate| matches!(candidate.state, State::Hit | State::Kept));
-            let is_known = !command.preprocesses || words::is_preprocess(&command.words);
+            let is_known = !command.preprocesses || words::is_preprocess(without_maps(call, command));
             let refusal =
                 self.candidates.get(&number).and_then(|candidate| candidate.inputs.as_ref().err().cloned());
             let runs_script = matches!(refusal, Some(Refusal::Names(_)));
@@ -324,21 +341,21 @@ impl Session<'_> {
         let is_beside = |word: &String| {
             !word.starts_with('-') && !word.starts_with('/') && call.cwd().join(word).is_file()
         };
-        has_names || is_named || names_folder || words.any(is_beside)
+        call.rooted_said.is_some() || has_names || is_named || names_folder || words.any(is_beside)
     }
 
     /// What the call has made and said. `None` if that has the name of its directory.
     fn answer(&self, call: &Finished<'_>) -> Option<Answer> {
-        let mut products: Vec<Product> = self.products.iter().chain(&call.rule).cloned().collect();
-        for product in &mut products {
-            if let Ok(path) = product.path.strip_prefix(call.cwd()) {
-                product.path = path.to_owned();
-            }
-        }
+        let seen = |product: &Product| Product {
+            path: product.path.strip_prefix(call.cwd()).unwrap_or(&product.path).to_owned(),
+            ..product.clone()
+        };
+        let products = self.products.iter().map(seen).collect();
+        let rule = call.rule.as_ref().map(seen);
         let is_named = call.said.iter().any(|(_, text)| names(text, self.tmp));
         let speaks = call.said.iter().any(|(_, text)| !text.is_empty());
         let terminal = if speaks { terminal() } else { Vec::new() };
-        (!is_named).then(|| Answer { products, said: call.said.clone(), terminal })
+        (!is_named).then(|| Answer { products, rule, said: call.said.clone(), terminal })
     }
 }
 
@@ -390,9 +407,9 @@ mod tests {
             words: Vec::new(),
             variables: Vec::new(),
         };
-        let call = Finished { line: &line, commands, tasks: &tasks, rule: None, said };
+        let call = Finished { line: &line, commands, tasks: &tasks, rule: None, said, rooted_said: None };
         test(
-            &mut Session::new(&store, "/t", commands, &tasks, Beginning::new("/none", &line.cwd, &[])),
+            &mut Session::new(&store, "/t", commands, &tasks, Beginning::new("/none", &line.cwd, &[], None)),
             &call,
         )
     }
