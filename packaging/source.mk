@@ -17,7 +17,7 @@ crates_from = :
 # Unit tests, by cargo alone, without what optimizing and debuggers cost. The last line is N passed, M failed.
 tests = test.log
 test:
-	@status=0; CARGO_INCREMENTAL=0 CARGO_PROFILE_DEV_DEBUG=0 $(CARGO) test --offline --locked --no-fail-fast --lib --bins --tests -p call -p zigrunk -p unix -p machine -p cache -p provenance -p runner -p report -p batch -p zigrunk-driver > $(tests) 2>&1 || status=$$?; \
+	@status=0; CARGO_INCREMENTAL=0 CARGO_PROFILE_DEV_DEBUG=0 $(CARGO) test --offline --locked --no-fail-fast --lib --tests -p call -p zigrunk -p unix -p machine -p cache -p provenance -p runner -p report -p batch -p zigrunk-driver > $(tests) 2>&1 || status=$$?; \
 	    grep -v '^$$' $(tests); awk '/^test result:/ { passed += $$4; failed += $$6 } END { print passed + 0 " passed, " failed + 0 " failed" }' $(tests); \
 	    exit $$status
 
