@@ -7,7 +7,7 @@ use Rattle.std.proofs.lemmas.Bool.{false≢true, and_parts, or_parts}
 use Rattle.std.proofs.lemmas.List.Elements.{same_from_all_zip}
 use Rattle.std.proofs.lemmas.List.{append_cancel_left}
 use Rattle.std.proofs.lemmas.Slice.Eq.{bytes_eq-Decides}
-use Rattle.texts.proofs.EqualityLemmas.{bools, lists}
+use Rattle.texts.proofs.EqualityLemmas.{bools}
 use Rattle.texts.specs.Equality.{words_eq}
 use Rattle.texts.specs.Lists.{rest_after}
 use Rattle.texts.specs.Path.{joined, lacks}
