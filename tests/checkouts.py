@@ -53,7 +53,11 @@ struct Check { __host__ __device__ int operator()(int a) const { return checked(
 void transforms(thrust::device_vector<int>& v) { thrust::transform(v.begin(), v.end(), v.begin(), Check()); }
 cudaError_t sums(void* t, size_t& size, int* p, int n) { return cub::DeviceReduce::Sum(t, size, p, p, n); }
 """
-SOURCES = {"a/k.cu": KERNELS.replace("NAME", "a"), "b/k.cu": KERNELS.replace("NAME", "b"), "raw.cu": RAW, "warns.cu": WARNS}
+HOST = """#include <cassert>
+const char* where() { return __FILE__; }
+int checked(int a) { assert(a > 0); return a + 1; }
+"""
+SOURCES = {"host.cpp": HOST, "a/k.cu": KERNELS.replace("NAME", "a"), "b/k.cu": KERNELS.replace("NAME", "b"), "raw.cu": RAW, "warns.cu": WARNS}
 # What takes long is in one call of so many.
 LONG, LONG_SHARE = {"libraries.cu": LIBRARIES}, 20
 OPTIONS = ["-O2", "-g", "-G", "-lineinfo", "-rdc=true", "-std=c++17", "-DNDEBUG", "-Xcompiler -Wall", "-Xptxas -v", "-MD", "-t2", "-use_fast_math",
@@ -166,7 +170,9 @@ class Trial:
         if one.status != nvccs.status:
             return f"status {one.status}, nvcc's is {nvccs.status}: {one.said!r}"
         if one.product != other.product:
-            return "the products differ"
+            # (a source without a name of its own has the number of a process in its module id)
+            is_nvccs_own = "-rdc=true" in call.words and self.one.make(self.nvcc, call, None).product != nvccs.product
+            return "" if is_nvccs_own else "the products differ"
         if (one.product is None) != (nvccs.product is None):
             return "a product that nvcc does not make, or none"
         if one.rule != nvccs.rule and call.source != "warns.cu":

@@ -123,11 +123,8 @@ impl Session<'_> {
         let rooted = Rooted::of(checkout, call.line, nvcc)?;
         let key = rooted.key(checkout, nvcc)?;
         let sharing = Sharing { call, checkout, rooted: &rooted, tmp: Path::new(self.tmp) };
-        // (a compile of such a source has no rooted names)
-        let has_own_source = self.candidates.values().any(|candidate| candidate.recipe.has_own_source);
         let names_folder = manifest.has_value(|value| checkout.value(value).is_none());
-        if has_own_source
-            || names_folder
+        if names_folder
             || !sharing.has_read(written, manifest)
             || manifest.files.iter().any(|seen| sharing.leads_there(seen))
         {

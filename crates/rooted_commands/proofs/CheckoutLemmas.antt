@@ -20,7 +20,7 @@ use Rattle.command_files.specs.PlanNeeds.{preprocesses}
 use Rattle.placed_commands.specs.PlacedCommands.{files_of}
 use Rattle.placed_commands.specs.PlacedWords.{is_file, placed_from, placed_word, placed_words, word_behind}
 use Rattle.rooted_commands.specs.Paths.{behind, place_of, put, rooted_path}
-use Rattle.rooted_commands.specs.Commands.{ident_word, is_for_debuggers, mapped_host, names_source, placed_tool, rooted_by, rooted_command, rooted_host, rooted_tool, source_words, tool_words, with_ident, writes_names}
+use Rattle.rooted_commands.specs.Commands.{ident_word, mapped_host, names_source, placed_tool, rooted_by, rooted_command, rooted_host, rooted_tool, source_words, tells_of_names, tool_words, with_ident, writes_names}
 use Rattle.rooted_commands.specs.WrittenNames.{can_be_told, has_maps, is_map}
 use Rattle.rooted_commands.specs.Checkouts.{Alike, AlikeBy, AlikeHosts, AlikePlansRunAlike, AlikeTools, AreMoved, EqualPathsAreOnePlace, RootedWordsAgree, RunAlike, RunAlikeBy, RunAsOne, TakesRoot, WriteAlike, are_names, are_one, are_paths, host_word_alike, host_words_alike, ident_of, ident_words_alike, in_top, is_one_generated, is_one_place, is_option, is_tool, names_among, names_of, names_or_words, same_ends, source_words_alike, with_root, words_alike}
 use Rattle.rooted_commands.specs.declared.paths.Root.{Root}
@@ -300,7 +300,7 @@ tools-run-alike r s tool c d root is alike =
 
 -- a word that is no option, and one that begins with `-I`, ask for nothing
 abbrev AsksNothing : List ℕ → Type 0
-AsksNothing w = (bytes_eq (codes "-E") w ≡ false) × (is_for_debuggers w ≡ false) × (is_map w ≡ false)
+AsksNothing w = (bytes_eq (codes "-E") w ≡ false) × (tells_of_names w ≡ false) × (is_map w ≡ false)
 
 no-dash : (c : ℕ) (cs : List ℕ) → is_option (c ∷ cs) ≡ false → eqb 45 c ≡ false
 no-dash c cs h = elim (eqb 45 c) as (λ b. is_some (cond b (Some cs) None) ≡ false → b ≡ false) [ true ↦ λ k. k | false ↦ λ _. refl ] h
@@ -310,7 +310,7 @@ path-asks-nothing [] h = (refl, refl, refl)
 path-asks-nothing (c ∷ cs) h =
     let e = no-dash c cs h in (
       ap (λ b. b && bytes_eq (codes "E") cs) e,
-      ap (λ b. b && starts_with nat_eq cs (codes "g")) e,
+      ap (λ b. (b && starts_with nat_eq cs (codes "g")) || (b && bytes_eq (codes "D__NVCC__") cs)) e,
       ap (λ b. is_some (cond b (rest_after (codes "ffile-prefix-map=") cs) None) || (is_some (cond b (rest_after (codes "fdebug-prefix-map=") cs) None) || is_some (cond b (rest_after (codes "fmacro-prefix-map=") cs) None))) e,
     )
 
@@ -318,7 +318,7 @@ include-asks-nothing : (w name : List ℕ) → rest_after (codes "-I") w ≡ Som
 include-asks-nothing w name is = subst AsksNothing (sym (rest_after-whole (codes "-I") w name is)) (refl, refl, refl)
 
 abbrev AskTheSame : List ℕ → List ℕ → Type 0
-AskTheSame w v = (bytes_eq (codes "-E") w ≡ bytes_eq (codes "-E") v) × (is_for_debuggers w ≡ is_for_debuggers v) × (is_map w ≡ is_map v)
+AskTheSame w v = (bytes_eq (codes "-E") w ≡ bytes_eq (codes "-E") v) × (tells_of_names w ≡ tells_of_names v) × (is_map w ≡ is_map v)
 
 neither-asks : (w v : List ℕ) → AsksNothing w → AsksNothing v → AskTheSame w v
 neither-asks w v a b = (a.0 ∙ sym b.0, a.1 ∙ sym b.1, a.2 ∙ sym b.2)
@@ -351,7 +351,7 @@ words-ask-the-same r s w v alike =
     ] refl alike
 
 all-ask-the-same : (r s : Root) (ws vs : List (List ℕ)) → host_words_alike r s ws vs ≡ true →
-    (preprocesses ws ≡ preprocesses vs) × (list_any is_for_debuggers ws ≡ list_any is_for_debuggers vs) × (has_maps ws ≡ has_maps vs)
+    (preprocesses ws ≡ preprocesses vs) × (list_any tells_of_names ws ≡ list_any tells_of_names vs) × (has_maps ws ≡ has_maps vs)
 all-ask-the-same r s [] [] alike = (refl, refl, refl)
 all-ask-the-same r s [] (v ∷ vs) alike = absurd (false≢true alike)
 all-ask-the-same r s (w ∷ ws) [] alike = absurd (false≢true alike)

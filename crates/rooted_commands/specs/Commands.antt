@@ -72,9 +72,17 @@ file_maps r cwd = flat_map (folder_maps r (is_among r.folders cwd)) r.folders ++
 abbrev pub is_for_debuggers : List ℕ → Bool
 is_for_debuggers word = starts_with nat_eq word (codes "-g")
 
+-- whether a word is nvcc's for a command that reads a source, which a compile of what cudafe++ has written lacks
+abbrev pub is_for_sources : List ℕ → Bool
+is_for_sources word = bytes_eq (codes "-D__NVCC__") word
+
+-- whether it says that a host compiler writes names
+abbrev pub tells_of_names : List ℕ → Bool
+tells_of_names word = is_for_debuggers word || is_for_sources word
+
 -- whether a host compiler writes names that its text lacks: it reads sources, or notes where it runs
 abbrev pub writes_names : List (List ℕ) → Bool
-writes_names words = preprocesses words || list_any is_for_debuggers words
+writes_names words = preprocesses words || list_any tells_of_names words
 
 -- a host compiler's command, which may write rooted names
 abbrev pub mapped_host : Root → NvccGeneratedSubcommand → NvccGeneratedSubcommand

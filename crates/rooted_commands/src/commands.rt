@@ -174,11 +174,18 @@ fn is_for_debuggers(word: &str) -> bool
     word.as_bytes().starts_with(b"-g")
 }
 
-fn is_any_for_debuggers(words: &[String]) -> bool
-    ensures { result ≡ list_any spec.is_for_debuggers (map string_bytes words.now) }
+// Whether a word is nvcc's for a command that reads a source: a compile of what cudafe++ has written lacks it.
+fn is_for_sources(word: &str) -> bool
+    ensures { result ≡ spec.is_for_sources word.now }
+{
+    word == "-D__NVCC__"
+}
+
+fn any_tells_of_names(words: &[String]) -> bool
+    ensures { result ≡ list_any spec.tells_of_names (map string_bytes words.now) }
 {
     for word in words {
-        if is_for_debuggers(word.as_str()) {
+        if is_for_debuggers(word.as_str()) || is_for_sources(word.as_str()) {
             return true;
         }
     }
@@ -189,7 +196,7 @@ fn is_any_for_debuggers(words: &[String]) -> bool
 fn writes_names(words: &[String]) -> bool
     ensures { result ≡ spec.writes_names (map string_bytes words.now) }
 {
-    preprocesses(words) || is_any_for_debuggers(words)
+    preprocesses(words) || any_tells_of_names(words)
 }
 
 // A host compiler's command that writes rooted names.
@@ -224,9 +231,9 @@ fn rooted_host(
 ///
 /// A tool of nvcc runs in `/`, as [`placed_command`] says it, with rooted names in the words that it writes: behind
 /// `--orig_src_file_name` and `--orig_src_path_name` for cicc and cudafe++, behind `--ident=` for fatbinary. Its words stay as they are
-/// placed if its record would be another. Any other program is a host compiler. If it preprocesses, or writes for debuggers, it gets gcc's
-/// prefix maps in front of its words: from the checkout's folders to the root, and from the folder of generated files to `/tmp`. Else it
-/// writes no names but those of its text, which are rooted.
+/// placed if its record would be another. Any other program is a host compiler. If it preprocesses, reads a source, or writes for
+/// debuggers, it gets gcc's prefix maps in front of its words: from the checkout's folders to the root, and from the folder of generated
+/// files to `/tmp`. Else it writes no names but those of its text, which are rooted.
 pub fn rooted_command(
     alloc: Global,
     root: &Root,
