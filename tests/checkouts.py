@@ -197,8 +197,19 @@ class Trial:
         program = folder / "program"
         return set(re.findall(rb"__fatbinwrap_([0-9a-f]{8})_", program.read_bytes())) if program.exists() else set()
 
-    def given(self) -> "list[tuple[str, str]]":
-        """The cases that are given, each with its problem."""
+    def links(self) -> bool:
+        """Whether nvcc links programs here: Debian has its libraries in a package of their own."""
+        source = self.one.top / "build/links.cu"
+        source.write_text("int main() {}\n")
+        words = [self.nvcc, "-rdc=true", str(source), "-o", str(source.with_suffix(""))]
+        return subprocess.run(words, capture_output=True, check=False).returncode == 0
+
+    def linked(self) -> "str | None":
+        """What is wrong with that program. None if nvcc links nothing."""
+        return ("" if len(self.linked_ids()) >= 3 else f"{self.linked_ids()}") if self.links() else None
+
+    def given(self) -> "list[tuple[str, str | None]]":
+        """The cases that are given, each with its problem; None for one that can't be tried."""
         make = self.one.make
         usual = Call("a/k.cu", ["-c", "-rdc=true", "-arch=sm_80"], "build", True)
         plain, rooted, named = (make(self.ours, usual, root) for root in (None, "", "=/src"))
@@ -211,7 +222,7 @@ class Trial:
         return [("without a root", "" if product_ids(nvccs.product or b"") == ids[0] else f"{ids[0]}, nvcc has other ids"),
                 ("a root has ids of its own", "" if ids[0] and ids[1] and not ids[0] & ids[1] else f"{ids}"),
                 ("two sources of one name", "" if ids[2] and not ids[1] & ids[2] else f"{ids}"),
-                ("a program of two sources of one name", "" if len(self.linked_ids()) >= 3 else f"{self.linked_ids()}"),
+                ("a program of two sources of one name", self.linked()),
                 ("a link that the folder's name begins", "" if owns.product and owns.product == linked.product else "the products differ"),
                 ("what stands for the folder", "" if b"/src/inc/deep/h.h" in (named.product or b"") else "the product lacks /src/inc/deep/h.h")]
 
@@ -234,7 +245,7 @@ def main() -> int:
         print("names under a root: skipped, nvcc is not on the path\n0 passed, 0 failed, 1 skipped")
         return 0
     lot = random.Random(args.seed)
-    passed = failed = 0
+    passed = failed = skipped = 0
     with tempfile.TemporaryDirectory(prefix="roots.") as room:
         trial = Trial(os.path.abspath(args.driver), args.nvcc, Path(os.path.realpath(room)), args.user)
         os.environ.update(ZIGRUNK_NVCC=args.nvcc)
@@ -244,11 +255,11 @@ def main() -> int:
             passed, failed = passed + (not problem), failed + bool(problem)
             if problem:
                 print(f"call {number}, {call.source} {' '.join(call.words)} in {call.folder}{' by whole paths' * call.is_absolute}: {problem}"[:1500])
-        for name, problem in trial.given():
-            passed, failed = passed + (not problem), failed + bool(problem)
-            if problem:
-                print(f"{name}: {problem}"[:1500])
-    print(f"{passed} passed, {failed} failed")
+        for name, fault in trial.given():
+            passed, failed, skipped = passed + (fault == ""), failed + bool(fault), skipped + (fault is None)
+            if fault != "":
+                print(f"{name}: {fault or 'skipped, this nvcc links nothing'}"[:1500])
+    print(f"{passed} passed, {failed} failed" + f", {skipped} skipped" * (skipped > 0))
     return int(failed > 0)
 
 

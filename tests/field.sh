@@ -191,6 +191,7 @@ checkouts() {
     results=$folder/results/$project.checkouts
     rm -rf "$results" "$folder/build/$project".* && mkdir -p "$results"
     in_checkout one && in_checkout "longer/another" && diff "$results/one.sums" "$results/another.sums"
+    grep -qsv '^none ' "$results/one.sums" || echo 'no object is built'
     rm -rf "$folder/build/$project".*
 }
 
