@@ -95,7 +95,7 @@ fn with_folder(alloc: Global, root: &Root, folder: &str, path: &str) -> Result<T
     }
 }
 
-/// A rooted path as it is in a checkout: the first folder stands in place of the root. A path that isn't the root, nor below it, stays.
+/// A rooted path as it is in a checkout: the first folder takes the place of the root. A path that isn't the root, nor below it, stays.
 pub fn own_path(alloc: Global, root: &Root, path: &str) -> Result<Text, AllocError>
     ensures { IfOk result (λ own. own ≡ spec.own_path root.now path.now) }
 {
