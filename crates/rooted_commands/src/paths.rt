@@ -86,11 +86,11 @@ pub fn rooted_path(alloc: Global, root: &Root, path: &str) -> Result<Text, Alloc
 }
 
 // A path with a folder in place of the root.
-fn with_folder(alloc: Global, root: &Root, folder: &str, path: &str) -> Result<Text, AllocError>
-    ensures { IfOk result (λ own. own ≡ spec.put folder.now path.now (spec.behind root.now.root path.now)) }
+fn with_folder(alloc: Global, root: &Root, folder: &str, rooted: &str) -> Result<Text, AllocError>
+    ensures { IfOk result (λ own. own ≡ spec.put folder.now rooted.now (spec.behind root.now.root rooted.now)) }
 {
-    match behind(root.root.as_str(), path) {
-        None => Text::copy_of(alloc, path),
+    match behind(root.root.as_str(), rooted) {
+        None => Text::copy_of(alloc, rooted),
         Some(rest) => joined_texts(alloc, folder, rest),
     }
 }
